@@ -1,0 +1,2 @@
+//! Pure functions and merges: the value of an expression, and which fun each application means.
+#![tactic(auto)]
