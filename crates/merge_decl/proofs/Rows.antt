@@ -6,7 +6,7 @@ use Rattle.rev_num.specs.declared.value.ValueKind.TheVariants as kind
 use Rattle.rev_syntax.specs.Trees as t
 use Rattle.rev_syntax.specs.Trees.{Word, Term, Binder, Entry, Whole}
 use Rattle.rev_syntax.specs.declared.tree.BinaryOp.TheVariants as b
-use Rattle.merge_decl.specs.Declared.{merge_value_of}
+use Rattle.merge_decl.specs.Definitions.{merge_value_of}
 
 abbrev name : ℕ → Word
 name c = record { at = 0; text = c ∷ [] }

@@ -1,3 +1,4 @@
-pub mod Declared
+pub mod Definitions
 pub mod Names
+pub mod Table
 pub mod Value

@@ -199,14 +199,24 @@ pub record FunDef : Type 0 where
   pub params : List Name
   pub body : Term
 
--- the first of these names has the first of these values, and so on
-abbrev pub bound : List Name → List Value → Name → Option Value
-bound (p ∷ ps) (x ∷ xs) name = if same p name then Some x else bound ps xs name
-bound _ _ name = None
+-- these locals, and this value by this name, which hides an earlier one
+abbrev pub bind : (Name → Option Value) → Name → Value → Name → Option Value
+bind local p x name = if same name p then Some x else local name
+
+-- these locals, and the first of these names with the first of these values, and so on
+abbrev pub bind_all : (Name → Option Value) → List Name → List Value → Name → Option Value
+bind_all local (p ∷ ps) (x ∷ xs) = bind_all (bind local p x) ps xs
+bind_all local ps xs = local
+
+abbrev pub nothing : Name → Option Value
+nothing name = None
 
 -- what the body of a fun or a merge reads: its parameters alone
+abbrev pub closed : (Name → Option Value) → Env
+closed local = record { local = local; shared = λ name. unknown; inputs = [] }
+
 abbrev pub inside : List Name → List Value → Env
-inside params args = record { local = bound params args; shared = λ name. unknown; inputs = [] }
+inside params args = closed (bind_all nothing params args)
 
 -- a fun's value for arguments is that of its body, which may apply these funs
 abbrev pub fun_value : Funs → FunDef → Fun
@@ -222,7 +232,7 @@ earlier_of None later = later
 abbrev pub funs_of : List FunDef → Funs
 funs_of [] name = None
 funs_of (f ∷ before) name =
-    earlier_of (funs_of before name) (if same f.name name then Some (fun_value (funs_of before) f) else None)
+    earlier_of (funs_of before name) (if same name f.name then Some (fun_value (funs_of before) f) else None)
 
 -- the value of an expression where all these funs, from the last declared to the first, may be applied
 abbrev pub value : List FunDef → Env → Term → Answer

@@ -1,2 +1,4 @@
 //! Pure functions and merges: the value of an expression, and which fun each application means.
 #![tactic(auto)]
+
+pub mod table;
