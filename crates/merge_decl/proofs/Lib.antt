@@ -1,1 +1,5 @@
+pub mod Appends
+pub mod Leasts
 mod Rows
+pub mod Shapes
+pub mod Tables

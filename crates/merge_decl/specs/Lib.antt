@@ -1,4 +1,7 @@
 pub mod Definitions
+pub mod FunRules
+pub mod Least
 pub mod Names
 pub mod Table
+pub mod Uses
 pub mod Value

@@ -1,0 +1,49 @@
+-- Tables as lists, and the maps that keep them.
+use Rattle.std.proofs.Common.{◌≡◌, ◌∙◌, ℕ, Bool, true, false, cond, List, [], ◌∷◌, ◌++◌, take, Option, None, Some, nat_eq, refl, sym, ap, Vec, is_some, if◌then◌else◌}
+use Rattle.std.specs.declared.alloc.Global.{Global}
+use Rattle.std.specs.Cmp.Lexicographic.{pointwise}
+use Rattle.std.specs.Map.{lookup}
+use Rattle.indexmap.specs.IndexMap.{insert_entry}
+use Rattle.merge_decl.specs.Names.{Name, same}
+use Rattle.merge_decl.specs.Table.{Table, find, added, rows}
+
+abbrev Key : Type 0
+Key = Vec ℕ Global
+
+abbrev same_key : Key → Key → Bool
+same_key a b = pointwise nat_eq a.items b.items
+
+module _ {V : Type 0} where
+  -- a look-up by the bytes of a name
+  pub found : (name : Name) (es : List (Key × V)) → lookup (λ k. pointwise nat_eq name k.items) es ≡ find name (rows es)
+  found name [] = refl
+  found name (e ∷ es) = ap (λ r. cond (pointwise nat_eq name e.0.items) (Some e.1) r) (found name es)
+
+  -- a new key goes last
+  pub entered : (k : Key) (x : V) (es : List (Key × V)) → find k.items (rows es) ≡ None → rows (insert_entry same_key es k x) ≡ rows es ++ (k.items, x) ∷ []
+  entered k x [] h = refl
+  entered k x (e ∷ es) h = by (pointwise nat_eq k.items e.0.items) h (entered k x es)
+    where
+      by : (b : Bool) → cond b (Some e.1) (find k.items (rows es)) ≡ None
+          → (find k.items (rows es) ≡ None → rows (insert_entry same_key es k x) ≡ rows es ++ (k.items, x) ∷ [])
+          → rows (cond b ((e.0, x) ∷ es) (e ∷ insert_entry same_key es k x)) ≡ (e.0.items, e.1) ∷ rows es ++ (k.items, x) ∷ []
+      by true p rest = cc
+      by false p rest = ap (λ r. (e.0.items, e.1) ∷ r) (rest p)
+
+  -- a name that is there changes nothing
+  pub kept : (t : Table V) (name : Name) (x : V) → is_some (find name t) ≡ true → t ≡ added t name x
+  kept t name x h = ap (λ b. cond b t (t ++ (name, x) ∷ [])) (sym h)
+
+  -- a name that is not there goes last
+  pub grown : (t : Table V) (name : Name) (x : V) → find name t ≡ None → t ++ (name, x) ∷ [] ≡ added t name x
+  grown t name x h = ap (λ o. cond (is_some o) t (t ++ (name, x) ∷ [])) (sym h)
+
+  pub not_there : (o : Option V) → is_some o ≡ false → o ≡ None
+  not_there None h = refl
+  not_there (Some x) h = cc
+
+  -- a new key, whose bytes are the name's, goes last in the table
+  pub entered_new : (k : Key) (name : Name) (x : V) (es : List (Key × V)) (t : Table V) → k.items ≡ name → rows es ≡ t → find name t ≡ None
+      → rows (insert_entry same_key es k x) ≡ added t name x
+  entered_new k name x es t p q h =
+      entered k x es ((λ i. find (p i) (q i)) ∙ h) ∙ (λ i. q i ++ (p i, x) ∷ []) ∙ grown t name x h
