@@ -75,3 +75,5 @@ module _ {F : Type 0} (place rank : F → ℕ) where
   pub least-IsLeastOf : (fs : List F) → IsLeastOf fs (least place rank fs)
   least-IsLeastOf [] = refl
   least-IsLeastOf (f ∷ fs) = more f fs (least place rank fs) (least-IsLeastOf fs)
+
+pub ruleset leasts = (first_of-assoc, least-append)

@@ -1,5 +1,6 @@
 -- Tables as lists, and the maps that keep them.
-use Rattle.std.proofs.Common.{◌≡◌, ◌∙◌, ℕ, Bool, true, false, cond, List, [], ◌∷◌, ◌++◌, take, Option, None, Some, nat_eq, refl, sym, ap, Vec, is_some, if◌then◌else◌}
+use Rattle.std.proofs.Common.{◌≡◌, ◌∙◌, ℕ, Bool, true, false, cond, List, [], ◌∷◌, ◌++◌, take, Option, None, Some, nat_eq, refl, sym, ap, Vec, is_some, if◌then◌else◌, ◌&&◌, arith, true≢false}
+use Rattle.std.proofs.lemmas.Bool.Decides.{nat_tests}
 use Rattle.std.specs.declared.alloc.Global.{Global}
 use Rattle.std.specs.Cmp.Lexicographic.{pointwise}
 use Rattle.std.specs.Map.{lookup}
@@ -47,3 +48,54 @@ module _ {V : Type 0} where
       → rows (insert_entry same_key es k x) ≡ added t name x
   entered_new k name x es t p q h =
       entered k x es ((λ i. find (p i) (q i)) ∙ h) ∙ (λ i. q i ++ (p i, x) ∷ []) ∙ grown t name x h
+
+-- ---- names
+
+same_head : (x y : ℕ) (b : Bool) → nat_eq x y && b ≡ true → (x ≡ y) × (b ≡ true)
+same_head x y b h = grind (arith, nat_tests)
+
+-- names with the same bytes are equal
+pub same_equal : (a b : Name) → same a b ≡ true → a ≡ b
+same_equal [] [] h = refl
+same_equal [] (y ∷ b) h = absurd (true≢false (sym h))
+same_equal (x ∷ a) [] h = absurd (true≢false (sym h))
+same_equal (x ∷ a) (y ∷ b) h =
+    let parts = same_head x y (same a b) h in
+    λ i. parts.0 i ∷ same_equal a b parts.1 i
+
+-- the first of two, where there is one
+abbrev pub or_else : {A : Type 0} → Option A → Option A → Option A
+or_else (Some x) o = Some x
+or_else None o = o
+
+or_else-none : {A : Type 0} (o : Option A) → or_else o None ≡ o
+or_else-none None = refl
+or_else-none (Some x) = refl
+
+or_else-some : {A : Type 0} (o p : Option A) → is_some o ≡ true → or_else o p ≡ o
+or_else-some None p h = absurd (true≢false (sym h))
+or_else-some (Some x) p h = refl
+
+module _ {V : Type 0} where
+  find-push : (name w : Name) (x : V) (t : Table V) → find name (t ++ (w, x) ∷ []) ≡ or_else (find name t) (if same name w then Some x else None)
+  find-push name w x [] = refl
+  find-push name w x (e ∷ t) = by (same name e.0) (find-push name w x t)
+    where
+      by : (b : Bool) → find name (t ++ (w, x) ∷ []) ≡ or_else (find name t) (if same name w then Some x else None)
+          → cond b (Some e.1) (find name (t ++ (w, x) ∷ [])) ≡ or_else (cond b (Some e.1) (find name t)) (if same name w then Some x else None)
+      by true rest = refl
+      by false rest = rest
+
+  find-kept : (name w : Name) (x : V) (t : Table V) (b : Bool) → same name w ≡ b → is_some (find w t) ≡ true → find name t ≡ or_else (find name t) (if b then Some x else None)
+  find-kept name w x t true h k =
+      sym (or_else-some (find name t) (Some x) (ap (λ n. is_some (find n t)) (same_equal name w h) ∙ k))
+  find-kept name w x t false h k = sym (or_else-none (find name t))
+
+  find-added-by : (name w : Name) (x : V) (t : Table V) (b : Bool) → is_some (find w t) ≡ b
+      → find name (cond b t (t ++ (w, x) ∷ [])) ≡ or_else (find name t) (if same name w then Some x else None)
+  find-added-by name w x t true h = find-kept name w x t _ refl h
+  find-added-by name w x t false h = find-push name w x t
+
+  -- a look-up in a table with a further entry
+  pub find-added : (name w : Name) (x : V) (t : Table V) → find name (added t w x) ≡ or_else (find name t) (if same name w then Some x else None)
+  find-added name w x t = find-added-by name w x t _ refl

@@ -1,4 +1,5 @@
 pub mod Definitions
+pub mod Expands
 pub mod FunRules
 pub mod Least
 pub mod Names

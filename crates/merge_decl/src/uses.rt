@@ -6,7 +6,7 @@ ghost use Rattle.merge_decl.specs.FunRules as rule;
 ghost use Rattle.merge_decl.specs.Uses.{uses_of};
 
 use rev_syntax::tree::{Arm, Block, Decl, Expr, Form, Item, Link, Name, Node, Program, Rhs, Stmt};
-use std::alloc::{AllocFailed, Global};
+use std::alloc::{AllocError, AllocFailed, Global};
 
 /// An application of a fun: the name, how many arguments it has, and how many of the program's
 /// first declarations it may use.
@@ -219,7 +219,7 @@ fn add_decl<'a>(
 
 #[tactic(auto, using(crate::proofs::Appends::appends))]
 /// The applications of a program, in the order of their places.
-pub fn uses_in(alloc: Global, program: &Program) -> Result<Vec<Use<'_>>, AllocFailed<Use<'_>>>
+pub fn uses_in(alloc: Global, program: &Program) -> Result<Vec<Use<'_>>, AllocError>
     ensures { IfOk result (λ us. uses_of us.items ≡ rule.uses_in (whole program.now)) }
 {
     let mut uses = Vec::new(alloc);
