@@ -76,4 +76,10 @@ module _ {F : Type 0} (place rank : F → ℕ) where
   least-IsLeastOf [] = refl
   least-IsLeastOf (f ∷ fs) = more f fs (least place rank fs) (least-IsLeastOf fs)
 
+  pub first_is : (fs : List F) (f : F) → least place rank fs ≡ Some f → IsFirst place rank fs f
+  first_is fs f h = subst (λ o. IsLeastOf fs o) h (least-IsLeastOf fs)
+
+  pub none_is : (fs : List F) → least place rank fs ≡ None → fs ≡ []
+  none_is fs h = subst (λ o. IsLeastOf fs o) h (least-IsLeastOf fs)
+
 pub ruleset leasts = (first_of-assoc, least-append)

@@ -1,4 +1,5 @@
 pub mod Appends
+pub mod FunSteps
 pub mod Leasts
 mod Rows
 pub mod Shapes

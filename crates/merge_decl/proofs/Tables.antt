@@ -99,3 +99,9 @@ module _ {V : Type 0} where
   -- a look-up in a table with a further entry
   pub find-added : (name w : Name) (x : V) (t : Table V) → find name (added t w x) ≡ or_else (find name t) (if same name w then Some x else None)
   find-added name w x t = find-added-by name w x t _ refl
+
+-- a choice between two, and then a third
+pub or_else-step : {A : Type 0} (o : Option A) (b : Bool) (h : A) (r : Option A) → or_else (or_else o (if b then Some h else None)) r ≡ or_else o (if b then Some h else r)
+or_else-step None true h r = refl
+or_else-step None false h r = refl
+or_else-step (Some x) b h r = refl

@@ -1,6 +1,6 @@
 //! Which fun each application means.
 
-ghost use Rattle.std.specs.Prelude.{◌≡◌, ◌<◌, ◌^◌, ℕ, List, [], IfOk, length, map};
+ghost use Rattle.std.specs.Prelude.{◌≡◌, ◌<◌, ◌^◌, ℕ, List, [], IfErr, IfOk, OnOk, length, map};
 ghost use Rattle.std.specs.declared.alloc.AllocError.{AllocError};
 ghost use Rattle.rev_syntax.specs.View.{entry, program as whole};
 ghost use Rattle.merge_decl.specs.FunRules as rule;
@@ -8,7 +8,7 @@ ghost use Rattle.merge_decl.specs.Least.{first_of, is_less, least};
 ghost use Rattle.merge_decl.specs.Names.{Name};
 ghost use Rattle.merge_decl.specs.Table.{find};
 ghost use Rattle.merge_decl.specs.Uses.{use_of, uses_of};
-ghost use Rattle.merge_decl.specs.Expands.{decls_of_funs, decls_of_merges};
+ghost use Rattle.merge_decl.specs.Expands.{IsFirstBroken, Refuses, decls_of_funs, decls_of_merges};
 ghost use Rattle.merge_decl.specs.declared.expand.MergeFault.TheVariants.{OutOfMemory};
 
 use crate::table::NameTable;
@@ -218,4 +218,65 @@ fn numbers(
         all.push(number_at(table.find(&u.name.text)))?;
     }
     Ok(all)
+}
+
+/// The numbers of the funs of the program's applications, or the first rule that is broken.
+fn resolved(
+    alloc: Global,
+    table: &NameTable<FunHead>,
+    program: &Program,
+) -> Result<Vec<u32>, MergeFault>
+    ensures keeps { OnOk result (rule.broken_in (λ name. find name table.now) (rule.uses_in (whole program.now)) ≡ []) }
+    ensures numbers { IfOk result (λ ns. ns.items ≡ rule.numbers_of (λ name. find name table.now) (rule.uses_in (whole program.now))) }
+    ensures err { IfErr result (IsFirstBroken (λ name. find name table.now) (rule.uses_in (whole program.now))) }
+{
+    let uses = uses_in(alloc, program)?;
+    if let Some(fault) = first_broken(table, &uses) {
+        return Err(fault);
+    }
+    Ok(numbers(alloc, table, &uses)?)
+}
+
+/// The parts of an expanded program together.
+fn assembled(
+    program: Program,
+    funs: Vec<FunDef>,
+    merges: Vec<MergeRef>,
+    uses: Vec<u32>,
+    table: NameTable<FunHead>,
+) -> Expanded
+    requires few { length program.decls.items < 2 ^ 32 }
+    requires found { (name : Name) → find name table ≡ rule.fun_named (whole program) name }
+    requires keeps { rule.broken_in (λ name. find name table) (rule.uses_in (whole program)) ≡ [] }
+    requires funs_listed { decls_of_funs funs.items ≡ rule.fun_decls 0 (map entry program.decls.items) }
+    requires merges_listed { decls_of_merges merges.items ≡ rule.merge_decls 0 (map entry program.decls.items) }
+    requires numbered { uses.items ≡ rule.numbers_of (λ name. find name table) (rule.uses_in (whole program)) }
+    ensures same { whole result.program ≡ whole program }
+    ensures kept { rule.fun_faults (whole program) ≡ [] }
+{
+    Expanded {
+        program,
+        funs: Items::from_vec(funs),
+        merges: Items::from_vec(merges),
+        uses: Items::from_vec(uses),
+        table,
+    }
+}
+
+/// The program with the number of the fun of each application, or the first rule on funs that it
+/// breaks: the one at the least place, and there the first of `UnknownFun`, `LaterFun` and `Arity`.
+///
+/// A name means the first fun of that name. A fun or a merge may apply the funs that are declared
+/// before it, and everything else may apply all.
+pub fn expand_funs(alloc: Global, program: Program) -> Result<Expanded, MergeFault>
+    requires { length program.decls.items < 2 ^ 32 }
+    ensures same { IfOk result (λ e. whole e.program ≡ whole program) }
+    ensures keeps { OnOk result (rule.fun_faults (whole program) ≡ []) }
+    ensures first { IfErr result (Refuses (whole program)) }
+{
+    let table = fun_table(alloc, &program.decls)?;
+    let uses = resolved(alloc, &table, &program)?;
+    let funs = fun_list(alloc, &program.decls)?;
+    let merges = merge_list(alloc, &program.decls)?;
+    Ok(assembled(program, funs, merges, uses, table))
 }
