@@ -1,1 +1,2 @@
-mod PostOrder
+pub mod PostOrder
+pub mod Decimals

@@ -2,11 +2,15 @@
 #![tactic(auto)]
 
 mod items;
+mod number;
 mod outcome;
 mod path;
+mod text;
 mod value;
 
 pub use items::{Bytes, Items};
+pub use number::{add, div, int_of_word, mul, neg, rem, sub, word_of_int};
 pub use outcome::{Cause, Outcome, Shown, Trap};
 pub use path::Path;
+pub use text::{append_decimal, read_decimal};
 pub use value::{NumFault, Value, ValueKind};
