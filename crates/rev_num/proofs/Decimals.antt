@@ -8,7 +8,7 @@ use Rattle.std.specs.Str.{all_ascii_digits, IsUtf8, IsAscii}
 use Rattle.std.specs.Str.Parse.{ParsesSigned}
 use Rattle.std.specs.Int.{w64}
 use Rattle.std.specs.Fmt.{decimal, signed_decimal}
-use Rattle.std.proofs.lemmas.Grind.{common_steps}
+use Rattle.std.proofs.lemmas.Fmt.{decimal_nonempty, digits_decimal, digits_value-decimal}
 use Rattle.std.proofs.lemmas.Str.{IsUtf8-from_ascii}
 use Rattle.std.proofs.lemmas.Str.Parse.{IsNumeralModel, numerals_by_weight, tells_all_ascii_digits, parse_signed_plain, parse_signed_minus}
 use Rattle.std.proofs.lemmas.Str.Ascii.{IsAscii-cons, IsAscii-nil, IsAscii-from_all}
@@ -202,3 +202,26 @@ is_none bytes (Some n) is = tt
 pub plus_first : (bytes : List ℕ) → starts_with nat_eq bytes (43 ∷ []) ≡ false → get_or bytes 0 0 ≢ 43
 plus_first [] h = λ plus. omega (arith, plus)
 plus_first (c ∷ cs) h = λ plus. grind (arith, rules)
+
+-- ---- what is written is read
+
+decimal_digits : (n : ℕ) → n < 2 ^ 64 → IsDigits (decimal n)
+decimal_digits n small = digits_from (decimal n) (digits_decimal own n small) (decimal_nonempty n small)
+
+pub decimal_in-signed_decimal : (n : ℤ) → fits_i64 n ≡ true → decimal_in (signed_decimal n) ≡ Some n
+decimal_in-signed_decimal (pos n) fits =
+    let small : n < 2 ^ 64 = omega (arith, pos_fits n fits) in
+    is-decimal_in (decimal n) (pos n) fits
+        (inl (record { digits = decimal_digits n small; value = ap pos (sym (digits_value-decimal own n small)) }))
+decimal_in-signed_decimal (negsuc n) fits =
+    let small : suc n < 2 ^ 64 = omega (arith, negsuc_fits n fits) in
+    is-decimal_in (45 ∷ decimal (suc n)) (negsuc n) fits
+        (inr (record {
+          behind = decimal (suc n);
+          minus = refl;
+          digits = decimal_digits (suc n) small;
+          value = ap (λ m. neg_ℤ (pos m)) (sym (digits_value-decimal own (suc n) small));
+        }))
+  where
+    negsuc_fits : (m : ℕ) → fits_i64 (negsuc m) ≡ true → m < 2 ^ 63
+    negsuc_fits m h = grind (arith, rules)

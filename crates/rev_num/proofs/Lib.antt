@@ -1,2 +1,3 @@
 pub mod PostOrder
 pub mod Decimals
+pub mod Dots

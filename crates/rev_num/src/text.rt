@@ -3,7 +3,9 @@
 ghost use Rattle.std.specs.Prelude.{◌≡◌, ◌++◌, OnOk, IfSome, IfNone, ℤ, IsTrue};
 ghost use Rattle.std.specs.Fmt.{signed_decimal};
 ghost use Rattle.rev_num.specs.Arith.{fits_i64};
+ghost use Rattle.std.specs.List.{flat_map};
 ghost use Rattle.rev_num.specs.Decimal.{IsDecimal, decimal_in};
+ghost use Rattle.rev_num.specs.Text.{behind_dot, path_text};
 
 use crate::path::Path;
 use itoa::Buffer;
@@ -29,5 +31,29 @@ pub fn append_decimal(text: &mut Vec<u8>, n: i64) -> Result<(), AllocError>
 {
     let mut buffer = Buffer::new();
     text.extend_from_slice(buffer.format(n).as_bytes())?;
+    Ok(())
+}
+
+/// Appends the numbers of the path with a dot between them, and `main` for the empty path.
+pub fn append_path(text: &mut Vec<u8>, path: &Path) -> Result<(), AllocError>
+    ensures { OnOk result (text.new.items ≡ text.old.items ++ path_text path.now) }
+{
+    match path.numbers() {
+        [] => text.extend_from_slice(b"main"),
+        [first, rest @ ..] => {
+            append_decimal(text, *first as i64)?;
+            append_behind_dots(text, rest)
+        }
+    }
+}
+
+/// Appends each number with a dot in front of it.
+fn append_behind_dots(text: &mut Vec<u8>, numbers: &[u32]) -> Result<(), AllocError>
+    ensures { OnOk result (text.new.items ≡ text.old.items ++ flat_map behind_dot numbers.now) }
+{
+    for number in numbers {
+        text.push(b'.')?;
+        append_decimal(text, *number as i64)?;
+    }
     Ok(())
 }
