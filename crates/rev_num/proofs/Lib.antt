@@ -1,1 +1,4 @@
-mod PostOrder
+pub mod PostOrder
+pub mod Decimals
+pub mod Dots
+pub mod Division
