@@ -1,5 +1,6 @@
 pub mod Definitions
 pub mod Expands
+pub mod Flat
 pub mod FunRules
 pub mod Least
 pub mod Names

@@ -4,3 +4,4 @@
 pub mod expand;
 pub mod table;
 pub mod uses;
+pub mod value;
