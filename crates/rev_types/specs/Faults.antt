@@ -1,0 +1,35 @@
+-- The places and the numbers of the static rules and limits.
+use Rattle.std.specs.Prelude.{ℕ}
+use Rattle.rev_types.specs.declared.fault.Which.{Which}
+use Rattle.rev_types.specs.declared.fault.Which.TheVariants.{Locations, Procedures, Funs, Parameters, Locals, Items, Weight}
+use Rattle.rev_types.specs.declared.fault.TypeFault.{TypeFault}
+use Rattle.rev_types.specs.declared.fault.TypeFault.TheVariants.{UnknownName, Redeclared, WrongType, WrongCount, NoReturn, LimitOf, OutOfMemory}
+
+abbrev pub place : TypeFault → ℕ
+place (UnknownName at) = at
+place (Redeclared at) = at
+place (WrongType at) = at
+place (WrongCount at) = at
+place (NoReturn at) = at
+place (LimitOf at which limit) = at
+place OutOfMemory = 0
+
+-- limits have the number 6; of two at one place the earlier in the list of limits counts
+abbrev pub order : Which → ℕ
+order Locations = 6
+order Procedures = 7
+order Funs = 8
+order Parameters = 9
+order Locals = 10
+order Items = 11
+order Weight = 12
+
+-- the number of a rule, by which two at one place are told apart
+abbrev pub rank : TypeFault → ℕ
+rank (UnknownName at) = 1
+rank (Redeclared at) = 2
+rank (WrongType at) = 3
+rank (WrongCount at) = 4
+rank (NoReturn at) = 5
+rank (LimitOf at which limit) = order which
+rank OutOfMemory = 13

@@ -1,0 +1,102 @@
+-- What names mean, and the kind of an expression, which its outermost form fixes.
+use Rattle.std.specs.Prelude.{ℕ, Bool, true, false, Option, Some, None, List}
+use Rattle.rev_num.specs.declared.value.ValueKind.{ValueKind}
+use Rattle.rev_num.specs.declared.value.ValueKind.TheVariants as k
+use Rattle.rev_syntax.specs.Trees.{Binder, Term, placed, Shape, Terms, Links, int, bool, no_rev, var, cell, apply, input, inputs, pick, unary, chain, no_links, link, Right, plain, called, forked, tried}
+use Rattle.rev_syntax.specs.declared.tree.UnaryOp.{UnaryOp}
+use Rattle.rev_syntax.specs.declared.tree.UnaryOp.TheVariants as u
+use Rattle.rev_syntax.specs.declared.tree.BinaryOp.{BinaryOp}
+use Rattle.rev_syntax.specs.declared.tree.BinaryOp.TheVariants as b
+use Rattle.merge_decl.specs.Names.{Name}
+use Rattle.merge_decl.specs.Table.{Table, find}
+use Rattle.rev_types.specs.declared.names.Holder.{Holder}
+
+-- a fun's or a procedure's parameters, and the kind of its result, if it has one
+pub record Callee : Type 0 where
+  pub params : List Binder
+  pub result : Option ValueKind
+
+-- what a name means as a shared variable, after `call` or `rfork`, and in an application; and
+-- whether this is inside a fun or a merge, where no shared variable and no input is known
+pub record Names : Type 0 where
+  pub shared : Name → Option Holder
+  pub procs : Name → Option Callee
+  pub funs : Name → Option Callee
+  pub inside : Bool
+
+-- the locals in scope, each with its kind. A local whose right side has no kind has none.
+abbrev pub Locals : Type 0
+Locals = Table (Option ValueKind)
+
+abbrev pub same_kind : ValueKind → ValueKind → Bool
+same_kind k.Int k.Int = true
+same_kind k.Bool k.Bool = true
+same_kind k.Rev k.Rev = true
+same_kind _ _ = false
+
+-- the kind of a name: of a local, or else of a shared variable
+abbrev pub name_kind : Option (Option ValueKind) → Option Holder → Option ValueKind
+name_kind (Some found) h = found
+name_kind None (Some h) = Some h.kind
+name_kind None None = None
+
+abbrev pub result_of : Option Callee → Option ValueKind
+result_of (Some f) = f.result
+result_of None = None
+
+abbrev pub operand_kind : UnaryOp → ValueKind
+operand_kind u.Neg = k.Int
+operand_kind u.Not = k.Bool
+
+-- the kind of what an operator gives
+abbrev pub given_kind : BinaryOp → ValueKind
+given_kind b.Add = k.Int
+given_kind b.Sub = k.Int
+given_kind b.Mul = k.Int
+given_kind b.Div = k.Int
+given_kind b.Rem = k.Int
+given_kind b.Eq = k.Bool
+given_kind b.Ne = k.Bool
+given_kind b.Lt = k.Bool
+given_kind b.Le = k.Bool
+given_kind b.Gt = k.Bool
+given_kind b.Ge = k.Bool
+given_kind b.And = k.Bool
+given_kind b.Or = k.Bool
+
+abbrev pub links_kind : Links → Option ValueKind
+links_kind no_links = None
+links_kind (link op e rest) = Some (given_kind op)
+
+abbrev mutual
+  pub kind_in : Names → Locals → Term → Option ValueKind
+  kind_in c l (placed at s) = shape_kind c l s
+
+  pub shape_kind : Names → Locals → Shape → Option ValueKind
+  shape_kind c l (int n) = Some k.Int
+  shape_kind c l (bool x) = Some k.Bool
+  shape_kind c l no_rev = Some k.Rev
+  shape_kind c l (var w) = name_kind (find w.text l) (c.shared w.text)
+  shape_kind c l (cell w index) = name_kind (find w.text l) (c.shared w.text)
+  shape_kind c l (apply w args) = result_of (c.funs w.text)
+  shape_kind c l (input at index) = Some k.Int
+  shape_kind c l (inputs at) = Some k.Int
+  shape_kind c l (pick test x y) = kind_in c l x
+  shape_kind c l (unary op part) = Some (operand_kind op)
+  shape_kind c l (chain first rest) = links_kind rest
+
+-- the kind of a right side
+abbrev pub right_kind : Names → Locals → Right → Option ValueKind
+right_kind c l (plain e) = kind_in c l e
+right_kind c l (called at w args) = result_of (c.procs w.text)
+right_kind c l (forked at w args) = Some k.Rev
+right_kind c l (tried at handle) = Some k.Bool
+
+abbrev pub term_place : Term → ℕ
+term_place (placed at s) = at
+
+abbrev pub right_place : Right → ℕ
+right_place (plain e) = term_place e
+right_place (called at w args) = at
+right_place (forked at w args) = at
+right_place (tried at handle) = at

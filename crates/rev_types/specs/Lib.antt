@@ -1,0 +1,6 @@
+pub mod Faults
+pub mod Kinds
+pub mod Program
+pub mod Rules
+pub mod Steps
+pub mod Walk

@@ -1,0 +1,95 @@
+//! Static rules and limits that a program breaks.
+
+ghost use Rattle.std.specs.Prelude.{◌≡◌};
+ghost use Rattle.merge_decl.specs.Least.{is_less, first_of};
+ghost use Rattle.rev_types.specs.Faults as rule;
+
+/// What a limit is on.
+#[derive(Clone, Copy, PartialEq, Eq, Debug, Drop)]
+pub enum Which {
+    Locations,
+    Procedures,
+    Funs,
+    Parameters,
+    Locals,
+    Items,
+    Weight,
+}
+
+/// A static rule or a limit that a program breaks, with its place.
+#[derive(Clone, Copy, PartialEq, Eq, Debug, Drop)]
+pub enum TypeFault {
+    UnknownName { at: u32 },
+    Redeclared { at: u32 },
+    WrongType { at: u32 },
+    WrongCount { at: u32 },
+    NoReturn { at: u32 },
+    LimitOf { at: u32, which: Which, limit: u32 },
+    OutOfMemory,
+}
+
+fn place(fault: TypeFault) -> u32
+    ensures { result ≡ rule.place fault }
+{
+    match fault {
+        TypeFault::UnknownName { at } => at,
+        TypeFault::Redeclared { at } => at,
+        TypeFault::WrongType { at } => at,
+        TypeFault::WrongCount { at } => at,
+        TypeFault::NoReturn { at } => at,
+        TypeFault::LimitOf { at, which: _, limit: _ } => at,
+        TypeFault::OutOfMemory => 0,
+    }
+}
+
+fn order(which: Which) -> u8
+    ensures { result ≡ rule.order which }
+{
+    match which {
+        Which::Locations => 6,
+        Which::Procedures => 7,
+        Which::Funs => 8,
+        Which::Parameters => 9,
+        Which::Locals => 10,
+        Which::Items => 11,
+        Which::Weight => 12,
+    }
+}
+
+fn rank(fault: TypeFault) -> u8
+    ensures { result ≡ rule.rank fault }
+{
+    match fault {
+        TypeFault::UnknownName { at: _ } => 1,
+        TypeFault::Redeclared { at: _ } => 2,
+        TypeFault::WrongType { at: _ } => 3,
+        TypeFault::WrongCount { at: _ } => 4,
+        TypeFault::NoReturn { at: _ } => 5,
+        TypeFault::LimitOf { at: _, which, limit: _ } => order(which),
+        TypeFault::OutOfMemory => 13,
+    }
+}
+
+/// Whether a fault is at a lesser place than another, or at the same with a lesser number.
+fn precedes(f: TypeFault, g: TypeFault) -> bool
+    ensures { result ≡ is_less (rule.place f) (rule.rank f) (rule.place g) (rule.rank g) }
+{
+    if place(f) < place(g) {
+        true
+    } else if place(g) < place(f) {
+        false
+    } else {
+        rank(f) < rank(g)
+    }
+}
+
+/// The first of two faults, either of which may be absent.
+pub fn first(a: Option<TypeFault>, b: Option<TypeFault>) -> Option<TypeFault>
+    ensures { result ≡ first_of rule.place rule.rank a b }
+{
+    match (a, b) {
+        (Some(f), Some(g)) => Some(if precedes(g, f) { g } else { f }),
+        (Some(f), None) => Some(f),
+        (None, b) => b,
+    }
+}

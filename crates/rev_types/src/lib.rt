@@ -1,0 +1,9 @@
+//! The static rules: scopes, kinds and limits.
+#![tactic(auto)]
+
+pub mod fault;
+pub mod kinds;
+pub mod names;
+pub mod steps;
+pub mod tables;
+pub mod terms;

@@ -1,0 +1,31 @@
+//! What the names of a program mean.
+
+use merge_decl::table::NameTable;
+use rev_num::ValueKind;
+use rev_syntax::tree::Param;
+
+/// A shared variable: the kind of its values, and whether it is an array.
+#[derive(Clone, Copy, PartialEq, Eq, Debug, Drop)]
+pub struct Holder {
+    pub kind: ValueKind,
+    pub array: bool,
+}
+
+/// A fun or a procedure: its parameters, and the kind of its result, if it has one.
+#[derive(Clone, Copy, Drop)]
+pub struct Callee<'a> {
+    pub params: &'a [Param],
+    pub result: Option<ValueKind>,
+}
+
+/// The locals in scope, each with its kind. A local whose right side has no kind has none.
+pub type Locals = NameTable<Option<ValueKind>>;
+
+/// What names mean: the shared variables, the procedures and the funs of a program. Inside a fun or
+/// a merge no shared variable and no input is known.
+pub struct Checker<'a> {
+    pub shared: &'a NameTable<Holder>,
+    pub procs: &'a NameTable<Callee<'a>>,
+    pub funs: &'a NameTable<Callee<'a>>,
+    pub inside: bool,
+}

@@ -1,0 +1,244 @@
+//! The rules on statements.
+
+ghost use Rattle.std.specs.Prelude.{◌≡◌, ◌-◌, false, length, map, option_map, IfOk, OnOk};
+ghost use Rattle.rev_syntax.specs.View.{act, arm as pair, arms, block, right, shown, stmt, term, word};
+ghost use Rattle.rev_types.specs.Kinds as kind;
+ghost use Rattle.rev_types.specs.Steps as steps;
+ghost use Rattle.rev_types.specs.Walk as rule;
+
+use crate::fault::{TypeFault, Which, first};
+use crate::kinds::{alike, array_use, name_kind, not_rev, scalar_use};
+use crate::names::{Checker, Holder, Locals};
+use crate::terms::right_place;
+use rev_num::ValueKind;
+use rev_syntax::tree::{Arm, Block, Expr, Form, Item, Name, Rhs, Stmt};
+use std::alloc::{AllocError, Global};
+
+/// The locals of a body: those in scope, and how many more there may be, up to and with the first
+/// past the limit.
+pub struct Body {
+    pub locals: Locals,
+    pub left: usize,
+}
+
+/// A name that a procedure declares, which no shared variable and no local in scope may have.
+pub fn new_local(
+    name: &Name,
+    local: Option<Option<ValueKind>>,
+    shared: Option<Holder>,
+) -> Option<TypeFault>
+    ensures { result ≡ rule.new_local (word name.now) local shared }
+{
+    let at = name.at;
+    if local.is_some() {
+        Some(TypeFault::Redeclared { at })
+    } else if shared.is_some() {
+        Some(TypeFault::Redeclared { at })
+    } else {
+        None
+    }
+}
+
+/// The local of this name, where this many are left.
+pub fn one_more_local(name: &Name, left: usize) -> Option<TypeFault>
+    ensures { result ≡ rule.one_more_local (word name.now) left }
+{
+    if left == 1 {
+        Some(TypeFault::LimitOf {
+            at: name.at,
+            which: Which::Locals,
+            limit: 64,
+        })
+    } else {
+        None
+    }
+}
+
+/// An item of a print, where this many are left.
+fn one_more_item(at: u32, left: usize) -> Option<TypeFault>
+    ensures { result ≡ rule.one_more_item at left }
+{
+    if left == 1 {
+        Some(TypeFault::LimitOf {
+            at,
+            which: Which::Items,
+            limit: 64,
+        })
+    } else {
+        None
+    }
+}
+
+impl<'a> Checker<'a> {
+    fn item(&self, locals: &Locals, left: usize, item: &Item) -> Option<TypeFault>
+        ensures { result ≡ steps.item_by None Some rule.both (rule.names_of self.now) locals.now left (shown item.now) }
+    {
+        match item {
+            Item::Text { at, bytes: _ } => one_more_item(*at, left),
+            Item::Value(e) => {
+                let seen = self.term(locals, e);
+                first(first(seen.fault, not_rev(e.at, seen.kind)), one_more_item(e.at, left))
+            }
+        }
+    }
+
+    /// The items of a print.
+    fn items(&self, locals: &Locals, all: &[Item]) -> Option<TypeFault>
+        ensures { result ≡ rule.items_by (rule.names_of self.now) locals.now 65 None (map shown all.now) }
+    {
+        let mut left = 65usize;
+        let mut found = None;
+        for it in all {
+            found = first(found, self.item(locals, left, it));
+            left = left.saturating_sub(1);
+        }
+        found
+    }
+
+    /// A `return` at this place, in a procedure with this result, or in `main` or one without.
+    fn returned(
+        &self,
+        locals: &Locals,
+        result_kind: Option<ValueKind>,
+        at: u32,
+        value: &Option<Expr>,
+    ) -> Option<TypeFault>
+        ensures { result ≡ rule.return_by (rule.names_of self.now) locals.now result_kind at (option_map term value.now) }
+    {
+        match (result_kind, value) {
+            (None, None) => None,
+            (None, Some(e)) => first(
+                self.term(locals, e).fault,
+                Some(TypeFault::WrongType { at: e.at }),
+            ),
+            (Some(_), None) => Some(TypeFault::WrongType { at }),
+            (Some(wanted), Some(e)) => self.part(locals, e, wanted),
+        }
+    }
+
+    /// The right side of an assignment to what has this kind.
+    fn assigned(&self, locals: &Locals, wanted: Option<ValueKind>, rhs: &Rhs) -> Option<TypeFault>
+        ensures { result ≡ rule.assigned (rule.names_of self.now) locals.now wanted (right rhs.now) }
+    {
+        let seen = self.right(locals, rhs);
+        first(seen.fault, alike(right_place(rhs), wanted, seen.kind))
+    }
+
+    /// An assignment to a scalar.
+    fn assign(&self, locals: &Locals, name: &Name, rhs: &Rhs) -> Option<TypeFault>
+        ensures { result ≡ steps.assign_by None Some rule.both (rule.names_of self.now) locals.now (word name.now) (right rhs.now) }
+    {
+        let local = locals.find(&name.text);
+        let shared = self.holder(name);
+        first(scalar_use(name, local, shared), self.assigned(locals, name_kind(local, shared), rhs))
+    }
+
+    /// An assignment to a cell.
+    fn assign_cell(&self, locals: &Locals, name: &Name, index: &Expr, value: &Expr) -> Option<TypeFault>
+        ensures { result ≡ steps.cell_by None Some rule.both (rule.names_of self.now) locals.now (word name.now) (term index.now) (term value.now) }
+    {
+        let local = locals.find(&name.text);
+        let shared = self.holder(name);
+        let target = array_use(name, local, shared);
+        let index = self.part(locals, index, ValueKind::Int);
+        let seen = self.term(locals, value);
+        let value = first(seen.fault, alike(value.at, name_kind(local, shared), seen.kind));
+        first(target, first(index, value))
+    }
+
+    /// A `let`, which binds its name from then on.
+    fn bind(&self, alloc: Global, body: &mut Body, name: &Name, rhs: &Rhs) -> Result<Option<TypeFault>, AllocError>
+        ensures fault { IfOk result (λ f. f ≡ steps.bind_by None Some rule.both (rule.names_of self.now) body.old.locals body.old.left (word name.now) (right rhs.now)) }
+        ensures locals { OnOk result (body.new.locals ≡ steps.bound (rule.names_of self.now) body.old.locals (word name.now) (right rhs.now)) }
+        ensures left { OnOk result (body.new.left ≡ body.old.left - 1) }
+    {
+        let seen = self.right(&body.locals, rhs);
+        let taken = new_local(name, body.locals.find(&name.text), self.holder(name));
+        let limit = one_more_local(name, body.left);
+        body.locals.add(alloc, &name.text, seen.kind)?;
+        body.left = body.left.saturating_sub(1);
+        Ok(first(seen.fault, first(taken, limit)))
+    }
+
+    /// A statement of a body, in a procedure with this result.
+    #[cycle(steps)]
+    fn stmt(&self, alloc: Global, result_kind: Option<ValueKind>, body: &mut Body, s: &Stmt) -> Result<Option<TypeFault>, AllocError>
+        ensures fault { IfOk result (λ f. f ≡ rule.step_by (rule.names_of self.now) result_kind body.old.locals body.old.left (stmt s.now)) }
+        ensures locals { OnOk result (body.new.locals ≡ steps.locals_after (rule.names_of self.now) body.old.locals (stmt s.now)) }
+        ensures left { OnOk result (body.new.left ≡ steps.left_after body.old.left (stmt s.now)) }
+    {
+        self.form(alloc, result_kind, body, s.at, &s.form)
+    }
+
+    #[cycle(steps)]
+    fn form(&self, alloc: Global, result_kind: Option<ValueKind>, body: &mut Body, at: u32, form: &Form) -> Result<Option<TypeFault>, AllocError>
+        ensures fault { IfOk result (λ f. f ≡ rule.act_by (rule.names_of self.now) result_kind body.old.locals body.old.left at (act form.now)) }
+        ensures locals { OnOk result (body.new.locals ≡ steps.act_locals (rule.names_of self.now) body.old.locals (act form.now)) }
+        ensures left { OnOk result (body.new.left ≡ steps.left_act body.old.left (act form.now)) }
+    {
+        match form {
+            Form::Let { name, rhs } => self.bind(alloc, body, name, rhs),
+            Form::Assign { name, rhs } => Ok(self.assign(&body.locals, name, rhs)),
+            Form::AssignCell { name, index, value } => {
+                Ok(self.assign_cell(&body.locals, name, index, value))
+            }
+            Form::If { arms, last } => {
+                let tested = self.arms(alloc, result_kind, body, arms)?;
+                match last {
+                    None => Ok(tested),
+                    Some(last) => Ok(first(tested, self.block(alloc, result_kind, body, last)?)),
+                }
+            }
+            Form::While { test, body: inner } => {
+                let test = self.part(&body.locals, test, ValueKind::Bool);
+                Ok(first(test, self.block(alloc, result_kind, body, inner)?))
+            }
+            Form::Call { name, args } => Ok(self.call(&body.locals, name, args)),
+            Form::Return { value } => Ok(self.returned(&body.locals, result_kind, at, value)),
+            Form::Fork { name, args } => Ok(self.call(&body.locals, name, args)),
+            Form::Join { handle } => Ok(self.part(&body.locals, handle, ValueKind::Rev)),
+            Form::Print { items } => Ok(self.items(&body.locals, items)),
+            Form::Assert { test } => Ok(self.part(&body.locals, test, ValueKind::Bool)),
+        }
+    }
+
+    /// A block. The locals that it binds are not in scope behind it.
+    #[cycle(steps)]
+    pub fn block(&self, alloc: Global, result_kind: Option<ValueKind>, body: &mut Body, b: &Block) -> Result<Option<TypeFault>, AllocError>
+        ensures fault { IfOk result (λ f. f ≡ rule.steps_by (rule.names_of self.now) result_kind body.old.locals body.old.left None (block b.now)) }
+        ensures locals { OnOk result (body.new.locals ≡ body.old.locals) }
+        ensures left { OnOk result (body.new.left ≡ steps.left_steps body.old.left (block b.now)) }
+    {
+        let depth = body.locals.len();
+        let mut found = None;
+        for s in &b.stmts {
+            found = first(found, self.stmt(alloc, result_kind, body, s)?);
+        }
+        body.locals.truncate(depth);
+        Ok(found)
+    }
+
+    /// The tests and blocks of an `if`.
+    #[cycle(steps)]
+    fn arms(&self, alloc: Global, result_kind: Option<ValueKind>, body: &mut Body, all: &[Arm]) -> Result<Option<TypeFault>, AllocError>
+        ensures fault { IfOk result (λ f. f ≡ rule.arms_by (rule.names_of self.now) result_kind body.old.locals body.old.left None (arms all.now)) }
+        ensures locals { OnOk result (body.new.locals ≡ body.old.locals) }
+        ensures left { OnOk result (body.new.left ≡ steps.left_arms body.old.left (arms all.now)) }
+    {
+        let mut found = None;
+        for arm in all {
+            found = first(found, self.arm(alloc, result_kind, body, arm)?);
+        }
+        Ok(found)
+    }
+
+    #[cycle(steps)]
+    fn arm(&self, alloc: Global, result_kind: Option<ValueKind>, body: &mut Body, a: &Arm) -> Result<Option<TypeFault>, AllocError>
+        ensures fault { IfOk result (λ f. f ≡ steps.arm_by None Some rule.both (rule.names_of self.now) result_kind body.old.locals body.old.left (pair a.now).0 (pair a.now).1) }
+        ensures locals { OnOk result (body.new.locals ≡ body.old.locals) }
+        ensures left { OnOk result (body.new.left ≡ steps.left_steps body.old.left (pair a.now).1) }
+    {
+        let test = self.part(&body.locals, &a.test, ValueKind::Bool);
+        Ok(first(test, self.block(alloc, result_kind, body, &a.body)?))
+    }
+}
