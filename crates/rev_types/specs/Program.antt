@@ -57,9 +57,9 @@ within es = record { shared = λ name. None; procs = proc_named es; funs = fun_n
 
 -- ---- weights
 
--- a weight past the limit counts as one past it
-abbrev pub capped : ℕ → ℕ
-capped n = min n 65537
+-- the sum of weights; a weight past the limit counts as one past it
+abbrev pub plus : ℕ → ℕ → ℕ
+plus a b = min (a + b) 65537
 
 abbrev pub known_weight : Option ℕ → ℕ
 known_weight None = 0
@@ -77,21 +77,21 @@ abbrev mutual
   shape_weight ws no_rev = 1
   shape_weight ws (var w) = 1
   shape_weight ws (inputs at) = 1
-  shape_weight ws (cell w index) = 1 + weight ws index
-  shape_weight ws (input at index) = 1 + weight ws index
-  shape_weight ws (apply w args) = terms_weight ws (1 + known_weight (find w.text ws)) args
-  shape_weight ws (pick test x y) = 1 + weight ws test + weight ws x + weight ws y
-  shape_weight ws (unary op part) = 1 + weight ws part
+  shape_weight ws (cell w index) = plus 1 (weight ws index)
+  shape_weight ws (input at index) = plus 1 (weight ws index)
+  shape_weight ws (apply w args) = terms_weight ws (plus 1 (known_weight (find w.text ws))) args
+  shape_weight ws (pick test x y) = plus (plus (plus 1 (weight ws test)) (weight ws x)) (weight ws y)
+  shape_weight ws (unary op part) = plus 1 (weight ws part)
   shape_weight ws (chain first rest) = links_weight ws (weight ws first) rest
 
   -- with this weight before
   pub terms_weight : Table ℕ → ℕ → Terms → ℕ
   terms_weight ws n no_terms = n
-  terms_weight ws n (term x xs) = terms_weight ws (n + weight ws x) xs
+  terms_weight ws n (term x xs) = terms_weight ws (plus n (weight ws x)) xs
 
   pub links_weight : Table ℕ → ℕ → Links → ℕ
   links_weight ws n no_links = n
-  links_weight ws n (link op x rest) = links_weight ws (n + 1 + weight ws x) rest
+  links_weight ws n (link op x rest) = links_weight ws (plus n (plus 1 (weight ws x))) rest
 
 -- ---- what earlier declarations declare
 
@@ -105,9 +105,9 @@ abbrev pub cells_of : Option Extent → ℕ
 cells_of None = 1
 cells_of (Some x) = size_cells x.cells
 
--- a size past the limit on locations counts as one past it
-abbrev pub capped_cells : ℕ → ℕ
-capped_cells n = min n 4097
+-- the locations of a variable; more than the limit count as one more than it
+abbrev pub cells_in : Option Extent → ℕ
+cells_in x = min (cells_of x) 4097
 
 -- the locations of cells after others; more than the limit count as one more than it
 abbrev pub located_after : ℕ → ℕ → ℕ
@@ -130,9 +130,9 @@ abbrev pub nothing_passed : Passed
 nothing_passed = record { number = 0; names = []; merges = []; merge_count = 0; weights = []; located = 0; procs_left = 257; funs_left = 257 }
 
 abbrev pub passed_with : Passed → Entry → Passed
-passed_with p (fun w ps r body) = record p { number = p.number + 1; names = added p.names w.text p.number; weights = added p.weights w.text (capped (weight p.weights body)); funs_left = p.funs_left - 1 }
+passed_with p (fun w ps r body) = record p { number = p.number + 1; names = added p.names w.text p.number; weights = added p.weights w.text (weight p.weights body); funs_left = p.funs_left - 1 }
 passed_with p (merge w m j r body) = record p { number = p.number + 1; names = added p.names w.text p.number; merges = added p.merges w.text p.merge_count; merge_count = p.merge_count + 1; funs_left = p.funs_left - 1 }
-passed_with p (shared x) = record p { number = p.number + 1; names = added p.names x.name.text p.number; located = located_after p.located (cells_of x.size) }
+passed_with p (shared x) = record p { number = p.number + 1; names = added p.names x.name.text p.number; located = located_after p.located (cells_in x.size) }
 passed_with p (proc w ps r body) = record p { number = p.number + 1; names = added p.names w.text p.number; procs_left = p.procs_left - 1 }
 
 -- ---- the tables of a program
@@ -143,7 +143,7 @@ merge_number ms None = None
 merge_number ms (Some w) = find w.text ms
 
 abbrev pub info : Passed → Variable → SharedInfo
-info p x = record { decl = p.number; base = p.located; cells = capped_cells (cells_of x.size); array = is_some x.size; merge = merge_number p.merges x.by }
+info p x = record { decl = p.number; base = p.located; cells = cells_in x.size; array = is_some x.size; merge = merge_number p.merges x.by }
 
 -- the shared variables in order, each with its first location, its cells and its merge
 abbrev pub infos : Passed → List Entry → List SharedInfo
@@ -259,29 +259,48 @@ module _ {M : Type 0} (none : M) (one : TypeFault → M) (both : M → M → M) 
   return_use w None b = none
   return_use w (Some found) b = if b then none else one (NoReturn w.at)
 
-  -- a declaration, in a program of these declarations, after these
-  abbrev pub entry_by : List Entry → Passed → Entry → M
-  entry_by all p (fun w ps r body) =
+  abbrev pub fun_by : Names → Passed → Word → List Binder → ValueKind → Term → M
+  fun_by inner p w ps r body =
       both (both (new_name w p.names) (limit_at w.at which.Funs 256 p.funs_left))
       (both (both (fun_params [] 9 none ps) (fun_result w r))
-      (both (fun_body (within all) (with_params [] ps) r body) (weight_of w (capped (weight p.weights body)))))
-  entry_by all p (merge w m j r body) =
+      (both (fun_body inner (with_params [] ps) r body) (weight_of w (weight p.weights body))))
+
+  abbrev pub merge_by : Names → Passed → Word → Word → Word → Word → Term → M
+  merge_by inner p w m j r body =
       both (both (new_name w p.names) (limit_at w.at which.Funs 256 p.funs_left))
       (both (merge_params m j r)
-      (both (part_by none one both (within all) (merge_locals m j r) body k.Int) (weight_of w (capped (weight p.weights body)))))
-  entry_by all p (shared x) =
-      both (both (new_name x.name p.names) (location_limit x.name p.located (located_after p.located (cells_of x.size))))
+      (both (part_by none one both inner (merge_locals m j r) body k.Int) (weight_of w (weight p.weights body))))
+
+  abbrev pub shared_by : Passed → Variable → M
+  shared_by p x =
+      both (both (new_name x.name p.names) (location_limit x.name p.located (located_after p.located (cells_in x.size))))
       (both (both (by_use p.merges x.by) (cumulative_kind x.by x.kind_at x.holds)) (both (size_use x.size) (first_value x.first x.holds)))
-  entry_by all p (proc w ps r body) =
+
+  abbrev pub proc_by : Names → Passed → Word → List Binder → Option ValueKind → Steps → M
+  proc_by outer p w ps r body =
       both (both (new_name w p.names) (limit_at w.at which.Procedures 256 p.procs_left))
-      (both (both (proc_params (outside all) [] 9 65 none ps) (return_use w r (returns body)))
-      (steps_by none one both (outside all) r (with_params [] ps) (left_params 65 ps) none body))
+      (both (both (proc_params outer [] 9 65 none ps) (return_use w r (returns body)))
+      (steps_by none one both outer r (with_params [] ps) (left_params 65 ps) none body))
+
+  -- a declaration, where names mean this outside of funs and merges, and this inside, after these
+  abbrev pub entry_by : Names → Names → Passed → Entry → M
+  entry_by outer inner p (fun w ps r body) = fun_by inner p w ps r body
+  entry_by outer inner p (merge w m j r body) = merge_by inner p w m j r body
+  entry_by outer inner p (shared x) = shared_by p x
+  entry_by outer inner p (proc w ps r body) = proc_by outer p w ps r body
 
   -- declarations, where these faults were found before
-  abbrev pub entries_by : List Entry → Passed → M → List Entry → M
-  entries_by all p found [] = found
-  entries_by all p found (e ∷ es) = entries_by all (passed_with p e) (both found (entry_by all p e)) es
+  abbrev pub entries_by : Names → Names → Passed → M → List Entry → M
+  entries_by outer inner p found [] = found
+  entries_by outer inner p found (e ∷ es) = entries_by outer inner (passed_with p e) (both found (entry_by outer inner p e)) es
 
   abbrev pub program_by : Whole → M
   program_by p =
-      both (entries_by p.entries nothing_passed none p.entries) (steps_by none one both (outside p.entries) None [] 65 none p.main)
+      both (entries_by (outside p.entries) (within p.entries) nothing_passed none p.entries)
+      (steps_by none one both (outside p.entries) None [] 65 none p.main)
+
+-- ---- well-typed programs
+
+-- all rules and limits that a program breaks
+abbrev pub faults : Whole → List TypeFault
+faults p = program_by [] (λ f. f ∷ []) (λ xs ys. xs ++ ys) p

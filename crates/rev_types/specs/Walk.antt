@@ -131,3 +131,59 @@ steps_by = s.steps_by None Some both
 
 abbrev pub arms_by : Names → Option ValueKind → Locals → ℕ → Fault → Arms → Fault
 arms_by = s.arms_by None Some both
+
+-- ---- declarations
+
+abbrev pub new_name : Word → Table ℕ → Fault
+new_name = p.new_name None Some both
+
+abbrev pub limit_at : ℕ → Which → ℕ → ℕ → Fault
+limit_at = p.limit_at None Some both
+
+abbrev pub new_param : Word → Locals → Fault
+new_param = p.new_param None Some both
+
+abbrev pub fun_params : Locals → ℕ → Fault → List Binder → Fault
+fun_params = p.fun_params None Some both
+
+abbrev pub proc_params : Names → Locals → ℕ → ℕ → Fault → List Binder → Fault
+proc_params = p.proc_params None Some both
+
+abbrev pub merge_params : Word → Word → Word → Fault
+merge_params = p.merge_params None Some both
+
+abbrev pub weight_of : Word → ℕ → Fault
+weight_of = p.weight_of None Some both
+
+abbrev pub fun_result : Word → ValueKind → Fault
+fun_result = p.fun_result None Some both
+
+abbrev pub fun_body : Names → Locals → ValueKind → Term → Fault
+fun_body = p.fun_body None Some both
+
+abbrev pub by_use : Table ℕ → Option Word → Fault
+by_use = p.by_use None Some both
+
+abbrev pub cumulative_kind : Option Word → ℕ → ValueKind → Fault
+cumulative_kind = p.cumulative_kind None Some both
+
+abbrev pub size_use : Option Extent → Fault
+size_use = p.size_use None Some both
+
+abbrev pub first_value : Option Constant → ValueKind → Fault
+first_value = p.first_value None Some both
+
+abbrev pub location_limit : Word → ℕ → ℕ → Fault
+location_limit = p.location_limit None Some both
+
+abbrev pub return_use : Word → Option ValueKind → Bool → Fault
+return_use = p.return_use None Some both
+
+abbrev pub entry_by : Names → Names → p.Passed → Entry → Fault
+entry_by = p.entry_by None Some both
+
+abbrev pub entries_by : Names → Names → p.Passed → Fault → List Entry → Fault
+entries_by = p.entries_by None Some both
+
+abbrev pub program_by : Whole → Fault
+program_by = p.program_by None Some both
