@@ -21,156 +21,147 @@ use Rattle.rev_types.specs.Steps as s
 use Rattle.rev_types.specs.Program as p
 use Rattle.rev_types.specs.Walk as w
 
-abbrev All : Type 0
-All = List TypeFault
+-- Two ways to gather faults, the second of which is the first seen by h.
+module _ {M N : Type 0} (none : M) (one : TypeFault → M) (both : M → M → M) (none' : N) (one' : TypeFault → N) (both' : N → N → N)
+    (h : M → N) (h-none : h none ≡ none') (h-one : (f : TypeFault) → h (one f) ≡ one' f) (h-both : (x y : M) → h (both x y) ≡ both' (h x) (h y)) where
+  -- two parts
+  pub two : (x y : M) (x' y' : N) → h x ≡ x' → h y ≡ y' → h (both x y) ≡ both' x' y'
+  two x y x' y' p q = h-both x y ∙ (λ i. both' (p i) (q i))
 
-abbrev one : TypeFault → All
-one f = f ∷ []
+  -- a choice that a test makes
+  test : (b : Bool) (x y : M) (x' y' : N) → h x ≡ x' → h y ≡ y' → h (if b then x else y) ≡ (if b then x' else y')
+  test true x y x' y' p q = p
+  test false x y x' y' p q = q
 
-abbrev join_all : All → All → All
-join_all xs ys = xs ++ ys
+  -- ---- operands and names
 
-abbrev pub first : All → w.Fault
-first fs = least place rank fs
+  wants : (at : ℕ) (found : Option ValueKind) (wanted : ValueKind) → h (r.wants none one both at found wanted) ≡ r.wants none' one' both' at found wanted
+  wants at None wanted = h-none
+  wants at (Some found) wanted = test (same_kind found wanted) _ _ _ _ h-none (h-one _)
 
--- two parts
-pub two : (x y : All) (x' y' : w.Fault) → first x ≡ x' → first y ≡ y' → first (x ++ y) ≡ w.both x' y'
-two x y x' y' p q = least-append place rank x y ∙ (λ i. w.both (p i) (q i))
+  not_rev : (at : ℕ) (found : Option ValueKind) → h (r.not_rev none one both at found) ≡ r.not_rev none' one' both' at found
+  not_rev at None = h-none
+  not_rev at (Some k.Int) = h-none
+  not_rev at (Some k.Bool) = h-none
+  not_rev at (Some k.Rev) = h-one _
 
--- a choice that a test makes
-test : (b : Bool) (x y : All) (x' y' : w.Fault) → first x ≡ x' → first y ≡ y' → first (if b then x else y) ≡ (if b then x' else y')
-test true x y x' y' p q = p
-test false x y x' y' p q = q
+  alike : (at : ℕ) (wanted found : Option ValueKind) → h (r.alike none one both at wanted found) ≡ r.alike none' one' both' at wanted found
+  alike at None found = h-none
+  alike at (Some wanted) found = wants at found wanted
 
--- ---- operands and names
+  fits : (at : ℕ) (found : Option ValueKind) (p : Option Binder) → h (r.fits none one both at found p) ≡ r.fits none' one' both' at found p
+  fits at found None = h-none
+  fits at found (Some p) = wants at found p.kind
 
-wants : (at : ℕ) (found : Option ValueKind) (wanted : ValueKind) → first (r.wants [] one join_all at found wanted) ≡ w.wants at found wanted
-wants at None wanted = refl
-wants at (Some found) wanted = test (same_kind found wanted) _ _ _ _ refl refl
+  scalar_use : (n : Word) (l : Option (Option ValueKind)) (o : Option Holder) → h (r.scalar_use none one both n l o) ≡ r.scalar_use none' one' both' n l o
+  scalar_use n (Some found) o = h-none
+  scalar_use n None (Some o) = test o.array _ _ _ _ (h-one _) h-none
+  scalar_use n None None = h-one _
 
-not_rev : (at : ℕ) (found : Option ValueKind) → first (r.not_rev [] one join_all at found) ≡ w.not_rev at found
-not_rev at None = refl
-not_rev at (Some k.Int) = refl
-not_rev at (Some k.Bool) = refl
-not_rev at (Some k.Rev) = refl
+  array_use : (n : Word) (l : Option (Option ValueKind)) (o : Option Holder) → h (r.array_use none one both n l o) ≡ r.array_use none' one' both' n l o
+  array_use n (Some found) o = h-one _
+  array_use n None (Some o) = test o.array _ _ _ _ h-none (h-one _)
+  array_use n None None = h-one _
 
-alike : (at : ℕ) (wanted found : Option ValueKind) → first (r.alike [] one join_all at wanted found) ≡ w.alike at wanted found
-alike at None found = refl
-alike at (Some wanted) found = wants at found wanted
+  input_use : (inside : Bool) (at : ℕ) → h (r.input_use none one both inside at) ≡ r.input_use none' one' both' inside at
+  input_use true at = h-one _
+  input_use false at = h-none
 
-fits : (at : ℕ) (found : Option ValueKind) (p : Option Binder) → first (r.fits [] one join_all at found p) ≡ w.fits at found p
-fits at found None = refl
-fits at found (Some p) = wants at found p.kind
+  left_operand : (op : BinaryOp) (at : ℕ) (found : Option ValueKind) → h (r.left_operand none one both op at found) ≡ r.left_operand none' one' both' op at found
+  left_operand b.Add at found = wants at found k.Int
+  left_operand b.Sub at found = wants at found k.Int
+  left_operand b.Mul at found = wants at found k.Int
+  left_operand b.Div at found = wants at found k.Int
+  left_operand b.Rem at found = wants at found k.Int
+  left_operand b.Eq at found = not_rev at found
+  left_operand b.Ne at found = not_rev at found
+  left_operand b.Lt at found = wants at found k.Int
+  left_operand b.Le at found = wants at found k.Int
+  left_operand b.Gt at found = wants at found k.Int
+  left_operand b.Ge at found = wants at found k.Int
+  left_operand b.And at found = wants at found k.Bool
+  left_operand b.Or at found = wants at found k.Bool
 
-scalar_use : (n : Word) (l : Option (Option ValueKind)) (h : Option Holder) → first (r.scalar_use [] one join_all n l h) ≡ w.scalar_use n l h
-scalar_use n (Some found) h = refl
-scalar_use n None (Some h) = test h.array _ _ _ _ refl refl
-scalar_use n None None = refl
+  ordered : (left : Option ValueKind) (at : ℕ) (found : Option ValueKind)
+      → h (both (r.wants none one both at found k.Int) (r.alike none one both at left found)) ≡ both' (r.wants none' one' both' at found k.Int) (r.alike none' one' both' at left found)
+  ordered left at found = two _ _ _ _ (wants at found k.Int) (alike at left found)
 
-array_use : (n : Word) (l : Option (Option ValueKind)) (h : Option Holder) → first (r.array_use [] one join_all n l h) ≡ w.array_use n l h
-array_use n (Some found) h = refl
-array_use n None (Some h) = test h.array _ _ _ _ refl refl
-array_use n None None = refl
+  right_operand : (op : BinaryOp) (left : Option ValueKind) (at : ℕ) (found : Option ValueKind) → h (r.right_operand none one both op left at found) ≡ r.right_operand none' one' both' op left at found
+  right_operand b.Add left at found = wants at found k.Int
+  right_operand b.Sub left at found = wants at found k.Int
+  right_operand b.Mul left at found = wants at found k.Int
+  right_operand b.Div left at found = wants at found k.Int
+  right_operand b.Rem left at found = wants at found k.Int
+  right_operand b.Eq left at found = alike at left found
+  right_operand b.Ne left at found = alike at left found
+  right_operand b.Lt left at found = ordered left at found
+  right_operand b.Le left at found = ordered left at found
+  right_operand b.Gt left at found = ordered left at found
+  right_operand b.Ge left at found = ordered left at found
+  right_operand b.And left at found = wants at found k.Bool
+  right_operand b.Or left at found = wants at found k.Bool
 
-input_use : (inside : Bool) (at : ℕ) → first (r.input_use [] one join_all inside at) ≡ w.input_use inside at
-input_use true at = refl
-input_use false at = refl
+  first_operand : (ls : Links) (at : ℕ) (found : Option ValueKind) → h (r.first_operand none one both ls at found) ≡ r.first_operand none' one' both' ls at found
+  first_operand no_links at found = h-none
+  first_operand (link op e rest) at found = left_operand op at found
 
-left_operand : (op : BinaryOp) (at : ℕ) (found : Option ValueKind) → first (r.left_operand [] one join_all op at found) ≡ w.left_operand op at found
-left_operand b.Add at found = wants at found k.Int
-left_operand b.Sub at found = wants at found k.Int
-left_operand b.Mul at found = wants at found k.Int
-left_operand b.Div at found = wants at found k.Int
-left_operand b.Rem at found = wants at found k.Int
-left_operand b.Eq at found = not_rev at found
-left_operand b.Ne at found = not_rev at found
-left_operand b.Lt at found = wants at found k.Int
-left_operand b.Le at found = wants at found k.Int
-left_operand b.Gt at found = wants at found k.Int
-left_operand b.Ge at found = wants at found k.Int
-left_operand b.And at found = wants at found k.Bool
-left_operand b.Or at found = wants at found k.Bool
+  -- ---- expressions
 
-ordered : (left : Option ValueKind) (at : ℕ) (found : Option ValueKind)
-    → first (r.wants [] one join_all at found k.Int ++ r.alike [] one join_all at left found) ≡ w.both (w.wants at found k.Int) (w.alike at left found)
-ordered left at found = two _ _ _ _ (wants at found k.Int) (alike at left found)
+  mutual
+    pub terms_first : (c : Names) (l : Locals) (e : Term) → h (r.term_by none one both c l e) ≡ r.term_by none' one' both' c l e
+    terms_first c l (placed at s) = shape_first c l s
 
-right_operand : (op : BinaryOp) (left : Option ValueKind) (at : ℕ) (found : Option ValueKind) → first (r.right_operand [] one join_all op left at found) ≡ w.right_operand op left at found
-right_operand b.Add left at found = wants at found k.Int
-right_operand b.Sub left at found = wants at found k.Int
-right_operand b.Mul left at found = wants at found k.Int
-right_operand b.Div left at found = wants at found k.Int
-right_operand b.Rem left at found = wants at found k.Int
-right_operand b.Eq left at found = alike at left found
-right_operand b.Ne left at found = alike at left found
-right_operand b.Lt left at found = ordered left at found
-right_operand b.Le left at found = ordered left at found
-right_operand b.Gt left at found = ordered left at found
-right_operand b.Ge left at found = ordered left at found
-right_operand b.And left at found = wants at found k.Bool
-right_operand b.Or left at found = wants at found k.Bool
+    shape_first : (c : Names) (l : Locals) (s : Shape) → h (r.shape_by none one both c l s) ≡ r.shape_by none' one' both' c l s
+    shape_first c l (int n) = h-none
+    shape_first c l (bool x) = h-none
+    shape_first c l no_rev = h-none
+    shape_first c l (var n) = scalar_use n (find n.text l) (c.shared n.text)
+    shape_first c l (cell n index) =
+        two _ _ _ _ (array_use n (find n.text l) (c.shared n.text)) (two _ _ _ _ (terms_first c l index) (wants (term_place index) (kind_in c l index) k.Int))
+    shape_first c l (apply n args) = args_first c l (r.params_of none one both (c.funs n.text)) 0 none none' args h-none
+    shape_first c l (input at index) =
+        two _ _ _ _ (input_use c.inside at) (two _ _ _ _ (terms_first c l index) (wants (term_place index) (kind_in c l index) k.Int))
+    shape_first c l (inputs at) = input_use c.inside at
+    shape_first c l (pick t x y) =
+        two _ _ _ _ (two _ _ _ _ (terms_first c l t) (wants (term_place t) (kind_in c l t) k.Bool))
+        (two _ _ _ _ (two _ _ _ _ (terms_first c l x) (terms_first c l y)) (alike (term_place y) (kind_in c l x) (kind_in c l y)))
+    shape_first c l (unary op e) = two _ _ _ _ (terms_first c l e) (wants (term_place e) (kind_in c l e) (operand_kind op))
+    shape_first c l (chain e rest) =
+        links_first c l (kind_in c l e) _ _ rest (two _ _ _ _ (terms_first c l e) (first_operand rest (term_place e) (kind_in c l e)))
 
-first_operand : (ls : Links) (at : ℕ) (found : Option ValueKind) → first (r.first_operand [] one join_all ls at found) ≡ w.first_operand ls at found
-first_operand no_links at found = refl
-first_operand (link op e rest) at found = left_operand op at found
+    args_first : (c : Names) (l : Locals) (ps : List Binder) (n : ℕ) (x : M) (x' : N) (ts : Terms) → h x ≡ x'
+        → h (r.args_by none one both c l ps n x ts) ≡ r.args_by none' one' both' c l ps n x' ts
+    args_first c l ps n x x' no_terms p = p
+    args_first c l ps n x x' (term e es) p =
+        args_first c l ps (n + 1) _ _ es (two _ _ _ _ p (two _ _ _ _ (terms_first c l e) (fits (term_place e) (kind_in c l e) (slice_get ps n))))
 
--- ---- expressions
+    links_first : (c : Names) (l : Locals) (left : Option ValueKind) (x : M) (x' : N) (ls : Links) → h x ≡ x'
+        → h (r.links_by none one both c l left x ls) ≡ r.links_by none' one' both' c l left x' ls
+    links_first c l left x x' no_links p = p
+    links_first c l left x x' (link op e rest) p =
+        links_first c l left _ _ rest (two _ _ _ _ p (two _ _ _ _ (terms_first c l e) (right_operand op left (term_place e) (kind_in c l e))))
 
-mutual
-  pub terms_first : (c : Names) (l : Locals) (e : Term) → first (r.term_by [] one join_all c l e) ≡ w.term_by c l e
-  terms_first c l (placed at s) = shape_first c l s
+  part_first : (c : Names) (l : Locals) (e : Term) (wanted : ValueKind) → h (r.part_by none one both c l e wanted) ≡ r.part_by none' one' both' c l e wanted
+  part_first c l e wanted = two _ _ _ _ (terms_first c l e) (wants (term_place e) (kind_in c l e) wanted)
 
-  shape_first : (c : Names) (l : Locals) (s : Shape) → first (r.shape_by [] one join_all c l s) ≡ w.shape_by c l s
-  shape_first c l (int n) = refl
-  shape_first c l (bool x) = refl
-  shape_first c l no_rev = refl
-  shape_first c l (var n) = scalar_use n (find n.text l) (c.shared n.text)
-  shape_first c l (cell n index) =
-      two _ _ _ _ (array_use n (find n.text l) (c.shared n.text)) (two _ _ _ _ (terms_first c l index) (wants (term_place index) (kind_in c l index) k.Int))
-  shape_first c l (apply n args) = args_first c l (w.params_of (c.funs n.text)) 0 [] None args refl
-  shape_first c l (input at index) =
-      two _ _ _ _ (input_use c.inside at) (two _ _ _ _ (terms_first c l index) (wants (term_place index) (kind_in c l index) k.Int))
-  shape_first c l (inputs at) = input_use c.inside at
-  shape_first c l (pick t x y) =
-      two _ _ _ _ (two _ _ _ _ (terms_first c l t) (wants (term_place t) (kind_in c l t) k.Bool))
-      (two _ _ _ _ (two _ _ _ _ (terms_first c l x) (terms_first c l y)) (alike (term_place y) (kind_in c l x) (kind_in c l y)))
-  shape_first c l (unary op e) = two _ _ _ _ (terms_first c l e) (wants (term_place e) (kind_in c l e) (operand_kind op))
-  shape_first c l (chain e rest) =
-      links_first c l (kind_in c l e) _ _ rest (two _ _ _ _ (terms_first c l e) (first_operand rest (term_place e) (kind_in c l e)))
+  callee_use : (n : Word) (k : ℕ) (f : Option Callee) → h (r.callee_use none one both n k f) ≡ r.callee_use none' one' both' n k f
+  callee_use n k None = h-one _
+  callee_use n k (Some f) = test (nat_eq k (length f.params)) _ _ _ _ h-none (h-one _)
 
-  args_first : (c : Names) (l : Locals) (ps : List Binder) (n : ℕ) (x : All) (x' : w.Fault) (ts : Terms) → first x ≡ x'
-      → first (r.args_by [] one join_all c l ps n x ts) ≡ w.args_by c l ps n x' ts
-  args_first c l ps n x x' no_terms p = p
-  args_first c l ps n x x' (term e es) p =
-      args_first c l ps (n + 1) _ _ es (two _ _ _ _ p (two _ _ _ _ (terms_first c l e) (fits (term_place e) (kind_in c l e) (slice_get ps n))))
+  call_first : (c : Names) (l : Locals) (n : Word) (args : Terms) → h (r.call_by none one both c l n args) ≡ r.call_by none' one' both' c l n args
+  call_first c l n args =
+      two _ _ _ _ (callee_use n (count args) (c.procs n.text)) (args_first c l (r.params_of none one both (c.procs n.text)) 0 none none' args h-none)
 
-  links_first : (c : Names) (l : Locals) (left : Option ValueKind) (x : All) (x' : w.Fault) (ls : Links) → first x ≡ x'
-      → first (r.links_by [] one join_all c l left x ls) ≡ w.links_by c l left x' ls
-  links_first c l left x x' no_links p = p
-  links_first c l left x x' (link op e rest) p =
-      links_first c l left _ _ rest (two _ _ _ _ p (two _ _ _ _ (terms_first c l e) (right_operand op left (term_place e) (kind_in c l e))))
+  has_result : (at : ℕ) (found : Option ValueKind) → h (r.has_result none one both at found) ≡ r.has_result none' one' both' at found
+  has_result at None = h-one _
+  has_result at (Some found) = h-none
 
-part_first : (c : Names) (l : Locals) (e : Term) (wanted : ValueKind) → first (r.part_by [] one join_all c l e wanted) ≡ w.part_by c l e wanted
-part_first c l e wanted = two _ _ _ _ (terms_first c l e) (wants (term_place e) (kind_in c l e) wanted)
+  result_use : (at : ℕ) (f : Option Callee) → h (r.result_use none one both at f) ≡ r.result_use none' one' both' at f
+  result_use at None = h-none
+  result_use at (Some f) = has_result at f.result
 
-callee_use : (n : Word) (k : ℕ) (f : Option Callee) → first (r.callee_use [] one join_all n k f) ≡ w.callee_use n k f
-callee_use n k None = refl
-callee_use n k (Some f) = test (nat_eq k (length f.params)) _ _ _ _ refl refl
-
-call_first : (c : Names) (l : Locals) (n : Word) (args : Terms) → first (r.call_by [] one join_all c l n args) ≡ w.call_by c l n args
-call_first c l n args =
-    two _ _ _ _ (callee_use n (count args) (c.procs n.text)) (args_first c l (w.params_of (c.procs n.text)) 0 [] None args refl)
-
-has_result : (at : ℕ) (found : Option ValueKind) → first (r.has_result [] one join_all at found) ≡ r.has_result None Some w.both at found
-has_result at None = refl
-has_result at (Some found) = refl
-
-result_use : (at : ℕ) (f : Option Callee) → first (r.result_use [] one join_all at f) ≡ w.result_use at f
-result_use at None = refl
-result_use at (Some f) = has_result at f.result
-
-right_first : (c : Names) (l : Locals) (x : Right) → first (r.right_by [] one join_all c l x) ≡ w.right_by c l x
-right_first c l (plain e) = terms_first c l e
-right_first c l (called at n args) = two _ _ _ _ (result_use n.at (c.procs n.text)) (call_first c l n args)
-right_first c l (forked at n args) = call_first c l n args
-right_first c l (tried at e) = part_first c l e k.Rev
+  right_first : (c : Names) (l : Locals) (x : Right) → h (r.right_by none one both c l x) ≡ r.right_by none' one' both' c l x
+  right_first c l (plain e) = terms_first c l e
+  right_first c l (called at n args) = two _ _ _ _ (result_use n.at (c.procs n.text)) (call_first c l n args)
+  right_first c l (forked at n args) = call_first c l n args
+  right_first c l (tried at e) = part_first c l e k.Rev
