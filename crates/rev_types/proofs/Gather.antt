@@ -13,6 +13,7 @@ use Rattle.merge_decl.specs.Least.{first_of, least}
 use Rattle.merge_decl.proofs.Leasts.{least-append}
 use Rattle.rev_types.specs.declared.fault.TypeFault.{TypeFault}
 use Rattle.rev_types.specs.declared.fault.Which.{Which}
+use Rattle.rev_types.specs.declared.fault.Which.TheVariants as which
 use Rattle.rev_types.specs.declared.names.Holder.{Holder}
 use Rattle.rev_types.specs.Faults.{place, rank}
 use Rattle.rev_types.specs.Kinds.{Callee, Names, Locals, same_kind, name_kind, operand_kind, kind_in, right_kind, right_place, term_place}
@@ -165,3 +166,164 @@ module _ {M N : Type 0} (none : M) (one : TypeFault → M) (both : M → M → M
   right_first c l (called at n args) = two _ _ _ _ (result_use n.at (c.procs n.text)) (call_first c l n args)
   right_first c l (forked at n args) = call_first c l n args
   right_first c l (tried at e) = part_first c l e k.Rev
+
+  -- ---- statements
+
+  new_local : (n : Word) (found : Option (Option ValueKind)) (o : Option Holder) → h (s.new_local none one both n found o) ≡ s.new_local none' one' both' n found o
+  new_local n found o = test (is_some found) _ _ _ _ (h-one _) (test (is_some o) _ _ _ _ (h-one _) h-none)
+
+  one_more_local : (n : Word) (left : ℕ) → h (s.one_more_local none one both n left) ≡ s.one_more_local none' one' both' n left
+  one_more_local n left = test (nat_eq left 1) _ _ _ _ (h-one _) h-none
+
+  one_more_item : (at left : ℕ) → h (s.one_more_item none one both at left) ≡ s.one_more_item none' one' both' at left
+  one_more_item at left = test (nat_eq left 1) _ _ _ _ (h-one _) h-none
+
+  item_first : (c : Names) (l : Locals) (left : ℕ) (x : Shown) → h (s.item_by none one both c l left x) ≡ s.item_by none' one' both' c l left x
+  item_first c l left (text at bytes) = one_more_item at left
+  item_first c l left (shown e) =
+      two _ _ _ _ (two _ _ _ _ (terms_first c l e) (not_rev (term_place e) (kind_in c l e))) (one_more_item (term_place e) left)
+
+  items_first : (c : Names) (l : Locals) (left : ℕ) (x : M) (x' : N) (is : List Shown) → h x ≡ x'
+      → h (s.items_by none one both c l left x is) ≡ s.items_by none' one' both' c l left x' is
+  items_first c l left x x' [] p = p
+  items_first c l left x x' (i ∷ is) p = items_first c l (left - 1) _ _ is (two _ _ _ _ p (item_first c l left i))
+
+  return_first : (c : Names) (l : Locals) (result : Option ValueKind) (at : ℕ) (e : Option Term) → h (s.return_by none one both c l result at e) ≡ s.return_by none' one' both' c l result at e
+  return_first c l None at None = h-none
+  return_first c l None at (Some e) = two _ _ _ _ (terms_first c l e) (h-one _)
+  return_first c l (Some wanted) at None = h-one _
+  return_first c l (Some wanted) at (Some e) = part_first c l e wanted
+
+  assigned_first : (c : Names) (l : Locals) (wanted : Option ValueKind) (x : Right) → h (s.assigned none one both c l wanted x) ≡ s.assigned none' one' both' c l wanted x
+  assigned_first c l wanted x = two _ _ _ _ (right_first c l x) (alike (right_place x) wanted (right_kind c l x))
+
+  cell_first : (c : Names) (l : Locals) (n : Word) (index e : Term) → h (s.cell_by none one both c l n index e) ≡ s.cell_by none' one' both' c l n index e
+  cell_first c l n index e =
+      two _ _ _ _ (array_use n (find n.text l) (c.shared n.text)) (two _ _ _ _ (part_first c l index k.Int)
+      (two _ _ _ _ (terms_first c l e) (alike (term_place e) (name_kind (find n.text l) (c.shared n.text)) (kind_in c l e))))
+
+  mutual
+    step_first : (c : Names) (result : Option ValueKind) (l : Locals) (left : ℕ) (x : Step) → h (s.step_by none one both c result l left x) ≡ s.step_by none' one' both' c result l left x
+    step_first c result l left (step at line act) = act_first c result l left at act
+
+    act_first : (c : Names) (result : Option ValueKind) (l : Locals) (left at : ℕ) (x : Act) → h (s.act_by none one both c result l left at x) ≡ s.act_by none' one' both' c result l left at x
+    act_first c result l left at (bind n x) =
+        two _ _ _ _ (right_first c l x) (two _ _ _ _ (new_local n (find n.text l) (c.shared n.text)) (one_more_local n left))
+    act_first c result l left at (assign n x) =
+        two _ _ _ _ (scalar_use n (find n.text l) (c.shared n.text)) (assigned_first c l (name_kind (find n.text l) (c.shared n.text)) x)
+    act_first c result l left at (assign_cell n index e) = cell_first c l n index e
+    act_first c result l left at (choose arms) = arms_first c result l left none none' arms h-none
+    act_first c result l left at (choose_or arms last) =
+        two _ _ _ _ (arms_first c result l left none none' arms h-none) (steps_first c result l (s.left_arms left arms) none none' last h-none)
+    act_first c result l left at (repeat t body) = two _ _ _ _ (part_first c l t k.Bool) (steps_first c result l left none none' body h-none)
+    act_first c result l left at (call n args) = call_first c l n args
+    act_first c result l left at (return e) = return_first c l result at e
+    act_first c result l left at (fork n args) = call_first c l n args
+    act_first c result l left at (join e) = part_first c l e k.Rev
+    act_first c result l left at (print is) = items_first c l 65 none none' is h-none
+    act_first c result l left at (assert e) = part_first c l e k.Bool
+
+    pub steps_first : (c : Names) (result : Option ValueKind) (l : Locals) (left : ℕ) (x : M) (x' : N) (ss : Steps) → h x ≡ x'
+        → h (s.steps_by none one both c result l left x ss) ≡ s.steps_by none' one' both' c result l left x' ss
+    steps_first c result l left x x' no_steps p = p
+    steps_first c result l left x x' (steps a rest) p =
+        steps_first c result (s.locals_after c l a) (s.left_after left a) _ _ rest (two _ _ _ _ p (step_first c result l left a))
+
+    arms_first : (c : Names) (result : Option ValueKind) (l : Locals) (left : ℕ) (x : M) (x' : N) (as : Arms) → h x ≡ x'
+        → h (s.arms_by none one both c result l left x as) ≡ s.arms_by none' one' both' c result l left x' as
+    arms_first c result l left x x' no_arms p = p
+    arms_first c result l left x x' (arm t body rest) p =
+        arms_first c result l (s.left_steps left body) _ _ rest (two _ _ _ _ p (two _ _ _ _ (part_first c l t k.Bool) (steps_first c result l left none none' body h-none)))
+
+  -- ---- declarations
+
+  new_name : (n : Word) (names : Table ℕ) → h (p.new_name none one both n names) ≡ p.new_name none' one' both' n names
+  new_name n names = test (is_some (find n.text names)) _ _ _ _ (h-one _) h-none
+
+  limit_at : (at : ℕ) (which : Which) (limit left : ℕ) → h (p.limit_at none one both at which limit left) ≡ p.limit_at none' one' both' at which limit left
+  limit_at at which limit left = test (nat_eq left 1) _ _ _ _ (h-one _) h-none
+
+  new_param : (n : Word) (l : Locals) → h (p.new_param none one both n l) ≡ p.new_param none' one' both' n l
+  new_param n l = test (is_some (find n.text l)) _ _ _ _ (h-one _) h-none
+
+  no_rev_param : (b : Binder) → h (p.no_rev_param none one both b) ≡ p.no_rev_param none' one' both' b
+  no_rev_param b = test (same_kind b.kind k.Rev) _ _ _ _ (h-one _) h-none
+
+  fun_params : (l : Locals) (left : ℕ) (x : M) (x' : N) (bs : List Binder) → h x ≡ x' → h (p.fun_params none one both l left x bs) ≡ p.fun_params none' one' both' l left x' bs
+  fun_params l left x x' [] q = q
+  fun_params l left x x' (b ∷ bs) q =
+      fun_params (added l b.name.text (Some b.kind)) (left - 1) _ _ bs (two _ _ _ _ q (two _ _ _ _ (new_param b.name l) (two _ _ _ _ (no_rev_param b) (limit_at b.name.at which.Parameters 8 left))))
+
+  proc_params : (c : Names) (l : Locals) (left locals : ℕ) (x : M) (x' : N) (bs : List Binder) → h x ≡ x'
+      → h (p.proc_params none one both c l left locals x bs) ≡ p.proc_params none' one' both' c l left locals x' bs
+  proc_params c l left locals x x' [] q = q
+  proc_params c l left locals x x' (b ∷ bs) q =
+      proc_params c (added l b.name.text (Some b.kind)) (left - 1) (locals - 1) _ _ bs
+      (two _ _ _ _ q (two _ _ _ _ (new_local b.name (find b.name.text l) (c.shared b.name.text)) (two _ _ _ _ (limit_at b.name.at which.Parameters 8 left) (one_more_local b.name locals))))
+
+  merge_params : (m j x : Word) → h (p.merge_params none one both m j x) ≡ p.merge_params none' one' both' m j x
+  merge_params m j x =
+      two _ _ _ _ (new_param j (added [] m.text (Some k.Int))) (new_param x (added (added [] m.text (Some k.Int)) j.text (Some k.Int)))
+
+  weight_of : (n : Word) (weight : ℕ) → h (p.weight_of none one both n weight) ≡ p.weight_of none' one' both' n weight
+  weight_of n weight = test (nat_lt 65536 weight) _ _ _ _ (h-one _) h-none
+
+  fun_result : (n : Word) (x : ValueKind) → h (p.fun_result none one both n x) ≡ p.fun_result none' one' both' n x
+  fun_result n x = test (same_kind x k.Rev) _ _ _ _ (h-one _) h-none
+
+  fun_body : (c : Names) (l : Locals) (x : ValueKind) (e : Term) → h (p.fun_body none one both c l x e) ≡ p.fun_body none' one' both' c l x e
+  fun_body c l x e = two _ _ _ _ (part_first c l e x) (not_rev (term_place e) (kind_in c l e))
+
+  by_use : (ms : Table ℕ) (n : Option Word) → h (p.by_use none one both ms n) ≡ p.by_use none' one' both' ms n
+  by_use ms None = h-none
+  by_use ms (Some n) = test (is_some (find n.text ms)) _ _ _ _ h-none (h-one _)
+
+  cumulative_kind : (n : Option Word) (at : ℕ) (found : ValueKind) → h (p.cumulative_kind none one both n at found) ≡ p.cumulative_kind none' one' both' n at found
+  cumulative_kind None at found = h-none
+  cumulative_kind (Some n) at found = test (same_kind found k.Int) _ _ _ _ h-none (h-one _)
+
+  size_use : (x : Option Extent) → h (p.size_use none one both x) ≡ p.size_use none' one' both' x
+  size_use None = h-none
+  size_use (Some x) = test (nat_eq (p.size_cells x.cells) 0) _ _ _ _ (h-one _) h-none
+
+  first_value : (x : Option Constant) (wanted : ValueKind) → h (p.first_value none one both x wanted) ≡ p.first_value none' one' both' x wanted
+  first_value None wanted = h-none
+  first_value (Some x) wanted = wants x.at (Some (kind_of x.value)) wanted
+
+  location_limit : (n : Word) (before after : ℕ) → h (p.location_limit none one both n before after) ≡ p.location_limit none' one' both' n before after
+  location_limit n before after = test (nat_le before 4096) _ _ _ _ (test (nat_lt 4096 after) _ _ _ _ (h-one _) h-none) h-none
+
+  return_use : (n : Word) (x : Option ValueKind) (b : Bool) → h (p.return_use none one both n x b) ≡ p.return_use none' one' both' n x b
+  return_use n None b = h-none
+  return_use n (Some x) b = test b _ _ _ _ h-none (h-one _)
+
+  entry_first : (outer inner : Names) (q : p.Passed) (e : Entry) → h (p.entry_by none one both outer inner q e) ≡ p.entry_by none' one' both' outer inner q e
+  entry_first outer inner q (fun n bs x body) =
+      two _ _ _ _ (two _ _ _ _ (new_name n q.names) (limit_at n.at which.Funs 256 q.funs_left))
+      (two _ _ _ _ (two _ _ _ _ (fun_params [] 9 none none' bs h-none) (fun_result n x))
+      (two _ _ _ _ (fun_body inner (p.with_params [] bs) x body) (weight_of n (p.weight q.weights body))))
+  entry_first outer inner q (merge n m j x body) =
+      two _ _ _ _ (two _ _ _ _ (new_name n q.names) (limit_at n.at which.Funs 256 q.funs_left))
+      (two _ _ _ _ (merge_params m j x)
+      (two _ _ _ _ (part_first inner (p.merge_locals m j x) body k.Int) (weight_of n (p.weight q.weights body))))
+  entry_first outer inner q (shared x) =
+      two _ _ _ _ (two _ _ _ _ (new_name x.name q.names) (location_limit x.name q.located (p.located_after q.located (p.cells_in x.size))))
+      (two _ _ _ _ (two _ _ _ _ (by_use q.merges x.by) (cumulative_kind x.by x.kind_at x.holds)) (two _ _ _ _ (size_use x.size) (first_value x.first x.holds)))
+  entry_first outer inner q (proc n bs x body) =
+      two _ _ _ _ (two _ _ _ _ (new_name n q.names) (limit_at n.at which.Procedures 256 q.procs_left))
+      (two _ _ _ _ (two _ _ _ _ (proc_params outer [] 9 65 none none' bs h-none) (return_use n x (s.returns body)))
+      (steps_first outer x (p.with_params [] bs) (p.left_params 65 bs) none none' body h-none))
+
+  entries_first : (outer inner : Names) (q : p.Passed) (x : M) (x' : N) (es : List Entry) → h x ≡ x' → h (p.entries_by none one both outer inner q x es) ≡ p.entries_by none' one' both' outer inner q x' es
+  entries_first outer inner q x x' [] e = e
+  entries_first outer inner q x x' (d ∷ ds) e = entries_first outer inner (p.passed_with q d) _ _ ds (two _ _ _ _ e (entry_first outer inner q d))
+
+  program_first : (x : Whole) → h (p.program_by none one both x) ≡ p.program_by none' one' both' x
+  program_first x =
+      two _ _ _ _ (entries_first (p.outside x.entries) (p.within x.entries) p.nothing_passed none none' x.entries h-none)
+      (steps_first (p.outside x.entries) None [] 65 none none' x.main h-none)
+
+-- the first fault of a program is the first of all its faults
+pub first_of_faults : (x : Whole) → least place rank (p.faults x) ≡ w.program_by x
+first_of_faults x =
+    program_first [] (λ f. f ∷ []) (λ xs ys. xs ++ ys) None Some w.both (λ fs. least place rank fs) refl (λ f. refl) (λ xs ys. least-append place rank xs ys) x

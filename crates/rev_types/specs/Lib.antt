@@ -1,5 +1,6 @@
 pub mod Faults
 pub mod Kinds
+pub mod Passing
 pub mod Program
 pub mod Rules
 pub mod Steps

@@ -200,19 +200,24 @@ module _ {M : Type 0} (none : M) (one : TypeFault → M) (both : M → M → M) 
   abbrev pub no_rev_param : Binder → M
   no_rev_param p = if same_kind p.kind k.Rev then one (WrongType p.kind_at) else none
 
+  abbrev pub fun_param : Locals → ℕ → Binder → M
+  fun_param l left p = both (new_param p.name l) (both (no_rev_param p) (limit_at p.name.at which.Parameters 8 left))
+
   -- the parameters of a fun, where these faults were found before
   abbrev pub fun_params : Locals → ℕ → M → List Binder → M
   fun_params l left found [] = found
   fun_params l left found (p ∷ ps) =
-      fun_params (added l p.name.text (Some p.kind)) (left - 1)
-      (both found (both (new_param p.name l) (both (no_rev_param p) (limit_at p.name.at which.Parameters 8 left)))) ps
+      fun_params (added l p.name.text (Some p.kind)) (left - 1) (both found (fun_param l left p)) ps
+
+  abbrev pub proc_param : Names → Locals → ℕ → ℕ → Binder → M
+  proc_param c l left locals_left p =
+      both (new_local none one both p.name (find p.name.text l) (c.shared p.name.text)) (both (limit_at p.name.at which.Parameters 8 left) (one_more_local none one both p.name locals_left))
 
   -- the parameters of a procedure, where these faults were found before
   abbrev pub proc_params : Names → Locals → ℕ → ℕ → M → List Binder → M
   proc_params c l left locals_left found [] = found
   proc_params c l left locals_left found (p ∷ ps) =
-      proc_params c (added l p.name.text (Some p.kind)) (left - 1) (locals_left - 1)
-      (both found (both (new_local none one both p.name (find p.name.text l) (c.shared p.name.text)) (both (limit_at p.name.at which.Parameters 8 left) (one_more_local none one both p.name locals_left)))) ps
+      proc_params c (added l p.name.text (Some p.kind)) (left - 1) (locals_left - 1) (both found (proc_param c l left locals_left p)) ps
 
   abbrev pub merge_params : Word → Word → Word → M
   merge_params m j r =

@@ -1,9 +1,11 @@
 //! The static rules: scopes, kinds and limits.
 #![tactic(auto)]
 
+pub mod decls;
 pub mod fault;
 pub mod kinds;
 pub mod names;
+pub mod passed;
 pub mod steps;
 pub mod tables;
 pub mod terms;

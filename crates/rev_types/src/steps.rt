@@ -16,6 +16,7 @@ use std::alloc::{AllocError, Global};
 
 /// The locals of a body: those in scope, and how many more there may be, up to and with the first
 /// past the limit.
+#[derive(Drop)]
 pub struct Body {
     pub locals: Locals,
     pub left: usize,

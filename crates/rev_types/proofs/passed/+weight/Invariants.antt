@@ -1,0 +1,12 @@
+use Rattle.std.proofs.Common.{◌≡◌, drop}
+use Rattle.rev_syntax.specs.View.{terms, links}
+use Rattle.rev_types.specs.Program as program
+use Rattle.rev_types.proofs.passed.+weight.Given as goal
+
+abbrev pub invariant-args_weight-loop-arg : goal.invariant-args_weight-loop-arg
+invariant-args_weight-loop-arg l =
+    program.terms_weight l.weights l.sum (terms (drop l.arg-index l.args)) ≡ program.terms_weight l.weights l.initial.sum (terms l.args)
+
+abbrev pub invariant-links_weight-loop-link : goal.invariant-links_weight-loop-link
+invariant-links_weight-loop-link l =
+    program.links_weight l.weights l.sum (links (drop l.link-index l.rest)) ≡ program.links_weight l.weights l.initial.sum (links l.rest)
