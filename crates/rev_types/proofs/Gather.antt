@@ -229,8 +229,8 @@ module _ {M N : Type 0} (none : M) (one : TypeFault → M) (both : M → M → M
     steps_first c result l left x x' (steps a rest) p =
         steps_first c result (s.locals_after c l a) (s.left_after left a) _ _ rest (two _ _ _ _ p (step_first c result l left a))
 
-    arms_first : (c : Names) (result : Option ValueKind) (l : Locals) (left : ℕ) (x : M) (x' : N) (as : Arms) → h x ≡ x'
-        → h (s.arms_by none one both c result l left x as) ≡ s.arms_by none' one' both' c result l left x' as
+    arms_first : (c : Names) (result : Option ValueKind) (l : Locals) (left : ℕ) (x : M) (x' : N) (rs : Arms) → h x ≡ x'
+        → h (s.arms_by none one both c result l left x rs) ≡ s.arms_by none' one' both' c result l left x' rs
     arms_first c result l left x x' no_arms p = p
     arms_first c result l left x x' (arm t body rest) p =
         arms_first c result l (s.left_steps left body) _ _ rest (two _ _ _ _ p (two _ _ _ _ (part_first c l t k.Bool) (steps_first c result l left none none' body h-none)))

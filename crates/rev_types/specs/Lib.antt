@@ -4,4 +4,5 @@ pub mod Passing
 pub mod Program
 pub mod Rules
 pub mod Steps
+pub mod Tables
 pub mod Walk

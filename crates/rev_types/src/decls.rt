@@ -1,6 +1,6 @@
 //! The rules on declarations.
 
-ghost use Rattle.std.specs.Prelude.{◌≡◌, ◌-◌, ℕ, Some, None, [], map, option_map, IfOk, OnOk};
+ghost use Rattle.std.specs.Prelude.{◌≡◌, ◌-◌, true, ℕ, Some, None, [], map, option_map, IfOk, OnOk};
 ghost use Rattle.std.specs.declared.option.Option.{Option};
 ghost use Rattle.rev_num.specs.declared.value.ValueKind.TheVariants as k;
 ghost use Rattle.rev_syntax.specs.View.{act, arms, binder, block, constant, entry, extent, stmt, stmts, term, word};

@@ -1,0 +1,46 @@
+-- The names of a program as tables.
+use Rattle.std.specs.Prelude.{◌≡◌, ◌≢◌, Option, Some, None, option_map, List, [], ◌∷◌, map, is_some}
+use Rattle.rev_syntax.specs.Trees.{Entry, fun, merge, shared, proc, Whole}
+use Rattle.merge_decl.specs.Names.{Name}
+use Rattle.merge_decl.specs.Least.{IsFirst}
+use Rattle.merge_decl.specs.Table.{Table, find, added}
+use Rattle.rev_types.specs.declared.fault.TypeFault.{TypeFault}
+use Rattle.rev_types.specs.declared.fault.TypeFault.TheVariants.{OutOfMemory}
+use Rattle.rev_types.specs.declared.names.Holder.{Holder}
+use Rattle.rev_types.specs.declared.names.Callee as held
+use Rattle.rev_types.specs.Faults.{place, rank}
+use Rattle.rev_types.specs.Kinds.{Callee}
+use Rattle.rev_types.specs.Program.{holder, faults}
+use Rattle.rev_types.specs.Walk.{callee}
+
+-- the first shared variable of each name, after those of a table
+abbrev pub shared_table : Table Holder → List Entry → Table Holder
+shared_table t [] = t
+shared_table t (shared x ∷ es) = shared_table (added t x.name.text (holder x)) es
+shared_table t (fun w ps r body ∷ es) = shared_table t es
+shared_table t (merge w m j r body ∷ es) = shared_table t es
+shared_table t (proc w ps r body ∷ es) = shared_table t es
+
+-- the first procedure of each name, after those of a table
+abbrev pub proc_table : Table Callee → List Entry → Table Callee
+proc_table t [] = t
+proc_table t (proc w ps r body ∷ es) = proc_table (added t w.text (record { params = ps; result = r })) es
+proc_table t (fun w ps r body ∷ es) = proc_table t es
+proc_table t (merge w m j r body ∷ es) = proc_table t es
+proc_table t (shared x ∷ es) = proc_table t es
+
+-- the first fun of each name, after those of a table
+abbrev pub fun_table : Table Callee → List Entry → Table Callee
+fun_table t [] = t
+fun_table t (fun w ps r body ∷ es) = fun_table (added t w.text (record { params = ps; result = Some r })) es
+fun_table t (merge w m j r body ∷ es) = fun_table t es
+fun_table t (shared x ∷ es) = fun_table t es
+fun_table t (proc w ps r body ∷ es) = fun_table t es
+
+-- what a contract sees of a table of funs or procedures
+abbrev pub callees : Table held.Callee → Table Callee
+callees t = map (λ e. (e.0, callee e.1)) t
+
+-- the refusal of a program: the first of all rules and limits that it breaks. Want of memory says nothing.
+abbrev pub Refuses : Whole → TypeFault → Type 0
+Refuses p f = f ≢ OutOfMemory → IsFirst place rank (faults p) f
