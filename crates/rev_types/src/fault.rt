@@ -3,6 +3,9 @@
 ghost use Rattle.std.specs.Prelude.{◌≡◌};
 ghost use Rattle.merge_decl.specs.Least.{is_less, first_of};
 ghost use Rattle.rev_types.specs.Faults as rule;
+ghost use Rattle.rev_types.specs.declared.fault.TypeFault.TheVariants.{OutOfMemory};
+
+use std::alloc::AllocError;
 
 /// What a limit is on.
 #[derive(Clone, Copy, PartialEq, Eq, Debug, Drop)]
@@ -26,6 +29,14 @@ pub enum TypeFault {
     NoReturn { at: u32 },
     LimitOf { at: u32, which: Which, limit: u32 },
     OutOfMemory,
+}
+
+impl From<AllocError> for TypeFault {
+    ghost from_gives = { λ _ e. e ≡ OutOfMemory };
+
+    fn from(_e: AllocError) -> TypeFault {
+        TypeFault::OutOfMemory
+    }
 }
 
 fn place(fault: TypeFault) -> u32

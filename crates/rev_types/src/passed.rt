@@ -148,6 +148,7 @@ impl Passed {
         requires fits { self.old.number + 1 < 2 ^ 32 }
         requires counted { self.old.merge_count ≤ self.old.number }
         ensures passed { OnOk result (passed_of self.new ≡ program.passed_with (passed_of self.old) (entry decl.now)) }
+        ensures number { OnOk result (self.new.number ≡ self.old.number + 1) }
         ensures counts { OnOk result (self.new.merge_count ≤ self.new.number) }
     {
         match decl {

@@ -10,3 +10,12 @@ pub struct SharedInfo {
     pub array: bool,
     pub merge: Option<u32>,
 }
+
+/// The tables of a program: its shared variables in order, the numbers of the declarations that are
+/// procedures, and how many locations there are.
+#[derive(Drop)]
+pub struct Tables {
+    pub shared: Vec<SharedInfo>,
+    pub procs: Vec<u32>,
+    pub locations: u32,
+}

@@ -1,0 +1,139 @@
+//! The checker of static rules.
+
+ghost use Rattle.std.specs.Prelude.{◌≡◌, ◌<◌, ◌^◌, [], None, length, map, IfErr, IfOk, OnOk, option_map};
+ghost use Rattle.rev_syntax.specs.View.{entry, program as whole, word};
+ghost use Rattle.rev_types.specs.declared.fault.TypeFault.TheVariants.{OutOfMemory};
+ghost use Rattle.rev_types.specs.Program as program;
+ghost use Rattle.rev_types.specs.Tables.{Refuses};
+ghost use Rattle.rev_types.specs.Walk as rule;
+
+use crate::decls::decl;
+use crate::fault::{TypeFault, first};
+use crate::lookup::{fun_table, proc_table, shared_table};
+use crate::names::Checker;
+use crate::passed::{Passed, cells_in};
+use crate::steps::Body;
+use crate::tables::{SharedInfo, Tables};
+use crate::typed::{Typed, make_typed};
+use merge_decl::expand::Expanded;
+use merge_decl::table::NameTable;
+use rev_syntax::tree::{Decl, Name, Program};
+use std::alloc::{AllocError, Global};
+
+/// The first rule that declarations break.
+fn declarations(
+    alloc: Global,
+    outer: &Checker,
+    inner: &Checker,
+    decls: &[Decl],
+) -> Result<Option<TypeFault>, AllocError>
+    requires { length decls.now < 2 ^ 32 }
+    ensures { IfOk result (λ f. f ≡ rule.entries_by (rule.names_of outer.now) (rule.names_of inner.now) program.nothing_passed None (map entry decls.now)) }
+{
+    let mut passed = Passed::new(alloc);
+    let mut found = None;
+    for d in decls {
+        found = first(found, decl(alloc, outer, inner, &passed, d)?);
+        passed.pass(alloc, d)?;
+    }
+    Ok(found)
+}
+
+/// The first rule that a program breaks.
+fn first_fault(alloc: Global, p: &Program) -> Result<Option<TypeFault>, AllocError>
+    requires { length p.now.decls.items < 2 ^ 32 }
+    ensures { IfOk result (λ f. f ≡ rule.program_by (whole p.now)) }
+{
+    let shared = shared_table(alloc, &p.decls)?;
+    let procs = proc_table(alloc, &p.decls)?;
+    let funs = fun_table(alloc, &p.decls)?;
+    let outer = Checker {
+        shared: &shared,
+        procs: &procs,
+        funs: &funs,
+        inside: false,
+    };
+    let inner = Checker {
+        shared: &shared,
+        procs: &procs,
+        funs: &funs,
+        inside: true,
+    };
+    let declared = declarations(alloc, &outer, &inner, &p.decls)?;
+    let mut body = Body {
+        locals: NameTable::new(alloc),
+        left: 65,
+    };
+    let main = outer.block(alloc, None, &mut body, &p.main)?;
+    Ok(first(declared, main))
+}
+
+/// The number of the merge of a cumulative variable.
+fn merge_number(merges: &NameTable<u32>, by: &Option<Name>) -> Option<u32>
+    ensures { result ≡ program.merge_number merges.now (option_map word by.now) }
+{
+    match by {
+        None => None,
+        Some(name) => merges.find(&name.text),
+    }
+}
+
+/// What a program declares.
+fn tables(alloc: Global, p: &Program) -> Result<Tables, AllocError>
+    requires { length p.now.decls.items < 2 ^ 32 }
+    ensures shared { IfOk result (λ t. t.shared.items ≡ program.infos program.nothing_passed (map entry p.now.decls.items)) }
+    ensures procs { IfOk result (λ t. t.procs.items ≡ program.proc_decls 0 (map entry p.now.decls.items)) }
+    ensures locations { IfOk result (λ t. t.locations ≡ program.locations (whole p.now)) }
+{
+    let mut passed = Passed::new(alloc);
+    let mut shared = Vec::new(alloc);
+    let mut procs = Vec::new(alloc);
+    for d in &p.decls {
+        match d {
+            Decl::Shared { name: _, by, kind_at: _, holds: _, size, first: _ } => {
+                shared.push(SharedInfo {
+                    decl: passed.number,
+                    base: passed.located,
+                    cells: cells_in(*size),
+                    array: size.is_some(),
+                    merge: merge_number(&passed.merges, by),
+                })?;
+            }
+            Decl::Proc { name: _, params: _, result: _, body: _ } => procs.push(passed.number)?,
+            Decl::Fun { name: _, params: _, result: _, body: _ } => {}
+            Decl::Merge { name: _, main: _, join: _, root: _, body: _ } => {}
+        }
+        passed.pass(alloc, d)?;
+    }
+    Ok(Tables {
+        shared,
+        procs,
+        locations: passed.located,
+    })
+}
+
+/// What a program declares, or the first rule or limit that it breaks.
+fn examined(alloc: Global, p: &Program) -> Result<Tables, TypeFault>
+    requires { length p.now.decls.items < 2 ^ 32 }
+    ensures keeps { OnOk result (program.faults (whole p.now) ≡ []) }
+    ensures shared { IfOk result (λ t. t.shared.items ≡ program.infos program.nothing_passed (map entry p.now.decls.items)) }
+    ensures procs { IfOk result (λ t. t.procs.items ≡ program.proc_decls 0 (map entry p.now.decls.items)) }
+    ensures locations { IfOk result (λ t. t.locations ≡ program.locations (whole p.now)) }
+    ensures err { IfErr result (Refuses (whole p.now)) }
+{
+    if let Some(fault) = first_fault(alloc, p)? {
+        return Err(fault);
+    }
+    Ok(tables(alloc, p)?)
+}
+
+/// The program with the tables of what it declares, or the first rule or limit that it breaks: the
+/// one at the least place, and there the one of the least number.
+pub fn check(alloc: Global, expanded: Expanded) -> Result<Typed, TypeFault>
+    ensures same { IfOk result (λ t. whole t.expanded.program ≡ whole expanded.program) }
+    ensures keeps { OnOk result (program.faults (whole expanded.program) ≡ []) }
+    ensures first { IfErr result (Refuses (whole expanded.program)) }
+{
+    let tables = examined(alloc, &expanded.program)?;
+    Ok(make_typed(expanded, tables))
+}
