@@ -145,21 +145,29 @@ merge_number ms (Some w) = find w.text ms
 abbrev pub info : Passed → Variable → SharedInfo
 info p x = record { decl = p.number; base = p.located; cells = cells_in x.size; array = is_some x.size; merge = merge_number p.merges x.by }
 
+-- what a declaration adds to the shared variables
+abbrev pub info_of : Passed → Entry → List SharedInfo
+info_of p (shared x) = info p x ∷ []
+info_of p (fun w ps r body) = []
+info_of p (merge w m j r body) = []
+info_of p (proc w ps r body) = []
+
 -- the shared variables in order, each with its first location, its cells and its merge
 abbrev pub infos : Passed → List Entry → List SharedInfo
 infos p [] = []
-infos p (shared x ∷ es) = info p x ∷ infos (passed_with p (shared x)) es
-infos p (fun w ps r body ∷ es) = infos (passed_with p (fun w ps r body)) es
-infos p (merge w m j r body ∷ es) = infos (passed_with p (merge w m j r body)) es
-infos p (proc w ps r body ∷ es) = infos (passed_with p (proc w ps r body)) es
+infos p (e ∷ es) = info_of p e ++ infos (passed_with p e) es
+
+-- what a declaration of this number adds to the procedures
+abbrev pub proc_of : ℕ → Entry → List ℕ
+proc_of d (proc w ps r body) = d ∷ []
+proc_of d (fun w ps r body) = []
+proc_of d (merge w m j r body) = []
+proc_of d (shared x) = []
 
 -- the numbers of the declarations that are procedures
 abbrev pub proc_decls : ℕ → List Entry → List ℕ
 proc_decls d [] = []
-proc_decls d (proc w ps r body ∷ es) = d ∷ proc_decls (d + 1) es
-proc_decls d (fun w ps r body ∷ es) = proc_decls (d + 1) es
-proc_decls d (merge w m j r body ∷ es) = proc_decls (d + 1) es
-proc_decls d (shared x ∷ es) = proc_decls (d + 1) es
+proc_decls d (e ∷ es) = proc_of d e ++ proc_decls (d + 1) es
 
 -- what all declarations declare
 abbrev pub passed_all : Passed → List Entry → Passed

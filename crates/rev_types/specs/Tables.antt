@@ -21,21 +21,29 @@ shared_table t (fun w ps r body ∷ es) = shared_table t es
 shared_table t (merge w m j r body ∷ es) = shared_table t es
 shared_table t (proc w ps r body ∷ es) = shared_table t es
 
+-- the table after a declaration, if it is a procedure
+abbrev pub with_proc : Table Callee → Entry → Table Callee
+with_proc t (proc w ps r body) = added t w.text (record { params = ps; result = r })
+with_proc t (fun w ps r body) = t
+with_proc t (merge w m j r body) = t
+with_proc t (shared x) = t
+
 -- the first procedure of each name, after those of a table
 abbrev pub proc_table : Table Callee → List Entry → Table Callee
 proc_table t [] = t
-proc_table t (proc w ps r body ∷ es) = proc_table (added t w.text (record { params = ps; result = r })) es
-proc_table t (fun w ps r body ∷ es) = proc_table t es
-proc_table t (merge w m j r body ∷ es) = proc_table t es
-proc_table t (shared x ∷ es) = proc_table t es
+proc_table t (e ∷ es) = proc_table (with_proc t e) es
+
+-- the table after a declaration, if it is a fun
+abbrev pub with_fun : Table Callee → Entry → Table Callee
+with_fun t (fun w ps r body) = added t w.text (record { params = ps; result = Some r })
+with_fun t (merge w m j r body) = t
+with_fun t (shared x) = t
+with_fun t (proc w ps r body) = t
 
 -- the first fun of each name, after those of a table
 abbrev pub fun_table : Table Callee → List Entry → Table Callee
 fun_table t [] = t
-fun_table t (fun w ps r body ∷ es) = fun_table (added t w.text (record { params = ps; result = Some r })) es
-fun_table t (merge w m j r body ∷ es) = fun_table t es
-fun_table t (shared x ∷ es) = fun_table t es
-fun_table t (proc w ps r body ∷ es) = fun_table t es
+fun_table t (e ∷ es) = fun_table (with_fun t e) es
 
 -- what a contract sees of a table of funs or procedures
 abbrev pub callees : Table held.Callee → Table Callee

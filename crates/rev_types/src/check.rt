@@ -1,8 +1,9 @@
 //! The checker of static rules.
 
-ghost use Rattle.std.specs.Prelude.{◌≡◌, ◌<◌, ◌^◌, [], None, length, map, IfErr, IfOk, OnOk, option_map};
+ghost use Rattle.std.specs.Prelude.{◌≡◌, ◌<◌, ◌^◌, [], ◌++◌, None, length, map, IfErr, IfOk, OnOk, option_map};
 ghost use Rattle.rev_syntax.specs.View.{entry, program as whole, word};
 ghost use Rattle.rev_types.specs.declared.fault.TypeFault.TheVariants.{OutOfMemory};
+ghost use Rattle.rev_types.specs.Passing.{passed_of};
 ghost use Rattle.rev_types.specs.Program as program;
 ghost use Rattle.rev_types.specs.Tables.{Refuses};
 ghost use Rattle.rev_types.specs.Walk as rule;
@@ -78,7 +79,45 @@ fn merge_number(merges: &NameTable<u32>, by: &Option<Name>) -> Option<u32>
     }
 }
 
+/// Adds a shared variable to the list of these, after these declarations.
+fn add_shared(passed: &Passed, shared: &mut Vec<SharedInfo>, d: &Decl) -> Result<(), AllocError>
+    ensures { OnOk result (shared.new.items ≡ shared.old.items ++ program.info_of (passed_of passed.now) (entry d.now)) }
+{
+    match d {
+        Decl::Shared { name: _, by, kind_at: _, holds: _, size, first: _ } => {
+            let info = SharedInfo {
+                decl: passed.number,
+                base: passed.located,
+                cells: cells_in(*size),
+                array: size.is_some(),
+                merge: merge_number(&passed.merges, by),
+            };
+            shared.push(info)?;
+            Ok(())
+        }
+        Decl::Fun { name: _, params: _, result: _, body: _ } => Ok(()),
+        Decl::Merge { name: _, main: _, join: _, root: _, body: _ } => Ok(()),
+        Decl::Proc { name: _, params: _, result: _, body: _ } => Ok(()),
+    }
+}
+
+/// Adds a procedure to the list of these.
+fn add_proc(number: u32, procs: &mut Vec<u32>, d: &Decl) -> Result<(), AllocError>
+    ensures { OnOk result (procs.new.items ≡ procs.old.items ++ program.proc_of number (entry d.now)) }
+{
+    match d {
+        Decl::Proc { name: _, params: _, result: _, body: _ } => {
+            procs.push(number)?;
+            Ok(())
+        }
+        Decl::Fun { name: _, params: _, result: _, body: _ } => Ok(()),
+        Decl::Merge { name: _, main: _, join: _, root: _, body: _ } => Ok(()),
+        Decl::Shared { name: _, by: _, kind_at: _, holds: _, size: _, first: _ } => Ok(()),
+    }
+}
+
 /// What a program declares.
+#[tactic(auto, using(merge_decl::proofs::Appends::appends))]
 fn tables(alloc: Global, p: &Program) -> Result<Tables, AllocError>
     requires { length p.now.decls.items < 2 ^ 32 }
     ensures shared { IfOk result (λ t. t.shared.items ≡ program.infos program.nothing_passed (map entry p.now.decls.items)) }
@@ -89,20 +128,8 @@ fn tables(alloc: Global, p: &Program) -> Result<Tables, AllocError>
     let mut shared = Vec::new(alloc);
     let mut procs = Vec::new(alloc);
     for d in &p.decls {
-        match d {
-            Decl::Shared { name: _, by, kind_at: _, holds: _, size, first: _ } => {
-                shared.push(SharedInfo {
-                    decl: passed.number,
-                    base: passed.located,
-                    cells: cells_in(*size),
-                    array: size.is_some(),
-                    merge: merge_number(&passed.merges, by),
-                })?;
-            }
-            Decl::Proc { name: _, params: _, result: _, body: _ } => procs.push(passed.number)?,
-            Decl::Fun { name: _, params: _, result: _, body: _ } => {}
-            Decl::Merge { name: _, main: _, join: _, root: _, body: _ } => {}
-        }
+        add_shared(&passed, &mut shared, d)?;
+        add_proc(passed.number, &mut procs, d)?;
         passed.pass(alloc, d)?;
     }
     Ok(Tables {

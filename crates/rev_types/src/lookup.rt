@@ -1,6 +1,6 @@
 //! Tables of what the names of a program mean.
 
-ghost use Rattle.std.specs.Prelude.{◌≡◌, Some, [], map, IfOk};
+ghost use Rattle.std.specs.Prelude.{◌≡◌, Some, [], map, IfOk, OnOk};
 ghost use Rattle.rev_syntax.specs.View.{entry};
 ghost use Rattle.rev_types.specs.Tables as spec;
 
@@ -26,38 +26,70 @@ pub fn shared_table(alloc: Global, decls: &[Decl]) -> Result<NameTable<Holder>, 
     Ok(table)
 }
 
-/// The first procedure of each name.
+/// Enters a procedure.
 #[tactic(auto, using(crate::proofs::Named::callees_added))]
+fn add_proc<'a>(
+    alloc: Global,
+    table: &mut NameTable<Callee<'a>>,
+    d: &'a Decl,
+) -> Result<(), AllocError>
+    ensures { OnOk result (spec.callees table.new ≡ spec.with_proc (spec.callees table.old) (entry d.now)) }
+{
+    match d {
+        Decl::Proc { name, params, result, body: _ } => {
+            let callee = Callee {
+                params,
+                result: *result,
+            };
+            table.add(alloc, &name.text, callee)
+        }
+        Decl::Fun { name: _, params: _, result: _, body: _ } => Ok(()),
+        Decl::Merge { name: _, main: _, join: _, root: _, body: _ } => Ok(()),
+        Decl::Shared { name: _, by: _, kind_at: _, holds: _, size: _, first: _ } => Ok(()),
+    }
+}
+
+/// The first procedure of each name.
 pub fn proc_table(alloc: Global, decls: &[Decl]) -> Result<NameTable<Callee<'_>>, AllocError>
     ensures { IfOk result (λ t. spec.callees t ≡ spec.proc_table [] (map entry decls.now)) }
 {
     let mut table = NameTable::new(alloc);
     for d in decls {
-        if let Decl::Proc { name, params, result, body: _ } = d {
-            let callee = Callee {
-                params,
-                result: *result,
-            };
-            table.add(alloc, &name.text, callee)?;
-        }
+        add_proc(alloc, &mut table, d)?;
     }
     Ok(table)
 }
 
-/// The first fun of each name.
+/// Enters a fun.
 #[tactic(auto, using(crate::proofs::Named::callees_added))]
+fn add_fun<'a>(
+    alloc: Global,
+    table: &mut NameTable<Callee<'a>>,
+    d: &'a Decl,
+) -> Result<(), AllocError>
+    ensures { OnOk result (spec.callees table.new ≡ spec.with_fun (spec.callees table.old) (entry d.now)) }
+{
+    match d {
+        Decl::Fun { name, params, result, body: _ } => {
+            let callee = Callee {
+                params,
+                result: Some(*result),
+            };
+            table.add(alloc, &name.text, callee)
+        }
+        Decl::Merge { name: _, main: _, join: _, root: _, body: _ } => Ok(()),
+        Decl::Shared { name: _, by: _, kind_at: _, holds: _, size: _, first: _ } => Ok(()),
+        Decl::Proc { name: _, params: _, result: _, body: _ } => Ok(()),
+    }
+}
+
+/// The first fun of each name.
 pub fn fun_table(alloc: Global, decls: &[Decl]) -> Result<NameTable<Callee<'_>>, AllocError>
     ensures { IfOk result (λ t. spec.callees t ≡ spec.fun_table [] (map entry decls.now)) }
 {
     let mut table = NameTable::new(alloc);
     for d in decls {
-        if let Decl::Fun { name, params, result, body: _ } = d {
-            let callee = Callee {
-                params,
-                result: Some(*result),
-            };
-            table.add(alloc, &name.text, callee)?;
-        }
+        add_fun(alloc, &mut table, d)?;
     }
     Ok(table)
 }

@@ -24,9 +24,9 @@ pub type Locals = NameTable<Option<ValueKind>>;
 /// What names mean: the shared variables, the procedures and the funs of a program. Inside a fun or
 /// a merge no shared variable and no input is known.
 #[derive(Drop)]
-pub struct Checker<'a> {
-    pub shared: &'a NameTable<Holder>,
-    pub procs: &'a NameTable<Callee<'a>>,
-    pub funs: &'a NameTable<Callee<'a>>,
+pub struct Checker<'t, 'a> {
+    pub shared: &'t NameTable<Holder>,
+    pub procs: &'t NameTable<Callee<'a>>,
+    pub funs: &'t NameTable<Callee<'a>>,
     pub inside: bool,
 }

@@ -70,7 +70,7 @@ fn one_more_item(at: u32, left: usize) -> Option<TypeFault>
     }
 }
 
-impl<'a> Checker<'a> {
+impl<'a> Checker<'_, 'a> {
     fn item(&self, locals: &Locals, left: usize, item: &Item) -> Option<TypeFault>
         ensures { result ≡ steps.item_by None Some rule.both (rule.names_of self.now) locals.now left (shown item.now) }
     {

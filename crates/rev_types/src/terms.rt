@@ -40,7 +40,7 @@ fn param_at(params: &[Param], i: usize) -> Option<&Param>
     params.get(i)
 }
 
-impl<'a> Checker<'a> {
+impl<'a> Checker<'_, 'a> {
     /// The shared variable of a name.
     pub fn holder(&self, name: &Name) -> Option<Holder>
         ensures { result ≡ (rule.names_of self.now).shared name.now.text.items }

@@ -1,0 +1,17 @@
+use Rattle.std.proofs.Common.{◌∙◌, sym}
+use Rattle.rev_syntax.specs.View.{program as whole}
+use Rattle.merge_decl.proofs.Leasts.{first_is, none_is}
+use Rattle.rev_types.specs.Faults.{place, rank}
+use Rattle.rev_types.specs.Program.{faults}
+use Rattle.rev_types.proofs.Gather.{first_of_faults}
+use Rattle.rev_types.proofs.check.examined.Goals as goal
+
+pub returns-in-Some-clause-err : goal.returns-in-Some-clause-err
+returns-in-Some-clause-err c =
+    λ _. first_is place rank (faults (whole c.args.p.now)) c.in-Some.fault
+    (first_of_faults (whole c.args.p.now) ∙ sym c.in_ok-fault.ensures ∙ c.in-Some.is)
+
+pub returns-clause-keeps : goal.returns-clause-keeps
+returns-clause-keeps c =
+    none_is place rank (faults (whole c.args.p.now))
+    (first_of_faults (whole c.args.p.now) ∙ sym c.in_ok-fault.ensures ∙ c.in_default.is)

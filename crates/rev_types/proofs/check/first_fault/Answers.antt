@@ -1,0 +1,12 @@
+use Rattle.std.proofs.Common.{ap, map, refl}
+use Rattle.rev_syntax.specs.View.{entry, program as whole}
+use Rattle.rev_types.proofs.Named.{program_found}
+use Rattle.rev_types.proofs.check.first_fault.Goals as goal
+
+pub returns : goal.returns
+returns c =
+    program_found (whole c.args.p.now) _ _ _ _ _ _ _ _ _ _
+    (ap (λ ds. map entry ds) c.deref.ensures.value) (ap (λ ds. map entry ds) c.deref-2.ensures.value)
+    (ap (λ ds. map entry ds) c.deref-3.ensures.value) (ap (λ ds. map entry ds) c.deref-4.ensures.value) c.new.ensures
+    refl c.in_ok-shared.ensures c.in_ok-procs.ensures c.in_ok-funs.ensures refl c.in_ok-procs.ensures c.in_ok-funs.ensures
+    c.in_ok-declared.ensures c.in_ok-main.ensures.fault c.first.ensures
