@@ -1,11 +1,19 @@
-use Rattle.std.proofs.Common.{ap, map, refl}
+use Rattle.std.proofs.Common.{ap, map, refl, Bool, true, false}
 use Rattle.rev_syntax.specs.View.{entry, program as whole}
+use Rattle.rev_types.specs.declared.names.Checker.{Checker}
 use Rattle.rev_types.proofs.Named.{program_found}
 use Rattle.rev_types.proofs.check.first_fault.Goals as goal
 
 pub returns : goal.returns
 returns c =
-    program_found (whole c.args.p.now) _ _ _ _ _ _ _ _ _ _
+    let outer : Checker = record {
+      shared = record { ref_ptr = (0, 0); now = c.in_ok-shared.shared };
+      procs = record { ref_ptr = (0, 0); now = c.in_ok-procs.procs };
+      funs = record { ref_ptr = (0, 0); now = c.in_ok-funs.funs };
+      inside = false
+    } in
+    let inner : Checker = record outer { inside = true } in
+    program_found (whole c.args.p.now) outer inner _ _ _ _ _ _ _ _
     (ap (λ ds. map entry ds) c.deref.ensures.value) (ap (λ ds. map entry ds) c.deref-2.ensures.value)
     (ap (λ ds. map entry ds) c.deref-3.ensures.value) (ap (λ ds. map entry ds) c.deref-4.ensures.value) c.new.ensures
     refl c.in_ok-shared.ensures c.in_ok-procs.ensures c.in_ok-funs.ensures refl c.in_ok-procs.ensures c.in_ok-funs.ensures
