@@ -1,3 +1,4 @@
 pub mod Gather
 pub mod Lists
 pub mod Named
+pub mod Typings

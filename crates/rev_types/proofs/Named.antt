@@ -73,7 +73,7 @@ outer_names c es o s q f = λ i. record {
   shared = λ name. ((λ j. if o j then None else find name (s j)) ∙ shared_found name [] es) i;
   procs = λ name. (sym (callees_found name c.procs.now) ∙ ap (λ t. find name t) q ∙ proc_found name [] es) i;
   funs = λ name. (sym (callees_found name c.funs.now) ∙ ap (λ t. find name t) f ∙ fun_found name [] es) i;
-  inside = o i
+  inside = o i;
 }
 
 -- and inside of them
@@ -83,7 +83,7 @@ inner_names c es o q f = λ i. record {
   shared = λ name. if o i then None else find name c.shared.now;
   procs = λ name. (sym (callees_found name c.procs.now) ∙ ap (λ t. find name t) q ∙ proc_found name [] es) i;
   funs = λ name. (sym (callees_found name c.funs.now) ∙ ap (λ t. find name t) f ∙ fun_found name [] es) i;
-  inside = o i
+  inside = o i;
 }
 
 -- the first fault of a program is that of its declarations or of `main`, by checkers with its tables

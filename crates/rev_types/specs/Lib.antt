@@ -5,4 +5,5 @@ pub mod Program
 pub mod Rules
 pub mod Steps
 pub mod Tables
+pub mod Typing
 pub mod Walk

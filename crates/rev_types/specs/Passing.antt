@@ -11,5 +11,5 @@ passed_of p = record {
   weights = p.weights;
   located = p.located;
   procs_left = p.procs_left;
-  funs_left = p.funs_left
+  funs_left = p.funs_left;
 }

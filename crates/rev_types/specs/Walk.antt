@@ -28,7 +28,7 @@ names_of c = record {
   shared = λ name. if c.inside then None else find name c.shared.now;
   procs = λ name. option_map callee (find name c.procs.now);
   funs = λ name. option_map callee (find name c.funs.now);
-  inside = c.inside
+  inside = c.inside;
 }
 
 -- ---- the first fault

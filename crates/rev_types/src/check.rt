@@ -84,7 +84,14 @@ fn add_shared(passed: &Passed, shared: &mut Vec<SharedInfo>, d: &Decl) -> Result
     ensures { OnOk result (shared.new.items ≡ shared.old.items ++ program.info_of (passed_of passed.now) (entry d.now)) }
 {
     match d {
-        Decl::Shared { name: _, by, kind_at: _, holds: _, size, first: _ } => {
+        Decl::Shared {
+            name: _,
+            by,
+            kind_at: _,
+            holds: _,
+            size,
+            first: _,
+        } => {
             let info = SharedInfo {
                 decl: passed.number,
                 base: passed.located,
@@ -95,9 +102,25 @@ fn add_shared(passed: &Passed, shared: &mut Vec<SharedInfo>, d: &Decl) -> Result
             shared.push(info)?;
             Ok(())
         }
-        Decl::Fun { name: _, params: _, result: _, body: _ } => Ok(()),
-        Decl::Merge { name: _, main: _, join: _, root: _, body: _ } => Ok(()),
-        Decl::Proc { name: _, params: _, result: _, body: _ } => Ok(()),
+        Decl::Fun {
+            name: _,
+            params: _,
+            result: _,
+            body: _,
+        } => Ok(()),
+        Decl::Merge {
+            name: _,
+            main: _,
+            join: _,
+            root: _,
+            body: _,
+        } => Ok(()),
+        Decl::Proc {
+            name: _,
+            params: _,
+            result: _,
+            body: _,
+        } => Ok(()),
     }
 }
 
@@ -106,13 +129,36 @@ fn add_proc(number: u32, procs: &mut Vec<u32>, d: &Decl) -> Result<(), AllocErro
     ensures { OnOk result (procs.new.items ≡ procs.old.items ++ program.proc_of number (entry d.now)) }
 {
     match d {
-        Decl::Proc { name: _, params: _, result: _, body: _ } => {
+        Decl::Proc {
+            name: _,
+            params: _,
+            result: _,
+            body: _,
+        } => {
             procs.push(number)?;
             Ok(())
         }
-        Decl::Fun { name: _, params: _, result: _, body: _ } => Ok(()),
-        Decl::Merge { name: _, main: _, join: _, root: _, body: _ } => Ok(()),
-        Decl::Shared { name: _, by: _, kind_at: _, holds: _, size: _, first: _ } => Ok(()),
+        Decl::Fun {
+            name: _,
+            params: _,
+            result: _,
+            body: _,
+        } => Ok(()),
+        Decl::Merge {
+            name: _,
+            main: _,
+            join: _,
+            root: _,
+            body: _,
+        } => Ok(()),
+        Decl::Shared {
+            name: _,
+            by: _,
+            kind_at: _,
+            holds: _,
+            size: _,
+            first: _,
+        } => Ok(()),
     }
 }
 

@@ -41,7 +41,11 @@ fn form_returns(form: &Form) -> bool
         },
         Form::Let { name: _, rhs: _ } => false,
         Form::Assign { name: _, rhs: _ } => false,
-        Form::AssignCell { name: _, index: _, value: _ } => false,
+        Form::AssignCell {
+            name: _,
+            index: _,
+            value: _,
+        } => false,
         Form::While { test: _, body: _ } => false,
         Form::Call { name: _, args: _ } => false,
         Form::Fork { name: _, args: _ } => false,
@@ -154,11 +158,18 @@ fn fun_param(locals: &Locals, left: usize, param: &Param) -> Option<TypeFault>
     ensures { result ≡ program.fun_param None Some rule.both locals.now left (binder param.now) }
 {
     let limit = limit_at(param.name.at, Which::Parameters, 8, left);
-    first(new_param(&param.name, locals), first(no_rev_param(param), limit))
+    first(
+        new_param(&param.name, locals),
+        first(no_rev_param(param), limit),
+    )
 }
 
 /// The parameters of a fun, which become its locals.
-fn fun_params(alloc: Global, locals: &mut Locals, params: &[Param]) -> Result<Option<TypeFault>, AllocError>
+fn fun_params(
+    alloc: Global,
+    locals: &mut Locals,
+    params: &[Param],
+) -> Result<Option<TypeFault>, AllocError>
     ensures fault { IfOk result (λ f. f ≡ rule.fun_params locals.old 9 None (map binder params.now)) }
     ensures locals { OnOk result (locals.new ≡ program.with_params locals.old (map binder params.now)) }
 {
@@ -183,7 +194,12 @@ fn proc_param(outer: &Checker, body: &Body, left: usize, param: &Param) -> Optio
 }
 
 /// The parameters of a procedure, which become its locals.
-fn proc_params(alloc: Global, outer: &Checker, body: &mut Body, params: &[Param]) -> Result<Option<TypeFault>, AllocError>
+fn proc_params(
+    alloc: Global,
+    outer: &Checker,
+    body: &mut Body,
+    params: &[Param],
+) -> Result<Option<TypeFault>, AllocError>
     ensures fault { IfOk result (λ f. f ≡ rule.proc_params (rule.names_of outer.now) body.old.locals 9 body.old.left None (map binder params.now)) }
     ensures locals { OnOk result (body.new.locals ≡ program.with_params body.old.locals (map binder params.now)) }
     ensures left { OnOk result (body.new.left ≡ program.left_params body.old.left (map binder params.now)) }
@@ -202,7 +218,12 @@ fn proc_params(alloc: Global, outer: &Checker, body: &mut Body, params: &[Param]
 // ---- declarations
 
 /// The body of a fun, which has the kind of the result, and no handle's.
-fn fun_body(inner: &Checker, locals: &Locals, result_kind: ValueKind, body: &Expr) -> Option<TypeFault>
+fn fun_body(
+    inner: &Checker,
+    locals: &Locals,
+    result_kind: ValueKind,
+    body: &Expr,
+) -> Option<TypeFault>
     ensures { result ≡ rule.fun_body (rule.names_of inner.now) locals.now result_kind (term body.now) }
 {
     let seen = inner.term(locals, body);
@@ -235,7 +256,12 @@ fn fun_decl(
 }
 
 /// The locals of a merge.
-fn merge_locals(alloc: Global, main: &Name, join: &Name, root: &Name) -> Result<(Option<TypeFault>, Locals), AllocError>
+fn merge_locals(
+    alloc: Global,
+    main: &Name,
+    join: &Name,
+    root: &Name,
+) -> Result<(Option<TypeFault>, Locals), AllocError>
     ensures fault { IfOk result (λ r. r.0 ≡ rule.merge_params (word main.now) (word join.now) (word root.now)) }
     ensures locals { IfOk result (λ r. r.1 ≡ program.merge_locals (word main.now) (word join.now) (word root.now)) }
 {
@@ -402,7 +428,10 @@ fn shared_decl(
         new_name(name, &passed.names),
         location_limit(name, passed.located, after),
     );
-    let merged = first(by_use(&passed.merges, by), cumulative_kind(by, kind.0, kind.1));
+    let merged = first(
+        by_use(&passed.merges, by),
+        cumulative_kind(by, kind.0, kind.1),
+    );
     let cells = first(size_use(size), first_value(start, kind.1));
     first(named, first(merged, cells))
 }
@@ -418,17 +447,32 @@ pub fn decl(
     ensures { IfOk result (λ f. f ≡ rule.entry_by (rule.names_of outer.now) (rule.names_of inner.now) (passed_of passed.now) (entry d.now)) }
 {
     match d {
-        Decl::Fun { name, params, result, body } => {
-            fun_decl(alloc, inner, passed, name, params, *result, body)
-        }
-        Decl::Merge { name, main, join, root, body } => {
-            merge_decl(alloc, inner, passed, name, (main, join, root), body)
-        }
-        Decl::Shared { name, by, kind_at, holds, size, first } => {
-            Ok(shared_decl(passed, name, by, (*kind_at, *holds), *size, first))
-        }
-        Decl::Proc { name, params, result, body } => {
-            proc_decl(alloc, outer, passed, name, params, *result, body)
-        }
+        Decl::Fun {
+            name,
+            params,
+            result,
+            body,
+        } => { fun_decl(alloc, inner, passed, name, params, *result, body) }
+        Decl::Merge {
+            name,
+            main,
+            join,
+            root,
+            body,
+        } => { merge_decl(alloc, inner, passed, name, (main, join, root), body) }
+        Decl::Shared {
+            name,
+            by,
+            kind_at,
+            holds,
+            size,
+            first,
+        } => { Ok(shared_decl(passed, name, by, (*kind_at, *holds), *size, first)) }
+        Decl::Proc {
+            name,
+            params,
+            result,
+            body,
+        } => { proc_decl(alloc, outer, passed, name, params, *result, body) }
     }
 }

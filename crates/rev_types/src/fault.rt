@@ -48,7 +48,11 @@ fn place(fault: TypeFault) -> u32
         TypeFault::WrongType { at } => at,
         TypeFault::WrongCount { at } => at,
         TypeFault::NoReturn { at } => at,
-        TypeFault::LimitOf { at, which: _, limit: _ } => at,
+        TypeFault::LimitOf {
+            at,
+            which: _,
+            limit: _,
+        } => at,
         TypeFault::OutOfMemory => 0,
     }
 }
@@ -76,7 +80,11 @@ fn rank(fault: TypeFault) -> u8
         TypeFault::WrongType { at: _ } => 3,
         TypeFault::WrongCount { at: _ } => 4,
         TypeFault::NoReturn { at: _ } => 5,
-        TypeFault::LimitOf { at: _, which, limit: _ } => order(which),
+        TypeFault::LimitOf {
+            at: _,
+            which,
+            limit: _,
+        } => order(which),
         TypeFault::OutOfMemory => 13,
     }
 }

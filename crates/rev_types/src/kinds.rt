@@ -101,11 +101,7 @@ pub fn not_rev(at: u32, found: Option<ValueKind>) -> Option<TypeFault>
 }
 
 /// The kind of something earlier is wanted, where that has a kind.
-pub fn alike(
-    at: u32,
-    wanted: Option<ValueKind>,
-    found: Option<ValueKind>,
-) -> Option<TypeFault>
+pub fn alike(at: u32, wanted: Option<ValueKind>, found: Option<ValueKind>) -> Option<TypeFault>
     ensures { result ≡ rule.alike at wanted found }
 {
     match wanted {
@@ -135,13 +131,7 @@ pub fn scalar_use(
     let at = name.at;
     match (local, shared) {
         (Some(_), _) => None,
-        (None, Some(holder)) => {
-            if holder.array {
-                wrong(at)
-            } else {
-                None
-            }
-        }
+        (None, Some(holder)) => { if holder.array { wrong(at) } else { None } }
         (None, None) => Some(TypeFault::UnknownName { at }),
     }
 }
@@ -157,13 +147,7 @@ pub fn array_use(
     let at = name.at;
     match (local, shared) {
         (Some(_), _) => wrong(at),
-        (None, Some(holder)) => {
-            if holder.array {
-                None
-            } else {
-                wrong(at)
-            }
-        }
+        (None, Some(holder)) => { if holder.array { None } else { wrong(at) } }
         (None, None) => Some(TypeFault::UnknownName { at }),
     }
 }

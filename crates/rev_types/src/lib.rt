@@ -5,6 +5,7 @@ pub mod check;
 pub mod decls;
 pub mod fault;
 pub mod kinds;
+pub mod laws;
 pub mod lookup;
 pub mod names;
 pub mod passed;

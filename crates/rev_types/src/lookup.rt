@@ -15,7 +15,15 @@ pub fn shared_table(alloc: Global, decls: &[Decl]) -> Result<NameTable<Holder>, 
 {
     let mut table = NameTable::new(alloc);
     for d in decls {
-        if let Decl::Shared { name, by: _, kind_at: _, holds, size, first: _ } = d {
+        if let Decl::Shared {
+            name,
+            by: _,
+            kind_at: _,
+            holds,
+            size,
+            first: _,
+        } = d
+        {
             let holder = Holder {
                 kind: *holds,
                 array: size.is_some(),
@@ -36,16 +44,39 @@ fn add_proc<'a>(
     ensures { OnOk result (spec.callees table.new ≡ spec.with_proc (spec.callees table.old) (entry d.now)) }
 {
     match d {
-        Decl::Proc { name, params, result, body: _ } => {
+        Decl::Proc {
+            name,
+            params,
+            result,
+            body: _,
+        } => {
             let callee = Callee {
                 params,
                 result: *result,
             };
             table.add(alloc, &name.text, callee)
         }
-        Decl::Fun { name: _, params: _, result: _, body: _ } => Ok(()),
-        Decl::Merge { name: _, main: _, join: _, root: _, body: _ } => Ok(()),
-        Decl::Shared { name: _, by: _, kind_at: _, holds: _, size: _, first: _ } => Ok(()),
+        Decl::Fun {
+            name: _,
+            params: _,
+            result: _,
+            body: _,
+        } => Ok(()),
+        Decl::Merge {
+            name: _,
+            main: _,
+            join: _,
+            root: _,
+            body: _,
+        } => Ok(()),
+        Decl::Shared {
+            name: _,
+            by: _,
+            kind_at: _,
+            holds: _,
+            size: _,
+            first: _,
+        } => Ok(()),
     }
 }
 
@@ -70,16 +101,39 @@ fn add_fun<'a>(
     ensures { OnOk result (spec.callees table.new ≡ spec.with_fun (spec.callees table.old) (entry d.now)) }
 {
     match d {
-        Decl::Fun { name, params, result, body: _ } => {
+        Decl::Fun {
+            name,
+            params,
+            result,
+            body: _,
+        } => {
             let callee = Callee {
                 params,
                 result: Some(*result),
             };
             table.add(alloc, &name.text, callee)
         }
-        Decl::Merge { name: _, main: _, join: _, root: _, body: _ } => Ok(()),
-        Decl::Shared { name: _, by: _, kind_at: _, holds: _, size: _, first: _ } => Ok(()),
-        Decl::Proc { name: _, params: _, result: _, body: _ } => Ok(()),
+        Decl::Merge {
+            name: _,
+            main: _,
+            join: _,
+            root: _,
+            body: _,
+        } => Ok(()),
+        Decl::Shared {
+            name: _,
+            by: _,
+            kind_at: _,
+            holds: _,
+            size: _,
+            first: _,
+        } => Ok(()),
+        Decl::Proc {
+            name: _,
+            params: _,
+            result: _,
+            body: _,
+        } => Ok(()),
     }
 }
 

@@ -152,13 +152,24 @@ impl Passed {
         ensures counts { OnOk result (self.new.merge_count ≤ self.new.number) }
     {
         match decl {
-            Decl::Fun { name, params: _, result: _, body } => {
+            Decl::Fun {
+                name,
+                params: _,
+                result: _,
+                body,
+            } => {
                 let weight = weight(&self.weights, body);
                 self.names.add(alloc, &name.text, self.number)?;
                 self.weights.add(alloc, &name.text, weight)?;
                 self.funs_left = self.funs_left.saturating_sub(1);
             }
-            Decl::Merge { name, main: _, join: _, root: _, body: _ } => {
+            Decl::Merge {
+                name,
+                main: _,
+                join: _,
+                root: _,
+                body: _,
+            } => {
                 self.names.add(alloc, &name.text, self.number)?;
                 self.merges.add(alloc, &name.text, self.merge_count)?;
                 self.funs_left = self.funs_left.saturating_sub(1);
@@ -166,11 +177,23 @@ impl Passed {
                 self.merge_count += 1;
                 return Ok(());
             }
-            Decl::Shared { name, by: _, kind_at: _, holds: _, size, first: _ } => {
+            Decl::Shared {
+                name,
+                by: _,
+                kind_at: _,
+                holds: _,
+                size,
+                first: _,
+            } => {
                 self.names.add(alloc, &name.text, self.number)?;
                 self.located = located_after(self.located, cells_in(*size));
             }
-            Decl::Proc { name, params: _, result: _, body: _ } => {
+            Decl::Proc {
+                name,
+                params: _,
+                result: _,
+                body: _,
+            } => {
                 self.names.add(alloc, &name.text, self.number)?;
                 self.procs_left = self.procs_left.saturating_sub(1);
             }

@@ -78,7 +78,10 @@ impl<'a> Checker<'_, 'a> {
             Item::Text { at, bytes: _ } => one_more_item(*at, left),
             Item::Value(e) => {
                 let seen = self.term(locals, e);
-                first(first(seen.fault, not_rev(e.at, seen.kind)), one_more_item(e.at, left))
+                first(
+                    first(seen.fault, not_rev(e.at, seen.kind)),
+                    one_more_item(e.at, left),
+                )
             }
         }
     }
@@ -131,11 +134,20 @@ impl<'a> Checker<'_, 'a> {
     {
         let local = locals.find(&name.text);
         let shared = self.holder(name);
-        first(scalar_use(name, local, shared), self.assigned(locals, name_kind(local, shared), rhs))
+        first(
+            scalar_use(name, local, shared),
+            self.assigned(locals, name_kind(local, shared), rhs),
+        )
     }
 
     /// An assignment to a cell.
-    fn assign_cell(&self, locals: &Locals, name: &Name, index: &Expr, value: &Expr) -> Option<TypeFault>
+    fn assign_cell(
+        &self,
+        locals: &Locals,
+        name: &Name,
+        index: &Expr,
+        value: &Expr,
+    ) -> Option<TypeFault>
         ensures { result ≡ steps.cell_by None Some rule.both (rule.names_of self.now) locals.now (word name.now) (term index.now) (term value.now) }
     {
         let local = locals.find(&name.text);
@@ -143,12 +155,21 @@ impl<'a> Checker<'_, 'a> {
         let target = array_use(name, local, shared);
         let index = self.part(locals, index, ValueKind::Int);
         let seen = self.term(locals, value);
-        let value = first(seen.fault, alike(value.at, name_kind(local, shared), seen.kind));
+        let value = first(
+            seen.fault,
+            alike(value.at, name_kind(local, shared), seen.kind),
+        );
         first(target, first(index, value))
     }
 
     /// A `let`, which binds its name from then on.
-    fn bind(&self, alloc: Global, body: &mut Body, name: &Name, rhs: &Rhs) -> Result<Option<TypeFault>, AllocError>
+    fn bind(
+        &self,
+        alloc: Global,
+        body: &mut Body,
+        name: &Name,
+        rhs: &Rhs,
+    ) -> Result<Option<TypeFault>, AllocError>
         ensures fault { IfOk result (λ f. f ≡ steps.bind_by None Some rule.both (rule.names_of self.now) body.old.locals body.old.left (word name.now) (right rhs.now)) }
         ensures locals { OnOk result (body.new.locals ≡ steps.bound (rule.names_of self.now) body.old.locals (word name.now) (right rhs.now)) }
         ensures left { OnOk result (body.new.left ≡ body.old.left - 1) }
@@ -163,7 +184,13 @@ impl<'a> Checker<'_, 'a> {
 
     /// A statement of a body, in a procedure with this result.
     #[cycle(steps)]
-    fn stmt(&self, alloc: Global, result_kind: Option<ValueKind>, body: &mut Body, s: &Stmt) -> Result<Option<TypeFault>, AllocError>
+    fn stmt(
+        &self,
+        alloc: Global,
+        result_kind: Option<ValueKind>,
+        body: &mut Body,
+        s: &Stmt,
+    ) -> Result<Option<TypeFault>, AllocError>
         ensures fault { IfOk result (λ f. f ≡ rule.step_by (rule.names_of self.now) result_kind body.old.locals body.old.left (stmt s.now)) }
         ensures locals { OnOk result (body.new.locals ≡ steps.locals_after (rule.names_of self.now) body.old.locals (stmt s.now)) }
         ensures left { OnOk result (body.new.left ≡ steps.left_after body.old.left (stmt s.now)) }
@@ -172,7 +199,14 @@ impl<'a> Checker<'_, 'a> {
     }
 
     #[cycle(steps)]
-    fn form(&self, alloc: Global, result_kind: Option<ValueKind>, body: &mut Body, at: u32, form: &Form) -> Result<Option<TypeFault>, AllocError>
+    fn form(
+        &self,
+        alloc: Global,
+        result_kind: Option<ValueKind>,
+        body: &mut Body,
+        at: u32,
+        form: &Form,
+    ) -> Result<Option<TypeFault>, AllocError>
         ensures fault { IfOk result (λ f. f ≡ rule.act_by (rule.names_of self.now) result_kind body.old.locals body.old.left at (act form.now)) }
         ensures locals { OnOk result (body.new.locals ≡ steps.act_locals (rule.names_of self.now) body.old.locals (act form.now)) }
         ensures left { OnOk result (body.new.left ≡ steps.left_act body.old.left (act form.now)) }
@@ -205,7 +239,13 @@ impl<'a> Checker<'_, 'a> {
 
     /// A block. The locals that it binds are not in scope behind it.
     #[cycle(steps)]
-    pub fn block(&self, alloc: Global, result_kind: Option<ValueKind>, body: &mut Body, b: &Block) -> Result<Option<TypeFault>, AllocError>
+    pub fn block(
+        &self,
+        alloc: Global,
+        result_kind: Option<ValueKind>,
+        body: &mut Body,
+        b: &Block,
+    ) -> Result<Option<TypeFault>, AllocError>
         ensures fault { IfOk result (λ f. f ≡ rule.steps_by (rule.names_of self.now) result_kind body.old.locals body.old.left None (block b.now)) }
         ensures locals { OnOk result (body.new.locals ≡ body.old.locals) }
         ensures left { OnOk result (body.new.left ≡ steps.left_steps body.old.left (block b.now)) }
@@ -221,7 +261,13 @@ impl<'a> Checker<'_, 'a> {
 
     /// The tests and blocks of an `if`.
     #[cycle(steps)]
-    fn arms(&self, alloc: Global, result_kind: Option<ValueKind>, body: &mut Body, all: &[Arm]) -> Result<Option<TypeFault>, AllocError>
+    fn arms(
+        &self,
+        alloc: Global,
+        result_kind: Option<ValueKind>,
+        body: &mut Body,
+        all: &[Arm],
+    ) -> Result<Option<TypeFault>, AllocError>
         ensures fault { IfOk result (λ f. f ≡ rule.arms_by (rule.names_of self.now) result_kind body.old.locals body.old.left None (arms all.now)) }
         ensures locals { OnOk result (body.new.locals ≡ body.old.locals) }
         ensures left { OnOk result (body.new.left ≡ steps.left_arms body.old.left (arms all.now)) }
@@ -234,7 +280,13 @@ impl<'a> Checker<'_, 'a> {
     }
 
     #[cycle(steps)]
-    fn arm(&self, alloc: Global, result_kind: Option<ValueKind>, body: &mut Body, a: &Arm) -> Result<Option<TypeFault>, AllocError>
+    fn arm(
+        &self,
+        alloc: Global,
+        result_kind: Option<ValueKind>,
+        body: &mut Body,
+        a: &Arm,
+    ) -> Result<Option<TypeFault>, AllocError>
         ensures fault { IfOk result (λ f. f ≡ steps.arm_by None Some rule.both (rule.names_of self.now) result_kind body.old.locals body.old.left (pair a.now).0 (pair a.now).1) }
         ensures locals { OnOk result (body.new.locals ≡ body.old.locals) }
         ensures left { OnOk result (body.new.left ≡ steps.left_steps body.old.left (pair a.now).1) }

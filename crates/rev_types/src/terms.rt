@@ -92,7 +92,10 @@ impl<'a> Checker<'_, 'a> {
             Node::Cell { name, index } => {
                 let local = locals.find(&name.text);
                 let shared = self.holder(name);
-                let fault = first(array_use(name, local, shared), self.part(locals, index, ValueKind::Int));
+                let fault = first(
+                    array_use(name, local, shared),
+                    self.part(locals, index, ValueKind::Int),
+                );
                 Seen::new(name_kind(local, shared), fault)
             }
             Node::Apply { name, args } => {
@@ -100,10 +103,16 @@ impl<'a> Checker<'_, 'a> {
                 Seen::new(result_of(fun), self.args(locals, params_of(fun), args))
             }
             Node::Input { word_at, index } => {
-                let fault = first(input_use(self.inside, *word_at), self.part(locals, index, ValueKind::Int));
+                let fault = first(
+                    input_use(self.inside, *word_at),
+                    self.part(locals, index, ValueKind::Int),
+                );
                 Seen::new(Some(ValueKind::Int), fault)
             }
-            Node::Inputs { word_at } => Seen::new(Some(ValueKind::Int), input_use(self.inside, *word_at)),
+            Node::Inputs { word_at } => Seen::new(
+                Some(ValueKind::Int),
+                input_use(self.inside, *word_at),
+            ),
             Node::Pick { test, yes, no } => {
                 let test = self.part(locals, test, ValueKind::Bool);
                 let left = self.term(locals, yes);
@@ -180,7 +189,10 @@ impl<'a> Checker<'_, 'a> {
         ensures { result ≡ rule.call_by (rule.names_of self.now) locals.now (word name.now) (terms args.now) }
     {
         let proc = self.proc(name);
-        first(callee_use(name, args.len(), proc), self.args(locals, params_of(proc), args))
+        first(
+            callee_use(name, args.len(), proc),
+            self.args(locals, params_of(proc), args),
+        )
     }
 
     /// A right side.
@@ -199,7 +211,10 @@ impl<'a> Checker<'_, 'a> {
                 Seen::new(Some(ValueKind::Rev), self.call(locals, name, args))
             }
             Rhs::Try { at: _, handle } => {
-                Seen::new(Some(ValueKind::Bool), self.part(locals, handle, ValueKind::Rev))
+                Seen::new(
+                    Some(ValueKind::Bool),
+                    self.part(locals, handle, ValueKind::Rev),
+                )
             }
         }
     }
@@ -211,8 +226,16 @@ pub fn right_place(rhs: &Rhs) -> u32
 {
     match rhs {
         Rhs::Plain(e) => e.at,
-        Rhs::Call { at, name: _, args: _ } => *at,
-        Rhs::Fork { at, name: _, args: _ } => *at,
+        Rhs::Call {
+            at,
+            name: _,
+            args: _,
+        } => *at,
+        Rhs::Fork {
+            at,
+            name: _,
+            args: _,
+        } => *at,
         Rhs::Try { at, handle: _ } => *at,
     }
 }

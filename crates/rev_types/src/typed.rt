@@ -30,7 +30,11 @@ pub(crate) fn make_typed(expanded: Expanded, tables: Tables) -> Typed
     requires locations { tables.locations ≡ program.locations (whole expanded.program) }
     ensures { whole result.expanded.program ≡ whole expanded.program }
 {
-    let Tables { shared, procs, locations } = tables;
+    let Tables {
+        shared,
+        procs,
+        locations,
+    } = tables;
     Typed {
         expanded,
         shared: Items::from_vec(shared),

@@ -10,5 +10,5 @@ invariant-loop-d l = record {
   number : l.passed.number ≡ l.d-index;
   counted : l.passed.merge_count ≤ l.passed.number;
   found : rule.entries_by (rule.names_of l.outer) (rule.names_of l.inner) (passed_of l.passed) l.found (map entry (drop l.d-index l.decls))
-      ≡ rule.entries_by (rule.names_of l.outer) (rule.names_of l.inner) program.nothing_passed None (map entry l.decls)
+      ≡ rule.entries_by (rule.names_of l.outer) (rule.names_of l.inner) program.nothing_passed None (map entry l.decls);
 }

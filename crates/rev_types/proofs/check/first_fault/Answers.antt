@@ -10,7 +10,7 @@ returns c =
       shared = record { ref_ptr = (0, 0); now = c.in_ok-shared.shared };
       procs = record { ref_ptr = (0, 0); now = c.in_ok-procs.procs };
       funs = record { ref_ptr = (0, 0); now = c.in_ok-funs.funs };
-      inside = false
+      inside = false;
     } in
     let inner : Checker = record outer { inside = true } in
     program_found (whole c.args.p.now) outer inner _ _ _ _ _ _ _ _

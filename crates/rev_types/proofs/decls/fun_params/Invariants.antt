@@ -7,5 +7,5 @@ use Rattle.rev_types.proofs.decls.fun_params.Given as goal
 abbrev pub invariant-loop-param : goal.invariant-loop-param
 invariant-loop-param l = record {
   found : rule.fun_params l.locals l.left l.found (map binder (drop l.param-index l.params)) ≡ rule.fun_params l.initial.locals 9 None (map binder l.params);
-  locals : program.with_params l.locals (map binder (drop l.param-index l.params)) ≡ program.with_params l.initial.locals (map binder l.params)
+  locals : program.with_params l.locals (map binder (drop l.param-index l.params)) ≡ program.with_params l.initial.locals (map binder l.params);
 }

@@ -10,7 +10,7 @@ invariant-block-loop-s l = record {
   outer : take l.depth l.body.locals ≡ l.initial.body.locals;
   found : rule.steps_by (rule.names_of l.self) l.result_kind l.body.locals l.body.left l.found (stmts (drop l.s-index l.s-items))
       ≡ rule.steps_by (rule.names_of l.self) l.result_kind l.initial.body.locals l.initial.body.left None (stmts l.s-items);
-  left : steps.left_steps l.body.left (stmts (drop l.s-index l.s-items)) ≡ steps.left_steps l.initial.body.left (stmts l.s-items)
+  left : steps.left_steps l.body.left (stmts (drop l.s-index l.s-items)) ≡ steps.left_steps l.initial.body.left (stmts l.s-items);
 }
 
 abbrev pub invariant-arms-loop-arm : goal.invariant-arms-loop-arm
@@ -18,5 +18,5 @@ invariant-arms-loop-arm l = record {
   same : l.body.locals ≡ l.initial.body.locals;
   found : rule.arms_by (rule.names_of l.self) l.result_kind l.body.locals l.body.left l.found (arms (drop l.arm-index l.all))
       ≡ rule.arms_by (rule.names_of l.self) l.result_kind l.initial.body.locals l.initial.body.left None (arms l.all);
-  left : steps.left_arms l.body.left (arms (drop l.arm-index l.all)) ≡ steps.left_arms l.initial.body.left (arms l.all)
+  left : steps.left_arms l.body.left (arms (drop l.arm-index l.all)) ≡ steps.left_arms l.initial.body.left (arms l.all);
 }
