@@ -8,6 +8,7 @@ use Rattle.rev_syntax.specs.declared.tree.BinaryOp.TheVariants as b
 use Rattle.merge_decl.specs.FunRules.{count}
 use Rattle.merge_decl.specs.Table.{find}
 use Rattle.rev_types.specs.declared.fault.TypeFault.{TypeFault}
+use Rattle.rev_types.specs.declared.fault.TypeFault.TheVariants.{WrongType}
 use Rattle.rev_types.specs.declared.names.Holder.{Holder}
 use Rattle.rev_types.specs.Kinds.{Callee, Names, Locals, same_kind, name_kind, result_of, kind_in, shape_kind, links_kind, operand_kind, term_place}
 use Rattle.rev_types.specs.Rules as r
@@ -175,12 +176,12 @@ array_sound n None None h = absurd (let e : r.array_use [] one app n None None �
 
 scalar_complete : (n : Word) (l : Option (Option ValueKind)) (o : Option Holder) (t : ValueKind) → ScalarHas l o t → (r.scalar_use [] one app n l o ≡ []) × (name_kind l o ≡ Some t)
 scalar_complete n (Some found) o t h = (refl, h)
-scalar_complete n None (Some x) t h = (ap (λ a. if a then one _ else []) h.0, ap Some h.1)
+scalar_complete n None (Some x) t h = (ap (λ a. if a then one (WrongType n.at) else []) h.0, ap Some h.1)
 scalar_complete n None None t h = absurd h
 
 array_complete : (n : Word) (l : Option (Option ValueKind)) (o : Option Holder) (t : ValueKind) → ArrayHas l o t → (r.array_use [] one app n l o ≡ []) × (name_kind l o ≡ Some t)
 array_complete n (Some found) o t h = absurd h
-array_complete n None (Some x) t h = (ap (λ a. if a then [] else one _) h.0, ap Some h.1)
+array_complete n None (Some x) t h = (ap (λ a. if a then [] else one (WrongType n.at)) h.0, ap Some h.1)
 array_complete n None None t h = absurd h
 
 fits_of : (at : ℕ) (found : Option ValueKind) (t : ValueKind) (p : Option Binder) → found ≡ Some t → r.fits [] one app at found p ≡ [] → IsOfKind p t
