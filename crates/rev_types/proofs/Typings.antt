@@ -310,9 +310,11 @@ mutual
   shape_complete c l (pick x y z) t h =
       let test = term_complete c l x k.Bool h.0 in
       let yes = term_complete c l y t h.1 in
-      let no = term_complete c l z t h.2 in
-      (whole _ _ (whole _ _ test.0 (wants_nothing (term_place x) (kind_in c l x) k.Bool test.1))
-      (whole _ _ (whole _ _ yes.0 no.0) (alike_nothing (term_place z) (kind_in c l y) (kind_in c l z) t yes.1 no.1)), yes.1)
+      let no = term_complete c l z t h.2 in (
+        whole _ _ (whole _ _ test.0 (wants_nothing (term_place x) (kind_in c l x) k.Bool test.1))
+            (whole _ _ (whole _ _ yes.0 no.0) (alike_nothing (term_place z) (kind_in c l y) (kind_in c l z) t yes.1 no.1)),
+        yes.1,
+      )
   shape_complete c l (unary op e) t h =
       let i = term_complete c l e (operand_kind op) h.1 in
       (whole _ _ i.0 (wants_nothing (term_place e) (kind_in c l e) (operand_kind op) i.1), ap Some (sym h.0))

@@ -12,4 +12,6 @@ pub mod passed;
 pub mod steps;
 pub mod tables;
 pub mod terms;
+#[cfg(test)]
+mod tests;
 pub mod typed;
