@@ -1,3 +1,4 @@
 pub mod Each
 pub mod Naturals
 pub mod Simple
+pub mod Schedules

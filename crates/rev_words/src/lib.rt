@@ -19,7 +19,7 @@ mod settings;
 use clap::ArgMatches;
 use command::matches_of;
 pub use fault::WordsFault;
-pub use laws::row_laws;
+pub use laws::{row_laws, schedule_law};
 use numbers::{numbers_of, schedule_of};
 use rev_num::Items;
 use settings::{is_flagged, mode_of, setting, small_setting};
@@ -89,3 +89,6 @@ fn words_of(alloc: Global, matches: &ArgMatches) -> Result<Words, WordsFault>
         size,
     })
 }
+
+#[cfg(test)]
+mod tests;
