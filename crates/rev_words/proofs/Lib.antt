@@ -2,3 +2,4 @@ pub mod Each
 pub mod Naturals
 pub mod Simple
 pub mod Schedules
+pub mod Ranges

@@ -89,7 +89,7 @@ few_is : (b : Bool) (o : Option (List ℕ)) (ns : List ℕ) → (if b then o els
 few_is true o ns h = (refl, h)
 few_is false o ns h = grind (arith, rules)
 
-schedule_is : (text entries : List ℕ) → schedule_in text ≡ Some entries → IsSchedule text entries
+pub schedule_is : (text entries : List ℕ) → schedule_in text ≡ Some entries → IsSchedule text entries
 schedule_is [] entries h =
     let is : entries ≡ [] = grind (arith, rules) in
     record {
