@@ -1,0 +1,4 @@
+// The tokens and the syntax trees of the language.
+#![tactic(auto)]
+
+pub mod tree;
