@@ -2,8 +2,8 @@
 --
 -- A number before a name, a term or a form is the offset of its first byte.
 use Rattle.std.specs.Prelude.{ℕ, ℤ, Bool, List, Option}
-use Rattle.rev_num.specs.declared.ValueKind.{ValueKind}
-use Rattle.rev_num.specs.declared.Value.{Value}
+use Rattle.rev_num.specs.declared.value.ValueKind.{ValueKind}
+use Rattle.rev_num.specs.declared.value.Value.{Value}
 use Rattle.rev_syntax.specs.declared.tree.UnaryOp.{UnaryOp}
 use Rattle.rev_syntax.specs.declared.tree.BinaryOp.{BinaryOp}
 
