@@ -1,2 +1,5 @@
 pub mod Trees
 pub mod View
+pub mod Bytes
+pub mod Words
+pub mod Small

@@ -1,4 +1,5 @@
 // The tokens and the syntax trees of the language.
 #![tactic(auto)]
 
+pub mod token;
 pub mod tree;

@@ -1,0 +1,70 @@
+// What the tokens of a text are.
+
+/// What a token is: a name, a number with its value, a text in quotes, a reserved word or a sign.
+#[derive(Clone, Copy, PartialEq, Eq, Debug)]
+pub enum TokenKind {
+    Name,
+    Int(i64),
+    Text,
+
+    Fun,
+    Merge,
+    Versioned,
+    Cumulative,
+    By,
+    Proc,
+    Main,
+    KindInt,
+    KindBool,
+    KindRev,
+    Let,
+    If,
+    Else,
+    While,
+    Call,
+    Return,
+    Fork,
+    Join,
+    TryJoin,
+    Print,
+    Assert,
+    True,
+    False,
+    NoRev,
+    Input,
+    Inputs,
+    Pick,
+
+    Equal,
+    NotEqual,
+    LessEqual,
+    GreaterEqual,
+    And,
+    Or,
+    OpenParen,
+    CloseParen,
+    OpenBrace,
+    CloseBrace,
+    OpenBracket,
+    CloseBracket,
+    Comma,
+    Semicolon,
+    Colon,
+    Assign,
+    Plus,
+    Minus,
+    Star,
+    Slash,
+    Percent,
+    Bang,
+    Less,
+    Greater,
+}
+
+/// A token, with the offset of its first byte and the offset after its last one.
+#[derive(Clone, Copy, PartialEq, Eq, Debug)]
+pub struct Token {
+    pub kind: TokenKind,
+    pub start: u32,
+    pub end: u32,
+}
