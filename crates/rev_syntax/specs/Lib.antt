@@ -3,3 +3,4 @@ pub mod View
 pub mod Bytes
 pub mod Words
 pub mod Small
+pub mod Scan

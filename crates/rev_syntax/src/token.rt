@@ -1,4 +1,6 @@
 // What the tokens of a text are.
+ghost use Rattle.std.specs.Prelude.{◌≡◌};
+ghost use Rattle.rev_syntax.specs.Words as spec;
 
 /// What a token is: a name, a number with its value, a text in quotes, a reserved word or a sign.
 #[derive(Clone, Copy, PartialEq, Eq, Debug)]
@@ -67,4 +69,133 @@ pub struct Token {
     pub kind: TokenKind,
     pub start: u32,
     pub end: u32,
+}
+
+/// What a piece of a text is. Only tokens are kept.
+#[derive(Clone, Copy, PartialEq, Eq, Debug)]
+pub enum Form {
+    WhiteSpace,
+    Comment,
+    Token(TokenKind),
+}
+
+/// The reserved words.
+pub const WORDS: [TokenKind; 27] = [
+    TokenKind::Fun,
+    TokenKind::Merge,
+    TokenKind::Versioned,
+    TokenKind::Cumulative,
+    TokenKind::By,
+    TokenKind::Proc,
+    TokenKind::Main,
+    TokenKind::KindInt,
+    TokenKind::KindBool,
+    TokenKind::KindRev,
+    TokenKind::Let,
+    TokenKind::If,
+    TokenKind::Else,
+    TokenKind::While,
+    TokenKind::Call,
+    TokenKind::Return,
+    TokenKind::Fork,
+    TokenKind::Join,
+    TokenKind::TryJoin,
+    TokenKind::Print,
+    TokenKind::Assert,
+    TokenKind::True,
+    TokenKind::False,
+    TokenKind::NoRev,
+    TokenKind::Input,
+    TokenKind::Inputs,
+    TokenKind::Pick,
+];
+
+/// The signs, the longer ones first.
+pub const SIGNS: [TokenKind; 24] = [
+    TokenKind::Equal,
+    TokenKind::NotEqual,
+    TokenKind::LessEqual,
+    TokenKind::GreaterEqual,
+    TokenKind::And,
+    TokenKind::Or,
+    TokenKind::OpenParen,
+    TokenKind::CloseParen,
+    TokenKind::OpenBrace,
+    TokenKind::CloseBrace,
+    TokenKind::OpenBracket,
+    TokenKind::CloseBracket,
+    TokenKind::Comma,
+    TokenKind::Semicolon,
+    TokenKind::Colon,
+    TokenKind::Assign,
+    TokenKind::Plus,
+    TokenKind::Minus,
+    TokenKind::Star,
+    TokenKind::Slash,
+    TokenKind::Percent,
+    TokenKind::Bang,
+    TokenKind::Less,
+    TokenKind::Greater,
+];
+
+impl TokenKind {
+    /// The bytes of a reserved word or a sign, and none for a name, a number or a text.
+    pub fn spelling(self) -> &'static [u8]
+        ensures { result.now ≡ spec.spelling self }
+    {
+        match self {
+            TokenKind::Name | TokenKind::Int(_) | TokenKind::Text => b"",
+            TokenKind::Fun => b"fun",
+            TokenKind::Merge => b"merge",
+            TokenKind::Versioned => b"versioned",
+            TokenKind::Cumulative => b"cumulative",
+            TokenKind::By => b"by",
+            TokenKind::Proc => b"proc",
+            TokenKind::Main => b"main",
+            TokenKind::KindInt => b"int",
+            TokenKind::KindBool => b"bool",
+            TokenKind::KindRev => b"rev",
+            TokenKind::Let => b"let",
+            TokenKind::If => b"if",
+            TokenKind::Else => b"else",
+            TokenKind::While => b"while",
+            TokenKind::Call => b"call",
+            TokenKind::Return => b"return",
+            TokenKind::Fork => b"rfork",
+            TokenKind::Join => b"rjoin",
+            TokenKind::TryJoin => b"tryjoin",
+            TokenKind::Print => b"print",
+            TokenKind::Assert => b"assert",
+            TokenKind::True => b"true",
+            TokenKind::False => b"false",
+            TokenKind::NoRev => b"none",
+            TokenKind::Input => b"input",
+            TokenKind::Inputs => b"inputs",
+            TokenKind::Pick => b"pick",
+            TokenKind::Equal => b"==",
+            TokenKind::NotEqual => b"!=",
+            TokenKind::LessEqual => b"<=",
+            TokenKind::GreaterEqual => b">=",
+            TokenKind::And => b"&&",
+            TokenKind::Or => b"||",
+            TokenKind::OpenParen => b"(",
+            TokenKind::CloseParen => b")",
+            TokenKind::OpenBrace => b"{",
+            TokenKind::CloseBrace => b"}",
+            TokenKind::OpenBracket => b"[",
+            TokenKind::CloseBracket => b"]",
+            TokenKind::Comma => b",",
+            TokenKind::Semicolon => b";",
+            TokenKind::Colon => b":",
+            TokenKind::Assign => b"=",
+            TokenKind::Plus => b"+",
+            TokenKind::Minus => b"-",
+            TokenKind::Star => b"*",
+            TokenKind::Slash => b"/",
+            TokenKind::Percent => b"%",
+            TokenKind::Bang => b"!",
+            TokenKind::Less => b"<",
+            TokenKind::Greater => b">",
+        }
+    }
 }

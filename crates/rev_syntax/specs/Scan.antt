@@ -1,0 +1,81 @@
+-- What a text begins with, worked out from its first byte.
+use Rattle.std.specs.Prelude.{ℕ, ◌+◌, ◌<◌, ℤ, pos, Bool, true, false, not, ◌&&◌, ◌||◌, ◌==◌, nat_eq, nat_le, if◌then◌else◌, List, [], ◌∷◌, length, take, drop, Option, Some, None, Result, Ok, Err, slice_index, codes}
+use Rattle.std.specs.Option.{unwrap_or}
+use Rattle.std.specs.List.{prefix_len, find, starts_with}
+use Rattle.rev_syntax.specs.declared.token.TokenKind.{TokenKind}
+use Rattle.rev_syntax.specs.declared.token.TokenKind.TheVariants as k
+use Rattle.rev_syntax.specs.declared.token.Form.{Form}
+use Rattle.rev_syntax.specs.declared.token.Form.TheVariants as form
+use Rattle.rev_syntax.specs.declared.scan.Cut.{Cut}
+use Rattle.rev_syntax.specs.declared.scan.LexFault.{LexFault}
+use Rattle.rev_syntax.specs.declared.scan.LexFault.TheVariants as fault
+use Rattle.rev_syntax.specs.Bytes.{is_digit, is_letter, is_name_byte, is_blank, is_text_byte, is_line_feed, value_of}
+use Rattle.rev_syntax.specs.Words.{spelling, words, signs, has_spelling}
+
+abbrev pub Scanned : Type 0
+Scanned = Result Cut LexFault
+
+abbrev pub cut : Form → ℕ → Cut
+cut f n = record { form = f; length = n }
+
+abbrev pub reserved_word : List ℕ → Option TokenKind
+reserved_word bytes = find (has_spelling bytes) words
+
+abbrev pub word_kind : List ℕ → TokenKind
+word_kind bytes = unwrap_or (reserved_word bytes) k.Name
+
+abbrev pub word_cut : List ℕ → Cut
+word_cut s = let n = prefix_len is_name_byte s in cut (form.Token (word_kind (take n s))) n
+
+abbrev pub begins_with_letter : List ℕ → Bool
+begins_with_letter [] = false
+begins_with_letter (b ∷ bs) = is_letter b
+
+abbrev pub number_in_range : ℕ → Option ℤ
+number_in_range n = if nat_le n 9223372036854775807 then Some (pos n) else None
+
+abbrev pub number_cut : ℕ → Option ℤ → Bool → ℕ → Scanned
+number_cut n (Some z) false at = Ok (cut (form.Token (k.Int z)) n)
+number_cut n _ _ at = Err (fault.BadNumber at)
+
+abbrev pub number_scan : ℕ → List ℕ → Scanned
+number_scan at s =
+    let n = prefix_len is_digit s in number_cut n (number_in_range (value_of (take n s))) (begins_with_letter (drop n s)) at
+
+abbrev pub begins_with_quote : List ℕ → Bool
+begins_with_quote [] = false
+begins_with_quote (b ∷ bs) = b == 34
+
+-- the text after an opening quote
+abbrev pub text_scan : ℕ → List ℕ → Scanned
+text_scan at s =
+    let n = prefix_len is_text_byte s in if begins_with_quote (drop n s) then Ok (cut (form.Token k.Text) (n + 2)) else Err (fault.OpenText at)
+
+abbrev pub first_sign : List ℕ → Option TokenKind
+first_sign s = find (λ kind. starts_with nat_eq s (spelling kind)) signs
+
+abbrev pub sign_cut : ℕ → Option TokenKind → Scanned
+sign_cut at (Some kind) = Ok (cut (form.Token kind) (length (spelling kind)))
+sign_cut at None = Err (fault.BadByte at)
+
+abbrev pub is_no_line_feed : ℕ → Bool
+is_no_line_feed b = not (is_line_feed b)
+
+-- the text from this byte on
+abbrev pub scan_from : ℕ → ℕ → List ℕ → Scanned
+scan_from at b bs =
+    if is_blank b
+    then Ok (cut form.WhiteSpace 1)
+    else (if is_letter b
+    then Ok (word_cut (b ∷ bs))
+    else (if is_digit b
+    then number_scan at (b ∷ bs)
+    else (if b == 34
+    then text_scan at bs
+    else (if starts_with nat_eq (b ∷ bs) (codes "//")
+    then Ok (cut form.Comment (prefix_len is_no_line_feed (b ∷ bs)))
+    else sign_cut at (first_sign (b ∷ bs))))))
+
+abbrev pub scan : ℕ → List ℕ → Scanned
+scan at [] = Err (fault.BadByte at)
+scan at (b ∷ bs) = scan_from at b bs
