@@ -21,24 +21,10 @@ is_blank b = (b == 9) || (b == 10) || (b == 13) || (b == 32)
 abbrev pub is_text_byte : ℕ → Bool
 is_text_byte b = nat_le 32 b && nat_le b 126 && not (b == 34)
 
-abbrev pub is_line_feed : ℕ → Bool
-is_line_feed b = b == 10
+abbrev pub is_no_line_feed : ℕ → Bool
+is_no_line_feed b = not (b == 10)
 
 -- a letter, and then letters and digits
 abbrev pub is_word : List ℕ → Bool
 is_word [] = false
 is_word (b ∷ bs) = is_letter b && list_all is_name_byte bs
-
--- one or more digits
-abbrev pub is_number : List ℕ → Bool
-is_number [] = false
-is_number (b ∷ bs) = list_all is_digit (b ∷ bs)
-
--- the value of digits after those that have the value v
-abbrev pub value_after : ℕ → List ℕ → ℕ
-value_after v [] = v
-value_after v (b ∷ bs) = value_after (10 * v + (b - 48)) bs
-
--- the value of digits, leading zeros allowed
-abbrev pub value_of : List ℕ → ℕ
-value_of = value_after 0

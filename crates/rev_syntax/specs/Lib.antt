@@ -3,4 +3,5 @@ pub mod View
 pub mod Bytes
 pub mod Words
 pub mod Small
+pub mod Tokens
 pub mod Scan

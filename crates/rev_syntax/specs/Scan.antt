@@ -2,6 +2,7 @@
 use Rattle.std.specs.Prelude.{ℕ, ◌+◌, ◌<◌, ℤ, pos, Bool, true, false, not, ◌&&◌, ◌||◌, ◌==◌, nat_eq, nat_le, if◌then◌else◌, List, [], ◌∷◌, length, take, drop, Option, Some, None, Result, Ok, Err, slice_index, codes}
 use Rattle.std.specs.Option.{unwrap_or}
 use Rattle.std.specs.List.{prefix_len, find, starts_with}
+use Rattle.rev_num.specs.Decimal.{decimal_in}
 use Rattle.rev_syntax.specs.declared.token.TokenKind.{TokenKind}
 use Rattle.rev_syntax.specs.declared.token.TokenKind.TheVariants as k
 use Rattle.rev_syntax.specs.declared.token.Form.{Form}
@@ -9,7 +10,8 @@ use Rattle.rev_syntax.specs.declared.token.Form.TheVariants as form
 use Rattle.rev_syntax.specs.declared.scan.Cut.{Cut}
 use Rattle.rev_syntax.specs.declared.scan.LexFault.{LexFault}
 use Rattle.rev_syntax.specs.declared.scan.LexFault.TheVariants as fault
-use Rattle.rev_syntax.specs.Bytes.{is_digit, is_letter, is_name_byte, is_blank, is_text_byte, is_line_feed, value_of}
+use Rattle.rev_syntax.specs.Bytes.{is_digit, is_letter, is_name_byte, is_blank, is_text_byte, is_no_line_feed}
+use Rattle.rev_syntax.specs.Tokens.{begins_with_letter}
 use Rattle.rev_syntax.specs.Words.{spelling, words, signs, has_spelling}
 
 abbrev pub Scanned : Type 0
@@ -27,20 +29,13 @@ word_kind bytes = unwrap_or (reserved_word bytes) k.Name
 abbrev pub word_cut : List ℕ → Cut
 word_cut s = let n = prefix_len is_name_byte s in cut (form.Token (word_kind (take n s))) n
 
-abbrev pub begins_with_letter : List ℕ → Bool
-begins_with_letter [] = false
-begins_with_letter (b ∷ bs) = is_letter b
-
-abbrev pub number_in_range : ℕ → Option ℤ
-number_in_range n = if nat_le n 9223372036854775807 then Some (pos n) else None
-
 abbrev pub number_cut : ℕ → Option ℤ → Bool → ℕ → Scanned
 number_cut n (Some z) false at = Ok (cut (form.Token (k.Int z)) n)
 number_cut n _ _ at = Err (fault.BadNumber at)
 
 abbrev pub number_scan : ℕ → List ℕ → Scanned
 number_scan at s =
-    let n = prefix_len is_digit s in number_cut n (number_in_range (value_of (take n s))) (begins_with_letter (drop n s)) at
+    let n = prefix_len is_digit s in number_cut n (decimal_in (take n s)) (begins_with_letter (drop n s)) at
 
 abbrev pub begins_with_quote : List ℕ → Bool
 begins_with_quote [] = false
@@ -57,9 +52,6 @@ first_sign s = find (λ kind. starts_with nat_eq s (spelling kind)) signs
 abbrev pub sign_cut : ℕ → Option TokenKind → Scanned
 sign_cut at (Some kind) = Ok (cut (form.Token kind) (length (spelling kind)))
 sign_cut at None = Err (fault.BadByte at)
-
-abbrev pub is_no_line_feed : ℕ → Bool
-is_no_line_feed b = not (is_line_feed b)
 
 -- the text from this byte on
 abbrev pub scan_from : ℕ → ℕ → List ℕ → Scanned

@@ -1,6 +1,7 @@
 // The tokens and the syntax trees of the language.
 #![tactic(auto)]
 
+pub mod lex;
 pub mod scan;
 pub mod token;
 pub mod tree;

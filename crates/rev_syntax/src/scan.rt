@@ -1,10 +1,12 @@
 // What a text begins with.
-ghost use Rattle.std.specs.Prelude.{◌≡◌, ◌<◌, ◌^◌, length, IsTrue};
-ghost use Rattle.std.specs.List.{prefix_len, list_all};
+ghost use Rattle.std.specs.Prelude.{◌≡◌, ◌<◌, ◌≤◌, ◌^◌, length};
+ghost use Rattle.std.specs.List.{prefix_len};
 ghost use Rattle.rev_syntax.specs.Bytes as bytes;
+ghost use Rattle.rev_syntax.specs.Tokens.{begins_with_letter};
 ghost use Rattle.rev_syntax.specs.Scan as spec;
 
 use crate::token::{Form, SIGNS, TokenKind, WORDS};
+use rev_num::read_decimal;
 use std::alloc::AllocFailed;
 
 /// The first place of a text that cannot be cut into tokens.
@@ -68,25 +70,29 @@ fn is_text_byte(byte: u8) -> bool
 }
 
 fn digits(text: &[u8]) -> usize
-    ensures { result ≡ prefix_len bytes.is_digit text.now }
+    ensures bound { result ≤ length text.now }
+    ensures count { result ≡ prefix_len bytes.is_digit text.now }
 {
     text.iter().take_while(|b| is_digit(**b)).count()
 }
 
 fn name_bytes(text: &[u8]) -> usize
-    ensures { result ≡ prefix_len bytes.is_name_byte text.now }
+    ensures bound { result ≤ length text.now }
+    ensures count { result ≡ prefix_len bytes.is_name_byte text.now }
 {
     text.iter().take_while(|b| is_name_byte(**b)).count()
 }
 
 fn text_bytes(text: &[u8]) -> usize
-    ensures { result ≡ prefix_len bytes.is_text_byte text.now }
+    ensures bound { result ≤ length text.now }
+    ensures count { result ≡ prefix_len bytes.is_text_byte text.now }
 {
     text.iter().take_while(|b| is_text_byte(**b)).count()
 }
 
 fn line_bytes(text: &[u8]) -> usize
-    ensures { result ≡ prefix_len spec.is_no_line_feed text.now }
+    ensures bound { result ≤ length text.now }
+    ensures count { result ≡ prefix_len bytes.is_no_line_feed text.now }
 {
     text.iter().take_while(|b| **b != b'\n').count()
 }
@@ -127,7 +133,7 @@ fn first_sign(text: &[u8]) -> Option<TokenKind>
 }
 
 fn begins_with_letter(text: &[u8]) -> bool
-    ensures { result ≡ spec.begins_with_letter text.now }
+    ensures { result ≡ begins_with_letter text.now }
 {
     match text {
         [first, ..] => is_letter(*first),
@@ -144,25 +150,11 @@ fn begins_with_quote(text: &[u8]) -> bool
     }
 }
 
-/// The value of digits, where it is in range.
-fn number_value(digits: &[u8]) -> Option<i64>
-    requires { IsTrue (list_all bytes.is_digit digits.now) }
-    ensures { result ≡ spec.number_in_range (bytes.value_of digits.now) }
-{
-    let mut value: i64 = 0;
-    for digit in digits {
-        value = value
-            .checked_mul(10)?
-            .checked_add(i64::from(*digit - b'0'))?;
-    }
-    Some(value)
-}
-
 fn number(at: u32, text: &[u8]) -> Result<Cut, LexFault>
     ensures { result ≡ spec.number_scan at text.now }
 {
     let length = digits(text);
-    match number_value(&text[..length]) {
+    match read_decimal(&text[..length]) {
         Some(value) if !begins_with_letter(&text[length..]) => Ok(Cut {
             form: Form::Token(TokenKind::Int(value)),
             length,
