@@ -5,3 +5,4 @@ pub mod Words
 pub mod Small
 pub mod Tokens
 pub mod Scan
+pub mod Places

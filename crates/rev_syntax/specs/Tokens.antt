@@ -1,13 +1,12 @@
 -- How a text is cut into tokens: piece after piece, always the longest that fits.
-use Rattle.std.specs.Prelude.{◌≡◌, ◌≢◌, ◌⊎◌, ℕ, ◌+◌, ◌<◌, ◌≤◌, Bool, false, true, not, ◌&&◌, ◌==◌, List, [], ◌∷◌, ◌++◌, length, IsTrue, IsFalse, slice_range, codes}
+use Rattle.std.specs.Prelude.{◌≡◌, ◌≢◌, ℕ, ◌+◌, ◌<◌, ◌≤◌, Bool, false, true, not, ◌&&◌, ◌==◌, List, [], ◌∷◌, ◌++◌, length, IsTrue, IsFalse, slice_range, codes}
 use Rattle.std.specs.List.{list_all}
 use Rattle.rev_num.specs.Arith.{fits_i64}
 use Rattle.rev_num.specs.Decimal.{IsUnsigned}
-use Rattle.rev_syntax.specs.declared.token.TokenKind.{TokenKind}
 use Rattle.rev_syntax.specs.declared.token.TokenKind.TheVariants as k
 use Rattle.rev_syntax.specs.declared.token.Token.{Token}
-use Rattle.rev_syntax.specs.declared.token.Form.{Form}
-use Rattle.rev_syntax.specs.declared.token.Form.TheVariants as form
+use Rattle.rev_syntax.specs.declared.token.PieceKind.{PieceKind}
+use Rattle.rev_syntax.specs.declared.token.PieceKind.TheVariants as piece
 use Rattle.rev_syntax.specs.declared.scan.LexFault.{LexFault}
 use Rattle.rev_syntax.specs.declared.scan.LexFault.TheVariants as fault
 use Rattle.rev_syntax.specs.Bytes.{is_letter, is_blank, is_text_byte, is_no_line_feed}
@@ -31,39 +30,39 @@ pub record IsQuoted (w : List ℕ) : Type 0 where
   pub quotes : w ≡ 34 ∷ (body ++ 34 ∷ [])
   pub inside : IsTrue (list_all is_text_byte body)
 
--- Which bytes make a piece of this form. A number is one or more digits, and has their value. A
+-- Which bytes make a piece of this kind. A number is one or more digits, and has their value. A
 -- reserved word and a sign have one spelling each.
-abbrev pub Spells : Form → List ℕ → Type 0
-Spells form.WhiteSpace w = IsWhiteSpace w
-Spells form.Comment w = IsComment w
-Spells (form.Token k.Name) w = IsTrue (is_name w)
-Spells (form.Token (k.Int n)) w = IsUnsigned w n
-Spells (form.Token k.Text) w = IsQuoted w
-Spells (form.Token kind) w = w ≡ spelling kind
+abbrev pub Spells : PieceKind → List ℕ → Type 0
+Spells piece.WhiteSpace w = IsWhiteSpace w
+Spells piece.Comment w = IsComment w
+Spells (piece.Token k.Name) w = IsTrue (is_name w)
+Spells (piece.Token (k.Int n)) w = IsUnsigned w n
+Spells (piece.Token k.Text) w = IsQuoted w
+Spells (piece.Token kind) w = w ≡ spelling kind
 
 pub record Piece : Type 0 where
-  pub form : Form
+  pub kind : PieceKind
   pub bytes : List ℕ
 
 -- a piece, and none with which the text begins is longer
 pub record IsLongest (s : List ℕ) (p : Piece) : Type 0 where
-  pub spells : Spells p.form p.bytes
-  pub longest : (q : Piece) (more : List ℕ) → Spells q.form q.bytes → s ≡ q.bytes ++ more → length q.bytes ≤ length p.bytes
+  pub spells : Spells p.kind p.bytes
+  pub longest : (q : Piece) (more : List ℕ) → Spells q.kind q.bytes → s ≡ q.bytes ++ more → length q.bytes ≤ length p.bytes
 
 abbrev pub begins_with_letter : List ℕ → Bool
 begins_with_letter [] = false
 begins_with_letter (b ∷ bs) = is_letter b
 
 -- A number is at most 9223372036854775807, and no letter follows it.
-abbrev pub IsSound : Form → List ℕ → Type 0
-IsSound (form.Token (k.Int n)) rest = IsTrue (fits_i64 n) × IsFalse (begins_with_letter rest)
+abbrev pub IsSound : PieceKind → List ℕ → Type 0
+IsSound (piece.Token (k.Int n)) rest = IsTrue (fits_i64 n) × IsFalse (begins_with_letter rest)
 IsSound _ rest = Unit {0}
 
 -- the piece with which the text begins, and the rest of the text
 pub record Next (s : List ℕ) (p : Piece) (rest : List ℕ) : Type 0 where
   pub split : s ≡ p.bytes ++ rest
   pub longest : IsLongest s p
-  pub sound : IsSound p.form rest
+  pub sound : IsSound p.kind rest
 
 -- these pieces, one after another, lead from the text to the rest
 abbrev pub Leads : List Piece → List ℕ → List ℕ → Type 0
@@ -76,13 +75,13 @@ extent [] = 0
 extent (p ∷ ps) = length p.bytes + extent ps
 
 -- The tokens among the pieces, where the first piece stands at this offset.
-abbrev pub token_of : Form → ℕ → ℕ → List Token
-token_of (form.Token kind) start end = record { kind = kind; start = start; end = end } ∷ []
+abbrev pub token_of : PieceKind → ℕ → ℕ → List Token
+token_of (piece.Token kind) start end = record { kind = kind; start = start; end = end } ∷ []
 token_of _ start end = []
 
 abbrev pub tokens_of : ℕ → List Piece → List Token
 tokens_of at [] = []
-tokens_of at (p ∷ ps) = token_of p.form at (at + length p.bytes) ++ tokens_of (at + length p.bytes) ps
+tokens_of at (p ∷ ps) = token_of p.kind at (at + length p.bytes) ++ tokens_of (at + length p.bytes) ps
 
 -- The text before the offset `at` is cut into pieces; these are its tokens, and this is the rest.
 pub record CutTo (s : List ℕ) (at : ℕ) (rest : List ℕ) (ts : List Token) : Type 0 where
@@ -97,7 +96,7 @@ IsTokens s ts = CutTo s (length s) [] ts
 
 -- no piece begins the text
 abbrev pub BeginsNone : List ℕ → Type 0
-BeginsNone s = (q : Piece) (more : List ℕ) → Spells q.form q.bytes → s ≡ q.bytes ++ more → ⊥
+BeginsNone s = (q : Piece) (more : List ℕ) → Spells q.kind q.bytes → s ≡ q.bytes ++ more → ⊥
 
 -- a byte that begins no piece and opens no text in quotes
 pub record IsBadByte (s : List ℕ) : Type 0 where
@@ -113,7 +112,7 @@ pub record IsBadNumber (s : List ℕ) : Type 0 where
   pub rest : List ℕ
   pub split : s ≡ number.bytes ++ rest
   pub longest : IsLongest s number
-  pub unsound : IsSound number.form rest → ⊥
+  pub unsound : IsSound number.kind rest → ⊥
 
 -- the text ends, or goes on with a byte that no text in quotes has
 abbrev pub is_cut_off : List ℕ → Bool
@@ -147,6 +146,6 @@ abbrev pub Ascend : ℕ → List Token → ℕ → Type 0
 Ascend from [] to = from ≤ to
 Ascend from (t ∷ ts) to = (from ≤ t.start) × (t.start < t.end) × Ascend t.end ts to
 
--- the token's bytes have the form of its kind
+-- the token's bytes are of its kind
 abbrev pub IsToken : List ℕ → Token → Type 0
-IsToken s t = Spells (form.Token t.kind) (slice_range s t.start t.end)
+IsToken s t = Spells (piece.Token t.kind) (slice_range s t.start t.end)

@@ -5,7 +5,7 @@ ghost use Rattle.rev_syntax.specs.Bytes as bytes;
 ghost use Rattle.rev_syntax.specs.Tokens.{begins_with_letter};
 ghost use Rattle.rev_syntax.specs.Scan as spec;
 
-use crate::token::{Form, SIGNS, TokenKind, WORDS};
+use crate::token::{PieceKind, SIGNS, TokenKind, WORDS};
 use rev_num::read_decimal;
 use std::alloc::AllocFailed;
 
@@ -35,7 +35,7 @@ impl<T: Drop> From<AllocFailed<T>> for LexFault {
 /// The piece that a text begins with: what it is, and how many bytes it has.
 #[derive(Clone, Copy)]
 pub struct Cut {
-    pub form: Form,
+    pub kind: PieceKind,
     pub length: usize,
 }
 
@@ -100,10 +100,7 @@ fn line_bytes(text: &[u8]) -> usize
 fn reserved_word(text: &[u8]) -> Option<TokenKind>
     ensures { result ≡ spec.reserved_word text.now }
 {
-    WORDS
-        .iter()
-        .copied()
-        .find(|kind| kind.spelling() == text)
+    WORDS.iter().copied().find(|kind| kind.spelling() == text)
 }
 
 fn word_kind(text: &[u8]) -> TokenKind
@@ -118,7 +115,7 @@ fn word(text: &[u8]) -> Cut
     let length = name_bytes(text);
     let kind = word_kind(&text[..length]);
     Cut {
-        form: Form::Token(kind),
+        kind: PieceKind::Token(kind),
         length,
     }
 }
@@ -156,7 +153,7 @@ fn number(at: u32, text: &[u8]) -> Result<Cut, LexFault>
     let length = digits(text);
     match read_decimal(&text[..length]) {
         Some(value) if !begins_with_letter(&text[length..]) => Ok(Cut {
-            form: Form::Token(TokenKind::Int(value)),
+            kind: PieceKind::Token(TokenKind::Int(value)),
             length,
         }),
         _ => Err(LexFault::BadNumber { at }),
@@ -171,7 +168,7 @@ fn quoted(at: u32, text: &[u8]) -> Result<Cut, LexFault>
     let length = text_bytes(text);
     if begins_with_quote(&text[length..]) {
         Ok(Cut {
-            form: Form::Token(TokenKind::Text),
+            kind: PieceKind::Token(TokenKind::Text),
             length: length + 2,
         })
     } else {
@@ -184,15 +181,14 @@ fn sign(at: u32, text: &[u8]) -> Result<Cut, LexFault>
 {
     match first_sign(text) {
         Some(kind) => Ok(Cut {
-            form: Form::Token(kind),
+            kind: PieceKind::Token(kind),
             length: kind.spelling().len(),
         }),
         None => Err(LexFault::BadByte { at }),
     }
 }
 
-/// The piece that the text at this place begins with, the longest that fits.
-pub fn scan(at: u32, text: &[u8]) -> Result<Cut, LexFault>
+fn scan(at: u32, text: &[u8]) -> Result<Cut, LexFault>
     requires { length text.now < 2 ^ 32 }
     ensures { result ≡ spec.scan at text.now }
 {
@@ -201,7 +197,7 @@ pub fn scan(at: u32, text: &[u8]) -> Result<Cut, LexFault>
     };
     if is_blank(*first) {
         Ok(Cut {
-            form: Form::WhiteSpace,
+            kind: PieceKind::WhiteSpace,
             length: 1,
         })
     } else if is_letter(*first) {
@@ -212,10 +208,19 @@ pub fn scan(at: u32, text: &[u8]) -> Result<Cut, LexFault>
         quoted(at, rest)
     } else if text.starts_with(b"//") {
         Ok(Cut {
-            form: Form::Comment,
+            kind: PieceKind::Comment,
             length: line_bytes(text),
         })
     } else {
         sign(at, text)
     }
+}
+
+/// The piece that the text at this offset begins with, the longest that fits.
+pub fn next_piece(at: u32, text: &[u8]) -> Result<Cut, LexFault>
+    requires some { 0 < length text.now }
+    requires small { length text.now < 2 ^ 32 }
+    ensures { spec.Answers at text.now result }
+{
+    scan(at, text)
 }

@@ -72,8 +72,8 @@ pub struct Token {
 }
 
 /// What a piece of a text is. Only tokens are kept.
-#[derive(Clone, Copy, PartialEq, Eq, Debug)]
-pub enum Form {
+#[derive(Clone, Copy)]
+pub enum PieceKind {
     WhiteSpace,
     Comment,
     Token(TokenKind),
