@@ -164,6 +164,13 @@ no-fault s ts (fault.BadNumber a) c h = end-good IsBadNumber s ts a stuck-number
 no-fault s ts (fault.OpenText a) c h = end-good IsOpenText s ts a stuck-open open-some c h
 no-fault s ts fault.OutOfMemory c h = h
 
+-- where the scanner stops is the first fault
+pub first-fault : (s : List ℕ) (at : ℕ) (r : List ℕ) (ts : List Token) (f : LexFault) → CutTo s at (drop at s) ts → r ≡ drop at s → Answers at r (Err f) → IsFirstFault s f
+first-fault s at r ts (fault.BadByte a) c e h = rw h.0 (record { rest = r; tokens = ts; before = rw e c; bad = h.1 })
+first-fault s at r ts (fault.BadNumber a) c e h = rw h.0 (record { rest = r; tokens = ts; before = rw e c; bad = h.1 })
+first-fault s at r ts (fault.OpenText a) c e h = rw h.0 (record { rest = r; tokens = ts; before = rw e c; bad = h.1 })
+first-fault s at r ts fault.OutOfMemory c e h = h
+
 abbrev pub Reading : List ℕ → Type 0
 Reading s = ((ts : List Token) × IsTokens s ts) ⊎ ((f : LexFault) × IsFirstFault s f)
 

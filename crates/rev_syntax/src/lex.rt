@@ -1,5 +1,7 @@
 // The tokens of a text.
-ghost use Rattle.std.specs.Prelude.{◌≡◌, ◌≢◌, ◌++◌, ◌<◌, ◌^◌, length, All, IfOk, IfErr, OnOk};
+ghost use Rattle.std.specs.Prelude.{◌≡◌, ◌≢◌, ◌⊎◌, ◌++◌, ◌<◌, ◌^◌, List, length, All, IfOk, IfErr, OnOk, MatchResult};
+ghost use Rattle.rev_syntax.specs.declared.token.Token.{Token};
+ghost use Rattle.rev_syntax.specs.declared.scan.LexFault.{LexFault};
 ghost use Rattle.rev_syntax.specs.Tokens.{IsTokens, IsFirstFault, Ascend, IsToken, token_of};
 
 use crate::scan::{LexFault, next_piece};
@@ -24,6 +26,12 @@ pub fn tokens(alloc: Global, bytes: &[u8]) -> Result<Vec<Token>, LexFault>
     ensures ascend { IfOk result (λ ts. Ascend 0 ts.items (length bytes.now)) }
     ensures slices { IfOk result (λ ts. All (IsToken bytes.now) ts.items) }
     ensures fault { IfErr result (λ f. f ≢ LexFault.OutOfMemory → IsFirstFault bytes.now f) }
+
+    // There is no other answer, but for want of memory.
+    ensures only_list { (us : List Token) → IsTokens bytes.now us →
+        MatchResult result (λ ts. ts.items ≡ us) (λ f. f ≡ LexFault.OutOfMemory) }
+    ensures only_fault { (g : LexFault) → IsFirstFault bytes.now g →
+        MatchResult result (λ _. ⊥) (λ f. (f ≡ g) ⊎ (f ≡ LexFault.OutOfMemory)) }
 {
     let mut tokens = Vec::new(alloc);
     let mut at = 0;

@@ -1,7 +1,7 @@
 //! The tokens and the syntax trees of the language.
 #![tactic(auto)]
 
-mod laws;
+pub mod laws;
 mod lex;
 mod place;
 mod scan;
