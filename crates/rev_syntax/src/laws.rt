@@ -1,4 +1,4 @@
-// Laws of the tokens of a text.
+//! Laws of the tokens of a text.
 ghost use Rattle.std.specs.Prelude.{◌≡◌, ◌⊎◌, ℕ, List};
 ghost use Rattle.rev_syntax.specs.declared.token.Token.{Token};
 ghost use Rattle.rev_syntax.specs.declared.token.TokenKind.{TokenKind};

@@ -1,4 +1,4 @@
-// The tokens of a text.
+//! The tokens of a text.
 ghost use Rattle.std.specs.Prelude.{◌≡◌, ◌≢◌, ◌⊎◌, ◌++◌, ◌<◌, ◌^◌, List, length, All, IfOk, IfErr, OnOk, MatchResult};
 ghost use Rattle.rev_syntax.specs.declared.token.Token.{Token};
 ghost use Rattle.rev_syntax.specs.declared.scan.LexFault.{LexFault};

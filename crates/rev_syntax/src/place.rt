@@ -1,4 +1,4 @@
-// Lines and columns of a text.
+//! Lines and columns of a text.
 ghost use Rattle.std.specs.Prelude.{◌≡◌, ◌<◌, ◌≤◌, ◌^◌, ◌-◌, length};
 ghost use Rattle.std.specs.List.{suffix_len};
 ghost use Rattle.rev_syntax.specs.Bytes.{is_no_line_feed};

@@ -1,4 +1,4 @@
-// What a text begins with.
+//! What a text begins with.
 ghost use Rattle.std.specs.Prelude.{◌≡◌, ◌<◌, ◌≤◌, ◌^◌, length};
 ghost use Rattle.std.specs.List.{prefix_len};
 ghost use Rattle.rev_syntax.specs.Bytes as bytes;

@@ -1,4 +1,4 @@
-// Worked cases, each with its tokens or its first fault.
+//! Worked cases, each with its tokens or its first fault.
 
 use crate::lex::tokens;
 use crate::place::line_column;

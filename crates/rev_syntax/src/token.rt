@@ -1,4 +1,4 @@
-// What the tokens of a text are.
+//! What the tokens of a text are.
 ghost use Rattle.std.specs.Prelude.{◌≡◌};
 ghost use Rattle.rev_syntax.specs.Words as spec;
 
