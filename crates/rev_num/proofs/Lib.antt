@@ -1,1 +1,3 @@
-mod PostOrder
+pub mod PostOrder
+pub mod Decimals
+pub mod Dots

@@ -1,0 +1,59 @@
+//! Numbers and paths as text.
+
+ghost use Rattle.std.specs.Prelude.{◌≡◌, ◌++◌, OnOk, IfSome, IfNone, ℤ, IsTrue};
+ghost use Rattle.std.specs.Fmt.{signed_decimal};
+ghost use Rattle.rev_num.specs.Arith.{fits_i64};
+ghost use Rattle.std.specs.List.{flat_map};
+ghost use Rattle.rev_num.specs.Decimal.{IsDecimal, decimal_in};
+ghost use Rattle.rev_num.specs.Text.{behind_dot, path_text};
+
+use crate::path::Path;
+use itoa::Buffer;
+use std::alloc::AllocError;
+
+/// The number for which the bytes are a decimal: an optional `-` and one or more digits, in 64 bits.
+/// Zeros may stand in front, and `-0` is 0; a `+` may not stand in front.
+pub fn read_decimal(bytes: &[u8]) -> Option<i64>
+    ensures value { result ≡ decimal_in bytes.now }
+    ensures spelled { IfSome result (λ n. IsDecimal bytes.now n) }
+    ensures none { IfNone result ((n : ℤ) → IsTrue (fits_i64 n) → IsDecimal bytes.now n → ⊥) }
+{
+    if bytes.starts_with(b"+") {
+        return None;
+    }
+    let text = str::from_utf8(bytes).ok()?;
+    text.parse::<i64>().ok()
+}
+
+/// Appends the number in decimal, with a minus in front of it where it is negative.
+pub fn append_decimal(text: &mut Vec<u8>, n: i64) -> Result<(), AllocError>
+    ensures { OnOk result (text.new.items ≡ text.old.items ++ signed_decimal n) }
+{
+    let mut buffer = Buffer::new();
+    text.extend_from_slice(buffer.format(n).as_bytes())?;
+    Ok(())
+}
+
+/// Appends the numbers of the path with a dot between them, and `main` for the empty path.
+pub fn append_path(text: &mut Vec<u8>, path: &Path) -> Result<(), AllocError>
+    ensures { OnOk result (text.new.items ≡ text.old.items ++ path_text path.now) }
+{
+    match path.numbers() {
+        [] => text.extend_from_slice(b"main"),
+        [first, rest @ ..] => {
+            append_decimal(text, *first as i64)?;
+            append_behind_dots(text, rest)
+        }
+    }
+}
+
+/// Appends each number with a dot in front of it.
+fn append_behind_dots(text: &mut Vec<u8>, numbers: &[u32]) -> Result<(), AllocError>
+    ensures { OnOk result (text.new.items ≡ text.old.items ++ flat_map behind_dot numbers.now) }
+{
+    for number in numbers {
+        text.push(b'.')?;
+        append_decimal(text, *number as i64)?;
+    }
+    Ok(())
+}
