@@ -1,7 +1,7 @@
 -- The text of a path, one number after another.
-use Rattle.std.proofs.Common.{◌≡◌, ◌≤◌, ap, ℕ, length, get_or, drop, List, [], ◌∷◌, ◌++◌, map, refl, arith, rules}
+use Rattle.std.proofs.Common.{◌≡◌, ◌≤◌, ap, ℕ, length, get_or, drop, List, [], ◌∷◌, ◌++◌, arith, rules}
 use Rattle.std.specs.Fmt.{decimal}
-use Rattle.std.specs.List.{flat_map, join_with_byte}
+use Rattle.std.specs.List.{flat_map}
 use Rattle.rev_num.specs.Text.{behind_dot, path_text}
 
 -- the first number, and each further one with a dot in front

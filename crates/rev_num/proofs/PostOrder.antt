@@ -1,9 +1,9 @@
 -- Laws of post-order, and what the loop over two paths needs of it.
-use Rattle.std.proofs.Common.{◌≡◌, ◌≢◌, ◌⊎◌, inl, inr, ℕ, ◌-◌, ◌<◌, ◌≤◌, Bool, true, false, ◌&&◌, ◌||◌, List, [], ◌∷◌, ◌++◌, length, drop, nat_lt, refl, sym, subst, ap, ◌∙◌, arith, rules, length-drop, append_assoc}
+use Rattle.std.proofs.Common.{◌≡◌, ◌≢◌, ◌⊎◌, inl, inr, ℕ, ◌<◌, ◌≤◌, Bool, true, false, ◌&&◌, ◌||◌, List, [], ◌∷◌, ◌++◌, length, drop, nat_lt, refl, sym, subst, ap, ◌∙◌, arith, rules, length-drop, append_assoc}
 use Rattle.std.proofs.lemmas.Bool.{eqb-true, eq-eqb, and_parts, and_from, or_cases, ltb-true, lt-ltb, cases_order}
 use Rattle.std.specs.Prelude.{IsTrue, nat_eq}
 use Rattle.rev_num.specs.Path.{Path, child, same, before}
-use Rattle.rev_num.specs.PostOrder.{ComesBefore, Extends, IsLessAtFirstDifference, IsStrictTotalOrder}
+use Rattle.rev_num.specs.PostOrder.{ComesBefore, IsStrictTotalOrder}
 
 -- ---- equal paths
 
@@ -98,7 +98,14 @@ before-comes (x ∷ q) (y ∷ r) e = go (before-comes q r) (heads x y q r e)
   where
     go : (before q r ≡ true → ComesBefore q r) → (x < y) ⊎ ((x ≡ y) × (before q r ≡ true)) → ComesBefore (x ∷ q) (y ∷ r)
     go later (inl less) = inr (record {
-      front = []; lesser = x; greater = y; less = less; rest_of_q = q; rest_of_r = r; q_is = refl; r_is = refl;
+      front = [];
+      lesser = x;
+      greater = y;
+      less = less;
+      rest_of_q = q;
+      rest_of_r = r;
+      q_is = refl;
+      r_is = refl;
     })
     go later (inr h) = longer h.0 (later h.1)
       where
@@ -119,8 +126,8 @@ pub comes-before : (q r : Path) → ComesBefore q r → before q r ≡ true
 comes-before q r (inl d) = subst (λ p. before p r ≡ true) (sym d.is) (before_extension r d.first d.rest)
 comes-before q r (inr d) =
     subst (λ p. before p r ≡ true) (sym d.q_is)
-        (subst (λ p. before (d.front ++ d.lesser ∷ d.rest_of_q) p ≡ true) (sym d.r_is)
-            (before_behind d.front _ _ (by_less d.lesser d.greater d.rest_of_q d.rest_of_r d.less)))
+    (subst (λ p. before (d.front ++ d.lesser ∷ d.rest_of_q) p ≡ true) (sym d.r_is)
+    (before_behind d.front _ _ (by_less d.lesser d.greater d.rest_of_q d.rest_of_r d.less)))
 
 -- ---- children
 
@@ -130,7 +137,7 @@ child_before r k = before_extension r k []
 pub earlier_child_before : (r : Path) (j k : ℕ) (below : Path) → j < k → before (child r j ++ below) (child r k) ≡ true
 earlier_child_before r j k below less =
     subst (λ p. before p (child r k) ≡ true) (sym (append_assoc r (j ∷ []) below))
-        (before_behind r (j ∷ below) (k ∷ []) (by_less j k below [] less))
+    (before_behind r (j ∷ below) (k ∷ []) (by_less j k below [] less))
 
 -- ---- two paths behind a common front
 

@@ -1,10 +1,10 @@
 -- Laws of words and of decimals.
-use Rattle.std.specs.Prelude.{◌≡◌, ◌≢◌, ℕ, ◌-◌, ◌^◌, ◌<◌, ◌↔◌, ℤ, pos, negsuc, ◌+ℤ◌, ◌*ℤ◌, ◌≤ℤ◌, int_div, int_rem, unsigned_abs, IsTrue, List, ◌++◌, Some, Err}
+use Rattle.std.specs.Prelude.{◌≡◌, ◌≢◌, ℕ, ◌-◌, ◌^◌, ◌<◌, ◌↔◌, ℤ, pos, negsuc, ◌+ℤ◌, ◌*ℤ◌, ◌≤ℤ◌, int_div, int_rem, unsigned_abs, IsTrue, List, Some, Ok, Err}
 use Rattle.std.specs.Fmt.{signed_decimal}
 use Rattle.rev_num.specs.Arith.{fits_i64, quotient_of, remainder_of}
 use Rattle.rev_num.specs.Decimal.{IsDecimal, decimal_in}
 use Rattle.rev_num.specs.Words.{int_of, word_of}
-use Rattle.rev_num.specs.declared.value.NumFault.TheVariants.{Overflow}
+use Rattle.rev_num.specs.declared.value.NumFault.TheVariants.{Overflow, ZeroDivisor}
 
 -- a number goes to its word and back, and a word to its number and back
 pub record WordsAndNumbersAreInverse : Type 0 where
@@ -29,8 +29,12 @@ pub record IsTruncatedDivision (a b q r : ℤ) : Type 0 where
 abbrev pub DivisionTruncates : Type 0
 DivisionTruncates = (a b : ℤ) → b ≢ pos 0 → IsTruncatedDivision a b (int_div a b) (int_rem a b)
 
--- the least number by -1 has neither quotient nor remainder
-abbrev pub LeastByMinusOneOverflows : Type 0
-LeastByMinusOneOverflows =
-    let least = negsuc (2 ^ 63 - 1) in
-    (quotient_of least (negsuc 0) ≡ Err Overflow) × (remainder_of least (negsuc 0) ≡ Err Overflow)
+-- the least number that 64 bits hold
+abbrev pub least_i64 : ℤ
+least_i64 = negsuc (2 ^ 63 - 1)
+
+-- there is no result at a divisor 0, nor of the least number by -1, and elsewhere there is one
+pub record DivisionFailsOnlyThere : Type 0 where
+  pub by_zero : (a : ℤ) → (quotient_of a (pos 0) ≡ Err ZeroDivisor) × (remainder_of a (pos 0) ≡ Err ZeroDivisor)
+  pub least : (quotient_of least_i64 (negsuc 0) ≡ Err Overflow) × (remainder_of least_i64 (negsuc 0) ≡ Err Overflow)
+  pub others : (a b : ℤ) → IsTrue (fits_i64 a) → b ≢ pos 0 → (a ≡ least_i64 → b ≢ negsuc 0) → (quotient_of a b ≡ Ok (int_div a b)) × (remainder_of a b ≡ Ok (int_rem a b))

@@ -1,5 +1,5 @@
 -- What post-order is, and its laws.
-use Rattle.std.specs.Prelude.{◌≡◌, ◌≢◌, ℕ, ◌<◌, ◌⊎◌, ◌↔◌, Bool, IsTrue, List, [], ◌∷◌, ◌++◌}
+use Rattle.std.specs.Prelude.{◌≡◌, ◌≢◌, ℕ, ◌<◌, ◌⊎◌, ◌↔◌, IsTrue, ◌∷◌, ◌++◌}
 use Rattle.rev_num.specs.Path.{Path, before, child, same}
 
 -- q is r and one or more numbers behind it

@@ -2,7 +2,7 @@
 //! every path.
 
 ghost use Rattle.std.specs.Prelude.{IsTrue};
-ghost use Rattle.rev_num.specs.Laws.{DecimalsAreExact, DivisionTruncates, LeastByMinusOneOverflows, WordsAndNumbersAreInverse, WrittenIsRead};
+ghost use Rattle.rev_num.specs.Laws.{DecimalsAreExact, DivisionFailsOnlyThere, DivisionTruncates, WordsAndNumbersAreInverse, WrittenIsRead};
 ghost use Rattle.rev_num.specs.Path.{before};
 ghost use Rattle.rev_num.specs.PostOrder.{ChildrenComeFirst, ChildrenComeInOrder, IsStrictTotalOrder, TestsAreExact};
 
@@ -29,5 +29,5 @@ pub fn decimal_laws()
 /// The quotient and the remainder.
 pub fn division_laws()
     ensures truncates { DivisionTruncates }
-    ensures least { LeastByMinusOneOverflows }
+    ensures fails { DivisionFailsOnlyThere }
 {}

@@ -16,3 +16,6 @@ pub use outcome::{Cause, Outcome, Shown, Trap};
 pub use path::Path;
 pub use text::{append_decimal, append_path, read_decimal};
 pub use value::{NumFault, Value, ValueKind};
+
+#[cfg(test)]
+mod tests;

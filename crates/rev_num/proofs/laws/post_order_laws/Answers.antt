@@ -5,8 +5,9 @@ use Rattle.rev_num.proofs.laws.post_order_laws.Goals as goal
 
 pub returns-clause-exact : goal.returns-clause-exact
 returns-clause-exact c = λ p q. (
-    (same-eq p q, λ is. subst (λ r. same p r ≡ true) is (same_refl p)),
-    (before-comes p q, comes-before p q))
+  (same-eq p q, λ is. subst (λ r. same p r ≡ true) is (same_refl p)),
+  (before-comes p q, comes-before p q),
+)
 
 pub returns-clause-order : goal.returns-clause-order
 returns-clause-order c = strict_total_order
