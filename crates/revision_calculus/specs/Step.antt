@@ -31,10 +31,10 @@ with_answer r l (Err c) go = traps r l c
 
 -- ---- blocks
 
--- these statements, and then those
+-- the first statements, and then the others
 abbrev pub followed : Steps → Steps → Steps
-followed no_steps then = then
-followed (steps x xs) then = steps x (followed xs then)
+followed no_steps ys = ys
+followed (steps x xs) ys = steps x (followed xs ys)
 
 -- the statements of a block are put before the rest of the top frame
 abbrev pub enter : Steps → Local → Local
