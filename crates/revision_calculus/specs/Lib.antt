@@ -6,3 +6,7 @@ pub mod Join
 pub mod Calculus
 pub mod Outcome
 pub mod Report
+pub mod Held
+pub mod Complete
+pub mod Words
+pub mod Examples
