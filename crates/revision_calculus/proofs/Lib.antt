@@ -1,2 +1,7 @@
 mod Played
 mod Values
+mod Handles
+mod Moves
+mod Events
+mod Joining
+mod Meets
