@@ -26,9 +26,15 @@ zero_value kind.Int = v.Int (pos 0)
 zero_value kind.Bool = v.Bool false
 zero_value kind.Rev = v.Rev None
 
+-- a constant; of handles, `none` alone can be written
+abbrev pub written_value : Value → Value
+written_value (v.Int n) = v.Int n
+written_value (v.Bool b) = v.Bool b
+written_value (v.Rev h) = v.Rev None
+
 abbrev pub first_value : ValueKind → Option Constant → Value
 first_value k None = zero_value k
-first_value k (Some c) = c.value
+first_value k (Some c) = written_value c.value
 
 abbrev pub count_of : ℤ → ℕ
 count_of (pos n) = n
