@@ -201,7 +201,7 @@ module _ (s : Setting) (r : Path) (l : Local) where
     unfolding paid
     paid_weight =
         let before : weight l ≡ 3 * suc fuel + 2 + length fs =
-            weight_running l run ∙ ap (λ n. 3 * n + 2 + beyond_first l.frames) has ∙ ap (λ x. 3 * suc fuel + 2 + beyond_first x) top in
+        weight_running l run ∙ ap (λ n. 3 * n + 2 + beyond_first l.frames) has ∙ ap (λ x. 3 * suc fuel + 2 + beyond_first x) top in
         let after : weight paid ≡ 3 * fuel + 2 + length fs = weight_running paid run in
         omega arith
 

@@ -5,3 +5,4 @@ mod Moves
 mod Events
 mod Joining
 mod Meets
+mod EveryRun

@@ -1,5 +1,5 @@
 -- A run by a list of steps that is computed, and that its end is final.
-use Rattle.std.proofs.Common.{◌≡◌, ◌≢◌, ◌⊎◌, inl, inr, ℕ, Bool, true, false, ◌&&◌, List, [], ◌∷◌, Option, Some, None, is_none, refl, sym, ap, ◌∙◌, subst}
+use Rattle.std.proofs.Common.{◌≡◌, ◌≢◌, ◌⊎◌, inl, inr, ℕ, zero, suc, Bool, true, false, ◌&&◌, List, [], ◌∷◌, Option, Some, None, is_none, refl, sym, ap, ◌∙◌, subst}
 use Rattle.std.proofs.lemmas.Bool.{and_parts}
 use Rattle.rev_num.specs.Path.{Path, child}
 use Rattle.revision_machine.specs.PathMap.{with_at}
@@ -143,3 +143,16 @@ module _ (M : Machine) where
           by true s e =
               let run = runs_of rs (start M main) ([] ∷ []) t (within_start main) p in
               record { end = t.0; complete = record { runs = run.0; final = final_of t.0 t.1 run.1 s }; tells = e }
+
+  -- the first of these that can step, and the state after its step
+  abbrev first_able : Global M.Local → List Path → Option (Path × Global M.Local)
+  first_able g [] = None
+  first_able g (p ∷ ps) = elim (step M g p) [ None ↦ first_able g ps | Some h ↦ Some (p, h) ]
+
+  -- a list of at most so many steps, of which each is that of the latest revision that can step
+  abbrev latest_from : ℕ → Global M.Local → List Path → List Path
+  latest_from zero g ps = []
+  latest_from (suc n) g ps = elim (first_able g ps) [ None ↦ [] | Some x ↦ x.0 ∷ latest_from n x.1 (grown g x.0 ps) ]
+
+  abbrev pub latest : ℕ → M.Local → List Path
+  latest n main = latest_from n (start M main) ([] ∷ [])

@@ -42,3 +42,12 @@ state_at r (Live revs) = entry_state (revs r)
 -- in the end of every complete run, this is what f tells of the revision at this path
 abbrev pub Tells : {X : Type 0} → Setting → ℕ → Path → (Local → X) → X → Type 0
 Tells s fuel r f x = Always s fuel (λ g. option_map f (state_at r g) ≡ Some x)
+
+-- the state after these steps, where each can be made
+abbrev pub after : Setting → Global Local → List Path → Option (Global Local)
+after s g [] = Some g
+after s g (r ∷ rs) = elim (step (calculus s) g r) [ None ↦ None | Some h ↦ after s h rs ]
+
+-- the report of the state after these steps from the start, where each can be made and `main` has ended or it is Twice
+abbrev pub runs_to : Setting → ℕ → List Path → Option Report
+runs_to s fuel rs = elim (after s (start_of s fuel) rs) [ None ↦ None | Some g ↦ report_of s false g ]

@@ -29,6 +29,10 @@ write_at [] n x = []
 write_at (m ∷ ms) zero x = record { base = m.base; written = Some x } ∷ ms
 write_at (m ∷ ms) (suc n) x = m ∷ write_at ms n x
 
+-- a location with this snapshot value, in which this was written
+abbrev pub written_at : Value → Value → Slot
+written_at base x = record { base = base; written = Some x }
+
 -- a snapshot with no writes yet
 abbrev pub fresh : List Value → List Slot
 fresh xs = map (λ x. record { base = x; written = None }) xs
