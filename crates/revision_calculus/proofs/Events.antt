@@ -1,5 +1,5 @@
 -- What each event of a revision keeps and uses up.
-use Rattle.std.proofs.Common.{◌≡◌, ◌≢◌, ◌⊎◌, inl, inr, ℕ, zero, suc, ◌+◌, ◌-◌, ◌*◌, ◌/◌, ◌≤◌, min, Bool, true, false, cond, List, [], ◌∷◌, ◌++◌, map, length, Option, Some, None, Result, Ok, Err, refl, sym, ap, ◌∙◌, subst, arith, le_refl}
+use Rattle.std.proofs.Common.{◌≡◌, ◌≢◌, ◌⊎◌, inl, inr, ℕ, zero, suc, ◌+◌, ◌-◌, ◌*◌, ◌≤◌, Bool, true, false, cond, List, [], ◌∷◌, ◌++◌, length, Option, Some, None, Result, Ok, Err, refl, sym, ap, ◌∙◌, subst, arith, le_refl}
 use Rattle.std.specs.Prelude.{nat_le, if◌then◌else◌}
 use Rattle.rev_num.specs.Path.{Path, child}
 use Rattle.rev_num.specs.declared.value.Value.{Value}
@@ -13,11 +13,11 @@ use Rattle.revision_machine.specs.Machine.{Event, Moves, Forks, Joins, Ended}
 use Rattle.merge_decl.specs.Names.{Name}
 use Rattle.merge_decl.specs.Value.{and_then, truth_of, number_of}
 use Rattle.revision_calculus.specs.Program.{procedures, Procedure, procedure_named, Setting}
-use Rattle.revision_calculus.specs.State.{seen, write_at, fresh, Frame, Phase, running, joining, done, trapped, Local}
+use Rattle.revision_calculus.specs.State.{write_at, Frame, Phase, running, joining, done, trapped, Local}
 use Rattle.revision_calculus.specs.Evaluation.{eval, evals, set, give, cell_location}
 use Rattle.revision_calculus.specs.Step as spec
 use Rattle.revision_calculus.specs.Step.{traps, with_answer, enter, taken, most_frames, frame_of, calls, returned, part, forker, forked_child, joins, item_texts, line_of, by_right, does, begins, by_rest, by_frames, by_phase, next}
-use Rattle.revision_calculus.specs.Held.{IsHandle, SlotsHold, LocalsHold, FramesHold, Holds, in_slots, in_frames, in_phase, beyond_first, weight_at, weight}
+use Rattle.revision_calculus.specs.Held.{IsHandle, FramesHold, Holds, in_slots, in_frames, in_phase, beyond_first, weight_at, weight}
 use Rattle.revision_calculus.proofs.Values.{OfOk, OfEach}
 use Rattle.revision_calculus.proofs.Handles.{fresh_held, Held, not_held, locals_of_held, eval_held, evals_held}
 use Rattle.revision_calculus.proofs.Moves.{weight_running, Stepped, Moved, stepped, Split, Paid, same_held, trap_ok, Assigned, assigned_weight, slot_assigned, set_assigned, give_assigned, assigned_ok, enter_ok, enter_twice, call_ok, finish_ok, return_ok}

@@ -1,8 +1,8 @@
 -- From one computed complete run to every complete run.
-use Rattle.std.proofs.Common.{◌≡◌, ℕ, Bool, List, [], Option, Some, refl, sym, subst}
+use Rattle.std.proofs.Common.{◌≡◌, ℕ, Bool, List, [], Option, Some, refl, subst}
 use Rattle.std.specs.Prelude.{option_map}
 use Rattle.rev_num.specs.Path.{Path}
-use Rattle.revision_machine.specs.Machine.{Global, start, Complete, Reached}
+use Rattle.revision_machine.specs.Machine.{Global, Complete, Reached}
 use Rattle.revision_machine.proofs.Ends.{unique_end}
 use Rattle.revision_calculus.specs.Program.{Setting}
 use Rattle.revision_calculus.specs.State.{Local}

@@ -1,18 +1,18 @@
 -- Where the handles of a changed local state come from.
-use Rattle.std.proofs.Common.{◌≡◌, ◌⊎◌, inl, inr, ℕ, zero, suc, ◌+◌, ℤ, pos, negsuc, Bool, true, false, cond, List, [], ◌∷◌, map, Option, Some, None, Result, Ok, Err, refl, sym, ap, ◌∙◌, subst}
+use Rattle.std.proofs.Common.{◌≡◌, ◌⊎◌, inl, inr, ℕ, zero, suc, ◌+◌, Bool, true, false, cond, List, [], ◌∷◌, map, Option, Some, None, refl, ap, ◌∙◌}
 use Rattle.rev_num.specs.Path.{Path}
 use Rattle.rev_num.specs.declared.value.Value.{Value}
 use Rattle.rev_num.specs.declared.value.Value.TheVariants as v
 use Rattle.rev_syntax.specs.Trees.{Term, Terms}
 use Rattle.merge_decl.specs.Names.{Name, same}
 use Rattle.merge_decl.specs.Table.{Table, find}
-use Rattle.merge_decl.specs.Value.{Shared, unknown, scalar, array}
+use Rattle.merge_decl.specs.Value.{scalar, array}
 use Rattle.merge_decl.specs.Definitions.{funs_in}
 use Rattle.revision_calculus.specs.Program.{SharedVariable, variables, variable_named, Setting}
-use Rattle.revision_calculus.specs.State.{Slot, seen, seen_at, write_at, fresh, Frame, Phase, joining, Local}
-use Rattle.revision_calculus.specs.Evaluation.{top_locals, read_shared, env, eval, evals, with_local, on_top, set_local, set_named, set}
+use Rattle.revision_calculus.specs.State.{Slot, seen, seen_at, write_at, fresh, Frame, Local}
+use Rattle.revision_calculus.specs.Evaluation.{top_locals, read_shared, env, eval, evals, with_local}
 use Rattle.revision_calculus.specs.Step.{locals_of}
-use Rattle.revision_calculus.specs.Held.{IsHandle, SlotsHold, LocalsHold, FramesHold, Holds, in_slots, in_frames, in_phase}
+use Rattle.revision_calculus.specs.Held.{IsHandle, SlotsHold, LocalsHold, FramesHold, Holds, in_slots, in_frames}
 use Rattle.revision_calculus.proofs.Values.{OfOk, OfOthers, OfEach, OfEnv, OfShared, OfLocal, value_ok, values_ok, funs_ok}
 
 -- ---- slots

@@ -1,5 +1,5 @@
 -- What a join keeps and uses up.
-use Rattle.std.proofs.Common.{◌≡◌, ◌≢◌, ◌⊎◌, inl, inr, ℕ, zero, suc, ◌+◌, ◌*◌, ◌≤◌, Bool, true, false, List, [], ◌∷◌, ◌++◌, Option, Some, None, Result, Ok, Err, refl, sym, ap, ◌∙◌, subst, arith, le_refl}
+use Rattle.std.proofs.Common.{◌≡◌, ◌≢◌, ◌⊎◌, inl, inr, ℕ, suc, ◌+◌, ◌*◌, ◌≤◌, Bool, true, false, List, [], ◌∷◌, ◌++◌, Option, Some, None, Result, Ok, Err, refl, sym, ap, ◌∙◌, subst, arith, le_refl}
 use Rattle.rev_num.specs.Path.{Path}
 use Rattle.rev_num.specs.declared.value.Value.{Value}
 use Rattle.rev_num.specs.declared.value.Value.TheVariants as v
@@ -9,11 +9,10 @@ use Rattle.rev_num.specs.declared.outcome.Trap.{Trap}
 use Rattle.rev_syntax.specs.Trees.{Whole}
 use Rattle.merge_decl.specs.Names.{Name}
 use Rattle.merge_decl.specs.Value.{Answer}
-use Rattle.merge_decl.specs.Definitions.{merge_value_of}
 use Rattle.revision_calculus.specs.Program.{variables, Setting}
-use Rattle.revision_calculus.specs.State.{Slot, seen, Noted, joined, Phase, running, joining, done, trapped, Local}
-use Rattle.revision_calculus.specs.Evaluation.{give, set}
-use Rattle.revision_calculus.specs.Join.{merges_of, fault_of, new_value, taken_over, merged_slot, Composed, merged, faults, and_later, compose, composed, dropped, joined_in, waiting, listed, join}
+use Rattle.revision_calculus.specs.State.{Slot, seen, Phase, running, joining, done, trapped, Local}
+use Rattle.revision_calculus.specs.Evaluation.{give}
+use Rattle.revision_calculus.specs.Join.{merges_of, new_value, taken_over, merged_slot, Composed, merged, faults, and_later, compose, composed, dropped, joined_in, waiting, listed, join}
 use Rattle.revision_calculus.specs.Held.{IsHandle, SlotsHold, Holds, in_slots, in_frames, in_phase, beyond_first, weight_at, weight}
 use Rattle.revision_calculus.proofs.Values.{OfOk, OfOthers, merge_ok}
 use Rattle.revision_calculus.proofs.Handles.{seen_held}

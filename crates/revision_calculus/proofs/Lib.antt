@@ -6,3 +6,4 @@ mod Events
 mod Joining
 mod Meets
 mod EveryRun
+mod Shapes

@@ -1,21 +1,20 @@
 -- The calculus keeps the conditions of the theory of revisions.
-use Rattle.std.proofs.Common.{◌≡◌, ◌⊎◌, inl, inr, ℕ, zero, suc, ◌+◌, ◌*◌, ◌≤◌, List, [], ◌∷◌, ◌++◌, map, replicate, Option, Some, None, refl, subst, arith}
+use Rattle.std.proofs.Common.{◌≡◌, inl, inr, ℕ, zero, suc, ◌+◌, ◌*◌, List, [], ◌∷◌, ◌++◌, replicate, Option, Some, None, subst, arith}
 use Rattle.rev_num.specs.declared.value.ValueKind.{ValueKind}
 use Rattle.rev_num.specs.declared.value.ValueKind.TheVariants as kind
-use Rattle.rev_num.specs.Path.{Path, child}
+use Rattle.rev_num.specs.Path.{Path}
 use Rattle.rev_num.specs.declared.value.Value.{Value}
 use Rattle.rev_num.specs.declared.value.Value.TheVariants as v
-use Rattle.rev_syntax.specs.Trees.{Constant, Variable, Entry, fun, merge, shared, proc}
+use Rattle.rev_syntax.specs.Trees.{Constant, Entry, fun, merge, shared, proc}
 use Rattle.merge_decl.specs.Definitions.{MergeDef, merges_in}
-use Rattle.merge_decl.specs.Names.{Name}
-use Rattle.revision_machine.specs.Machine.{Event, Moves, Forks, Joins, Ended}
+use Rattle.revision_machine.specs.Machine.{Event, Joins, Ended}
 use Rattle.revision_machine.specs.Conditions.{Counts, Handles, HoldsNone, Spends}
-use Rattle.revision_calculus.specs.Program.{SharedVariable, zero_value, written_value, first_value, shared_variable, cells_of, variables_from, variables, Setting}
-use Rattle.revision_calculus.specs.State.{Phase, running, joining, fresh, Local}
+use Rattle.revision_calculus.specs.Program.{zero_value, written_value, first_value, cells_of, variables_from, variables, Setting}
+use Rattle.revision_calculus.specs.State.{running, joining, fresh, Local}
 use Rattle.revision_calculus.specs.Step.{next}
 use Rattle.revision_calculus.specs.Join.{join}
 use Rattle.revision_calculus.specs.Calculus.{start_values, main, calculus}
-use Rattle.revision_calculus.specs.Held.{IsHandle, SlotsHold, LocalsHold, FramesHold, Holds, in_slots, in_frames, in_phase, weight_at, weight}
+use Rattle.revision_calculus.specs.Held.{IsHandle, SlotsHold, Holds, in_slots, in_frames, in_phase, weight}
 use Rattle.revision_calculus.proofs.Moves.{Moved}
 use Rattle.revision_calculus.proofs.Events.{ForkOk, WantOk, EventOk, event_ok, joins_phase, ended_phase}
 use Rattle.revision_calculus.proofs.Joining.{JoinOk, join_ok, join_forks}

@@ -1,25 +1,18 @@
 -- What each step of a revision keeps and uses up.
-use Rattle.std.proofs.Common.{◌≡◌, ◌≢◌, ◌⊎◌, inl, inr, ℕ, zero, suc, ◌+◌, ◌-◌, ◌*◌, ◌/◌, ◌≤◌, min, ℤ, Bool, true, false, cond, List, [], ◌∷◌, ◌++◌, map, length, Option, Some, None, Result, Ok, Err, refl, sym, ap, ◌∙◌, subst, arith, le_refl}
-use Rattle.std.specs.Prelude.{nat_le, if◌then◌else◌}
+use Rattle.std.proofs.Common.{◌≡◌, ◌⊎◌, inl, inr, ℕ, suc, ◌+◌, ◌*◌, ◌≤◌, List, [], ◌∷◌, length, Option, Some, None, refl, sym, ap, ◌∙◌, subst, arith, le_refl}
 use Rattle.rev_num.specs.Path.{Path, child}
 use Rattle.rev_num.specs.declared.value.Value.{Value}
-use Rattle.rev_num.specs.declared.value.Value.TheVariants as v
-use Rattle.rev_num.specs.declared.outcome.Cause.{Cause}
-use Rattle.rev_num.specs.declared.outcome.Cause.TheVariants as cause
 use Rattle.rev_num.specs.declared.outcome.Trap.{Trap}
-use Rattle.rev_syntax.specs.Trees.{Term, Terms, Right, plain, called, tried, Shown, Step, step, Act, bind, assign, assign_cell, choose, choose_or, repeat, call, return, fork, join, print, assert, Steps, no_steps, steps, Arms}
-use Rattle.rev_syntax.specs.Trees as t
+use Rattle.rev_syntax.specs.Trees.{Steps}
 use Rattle.revision_machine.specs.Machine.{Event, Moves, Forks, Joins, Ended}
 use Rattle.merge_decl.specs.Names.{Name}
-use Rattle.merge_decl.specs.Value.{and_then, truth_of, number_of}
-use Rattle.revision_calculus.specs.Program.{SharedVariable, variables, variable_named, procedures, Procedure, procedure_named, Setting}
-use Rattle.revision_calculus.specs.State.{Slot, seen, write_at, fresh, Frame, Phase, running, joining, done, trapped, Local}
-use Rattle.revision_calculus.specs.Evaluation.{eval, evals, on_top, set_local, set_named, set, give, cell_location}
-use Rattle.revision_calculus.specs.Step as spec
-use Rattle.revision_calculus.specs.Step.{traps, with_answer, enter, followed, taken, most_frames, frame_of, calls, finished, returned, part, forker, forked_child, joins, item_texts, line_of, by_right, does, begins, by_rest, by_frames, by_phase, next}
+use Rattle.revision_calculus.specs.Program.{SharedVariable, variables, variable_named, Procedure, Setting}
+use Rattle.revision_calculus.specs.State.{write_at, Frame, Phase, running, joining, done, trapped, Local}
+use Rattle.revision_calculus.specs.Evaluation.{on_top, set_local, set_named, set, give}
+use Rattle.revision_calculus.specs.Step.{enter, followed, frame_of, finished, returned}
 use Rattle.revision_calculus.specs.Held.{IsHandle, SlotsHold, LocalsHold, FramesHold, Holds, in_slots, in_frames, in_phase, beyond_first, weight_at, weight}
-use Rattle.revision_calculus.proofs.Values.{OfOk, OfEach}
-use Rattle.revision_calculus.proofs.Handles.{write_held, fresh_held, with_local_held, Held, not_held, locals_of_held, eval_held, evals_held}
+use Rattle.revision_calculus.proofs.Values.{OfEach}
+use Rattle.revision_calculus.proofs.Handles.{write_held, with_local_held, Held, not_held, locals_of_held}
 
 -- ---- weights
 

@@ -2,12 +2,11 @@
 use Rattle.std.proofs.Common.{◌≡◌, ◌≢◌, ◌⊎◌, inl, inr, ℕ, zero, suc, Bool, true, false, ◌&&◌, List, [], ◌∷◌, Option, Some, None, is_none, refl, sym, ap, ◌∙◌, subst}
 use Rattle.std.proofs.lemmas.Bool.{and_parts}
 use Rattle.rev_num.specs.Path.{Path, child}
-use Rattle.revision_machine.specs.PathMap.{with_at}
 use Rattle.revision_machine.specs.Machine.{Machine, Event, Moves, Forks, Joins, Ended, Entry, Plain, Joined, Global, Twice, Live, nowhere, Revisions, start, step, step_at, Runs, Final, Complete}
 use Rattle.revision_machine.specs.Laws.{IsIn}
 use Rattle.revision_machine.proofs.Paths.{decide_same, some_inj, at_other}
-use Rattle.revision_machine.proofs.Way.{put_two, Role, Way, writes, twice, way, Place, own, new, marks, place}
-use Rattle.revision_machine.proofs.Diamond.{two_here, two_there, two_other}
+use Rattle.revision_machine.proofs.Way.{put_two, Way, writes, twice, way, Place, own, new, marks, place}
+use Rattle.revision_machine.proofs.Diamond.{two_other}
 
 module _ (M : Machine) where
   -- the child of a fork comes to the paths

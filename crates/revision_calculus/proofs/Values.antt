@@ -1,6 +1,6 @@
 -- Where a value can come from: what holds of all that an expression reads, and of each value that is no handle,
 -- holds of the expression's value.
-use Rattle.std.proofs.Common.{◌≡◌, ℕ, ℤ, pos, negsuc, Bool, true, false, cond, List, [], ◌∷◌, length, Option, Some, None, Result, Ok, Err, refl, sym, ap, ◌∙◌, subst}
+use Rattle.std.proofs.Common.{ℕ, ℤ, pos, negsuc, Bool, true, false, cond, List, [], ◌∷◌, length, Option, Some, None, Result, Ok, Err}
 use Rattle.std.specs.Prelude.{nat_lt, if◌then◌else◌, slice_get, int_lt, int_le}
 use Rattle.rev_num.specs.declared.value.Value.{Value}
 use Rattle.rev_num.specs.declared.value.Value.TheVariants as v
@@ -16,8 +16,8 @@ use Rattle.rev_syntax.specs.declared.tree.BinaryOp.{BinaryOp}
 use Rattle.rev_syntax.specs.declared.tree.BinaryOp.TheVariants as b
 use Rattle.rev_syntax.specs.Trees.{Whole}
 use Rattle.merge_decl.specs.Names.{Name, same}
-use Rattle.merge_decl.specs.Value.{Answer, and_then, number_of, truth_of, some_value, number, flag, not, operated, short, linked, reversed, Shared, unknown, scalar, array, Env, cell_at, read_cell, taken, read_input, read_scalar, read, Fun, Funs, called, value_by, shape_value, values_by, chained, FunDef, bind, bind_all, nothing, closed, inside, fun_value, earlier_of, funs_of, same_value}
-use Rattle.merge_decl.specs.Definitions.{MergeDef, merges_in, merged, merged_by, merge_value_of}
+use Rattle.merge_decl.specs.Value.{Answer, and_then, number_of, truth_of, number, not, operated, short, linked, reversed, Shared, unknown, scalar, array, Env, read_cell, taken, read_input, read, Fun, Funs, called, value_by, shape_value, values_by, chained, FunDef, bind, bind_all, nothing, inside, fun_value, earlier_of, funs_of, same_value}
+use Rattle.merge_decl.specs.Definitions.{MergeDef, merges_in, merged_by, merge_value_of}
 
 -- what holds of the result, where there is one
 abbrev pub OfOk : {A : Type 0} → (A → Type 0) → Result A Cause → Type 0

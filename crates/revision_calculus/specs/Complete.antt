@@ -1,8 +1,7 @@
 -- What holds of the end of every complete run, and runs by a list of steps.
-use Rattle.std.specs.Prelude.{◌≡◌, ℕ, Bool, true, false, ◌&&◌, is_none, List, [], ◌∷◌, Option, Some, None, option_map}
-use Rattle.rev_num.specs.Path.{Path, child}
-use Rattle.rev_num.specs.declared.outcome.Outcome.{Outcome}
-use Rattle.revision_machine.specs.Machine.{Machine, Event, Moves, Forks, Joins, Ended, Entry, Plain, Joined, Global, Twice, Live, start, step, Complete}
+use Rattle.std.specs.Prelude.{◌≡◌, ℕ, Bool, false, List, [], ◌∷◌, Option, Some, None, option_map}
+use Rattle.rev_num.specs.Path.{Path}
+use Rattle.revision_machine.specs.Machine.{Entry, Global, Twice, Live, start, step, Complete}
 use Rattle.revision_machine.specs.Laws.{local_of}
 use Rattle.revision_calculus.specs.Program.{Setting}
 use Rattle.revision_calculus.specs.State.{Local}

@@ -1,13 +1,13 @@
 -- Worked programs, each after its text. A statement's line is its line in that text.
-use Rattle.std.specs.Prelude.{ℕ, pos, ℤ, Bool, true, false, codes, List, [], ◌∷◌, ◌++◌}
+use Rattle.std.specs.Prelude.{ℕ, ℤ, true, codes, List, [], ◌∷◌}
 use Prim.Native.String.{String}
 use Rattle.rev_num.specs.Path.{Path}
 use Rattle.rev_num.specs.declared.value.ValueKind.TheVariants as kind
 use Rattle.rev_syntax.specs.declared.tree.BinaryOp.TheVariants as b
-use Rattle.rev_syntax.specs.Trees.{Term, Step, Entry, Whole}
+use Rattle.rev_syntax.specs.Trees.{Step, Whole}
 use Rattle.revision_calculus.specs.Program.{Setting}
 use Rattle.revision_calculus.specs.Report.{Report, line}
-use Rattle.revision_calculus.specs.Words.{int, bool, none, var, cell, input, inputs, neg, op, value, rfork, tryjoin, let_, assign, assign_cell, if_, while, call, fork, rjoin, print, item, quoted, assert, param, proc, versioned, cumulative, cumulative_array, sum, program}
+use Rattle.revision_calculus.specs.Words.{int, bool, none, var, input, inputs, neg, op, value, rfork, tryjoin, let_, assign, assign_cell, if_, while, call, fork, rjoin, print, item, quoted, assert, param, proc, versioned, cumulative, cumulative_array, sum, program}
 
 -- ---- settings and reports
 

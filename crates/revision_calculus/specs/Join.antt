@@ -1,5 +1,5 @@
 -- The join of a revision that has ended.
-use Rattle.std.specs.Prelude.{ℕ, suc, ◌+◌, Bool, true, false, List, [], ◌∷◌, ◌++◌, replicate, Option, Some, None, Result, Ok, Err}
+use Rattle.std.specs.Prelude.{ℕ, suc, ◌+◌, true, false, List, [], ◌∷◌, ◌++◌, replicate, Option, Some, None, Result, Ok, Err}
 use Rattle.rev_num.specs.Path.{Path}
 use Rattle.rev_num.specs.declared.value.Value.{Value}
 use Rattle.rev_num.specs.declared.value.Value.TheVariants as v
@@ -12,7 +12,7 @@ use Rattle.merge_decl.specs.Names.{Name}
 use Rattle.merge_decl.specs.Value.{Answer}
 use Rattle.merge_decl.specs.Definitions.{merge_value_of}
 use Rattle.revision_calculus.specs.Program.{SharedVariable, variables, Setting}
-use Rattle.revision_calculus.specs.State.{Slot, seen, Noted, joined, Phase, running, joining, done, trapped, Local}
+use Rattle.revision_calculus.specs.State.{Slot, seen, joined, Phase, running, joining, done, trapped, Local}
 use Rattle.revision_calculus.specs.Evaluation.{give}
 
 -- ---- compose

@@ -7,6 +7,7 @@ pub mod Calculus
 pub mod Outcome
 pub mod Report
 pub mod Held
+pub mod Kept
 pub mod Complete
 pub mod Words
 pub mod Examples

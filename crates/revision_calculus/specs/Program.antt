@@ -1,10 +1,10 @@
 -- What the declarations of a program give to its runs: the shared variables with their locations, and the procedures.
-use Rattle.std.specs.Prelude.{ℕ, zero, suc, ◌+◌, ℤ, pos, negsuc, Bool, false, is_some, List, [], ◌∷◌, Option, Some, None, option_map, if◌then◌else◌}
+use Rattle.std.specs.Prelude.{ℕ, suc, ◌+◌, ℤ, pos, negsuc, Bool, false, is_some, List, [], ◌∷◌, Option, Some, None, option_map, if◌then◌else◌}
 use Rattle.rev_num.specs.declared.value.Value.{Value}
 use Rattle.rev_num.specs.declared.value.Value.TheVariants as v
 use Rattle.rev_num.specs.declared.value.ValueKind.{ValueKind}
 use Rattle.rev_num.specs.declared.value.ValueKind.TheVariants as kind
-use Rattle.rev_syntax.specs.Trees.{Word, Steps, no_steps, Extent, Constant, Variable, Entry, fun, merge, shared, proc, Whole}
+use Rattle.rev_syntax.specs.Trees.{Steps, no_steps, Extent, Constant, Variable, Entry, fun, merge, shared, proc, Whole}
 use Rattle.merge_decl.specs.Names.{Name, same}
 use Rattle.merge_decl.specs.Definitions.{MergeDef, merges_in, names_of}
 

@@ -1,5 +1,5 @@
 -- What a revision does next: a step of its own, a fork, a join, or nothing more.
-use Rattle.std.specs.Prelude.{ℕ, zero, suc, ◌-◌, ◌/◌, min, nat_le, if◌then◌else◌, codes, List, [], ◌∷◌, ◌++◌, length, map, Option, Some, None, Result, Ok, Err, Bool, true, false}
+use Rattle.std.specs.Prelude.{ℕ, zero, suc, ◌-◌, ◌/◌, min, nat_le, if◌then◌else◌, codes, List, [], ◌∷◌, ◌++◌, length, map, Option, Some, None, Result, Ok, Err, true, false}
 use Rattle.std.specs.List.{join_with_byte}
 use Rattle.std.specs.Fmt.{signed_decimal}
 use Rattle.rev_num.specs.Path.{Path, child}
@@ -13,9 +13,9 @@ use Rattle.rev_syntax.specs.Trees as t
 use Rattle.revision_machine.specs.Machine.{Event, Moves, Forks, Joins, Ended}
 use Rattle.merge_decl.specs.Names.{Name}
 use Rattle.merge_decl.specs.Table.{Table}
-use Rattle.merge_decl.specs.Value.{Answer, and_then, truth_of, number_of}
+use Rattle.merge_decl.specs.Value.{and_then, truth_of, number_of}
 use Rattle.revision_calculus.specs.Program.{procedures, Procedure, procedure_named, Setting}
-use Rattle.revision_calculus.specs.State.{seen, write_at, fresh, Frame, Noted, forked, Phase, running, joining, done, trapped, Local}
+use Rattle.revision_calculus.specs.State.{seen, write_at, fresh, Frame, forked, Phase, running, joining, done, trapped, Local}
 use Rattle.revision_calculus.specs.Evaluation.{eval, evals, on_top, set, give, cell_location}
 
 -- ---- traps

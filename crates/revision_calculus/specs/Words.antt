@@ -1,11 +1,11 @@
 -- Short words for writing programs as trees. Places of bytes do not matter to a run, and are 0.
-use Rattle.std.specs.Prelude.{ℕ, ℤ, pos, codes, Bool, List, [], ◌∷◌, ◌++◌, Option, Some, None}
+use Rattle.std.specs.Prelude.{ℕ, pos, codes, Bool, List, [], ◌∷◌, Some, None}
 use Prim.Native.String.{String}
 use Rattle.rev_num.specs.declared.value.ValueKind.{ValueKind}
 use Rattle.rev_num.specs.declared.value.ValueKind.TheVariants as kind
 use Rattle.rev_syntax.specs.Trees as t
 use Rattle.rev_syntax.specs.Trees.{Word, Term, Right, Shown, Step, Act, Steps, Binder, Entry, Whole}
-use Rattle.rev_syntax.specs.View.{terms_of, links_of, steps_of, arms_of}
+use Rattle.rev_syntax.specs.View.{terms_of, steps_of, arms_of}
 use Rattle.rev_syntax.specs.declared.tree.BinaryOp.{BinaryOp}
 use Rattle.rev_syntax.specs.declared.tree.BinaryOp.TheVariants as b
 use Rattle.rev_syntax.specs.declared.tree.UnaryOp.TheVariants as u

@@ -8,6 +8,7 @@ ghost use Rattle.revision_machine.specs.Laws.{
   DiamondLaw,
   ForkerLaw,
   HandleLaw,
+  KeptLaw,
   NoBlockedEnd,
   SpendingLaw,
   TwiceInAll,
@@ -17,6 +18,7 @@ ghost use Rattle.revision_machine.specs.Laws.{
 ghost use Rattle.revision_calculus.specs.Program.{Setting};
 ghost use Rattle.revision_calculus.specs.Calculus.{calculus, main};
 ghost use Rattle.revision_calculus.specs.Held.{Holds};
+ghost use Rattle.revision_calculus.specs.Kept.{IsShaped};
 
 /// Runs are determinate: two steps of different revisions can be made in either order, any two complete runs from
 /// one state end in equal states, and the error state of a second join is reached in every complete run or in none.
@@ -43,4 +45,10 @@ pub fn fuel_laws()
     ensures forks { (s : Setting) (fuel : ℕ) → SpendingLaw (calculus s) (main s fuel) 0 (λ l. l.fuel + l.forks) }
     ensures bound { (s : Setting) (fuel : ℕ) → BoundLaw (calculus s) (main s fuel) (3 * fuel + 2) }
     ensures completion { (s : Setting) (fuel : ℕ) → CompletionLaw (calculus s) (main s fuel) }
+{}
+
+/// In every state that a run reaches, each revision has a snapshot and writes over all locations, at most 1,000
+/// frames, and one at least until it has ended.
+pub fn shape_laws()
+    ensures shaped { (s : Setting) (fuel : ℕ) → KeptLaw (calculus s) (main s fuel) (IsShaped s) }
 {}

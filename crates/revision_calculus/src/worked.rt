@@ -56,6 +56,12 @@ pub fn try_programs()
     ensures tries { Reports (usual x.tries) usual_fuel false (prints "false 0\nchild\ntrue 3\n") }
 {}
 
+/// A revision can have 1,000 frames, and no more.
+pub fn deep_calls()
+    ensures frames_suffice { Reports (usual (x.calls_deep 999)) usual_fuel false (prints "1\n") }
+    ensures call_depth { Reports (usual (x.calls_deep 1000)) usual_fuel false (traps "" "trap: call depth at line 1 in revision main") }
+{}
+
 /// How fuel is shared and given back, and what is listed and written: the program `sums` with fuel 100 and share 10.
 pub fn accounts()
     ensures child_fuel { Tells (sharing 10 x.sums) 100 (0 ∷ []) (λ l. l.fuel) 9 }

@@ -1,4 +1,4 @@
-use Rattle.std.specs.Prelude.{◌+◌, ◌*◌, ◌≤◌, length}
+use Rattle.std.specs.Prelude.{◌+◌, ◌≤◌, length}
 use Rattle.std.proofs.Common.{arith}
 use Rattle.revision_machine.proofs.Census.{spending_law, bound_law}
 use Rattle.revision_machine.proofs.Completion.{completion_law}

@@ -1,9 +1,9 @@
-use Rattle.std.specs.Prelude.{◌≡◌, [], ◌∷◌, Some, false, negsuc, pos, true}
+use Rattle.std.specs.Prelude.{false, true}
 use Rattle.std.specs.Fmt.{digits}
 use Rattle.std.proofs.Common.{refl}
 use Rattle.revision_calculus.specs.Examples as x
 use Rattle.revision_calculus.specs.Examples.{given, sharing, usual, usual_fuel}
-use Rattle.revision_calculus.proofs.EveryRun.{always_tells, reports, run_latest}
+use Rattle.revision_calculus.proofs.EveryRun.{reports, run_latest}
 use Rattle.revision_calculus.proofs.worked.join_programs.Goals as goal
 
 pub returns : goal.returns
