@@ -6,4 +6,5 @@ mod Events
 mod Joining
 mod Meets
 mod EveryRun
+mod Outcomes
 mod Shapes

@@ -1,6 +1,7 @@
 -- What holds of the end of every complete run, and runs by a list of steps.
 use Rattle.std.specs.Prelude.{◌≡◌, ℕ, Bool, false, List, [], ◌∷◌, Option, Some, None, option_map}
 use Rattle.rev_num.specs.Path.{Path}
+use Rattle.rev_num.specs.declared.outcome.Outcome.{Outcome}
 use Rattle.revision_machine.specs.Machine.{Entry, Global, Twice, Live, start, step, Complete}
 use Rattle.revision_machine.specs.Laws.{local_of}
 use Rattle.revision_calculus.specs.Program.{Setting}
@@ -20,6 +21,16 @@ pub record Always (s : Setting) (fuel : ℕ) (P : Global Local → Type 0) : Typ
   pub end : Global Local
   pub complete : Complete (calculus s) (start_of s fuel) by end
   pub each : (rs : List Path) (g : Global Local) → Complete (calculus s) (start_of s fuel) rs g → P g
+
+-- every complete run has this outcome
+abbrev pub HasOutcome : Setting → ℕ → Outcome → Type 0
+HasOutcome s fuel o = Always s fuel (λ g. outcome s g ≡ Some o)
+
+-- a program with its inputs, share and fuel has one outcome, and no other
+pub record OneOutcome (s : Setting) (fuel : ℕ) : Type 0 where
+  pub is : Outcome
+  pub has : HasOutcome s fuel is
+  pub only : (o : Outcome) → HasOutcome s fuel o → o ≡ is
 
 -- the report of a final state
 abbrev pub report_of : Setting → Bool → Global Local → Option Report

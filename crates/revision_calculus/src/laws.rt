@@ -17,16 +17,19 @@ ghost use Rattle.revision_machine.specs.Laws.{
 };
 ghost use Rattle.revision_calculus.specs.Program.{Setting};
 ghost use Rattle.revision_calculus.specs.Calculus.{calculus, main};
+ghost use Rattle.revision_calculus.specs.Complete.{OneOutcome};
 ghost use Rattle.revision_calculus.specs.Held.{Holds};
 ghost use Rattle.revision_calculus.specs.Kept.{IsShaped};
 
 /// Runs are determinate: two steps of different revisions can be made in either order, any two complete runs from
 /// one state end in equal states, and the error state of a second join is reached in every complete run or in none.
+/// So a program with its inputs, fuel and share has one outcome.
 pub fn determinacy_laws()
     ensures diamond { (s : Setting) (fuel : ℕ) → DiamondLaw (calculus s) (main s fuel) }
     ensures unique_end { (s : Setting) (fuel : ℕ) → UniqueEnd (calculus s) (main s fuel) }
     ensures twice_in_all { (s : Setting) (fuel : ℕ) → TwiceInAll (calculus s) (main s fuel) }
     ensures twice_is_final { (s : Setting) → TwiceIsFinal (calculus s) }
+    ensures one_outcome { (s : Setting) (fuel : ℕ) → OneOutcome s fuel }
 {}
 
 /// Each revision but `main` has its forker in the state, which has counted it. Each handle in a snapshot, in writes,
