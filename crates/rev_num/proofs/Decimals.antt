@@ -31,11 +31,11 @@ digits_all [] h = refl
 digits_all (d ∷ ds) h =
     tells_all_ascii_digits.more d ds (All-head IsAsciiDigit d ds h) (digits_all ds (All-tail IsAsciiDigit d ds h))
 
-digits_tested : (ds : List ℕ) → is_digits ds ≡ true → IsDigits ds
+pub digits_tested : (ds : List ℕ) → is_digits ds ≡ true → IsDigits ds
 digits_tested [] h = grind arith
 digits_tested (d ∷ ds) h = record { some = omega arith; each = all_digits (d ∷ ds) (grind (arith, rules)) }
 
-digits_pass : (ds : List ℕ) → IsDigits ds → is_digits ds ≡ true
+pub digits_pass : (ds : List ℕ) → IsDigits ds → is_digits ds ≡ true
 digits_pass [] h = absurd (omega (arith, h.some))
 digits_pass (d ∷ ds) h = let all = digits_all (d ∷ ds) h.each in grind (arith, rules)
 

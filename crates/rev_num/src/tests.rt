@@ -5,6 +5,7 @@ use std::alloc::Global;
 use std::test::Fail;
 
 const LEAST: i64 = -9_223_372_036_854_775_808;
+
 const MOST: i64 = 9_223_372_036_854_775_807;
 
 #[test]
@@ -16,7 +17,12 @@ fn numbers(rt: HostRuntime) -> Result<(), Fail> {
         (-7, -2, Ok(3), Ok(-1)),
         (LEAST, 1, Ok(LEAST), Ok(0)),
         (LEAST, -1, Err(NumFault::Overflow), Err(NumFault::Overflow)),
-        (LEAST, 0, Err(NumFault::ZeroDivisor), Err(NumFault::ZeroDivisor)),
+        (
+            LEAST,
+            0,
+            Err(NumFault::ZeroDivisor),
+            Err(NumFault::ZeroDivisor),
+        ),
     ];
     for (a, b, quotient, remainder) in divisions {
         assert_eq!(rt; div(a, b), quotient);

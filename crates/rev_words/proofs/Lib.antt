@@ -1,0 +1,4 @@
+pub mod Each
+pub mod Naturals
+pub mod Simple
+pub mod Schedules
