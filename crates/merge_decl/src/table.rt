@@ -11,15 +11,15 @@ use std::marker::Model;
 /// came.
 #[derive(Drop)]
 pub struct NameTable<V> {
-    map: IndexMap<Vec<u8>, V>,
+    index: IndexMap<Vec<u8>, V>,
 }
 
 impl<V> Model for NameTable<V> {
-    ghost use Rattle.std.specs.Prelude.{List, ℕ, map};
+    ghost use Rattle.merge_decl.specs.Table.{Table, rows};
 
-    ghost Value = { List (List ℕ × V) };
+    ghost Value = { Table V };
 
-    ghost view = { λ t. map (λ e. (e.0.items, e.1)) t.map.entries };
+    ghost view = { λ t. rows t.index.entries };
 }
 
 impl<V: Copy + Drop> NameTable<V> {
@@ -28,7 +28,7 @@ impl<V: Copy + Drop> NameTable<V> {
         ensures { result ≡ [] }
     {
         NameTable {
-            map: IndexMap::new(alloc),
+            index: IndexMap::new(alloc),
         }
     }
 
@@ -36,14 +36,14 @@ impl<V: Copy + Drop> NameTable<V> {
     pub fn len(&self) -> usize
         ensures { result ≡ length self.now }
     {
-        self.map.len()
+        self.index.len()
     }
 
     /// The value of the name.
     pub fn find(&self, name: &[u8]) -> Option<V>
         ensures { result ≡ find name.now self.now }
     {
-        self.map.get(name).copied()
+        self.index.get(name).copied()
     }
 
     /// Enters the name with the value, unless the name is there already: then its first value stays.
@@ -51,10 +51,10 @@ impl<V: Copy + Drop> NameTable<V> {
         ensures ok { OnOk result (self.new ≡ added self.old name.now value) }
         ensures err { OnErr result (self.new ≡ self.old) }
     {
-        if self.map.contains_key(name) {
+        if self.index.contains_key(name) {
             return Ok(());
         }
-        self.map.insert(Vec::from_slice(alloc, name)?, value)?;
+        self.index.insert(Vec::from_slice(alloc, name)?, value)?;
         Ok(())
     }
 
@@ -62,6 +62,6 @@ impl<V: Copy + Drop> NameTable<V> {
     pub fn truncate(&mut self, len: usize)
         ensures { self.new ≡ take len self.old }
     {
-        self.map.truncate(len);
+        self.index.truncate(len);
     }
 }
