@@ -7,6 +7,7 @@ pub mod PostOrder
 pub mod Order
 pub mod Census
 pub mod Blocked
+pub mod Bearing
 pub mod Lift
 pub mod Kept
 pub mod Completion
