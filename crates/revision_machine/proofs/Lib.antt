@@ -6,6 +6,7 @@ pub mod Ends
 pub mod PostOrder
 pub mod Order
 pub mod Census
+pub mod Totals
 pub mod Blocked
 pub mod Bearing
 pub mod Lift
