@@ -2,9 +2,9 @@
 use Rattle.std.proofs.Common.{◌≡◌, ◌⊎◌, inl, inr, Bool, true, false, List, [], ◌∷◌, Option, Some, None, refl, sym, ap, ◌∙◌, subst}
 use Rattle.std.proofs.lemmas.Bool.{cases_Bool, true≢false}
 use Rattle.revision_machine.specs.Path.{Path, before}
-use Rattle.revision_machine.specs.Machine.{Event, Moves, Forks, Joins, Ended, Machine, Entry, Plain, Joined, Global, Twice, Live, Revisions, start, step, step_at, happens, join_at, join_ended, Final}
+use Rattle.revision_machine.specs.Machine.{Event, Moves, Forks, Joins, Ended, Machine, Entry, Plain, Joined, Global, Twice, Live, Revisions, start, step, step_at, happens, join_at, join_ended, Final, Reached}
 use Rattle.revision_machine.specs.Conditions.{Counts, Handles, HoldsNone}
-use Rattle.revision_machine.specs.Laws.{local_of, WellForked, IsOrdered, HandlesPrecede, HandleLaw, NoBlockedEnd, IsIn, Census}
+use Rattle.revision_machine.specs.Laws.{local_of, WellForked, IsOrdered, HandlesPrecede, HandleLaw, AllEnded, NoBlockedEnd, IsIn, Census}
 use Rattle.revision_machine.proofs.Paths.{some_inj}
 use Rattle.revision_machine.proofs.PostOrder.{before_trans, before_irrefl}
 use Rattle.revision_machine.proofs.Way.{Way, writes, twice, way}
@@ -82,28 +82,46 @@ module _ (M : Machine) where
       (along M (λ v. WellForked M v × HandlesPrecede M holds v) (keeps_both holds counts H) reached.by (start M main) g (start_forked M main, start_ordered holds main none) reached.runs).1
 
   -- it has something left to do
-  going_on : Event M.Local → Bool
+  abbrev pub going_on : Event M.Local → Bool
   going_on Ended = false
   going_on (Moves _) = true
   going_on (Forks _ _) = true
   going_on (Joins _) = true
 
-  waits_at : Path → Option (Entry M.Local) → Bool
+  abbrev pub waits_at : Path → Option (Entry M.Local) → Bool
   waits_at r None = false
   waits_at r (Some (Joined l)) = false
   waits_at r (Some (Plain l)) = going_on (M.next r l)
 
-  ended_since : (v : Event M.Local) → going_on v ≡ false → v ≡ Ended
-  unfolding going_on
+  pub ended_since : (v : Event M.Local) → going_on v ≡ false → v ≡ Ended
   ended_since Ended e = refl
   ended_since (Moves _) e = absurd (true≢false e)
   ended_since (Forks _ _) e = absurd (true≢false e)
   ended_since (Joins _) e = absurd (true≢false e)
 
+  -- where each that has not ended waits for one before it, there is none
+  pub none_waits : (revs : Revisions M) (ps : List Path) → Census revs ps → ((r : Path) → waits_at r (revs r) ≡ true → (q : Path) × (waits_at q (revs q) ≡ true) × (before q r ≡ true)) → (r : Path) → waits_at r (revs r) ≡ true → ⊥
+  none_waits revs ps census waits_for r w = go (lowest (λ q. waits_at q (revs q)) ps)
+    where
+      stands : (q : Path) (e : Option (Entry M.Local)) → revs q ≡ e → waits_at q e ≡ true → IsIn q ps
+      stands q None here e = absurd (true≢false (sym e))
+      stands q (Some e) here f = census.all q e here
+
+      go : (((q : Path) → IsIn q ps → waits_at q (revs q) ≡ true → ⊥) ⊎ Lowest (λ q. waits_at q (revs q)) ps) → ⊥
+      go (inl none) = none r (stands r (revs r) refl w) w
+      go (inr low) = let f = waits_for low.path low.passes in true≢false (sym f.2 ∙ low.first f.0 (stands f.0 (revs f.0) refl f.1) f.1)
+
+  -- so each has ended
+  pub all_ended : (main : M.Local) → Counts M → (revs : Revisions M) → Reached M main (Live revs) → ((r : Path) → waits_at r (revs r) ≡ true → (q : Path) × (waits_at q (revs q) ≡ true) × (before q r ≡ true)) → AllEnded M (Live revs)
+  all_ended main counts revs reached waits_for r l here = go (going_on (M.next r l)) refl
+    where
+      go : (b : Bool) → going_on (M.next r l) ≡ b → M.next r l ≡ Ended
+      go false e = ended_since (M.next r l) e
+      go true e = let c = spending_law M main 0 (λ l. 0) counts (no_cost M) (Live revs) reached.by reached.runs in absurd (none_waits revs c.1.0 c.1.1 waits_for r (ap (waits_at r) here ∙ e))
+
   module _ (holds : M.Local → Path → Type 0) (H : Handles M holds) (revs : Revisions M) (ordered : IsOrdered M holds revs) (final : Final M (Live revs)) where
     -- where nothing steps, one that has not ended waits for one before it
     waits_for : (r : Path) → waits_at r (revs r) ≡ true → (q : Path) × (waits_at q (revs q) ≡ true) × (before q r ≡ true)
-    unfolding waits_at going_on
     waits_for r w = of_entry (revs r) refl w
       where
         Found : Type 0
@@ -133,29 +151,6 @@ module _ (M : Machine) where
         of_entry (Some (Joined l)) here e = absurd (true≢false (sym e))
         of_entry (Some (Plain l)) here e = of_event l here (M.next r l) refl e
 
-    none_waits : (ps : List Path) → Census revs ps → (r : Path) → waits_at r (revs r) ≡ true → ⊥
-    unfolding waits_at going_on
-    none_waits ps census r w = go (lowest (λ q. waits_at q (revs q)) ps)
-      where
-        stands : (q : Path) (e : Option (Entry M.Local)) → revs q ≡ e → waits_at q e ≡ true → IsIn q ps
-        stands q None here e = absurd (true≢false (sym e))
-        stands q (Some e) here f = census.all q e here
-
-        go : (((q : Path) → IsIn q ps → waits_at q (revs q) ≡ true → ⊥) ⊎ Lowest (λ q. waits_at q (revs q)) ps) → ⊥
-        go (inl none) = none r (stands r (revs r) refl w) w
-        go (inr low) = let f = waits_for low.path low.passes in true≢false (sym f.2 ∙ low.first f.0 (stands f.0 (revs f.0) refl f.1) f.1)
-
   pub no_blocked_end : (main : M.Local) (holds : M.Local → Path → Type 0) → Counts M → Handles M holds → HoldsNone M holds main → NoBlockedEnd M main
-  unfolding waits_at going_on
   no_blocked_end main holds counts H none Twice reached final = tt
-  no_blocked_end main holds counts H none (Live revs) reached final = each
-    where
-      ordered : IsOrdered M holds revs
-      ordered = handle_law main holds counts H none (Live revs) reached
-
-      go : (r : Path) (l : M.Local) → revs r ≡ Some (Plain l) → (b : Bool) → going_on (M.next r l) ≡ b → M.next r l ≡ Ended
-      go r l here false e = ended_since (M.next r l) e
-      go r l here true e = let c = spending_law M main 0 (λ l. 0) counts (no_cost M) (Live revs) reached.by reached.runs in absurd (none_waits holds H revs ordered final c.1.0 c.1.1 r (ap (waits_at r) here ∙ e))
-
-      each : (r : Path) (l : M.Local) → revs r ≡ Some (Plain l) → M.next r l ≡ Ended
-      each r l here = go r l here (going_on (M.next r l)) refl
+  no_blocked_end main holds counts H none (Live revs) reached final = all_ended main counts revs reached (waits_for holds H revs (handle_law main holds counts H none (Live revs) reached) final)

@@ -31,7 +31,7 @@ module _ {L : Type 0} (of : L → ℕ) where
       let t = total-at revs r e ps distinct.1 is in
       omega arith
 
-  at_most : (revs : PathMap (Entry L)) (ps : List Path) (r : Path) → IsIn r ps → amount of (revs r) ≤ total of revs ps
+  pub at_most : (revs : PathMap (Entry L)) (ps : List Path) (r : Path) → IsIn r ps → amount of (revs r) ≤ total of revs ps
   at_most revs [] r none = absurd none
   at_most revs (p ∷ ps) r (inl is) = let h : amount of (revs r) ≡ amount of (revs p) = ap (λ v. amount of (revs v)) is in omega arith
   at_most revs (p ∷ ps) r (inr is) = let h = at_most revs ps r is in omega arith
@@ -162,7 +162,7 @@ module _ (M : Machine) where
           let sum = has.2 in
           (0, refl, omega arith)
 
-  runs_spend : (cost : ℕ) (of : M.Local → ℕ) → Counts M → Spends M cost of → (rs : List Path) (g h : Global M.Local) → WellForked M g → Runs M g rs h → (n : ℕ) → Amounts M of g n → (m : ℕ) × Amounts M of h m × (m + length rs * cost ≤ n)
+  pub runs_spend : (cost : ℕ) (of : M.Local → ℕ) → Counts M → Spends M cost of → (rs : List Path) (g h : Global M.Local) → WellForked M g → Runs M g rs h → (n : ℕ) → Amounts M of g n → (m : ℕ) × Amounts M of h m × (m + length rs * cost ≤ n)
   unfolding Left
   runs_spend cost of counts spends [] g h good runs n has = (n, subst (λ v. Amounts M of v n) runs has, omega arith)
   runs_spend cost of counts spends (r ∷ rs) g h good runs n has =

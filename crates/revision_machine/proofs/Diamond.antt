@@ -5,7 +5,7 @@ use Rattle.revision_machine.specs.PathMap.{PathMap, with_at}
 use Rattle.revision_machine.specs.Machine.{Joins, Ended, Machine, Entry, Plain, Joined, Global, Twice, Live, Revisions, step}
 use Rattle.revision_machine.specs.Laws.{Diamond}
 use Rattle.revision_machine.proofs.Paths.{swap, child-same, at_here, at_other, decide_same}
-use Rattle.revision_machine.proofs.Way.{put_two, Role, itself, born, met, Way, writes, twice, way, going, ended_apart, again, meets_marked, plain_inj, Place, own, new, marks, place}
+use Rattle.revision_machine.proofs.Way.{put_two, Role, itself, forked, met, Way, writes, twice, way, going, ended_apart, again, meets_marked, plain_inj, Place, own, new, marks, place}
 
 -- two writes and two others, at four places
 pub commute : {A : Type 0} (m : PathMap A) (r o s p : Path) (a b c d : A) → r ≢ s → r ≢ p → o ≢ s → o ≢ p → put_two (put_two m r a o b) s c p d ≡ put_two (put_two m s c p d) r a o b
@@ -35,13 +35,13 @@ module _ (M : Machine) where
   -- what one writes is not where another stands
   apart_own : (revs : Revisions M) → IsFresh revs → (r s : Path) (l l' k : M.Local) (o : Path) (e : Entry M.Local) → revs r ≡ Some (Plain l) → Role M revs r l l' o e → r ≢ s → revs s ≡ Some (Plain k) → M.next s k ≢ Ended → s ≢ o
   apart_own revs fresh r s l l' k o e here (itself _ does) rs there on f = rs (sym f)
-  apart_own revs fresh r s l l' k o e here (born _ c does) rs there on f = gone revs s (ap revs f ∙ fresh r l here) there
+  apart_own revs fresh r s l l' k o e here (forked _ c does) rs there on f = gone revs s (ap revs f ∙ fresh r l here) there
   apart_own revs fresh r s l l' k o e here (met q lq does was ended) rs there on f = ended_apart M revs s q k lq there on was ended f
 
   -- a marked revision is written by nobody
   apart_marked : (revs : Revisions M) → IsFresh revs → (r s : Path) (l l' k : M.Local) (o : Path) (e : Entry M.Local) → revs r ≡ Some (Plain l) → Role M revs r l l' o e → revs s ≡ Some (Joined k) → o ≢ s
   apart_marked revs fresh r s l l' k o e here (itself _ does) there f = let clash = sym here ∙ ap revs f ∙ there in cc
-  apart_marked revs fresh r s l l' k o e here (born _ c does) there f = gone revs s (ap revs (sym f) ∙ fresh r l here) there
+  apart_marked revs fresh r s l l' k o e here (forked _ c does) there f = gone revs s (ap revs (sym f) ∙ fresh r l here) there
   apart_marked revs fresh r s l l' k o e here (met q lq does was ended) there f = let clash = sym was ∙ ap revs f ∙ there in cc
 
   -- two that write one more place between them are two joiners of one revision

@@ -6,7 +6,9 @@ pub mod Ends
 pub mod PostOrder
 pub mod Order
 pub mod Census
+pub mod Totals
 pub mod Blocked
+pub mod Bearing
 pub mod Lift
 pub mod Kept
 pub mod Completion

@@ -1,13 +1,15 @@
 -- A simulation of local states gives one of whole runs.
-use Rattle.std.proofs.Common.{◌≡◌, ◌≢◌, ℕ, suc, Bool, true, false, cond, List, [], ◌∷◌, ◌++◌, replicate, Option, Some, None, refl, sym, ap, ◌∙◌, subst}
+use Rattle.std.proofs.Common.{◌≡◌, ◌≢◌, inl, ℕ, suc, Bool, true, false, cond, List, [], ◌∷◌, ◌++◌, replicate, Option, Some, None, refl, sym, ap, ◌∙◌, subst}
 use mathlib.Core.Path.{fun_ext}
 use Rattle.revision_machine.specs.Path.{Path, child, same}
 use Rattle.revision_machine.specs.PathMap.{PathMap, with_at}
 use Rattle.revision_machine.specs.Machine.{Joins, Ended, Machine, Entry, Plain, Joined, Global, Twice, Live, nowhere, Revisions, start, step, step_at, happens, join_at, join_ended, Runs, Final}
-use Rattle.revision_machine.specs.Laws.{AllEnded, NoBlockedEnd}
-use Rattle.revision_machine.specs.Simulation.{Quiet, stay, more, Simulates, EntryAgrees, Agrees, StepsTo, StepLaw, RunLaw, CompleteLaw}
+use Rattle.revision_machine.specs.Laws.{IsIn, AllEnded}
+use Rattle.revision_machine.specs.Births.{born, RunsBearing, AllKnown}
+use Rattle.revision_machine.specs.Simulation.{Quiet, stay, more, Simulates, EntryAgrees, Agrees, StepsTo, StepLaw, RunLaw}
+use Rattle.revision_machine.proofs.Bearing.{born_child, known_front, known_back}
 use Rattle.revision_machine.proofs.Paths.{same-eq, overwrite, swap, child-apart, at_here, at_other}
-use Rattle.revision_machine.proofs.Way.{put_two, Role, itself, born, met, Way, writes, twice, way, ended_apart}
+use Rattle.revision_machine.proofs.Way.{put_two, Role, itself, forked, met, Way, writes, twice, way, ended_apart}
 
 same_put : {A : Type 0} (m : PathMap A) (r : Path) (a : A) → m r ≡ Some a → m ≡ with_at m r a
 same_put {A} m r a e = fun_ext λ p. go p (same r p) refl
@@ -23,12 +25,12 @@ module _ (M : Machine) where
   runs_on (r ∷ rs) ss g h k one two = (one.0, one.1, runs_on rs ss one.0 h k one.2 two)
 
   -- local steps, as steps of the state
-  record Quietly (r : Path) (u : Revisions M) (l' : M.Local) : Type 0 where
-    times : ℕ
-    runs : (g : Global M.Local) → step M (Live (with_at u r (Plain l'))) r ≡ Some g → Runs M (Live u) (replicate (suc times) r) g
-    alone : Runs M (Live u) (replicate times r) (Live (with_at u r (Plain l')))
+  pub record Quietly (r : Path) (u : Revisions M) (l' : M.Local) : Type 0 where
+    pub times : ℕ
+    pub runs : (g : Global M.Local) → step M (Live (with_at u r (Plain l'))) r ≡ Some g → Runs M (Live u) (replicate (suc times) r) g
+    pub alone : Runs M (Live u) (replicate times r) (Live (with_at u r (Plain l')))
 
-  quietly : (r : Path) (l l' : M.Local) → Quiet M r l l' → (u : Revisions M) → u r ≡ Some (Plain l) → Quietly r u l'
+  pub quietly : (r : Path) (l l' : M.Local) → Quiet M r l l' → (u : Revisions M) → u r ≡ Some (Plain l) → Quietly r u l'
   quietly r l l' stay u here =
       let is : Live u ≡ Live (with_at u r (Plain l)) = ap Live (same_put u r (Plain l) here) in
       record { times = 0; runs = λ g s. (g, ap (λ v. step M v r) is ∙ s, refl); alone = is }
@@ -50,12 +52,12 @@ module _ (A B : Machine) (R : Path → A.Local → B.Local → Type 0) where
       go true e = subst (λ t. EntryAgrees A B R t (Some x) (Some y)) (same-eq r p e) xy
       go false e = h p
 
-  record IsPlain (r : Path) (e : Option (Entry A.Local)) (b : B.Local) : Type 0 where
-    state : A.Local
-    is : e ≡ Some (Plain state)
-    related : R r state b
+  pub record IsPlain (r : Path) (e : Option (Entry A.Local)) (b : B.Local) : Type 0 where
+    pub state : A.Local
+    pub is : e ≡ Some (Plain state)
+    pub related : R r state b
 
-  plain_of : (r : Path) (e : Option (Entry A.Local)) (b : B.Local) → EntryAgrees A B R r e (Some (Plain b)) → IsPlain r e b
+  pub plain_of : (r : Path) (e : Option (Entry A.Local)) (b : B.Local) → EntryAgrees A B R r e (Some (Plain b)) → IsPlain r e b
   plain_of r None b h = absurd h
   plain_of r (Some (Joined a)) b h = absurd h
   plain_of r (Some (Plain a)) b h = record { state = a; is = refl; related = h }
@@ -65,8 +67,8 @@ module _ (A B : Machine) (R : Path → A.Local → B.Local → Type 0) where
   marked_of r (Some (Joined a)) b h = (a, refl)
   marked_of r (Some (Plain a)) b h = absurd h
 
-  live_step : Simulates A B R → (u : Revisions A) (v : Revisions B) → ((p : Path) → EntryAgrees A B R p (u p) (v p)) → (r : Path) (w' : Global B.Local) → Way B v r w' → StepsTo A B R r (Live u) w'
-  live_step sim u v h r w' (writes b b' o e here role) = of_role b b' o e here role
+  live_step : (Known : Path → Type 0) → Simulates A B R Known → (u : Revisions A) (v : Revisions B) → ((p : Path) → EntryAgrees A B R p (u p) (v p)) → (r : Path) (w' : Global B.Local) → Way B v r w' → AllKnown Known (born B (Live v) r) → StepsTo A B R r (Live u) w'
+  live_step Known sim u v h r w' (writes b b' o e here role) known = of_role b b' o e here role
     where
       of_role : (b b' : B.Local) (o : Path) (e : Entry B.Local) → v r ≡ Some (Plain b) → Role B v r b b' o e → StepsTo A B R r (Live u) (Live (put_two v r (Plain b') o e))
       of_role b b' o e here (itself _ does) =
@@ -80,9 +82,9 @@ module _ (A B : Machine) (R : Path → A.Local → B.Local → Type 0) where
             runs = subst (λ t. Runs A (Live u) (replicate q.times r) (Live t)) (sym (overwrite u r y y)) q.alone;
             agrees = agree_put (with_at u r y) (with_at v r (Plain b')) (agree_put u v h r y (Plain b') m.related) r y (Plain b') m.related;
           }
-      of_role b b' o e here (born _ c does) =
+      of_role b b' o e here (forked _ c does) =
           let x = plain_of r (u r) b (subst (λ t. EntryAgrees A B R r (u r) t) here (h r)) in
-          let m = sim.forks r x.state b b' c x.related does in
+          let m = sim.forks r x.state b b' c x.related does (known (child r (B.forks b)) (subst (IsIn (child r (B.forks b))) (sym (born_child B v r b b' c here does)) (inl refl))) in
           let q = quietly A r x.state m.before m.quiet u x.is in
           let k : Path = child r (B.forks b) in
           let mid : Revisions A = with_at u r (Plain m.before) in
@@ -114,7 +116,7 @@ module _ (A B : Machine) (R : Path → A.Local → B.Local → Type 0) where
             runs = s.runs _ (one ∙ ap (λ t. Some (Live t)) two);
             agrees = agree_put (with_at u q (Joined z.state)) (with_at v q (Joined y)) (agree_put u v h q (Joined z.state) (Joined y) z.related) r new_state (Plain b') (m.related z.state y z.related ended);
           }
-  live_step sim u v h r w' (twice b q y here does was) =
+  live_step Known sim u v h r w' (twice b q y here does was) known =
       let x = plain_of r (u r) b (subst (λ t. EntryAgrees A B R r (u r) t) here (h r)) in
       let z = marked_of q (u q) y (subst (λ t. EntryAgrees A B R q (u q) t) was (h q)) in
       let m = sim.joins r q x.state b x.related does in
@@ -127,27 +129,27 @@ module _ (A B : Machine) (R : Path → A.Local → B.Local → Type 0) where
   none_some : {P : Type 0} {X : Type 0} {a : X} → None ≡ Some a → P
   none_some e = absurd cc
 
-  pub step_law : Simulates A B R → StepLaw A B R
-  step_law sim Twice Twice w' r h s = none_some s
-  step_law sim Twice (Live v) w' r h s = absurd h
-  step_law sim (Live u) Twice w' r h s = absurd h
-  step_law sim (Live u) (Live v) w' r h s = live_step sim u v h r w' (way B v r w' s)
+  pub step_law : (Known : Path → Type 0) → Simulates A B R Known → StepLaw A B R Known
+  step_law Known sim Twice Twice w' r h s known = none_some s
+  step_law Known sim Twice (Live v) w' r h s known = absurd h
+  step_law Known sim (Live u) Twice w' r h s known = absurd h
+  step_law Known sim (Live u) (Live v) w' r h s known = live_step Known sim u v h r w' (way B v r w' s) known
 
-  from : Simulates A B R → (ws : List Path) (g : Global A.Local) (w w' : Global B.Local) → Agrees A B R g w → Runs B w ws w' → (rs : List Path) × (g' : Global A.Local) × Runs A g rs g' × Agrees A B R g' w'
-  from sim [] g w w' h runs = ([], g, refl, subst (Agrees A B R g) runs h)
-  from sim (r ∷ ws) g w w' h runs =
-      let one = step_law sim g w runs.0 r h runs.1 in
-      let rest = from sim ws one.end runs.0 w' one.agrees runs.2 in
+  from : (Known : Path → Type 0) → Simulates A B R Known → (ws cs : List Path) (g : Global A.Local) (w w' : Global B.Local) → Agrees A B R g w → RunsBearing B w ws w' cs → AllKnown Known cs → (rs : List Path) × (g' : Global A.Local) × Runs A g rs g' × Agrees A B R g' w'
+  from Known sim [] cs g w w' h runs known = ([], g, refl, subst (Agrees A B R g) runs.0 h)
+  from Known sim (r ∷ ws) cs g w w' h runs known =
+      let one = step_law Known sim g w runs.0 r h runs.1 (known_front Known cs (born B w r) runs.2 runs.3 known) in
+      let rest = from Known sim ws runs.2 one.end runs.0 w' one.agrees runs.4 (known_back Known cs (born B w r) runs.2 runs.3 known) in
       (replicate one.times r ++ rest.0, rest.1, runs_on A (replicate one.times r) rest.0 g one.end rest.1 one.runs rest.2, rest.3)
 
-  pub run_law : (a : A.Local) (b : B.Local) → Simulates A B R → R [] a b → RunLaw A B R a b
-  run_law a b sim related ws w runs = from sim ws (start A a) (start B b) w (agree_put nowhere nowhere (λ p. tt) [] (Plain a) (Plain b) related) runs
+  pub run_law : (Known : Path → Type 0) (a : A.Local) (b : B.Local) → Simulates A B R Known → R [] a b → RunLaw A B R Known a b
+  run_law Known a b sim related ws cs w runs known = from Known sim ws cs (start A a) (start B b) w (agree_put nowhere nowhere (λ p. tt) [] (Plain a) (Plain b) related) runs known
 
   -- where every revision of B has ended, no revision of A can step
-  final_of : Simulates A B R → (g : Global A.Local) (w : Global B.Local) → Agrees A B R g w → AllEnded B w → Final A g
-  final_of sim Twice w h ended r = refl
-  final_of sim (Live u) Twice h ended r = absurd h
-  final_of sim (Live u) (Live v) h ended r = by (u r) (v r) refl refl (h r)
+  pub final_of : (Known : Path → Type 0) → Simulates A B R Known → (g : Global A.Local) (w : Global B.Local) → Agrees A B R g w → AllEnded B w → Final A g
+  final_of Known sim Twice w h ended r = refl
+  final_of Known sim (Live u) Twice h ended r = absurd h
+  final_of Known sim (Live u) (Live v) h ended r = by (u r) (v r) refl refl (h r)
     where
       by : (e : Option (Entry A.Local)) (f : Option (Entry B.Local)) → u r ≡ e → v r ≡ f → EntryAgrees A B R r e f → step_at A u r e ≡ None
       by None f x y z = refl
@@ -155,9 +157,3 @@ module _ (A B : Machine) (R : Path → A.Local → B.Local → Type 0) where
       by (Some (Plain a)) None x y z = absurd z
       by (Some (Plain a)) (Some (Joined b)) x y z = absurd z
       by (Some (Plain a)) (Some (Plain b)) x y z = ap (happens A u r a) (sim.ends r a b z (ended r b y))
-
-  pub complete_law : (a : A.Local) (b : B.Local) → Simulates A B R → R [] a b → NoBlockedEnd B b → CompleteLaw A B R a b
-  complete_law a b sim related unblocked ws w complete =
-      let run = run_law a b sim related ws w complete.runs in
-      let ended = unblocked w (record { by = ws; runs = complete.runs }) complete.final in
-      (run.0, run.1, record { runs = run.2; final = final_of sim run.1 w run.3 ended }, run.3)

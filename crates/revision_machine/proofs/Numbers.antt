@@ -4,7 +4,8 @@ use Rattle.revision_machine.specs.Path.{Path, child, same}
 use Rattle.revision_machine.specs.PathMap.{with_at}
 use Rattle.revision_machine.specs.Machine.{Joins, Ended, Entry, Plain, Joined, Twice, Live, step, step_at, happens, join_at, join_ended}
 use Rattle.revision_machine.specs.Laws.{IsIn, IsDistinct}
-use Rattle.revision_machine.specs.Numbered.{Wish, Goes, Bears, Wants, Stops, Numbered, Listed, World, Both, Listing, at_number, put_number, join_stopped, join_number, leg_of, leg_at, leg, number_of, or_path, named_event, named, paths_of, globe_of, shows, born_of, born_at, born}
+use Rattle.revision_machine.specs.Numbered.{Wish, Goes, Bears, Wants, Stops, Numbered, Listed, World, Both, Listing, at_number, put_number, join_stopped, join_number, leg_of, leg_at, leg, number_of, or_path, named_event, named, paths_of, globe_of, shows}
+use Rattle.revision_machine.specs.Births.{born_of, born_at, born}
 use Rattle.revision_machine.proofs.Paths.{some_inj, same_refl, apart-same, swap, overwrite, at_here, at_other}
 use Rattle.revision_machine.proofs.Way.{ended_apart}
 

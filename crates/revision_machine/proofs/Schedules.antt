@@ -1,15 +1,21 @@
 -- A legal schedule of numbers is a run by paths, and the other way round.
 use Rattle.std.proofs.Common.{◌≡◌, ℕ, zero, suc, Bool, true, false, cond, List, [], ◌∷◌, ◌++◌, length, inl, inr, Option, Some, None, is_some, refl, sym, ap, ◌∙◌, subst, append_assoc, append-nil, arith}
 use Rattle.revision_machine.specs.Path.{Path, child, same}
-use Rattle.revision_machine.specs.Machine.{Machine, Entry, Plain, Joined, Global, Twice, Live, start, step, step_at, happens, join_at, join_ended, Runs, Final}
-use Rattle.revision_machine.specs.Conditions.{Counts, Spends}
+use Rattle.revision_machine.specs.Machine.{Machine, Entry, Plain, Joined, Global, Twice, Live, start, step, step_at, happens, join_at, join_ended, Final}
+use Rattle.revision_machine.specs.Conditions.{Counts, Spends, Handles, HoldsNone}
 use Rattle.revision_machine.specs.Laws.{IsIn, IsDistinct}
-use Rattle.revision_machine.specs.Numbered.{Wish, Goes, Bears, Wants, Stops, Numbered, Listed, World, Both, Listing, at_number, join_stopped, join_number, leg_of, leg_at, leg, begin, Replays, or_path, named_event, named, paths_of, globe_of, shows, paths_at, born, RunsBearing, HasPaths, ReadsAs, ScheduleLaw, RunIsSchedule, IsOver, OverLaw, ScheduleBound}
+use Rattle.revision_machine.specs.Numbered.{Wish, Goes, Bears, Wants, Stops, Numbered, Listed, World, Both, Listing, at_number, join_stopped, join_number, leg_of, leg_at, leg, begin, Replays, or_path, named_event, named, paths_of, globe_of, shows, paths_at, HasPaths, ReadsAs, ScheduleLaw, RunIsSchedule, IsOver, OverLaw, ScheduleBound}
+use Rattle.revision_machine.specs.Births.{born, RunsBearing, AllKnown}
+use Rattle.revision_machine.specs.Simulation.{Simulates}
+use Rattle.revision_machine.specs.Schedules.{ScheduleAgrees, CompleteScheduleAgrees}
+use Rattle.revision_machine.proofs.Blocked.{no_blocked_end}
+use Rattle.revision_machine.proofs.Converse.{complete_law}
+use Rattle.revision_machine.proofs.Bearing.{runs_of, bearing_on, bears_once}
 use Rattle.revision_machine.proofs.Paths.{some_inj, same-eq}
 use Rattle.revision_machine.proofs.Forker.{fresh_of}
 use Rattle.revision_machine.proofs.Ends.{reached_forked}
 use Rattle.revision_machine.proofs.Census.{bound_law}
-use Rattle.revision_machine.proofs.Lift.{runs_on}
+use Rattle.revision_machine.proofs.Lift.{run_law}
 use Rattle.revision_machine.proofs.Numbers.{none_some, at_paths, in_at, in_paths, globe_there, paths_with, LegIs, leg_is, distinct_front}
 
 paths_at-append : (t : List Path) (ns ms : List ℕ) → paths_at t (ns ++ ms) ≡ paths_at t ns ++ paths_at t ms
@@ -118,21 +124,22 @@ module _ (N : Numbered) (main : N.Local) (counts : (t : List Path) → Counts (n
   fresh_in : (w : Listed N.Local) (ns : List ℕ) → ReadsAs N main ns (Listing w) (paths_of w) → (r : Path) (l : N.Local) → globe_of w r ≡ Some (Plain l) → globe_of w (child r (N.forks l)) ≡ None
   fresh_in w ns is =
       let M : Machine = named N (paths_of w) in
-      fresh_of M (globe_of w) (reached_forked M main (counts (paths_of w)) (Live (globe_of w)) (record { by = paths_at (paths_of w) ns; runs = is.run (paths_of w) [] is.distinct (sym (append-nil (paths_of w))) }))
+      fresh_of M (globe_of w) (reached_forked M main (counts (paths_of w)) (Live (globe_of w)) (record { by = paths_at (paths_of w) ns; runs = runs_of M (paths_at (paths_of w) ns) (start M main) (Live (globe_of w)) is.children (is.run (paths_of w) [] is.distinct (sym (append-nil (paths_of w)))) }))
 
   leg_of_read : (w : Listed N.Local) (ns : List ℕ) → ReadsAs N main ns (Listing w) (paths_of w) → (n : ℕ) (u : World N.Local) → leg N (Listing w) n ≡ Some u → LegIs N w n u
   leg_of_read w ns is n u s = leg_is N w is.distinct (fresh_in w ns is) n u s
 
   read_leg : (w : Listed N.Local) (ns : List ℕ) → ReadsAs N main ns (Listing w) (paths_of w) → (n : ℕ) (u : World N.Local) → LegIs N w n u → ReadsAs N main (ns ++ n ∷ []) u (paths_with N w u)
-  read_leg w ns is n u one = record { distinct = one.distinct; run = run' }
+  read_leg w ns is n u one = record { distinct = one.distinct; children = is.children ++ one.more; are = one.grows ∙ ap (λ v. v ++ one.more) is.are; run = run' }
     where
-      run' : (t rest : List Path) → IsDistinct t → t ≡ paths_with N w u ++ rest → Runs (named N t) (start (named N t) main) (paths_at t (ns ++ n ∷ [])) (shows u)
+      run' : (t rest : List Path) → IsDistinct t → t ≡ paths_with N w u ++ rest → RunsBearing (named N t) (start (named N t) main) (paths_at t (ns ++ n ∷ [])) (shows u) (is.children ++ one.more)
       run' t rest d e =
           let split : t ≡ paths_of w ++ (one.more ++ rest) = e ∙ ap (λ v. v ++ rest) one.grows ∙ append_assoc (paths_of w) one.more rest in
           let before = is.run t (one.more ++ rest) d split in
           let path : or_path (at_number t n) [] ≡ one.path = ap (λ v. or_path v []) (ap (λ v. at_number v n) split ∙ at_paths w (one.more ++ rest) n one.path (Plain one.state) one.stands) in
           let all : paths_at t (ns ++ n ∷ []) ≡ paths_at t ns ++ one.path ∷ [] = paths_at-append t ns (n ∷ []) ∙ ap (λ v. paths_at t ns ++ v ∷ []) path in
-          subst (λ v. Runs (named N t) (start (named N t) main) v (shows u)) (sym all) (runs_on (named N t) (paths_at t ns) (one.path ∷ []) (start (named N t) main) (Live (globe_of w)) (shows u) before (shows u, one.steps t rest d e, refl))
+          let once = bears_once (named N t) (Live (globe_of w)) (shows u) one.path one.more (one.steps t rest d e) (one.bears t) in
+          subst (λ v. RunsBearing (named N t) (start (named N t) main) v (shows u) (is.children ++ one.more)) (sym all) (bearing_on (named N t) (paths_at t ns) (one.path ∷ []) (start (named N t) main) (Live (globe_of w)) (shows u) is.children one.more before once)
 
   has_paths : (w : Listed N.Local) (u : World N.Local) → HasPaths N main u (paths_with N w u)
   has_paths w Both = tt
@@ -148,7 +155,7 @@ module _ (N : Numbered) (main : N.Local) (counts : (t : List Path) → Counts (n
       subst (λ x. Known x u) (append_assoc ms (n ∷ []) ns) (known (ms ++ n ∷ []) ns replays.0 u (paths_with N w replays.0, has_paths w replays.0, read_leg w ms is n replays.0 one) replays.2)
 
   begins : ReadsAs N main [] (begin N main) ([] ∷ [])
-  begins = record { distinct = (λ v. v, tt); run = λ t rest d e. refl }
+  begins = record { distinct = (λ v. v, tt); children = []; are = refl; run = λ t rest d e. (refl, refl) }
 
   pub schedule_law : ScheduleLaw N main
   unfolding Known
@@ -157,7 +164,7 @@ module _ (N : Numbered) (main : N.Local) (counts : (t : List Path) → Counts (n
   pub schedule_bound : (of : N.Local → ℕ) → ((t : List Path) → Spends (named N t) 1 of) → ScheduleBound N main (of main)
   schedule_bound of spends ns w replays =
       let k = schedule_law ns w replays in
-      let most = bound_law (named N k.0) main of (counts k.0) (spends k.0) (shows w) (paths_at k.0 ns) (k.2.run k.0 [] k.2.distinct (sym (append-nil k.0))) in
+      let most = bound_law (named N k.0) main of (counts k.0) (spends k.0) (shows w) (paths_at k.0 ns) (runs_of (named N k.0) (paths_at k.0 ns) (start (named N k.0) main) (shows w) k.2.children (k.2.run k.0 [] k.2.distinct (sym (append-nil k.0)))) in
       let long = length-paths_at k.0 ns in
       omega arith
 
@@ -238,3 +245,28 @@ module _ (N : Numbered) (main : N.Local) (counts : (t : List Path) → Counts (n
   pub run_is_schedule : RunIsSchedule N main
   unfolding Found
   run_is_schedule t rest cs rs h d e run = follow rs (([], Plain main) ∷ []) [] begins t rest cs h d e run
+
+module _ (A : Machine) (N : Numbered) (R : List Path → Path → A.Local → N.Local → Type 0) (a : A.Local) (main : N.Local) where
+  module _ (counts : (t : List Path) → Counts (named N t)) (sim : (t : List Path) → Simulates A (named N t) (R t) (λ p. IsIn p t)) (related : (t : List Path) → IsIn [] t → R t [] a main) where
+    children_in : (ns : List ℕ) (w : World N.Local) (k : (paths : List Path) × HasPaths N main w paths × ReadsAs N main ns w paths) → AllKnown (λ p. IsIn p k.0) k.2.children
+    children_in ns w k c i = subst (IsIn c) (sym k.2.are) (inr i)
+
+    first_in : (ns : List ℕ) (w : World N.Local) (k : (paths : List Path) × HasPaths N main w paths × ReadsAs N main ns w paths) → R k.0 [] a main
+    first_in ns w k = related k.0 (subst (IsIn []) (sym k.2.are) (inl refl))
+
+    pub schedule_agrees : ScheduleAgrees A N R a main
+    schedule_agrees ns w replays =
+        let k = schedule_law N main counts ns w replays in
+        let run = run_law A (named N k.0) (R k.0) (λ p. IsIn p k.0) a main (sim k.0) (first_in ns w k) (paths_at k.0 ns) k.2.children (shows w) (k.2.run k.0 [] k.2.distinct (sym (append-nil k.0))) (children_in ns w k) in
+        record { table = k.0; by = run.0; state = run.1; runs = run.2; agrees = run.3 }
+
+    pub complete_schedule_agrees : (holds : A.Local → Path → Type 0) → Counts A → Handles A holds → HoldsNone A holds a → CompleteScheduleAgrees A N R a main
+    complete_schedule_agrees holds counts_a H none ns w replays over =
+        let k = schedule_law N main counts ns w replays in
+        let final = (over_law N main counts ns w replays k.0 [] k.0 k.1 k.2.distinct (sym (append-nil k.0))).0 over in
+        let run = complete_law A (named N k.0) (R k.0) (λ p. IsIn p k.0) a main (sim k.0) holds counts_a H none (first_in ns w k) (counts k.0) (paths_at k.0 ns) k.2.children (shows w) (k.2.run k.0 [] k.2.distinct (sym (append-nil k.0))) (children_in ns w k) final in
+        record {
+          matches = record { table = k.0; by = run.0; state = run.1; runs = run.2.runs; agrees = run.3 };
+          final = run.2.final;
+          ended = no_blocked_end A a holds counts_a H none run.1 (record { by = run.0; runs = run.2.runs }) run.2.final;
+        }

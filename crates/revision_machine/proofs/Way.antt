@@ -13,7 +13,7 @@ module _ (M : Machine) where
   -- what r, at l, becomes, and what is written at which other path
   pub data Role (revs : Revisions M) (r : Path) (l : M.Local) : M.Local → Path → Entry M.Local → Type 0 where
     itself : (l' : M.Local) → M.next r l ≡ Moves l' → Role revs r l l' r (Plain l')
-    born : (l' c : M.Local) → M.next r l ≡ Forks l' c → Role revs r l l' (child r (M.forks l)) (Plain c)
+    forked : (l' c : M.Local) → M.next r l ≡ Forks l' c → Role revs r l l' (child r (M.forks l)) (Plain c)
     met : (q : Path) (lq : M.Local) → M.next r l ≡ Joins q → revs q ≡ Some (Plain lq) → M.next q lq ≡ Ended → Role revs r l (M.join r l q lq) q (Joined lq)
 
   pub data Way (revs : Revisions M) (r : Path) : Global M.Local → Type 0 where
@@ -40,7 +40,7 @@ module _ (M : Machine) where
 
   pub going : {revs : Revisions M} {r : Path} {l l' : M.Local} {o : Path} {e : Entry M.Local} → Role revs r l l' o e → M.next r l ≢ Ended
   going (itself l' does) f = let clash : Moves l' ≡ Ended = sym does ∙ f in cc
-  going (born l' c does) f = let clash : Forks l' c ≡ Ended = sym does ∙ f in cc
+  going (forked l' c does) f = let clash : Forks l' c ≡ Ended = sym does ∙ f in cc
   going (met q lq does there e) f = let clash : Joins q ≡ Ended = sym does ∙ f in cc
 
   pub way : (revs : Revisions M) (r : Path) (h : Global M.Local) → step M (Live revs) r ≡ Some h → Way revs r h
@@ -61,7 +61,7 @@ module _ (M : Machine) where
 
       of_event : (l : M.Local) → revs r ≡ Some (Plain l) → (v : Event M.Local) → M.next r l ≡ v → happens M revs r l v ≡ Some h → Way revs r h
       of_event l here (Moves l') does s = subst (Way revs r) (ap Live (overwrite revs r (Plain l') (Plain l')) ∙ some_inj s) (writes l l' r (Plain l') here (itself l' does))
-      of_event l here (Forks l' c) does s = subst (Way revs r) (sym (ap Live (swap revs r _ (Plain l') (Plain c) (child-apart r (M.forks l)))) ∙ some_inj s) (writes l l' _ (Plain c) here (born l' c does))
+      of_event l here (Forks l' c) does s = subst (Way revs r) (sym (ap Live (swap revs r _ (Plain l') (Plain c) (child-apart r (M.forks l)))) ∙ some_inj s) (writes l l' _ (Plain c) here (forked l' c does))
       of_event l here (Joins q) does s = of_target l q here does (revs q) refl s
       of_event l here Ended does s = no_none s
 
@@ -74,7 +74,7 @@ module _ (M : Machine) where
   pub again : (revs other : Revisions M) (r : Path) (l l' : M.Local) (o : Path) (e : Entry M.Local) → Role revs r l l' o e → other r ≡ Some (Plain l) → other o ≡ revs o → step M (Live other) r ≡ Some (Live (put_two other r (Plain l') o e))
   again revs other r l l' o e (itself _ does) here there =
       ap (step_at M other r) here ∙ ap (happens M other r l) does ∙ ap (λ m. Some (Live m)) (sym (overwrite other r (Plain l') (Plain l')))
-  again revs other r l l' o e (born _ c does) here there =
+  again revs other r l l' o e (forked _ c does) here there =
       ap (step_at M other r) here ∙ ap (happens M other r l) does ∙ ap (λ m. Some (Live m)) (swap other r _ (Plain l') (Plain c) (child-apart r (M.forks l)))
   again revs other r l l' o e (met q lq does was f) here there =
       let apart : r ≢ q = ended_apart other r q l lq here (λ e. let clash : Joins q ≡ Ended = sym does ∙ e in cc) (there ∙ was) f in
@@ -93,5 +93,5 @@ module _ (M : Machine) where
 
   pub place : {revs : Revisions M} {r : Path} {l l' : M.Local} {o : Path} {e : Entry M.Local} → Role revs r l l' o e → Place revs r l l' o e
   place (itself _ does) = own does refl refl
-  place (born _ c does) = new c does refl refl
+  place (forked _ c does) = new c does refl refl
   place (met q lq does was ended) = marks lq does was ended refl refl

@@ -4,10 +4,11 @@ use Rattle.revision_machine.specs.Path.{Path, child}
 use Rattle.revision_machine.specs.Machine.{Moves, Forks, Joins, Ended, Machine}
 
 module _ (M : Machine) where
-  -- each fork is counted once
+  -- each fork is counted once, and a child has made none
   pub record Counts : Type 0 where
     pub moves : (r : Path) (l l' : M.Local) → M.next r l ≡ Moves l' → M.forks l' ≡ M.forks l
     pub forker : (r : Path) (l l' c : M.Local) → M.next r l ≡ Forks l' c → M.forks l' ≡ suc (M.forks l)
+    pub forked : (r : Path) (l l' c : M.Local) → M.next r l ≡ Forks l' c → M.forks c ≡ 0
     pub joins : (r q : Path) (l lq : M.Local) → M.next r l ≡ Joins q → M.forks (M.join r l q lq) ≡ M.forks l
 
 module _ (M : Machine) (holds : M.Local → Path → Type 0) where

@@ -3,7 +3,8 @@ use Rattle.std.specs.Prelude.{Option, Some, None, ◌≡◌, ◌↔◌, ◌≤�
 use Rattle.revision_machine.specs.Path.{Path, child, same}
 use Rattle.revision_machine.specs.PathMap.{PathMap, with_at}
 use Rattle.revision_machine.specs.Laws.{IsDistinct}
-use Rattle.revision_machine.specs.Machine.{Event, Moves, Forks, Joins, Ended, Machine, Entry, Plain, Joined, Global, Twice, Live, start, step, Runs, Final}
+use Rattle.revision_machine.specs.Births.{RunsBearing}
+use Rattle.revision_machine.specs.Machine.{Event, Moves, Forks, Joins, Ended, Machine, Entry, Plain, Joined, Global, Twice, Live, start, Final}
 
 -- what a revision does next: a fork goes on once it knows its child's number
 pub data Wish (L : Type 0) : Type 0 where
@@ -116,33 +117,14 @@ abbrev pub paths_at : List Path → List ℕ → List Path
 paths_at t [] = []
 paths_at t (n ∷ ns) = or_path (at_number t n) [] ∷ paths_at t ns
 
-module _ (M : Machine) where
-  abbrev pub born_of : Path → M.Local → Event M.Local → List Path
-  born_of r l (Moves _) = []
-  born_of r l (Forks _ _) = child r (M.forks l) ∷ []
-  born_of r l (Joins _) = []
-  born_of r l Ended = []
-
-  abbrev pub born_at : Path → Option (Entry M.Local) → List Path
-  born_at r None = []
-  born_at r (Some (Joined l)) = []
-  born_at r (Some (Plain l)) = born_of r l (M.next r l)
-
-  -- the child that a step of r forks, if it forks one
-  abbrev pub born : Global M.Local → Path → List Path
-  born Twice r = []
-  born (Live revs) r = born_at r (revs r)
-
-  -- a run, and the children that it forks, in their order
-  abbrev pub RunsBearing : Global M.Local → List Path → Global M.Local → List Path → Type 0
-  RunsBearing g [] h cs = (g ≡ h) × (cs ≡ [])
-  RunsBearing g (r ∷ rs) h cs = (m : Global M.Local) × (step M g r ≡ Some m) × (ds : List Path) × (cs ≡ born g r ++ ds) × RunsBearing m rs h ds
-
 module _ (N : Numbered) (main : N.Local) where
-  -- by any table that begins with these paths, the schedule is a run from the start to the world's state
+  -- by any table that begins with these paths, the schedule is a run from the start to the world's state, and the
+  -- paths after the first are the children that it forks, in their order
   pub record ReadsAs (ns : List ℕ) (w : World N.Local) (paths : List Path) : Type 0 where
     pub distinct : IsDistinct paths
-    pub run : (t rest : List Path) → IsDistinct t → t ≡ paths ++ rest → Runs (named N t) (start (named N t) main) (paths_at t ns) (shows w)
+    pub children : List Path
+    pub are : paths ≡ [] ∷ children
+    pub run : (t rest : List Path) → IsDistinct t → t ≡ paths ++ rest → RunsBearing (named N t) (start (named N t) main) (paths_at t ns) (shows w) children
 
   -- the paths are those of the world, or in Both those of some world before it
   abbrev pub HasPaths : World N.Local → List Path → Type 0
