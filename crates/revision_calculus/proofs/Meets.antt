@@ -32,6 +32,7 @@ module _ (s : Setting) where
   counts = record {
     moves = λ r l l' e. let h : Moved l l' = event r l e in h.forks;
     forker = λ r l l' c e. let h : ForkOk r l l' c = event r l e in h.forks;
+    forked = λ r l l' c e. let h : ForkOk r l l' c = event r l e in h.none;
     joins = λ r q l j e. join_forks s r l q j;
   }
 

@@ -4,8 +4,7 @@ use Rattle.rev_num.specs.Path.{Path}
 use Rattle.rev_num.specs.declared.outcome.Outcome.{Outcome}
 use Rattle.rev_num.specs.declared.outcome.Shown.{Shown}
 use Rattle.revision_machine.specs.PathMap.{with_at}
-use Rattle.revision_machine.specs.Machine.{Ended, Machine, Entry, Plain, Joined, Global, Twice, Live, nowhere, Revisions, start, step, Runs, Complete, Reached, Final}
-use Rattle.revision_machine.specs.Laws.{local_of}
+use Rattle.revision_machine.specs.Machine.{Ended, Machine, Entry, Plain, Joined, Global, Twice, Live, nowhere, Revisions, start, step, Complete, Reached, Final}
 use Rattle.revision_machine.proofs.Paths.{decide_same, at_here, at_other, some_inj}
 use Rattle.revision_machine.proofs.Way.{put_two, Way, writes, twice, way, Place, own, new, marks, place}
 use Rattle.revision_machine.proofs.Diamond.{two_here, two_there, two_other}
@@ -18,7 +17,7 @@ use Rattle.revision_calculus.specs.Step.{next}
 use Rattle.revision_calculus.specs.Calculus.{main, calculus}
 use Rattle.revision_calculus.specs.Outcome.{ended_as, main_outcome, shown_of, outcome}
 use Rattle.revision_calculus.specs.Held.{Holds, weight}
-use Rattle.revision_calculus.specs.Complete.{start_of, Always, HasOutcome, OneOutcome}
+use Rattle.revision_calculus.specs.Complete.{start_of, OneOutcome}
 use Rattle.revision_calculus.proofs.Events.{ended_phase}
 use Rattle.revision_calculus.proofs.Meets.{counts, handles, main_holds_none, spends_weight}
 
