@@ -25,8 +25,8 @@ pub fn join_programs()
 pub fn second_joins()
     ensures double_join { Reports (usual x.double_join) usual_fuel false joins_twice }
     ensures two_joiners { Reports (usual x.two_joiners) usual_fuel false joins_twice }
-    ensures first_joiner_first { runs_to (usual x.two_joiners) usual_fuel x.first_joiner_first ≡ Some (joins_twice) }
-    ensures second_joiner_first { runs_to (usual x.two_joiners) usual_fuel x.second_joiner_first ≡ Some (joins_twice) }
+    ensures first_joiner_first { runs_to (usual x.two_joiners) usual_fuel x.first_joiner_first ≡ Some joins_twice }
+    ensures second_joiner_first { runs_to (usual x.two_joiners) usual_fuel x.second_joiner_first ≡ Some joins_twice }
     ensures tries_twice { Reports (usual x.tries_twice) usual_fuel false joins_twice }
 {}
 
