@@ -1,10 +1,10 @@
-mod Played
-mod Values
-mod Handles
-mod Moves
-mod Events
-mod Joining
-mod Meets
-mod EveryRun
-mod Outcomes
-mod Shapes
+pub mod Played
+pub mod Values
+pub mod Handles
+pub mod Moves
+pub mod Events
+pub mod Joining
+pub mod Meets
+pub mod EveryRun
+pub mod Outcomes
+pub mod Shapes
