@@ -1,6 +1,6 @@
 -- The conditions of the answers exclude each other, so each answer comes exactly where its condition holds.
 use Rattle.std.proofs.Common.{◌≡◌, ◌≢◌, ◌⊎◌, inl, inr, List, Option, Some, None, refl, sym, ap, ◌∙◌, subst}
-use Rattle.revision_machine.specs.Path.{Path}
+use Rattle.rev_num.specs.Path.{Path}
 use Rattle.revision_machine.specs.Machine.{Event, Moves, Forks, Joins, Ended, Machine, Entry, Plain, Joined, Global, Twice, Live, Revisions, step, step_at, happens, join_at, join_ended}
 use Rattle.plain_runner.specs.declared.state.Slot.{Slot}
 use Rattle.plain_runner.specs.declared.step.Stepped.{Stepped}

@@ -1,6 +1,6 @@
 -- The revision at a place, as it joins another.
 use Rattle.std.proofs.Common.{◌≡◌, ◌≢◌, ℕ, ◌+◌, ◌<◌, ◌≤◌, true, false, List, None, ◌++◌, length, get_or, set, take, drop, Some, sym, ap, ◌∙◌, subst}
-use Rattle.revision_machine.specs.Path.{Path}
+use Rattle.rev_num.specs.Path.{Path}
 use Rattle.revision_machine.specs.Machine.{Joins, Ended, Machine, Plain, Twice, Live, step}
 use Rattle.revision_machine.specs.Conditions.{Counts, Handles, Spends}
 use Rattle.revision_machine.specs.Laws.{IsDistinct}

@@ -1,6 +1,6 @@
 -- Two steps in both orders.
 use Rattle.std.proofs.Common.{◌≡◌, ◌≢◌, inl, inr, true, false, Option, Some, None, refl, sym, ap, ◌∙◌, subst}
-use Rattle.revision_machine.specs.Path.{Path, same}
+use Rattle.rev_num.specs.Path.{Path, same}
 use Rattle.revision_machine.specs.Machine.{Machine, Global, Twice, step, Reached}
 use Rattle.revision_machine.specs.Conditions.{Counts}
 use Rattle.revision_machine.specs.Laws.{Follows, Diamond}

@@ -1,6 +1,6 @@
 -- The revision at a place, as it steps by itself.
 use Rattle.std.proofs.Common.{◌≡◌, ℕ, ◌+◌, ◌<◌, ◌≤◌, true, false, List, [], ◌∷◌, ◌++◌, get_or, set, length, Some, refl, sym, ap, ◌∙◌, subst}
-use Rattle.revision_machine.specs.Path.{Path, child}
+use Rattle.rev_num.specs.Path.{Path, child}
 use Rattle.revision_machine.specs.Machine.{Moves, Forks, Ended, Machine, Plain, Live, step}
 use Rattle.revision_machine.specs.Conditions.{Counts, Handles, Spends}
 use Rattle.revision_machine.specs.Laws.{IsDistinct}

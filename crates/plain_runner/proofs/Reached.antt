@@ -1,6 +1,6 @@
 -- What is known of a state that was reached within the limit.
 use Rattle.std.proofs.Common.{◌≡◌, ◌≢◌, ℕ, ◌+◌, ◌≤◌, List, [], ◌∷◌, ◌++◌, Some, refl, arith}
-use Rattle.revision_machine.specs.Path.{Path}
+use Rattle.rev_num.specs.Path.{Path}
 use Rattle.revision_machine.specs.Machine.{Joins, Machine, Entry, Plain, Global, Live, Revisions, step, start, Runs}
 use Rattle.revision_machine.specs.Conditions.{Counts, Handles, Spends}
 use Rattle.revision_machine.specs.Laws.{IsForked}

@@ -2,7 +2,7 @@
 use Rattle.std.proofs.Common.{◌≡◌, ◌≢◌, ◌⊎◌, inl, inr, ℕ, zero, suc, ◌+◌, ◌<◌, Bool, true, false, cond, List, [], ◌∷◌, ◌++◌, length, get_or, set, Some, None, refl, sym, ap, ◌∙◌, subst, arith}
 use Rattle.std.proofs.lemmas.Bool.{cases_order}
 use Rattle.std.proofs.lemmas.List.{get_or_default}
-use Rattle.revision_machine.specs.Path.{Path, same}
+use Rattle.rev_num.specs.Path.{Path, same}
 use Rattle.revision_machine.specs.PathMap.{with_at}
 use Rattle.revision_machine.specs.Machine.{Entry}
 use Rattle.revision_machine.specs.Laws.{IsIn, IsDistinct, Census}

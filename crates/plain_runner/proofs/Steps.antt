@@ -1,7 +1,7 @@
 -- A step of the machine, as a change of the list of slots.
 use Rattle.std.proofs.Common.{◌≡◌, ◌≢◌, ℕ, zero, suc, ◌<◌, Bool, true, false, List, [], ◌∷◌, ◌++◌, length, get_or, set, Some, refl, sym, ap, ◌∙◌, subst, arith, length-set}
 use Rattle.std.proofs.lemmas.List.{get_or_default, set-get_or, get_or-set_other}
-use Rattle.revision_machine.specs.Path.{Path, child}
+use Rattle.rev_num.specs.Path.{Path, child}
 use Rattle.revision_machine.specs.PathMap.{with_at}
 use Rattle.revision_machine.specs.Machine.{Moves, Forks, Joins, Ended, Machine, Plain, Joined, Twice, Live, step, step_at, happens, join_at, join_ended}
 use Rattle.revision_machine.specs.Laws.{IsIn, IsDistinct, IsForked}

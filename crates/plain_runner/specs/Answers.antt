@@ -1,6 +1,6 @@
 -- What the answers of a step tell of the state.
 use Rattle.std.specs.Prelude.{◌≡◌, ◌≢◌, ◌⊎◌, ◌≤◌, ℕ, List, Option, Some, None}
-use Rattle.revision_machine.specs.Path.{Path}
+use Rattle.rev_num.specs.Path.{Path}
 use Rattle.revision_machine.specs.Machine.{Joins, Ended, Machine, Entry, Plain, Joined, Global, Twice, Live, Revisions, start, step, Complete, Reached}
 use Rattle.revision_machine.specs.Conditions.{HoldsNone}
 use Rattle.plain_runner.specs.declared.step.Stepped.{Stepped}

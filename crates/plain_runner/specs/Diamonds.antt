@@ -1,6 +1,6 @@
 -- What two steps in both orders tell.
 use Rattle.std.specs.Prelude.{◌≡◌, ◌≢◌, ◌⊎◌, Option, Some, None}
-use Rattle.revision_machine.specs.Path.{Path}
+use Rattle.rev_num.specs.Path.{Path}
 use Rattle.revision_machine.specs.Machine.{Machine, Global, Twice, step}
 use Rattle.revision_machine.specs.Laws.{Follows}
 use Rattle.plain_runner.specs.declared.diamond.Diamond.{Diamond}

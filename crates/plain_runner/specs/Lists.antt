@@ -1,6 +1,6 @@
 -- A step as a change of the list of slots.
 use Rattle.std.specs.Prelude.{◌≡◌, ◌<◌, ℕ, List, length, get_or, true, Some, None}
-use Rattle.revision_machine.specs.Path.{Path}
+use Rattle.rev_num.specs.Path.{Path}
 use Rattle.revision_machine.specs.Machine.{Machine, Twice, Live, step}
 use Rattle.plain_runner.specs.declared.state.Slot.{Slot}
 use Rattle.plain_runner.specs.declared.step.Stepped.{Stepped}

@@ -1,6 +1,6 @@
 -- What comes of some steps of a list of slots.
 use Rattle.std.specs.Prelude.{◌≡◌, ◌<◌, ℕ, suc, List, length, Bool, true, false, None, get_or}
-use Rattle.revision_machine.specs.Path.{Path}
+use Rattle.rev_num.specs.Path.{Path}
 use Rattle.revision_machine.specs.Machine.{Machine, Twice, Live, step, Runs}
 use Rattle.plain_runner.specs.declared.state.Slot.{Slot}
 use Rattle.plain_runner.specs.declared.run.Progress.{Progress}

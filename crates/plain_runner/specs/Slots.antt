@@ -1,7 +1,7 @@
 -- The state that a list of slots shows.
 use Rattle.std.specs.Prelude.{◌≡◌, List, [], ◌∷◌, Bool, true, false, None}
 use Rattle.std.specs.Coded.{×_prop, Unit-prop}
-use Rattle.revision_machine.specs.Path.{Path}
+use Rattle.rev_num.specs.Path.{Path}
 use Rattle.revision_machine.specs.PathMap.{PathMap, with_at}
 use Rattle.revision_machine.specs.Machine.{Entry, Plain, Joined}
 use Rattle.revision_machine.specs.Laws.{IsDistinct}

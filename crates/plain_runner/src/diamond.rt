@@ -8,7 +8,7 @@ ghost use Rattle.plain_runner.specs.Answers.{IsReached};
 ghost use Rattle.plain_runner.specs.Diamonds.{Orders, SteppedTo, IsBoth};
 
 use crate::language::Language;
-use crate::path::Path;
+use rev_num::Path;
 use crate::state::{Revisions, Slot, State};
 use crate::step::{Stepped, step};
 use std::alloc::{AllocError, Global};

@@ -5,7 +5,7 @@ ghost use Rattle.revision_machine.specs.Machine.{Event, Joins, Ended};
 ghost use Rattle.revision_machine.specs.Conditions.{Counts, Handles, Spends};
 ghost use Rattle.plain_runner.specs.Runner.{event_of, machine_of, IsStill};
 
-use crate::path::Path;
+use rev_num::Path;
 use std::alloc::{AllocError, Global};
 
 /// What a revision has done, or wants.

@@ -9,7 +9,6 @@ pub mod diamond;
 pub mod language;
 pub mod laws;
 mod list;
-pub mod path;
 pub mod run;
 pub mod state;
 pub mod step;

@@ -25,7 +25,7 @@ ghost use Rattle.plain_runner.specs.Answers.{IsReached};
 ghost use Rattle.plain_runner.specs.Lists.{IsAt, Does, with_state, with_mark};
 
 use crate::language::{Language, Next};
-use crate::path::Path;
+use rev_num::Path;
 use crate::state::Slot;
 use crate::step::Stepped;
 use std::alloc::{AllocError, Global};

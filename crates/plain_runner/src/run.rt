@@ -23,7 +23,7 @@ ghost use Rattle.plain_runner.specs.Progress.{Progresses, CannotStep, GoesOn, mo
 
 use crate::language::Language;
 use crate::list::step_at;
-use crate::path::Path;
+use rev_num::Path;
 use crate::state::{Revisions, Slot, State};
 use crate::step::Stepped;
 use std::alloc::{AllocError, Global};

@@ -3,7 +3,7 @@
 ghost use Rattle.revision_machine.specs.Laws.{IsDistinct};
 ghost use Rattle.plain_runner.specs.Slots.{paths, distinct_prop};
 
-use crate::path::Path;
+use rev_num::Path;
 
 /// A revision: its path, its local state, and whether it is marked Joined.
 #[derive(Drop)]

@@ -9,7 +9,7 @@ ghost use Rattle.plain_runner.specs.Answers.{IsReached, Answers};
 
 use crate::language::Language;
 use crate::list::{find, step_at};
-use crate::path::Path;
+use rev_num::Path;
 use crate::state::{Revisions, Slot, State};
 use std::alloc::{AllocError, Global};
 

@@ -1,6 +1,6 @@
 -- Runs with the children that they fork.
 use Rattle.std.proofs.Common.{◌≡◌, inl, inr, List, [], ◌∷◌, ◌++◌, Some, refl, sym, ap, ◌∙◌, subst, append_assoc, append-nil}
-use Rattle.revision_machine.specs.Path.{Path, child}
+use Rattle.rev_num.specs.Path.{Path, child}
 use Rattle.revision_machine.specs.Machine.{Forks, Machine, Plain, Global, Live, Revisions, step, Runs}
 use Rattle.revision_machine.specs.Laws.{IsIn}
 use Rattle.revision_machine.specs.Births.{born_of, born_at, born, RunsBearing, AllKnown}

@@ -1,7 +1,7 @@
 -- No complete run ends with a revision that waits.
 use Rattle.std.proofs.Common.{◌≡◌, ◌⊎◌, inl, inr, Bool, true, false, List, [], ◌∷◌, Option, Some, None, refl, sym, ap, ◌∙◌, subst}
 use Rattle.std.proofs.lemmas.Bool.{cases_Bool, true≢false}
-use Rattle.revision_machine.specs.Path.{Path, before}
+use Rattle.rev_num.specs.Path.{Path, before}
 use Rattle.revision_machine.specs.Machine.{Event, Moves, Forks, Joins, Ended, Machine, Entry, Plain, Joined, Global, Twice, Live, Revisions, start, step, step_at, happens, join_at, join_ended, Final, Reached}
 use Rattle.revision_machine.specs.Conditions.{Counts, Handles, HoldsNone}
 use Rattle.revision_machine.specs.Laws.{local_of, WellForked, IsOrdered, HandlesPrecede, HandleLaw, AllEnded, NoBlockedEnd, IsIn, Census}

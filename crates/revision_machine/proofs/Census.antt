@@ -1,6 +1,6 @@
 -- The finitely many revisions of a state, and what they have together.
 use Rattle.std.proofs.Common.{◌≡◌, ◌≢◌, ◌⊎◌, inl, inr, ℕ, ◌+◌, ◌*◌, ◌≤◌, length, List, [], ◌∷◌, Some, None, refl, sym, ap, ◌∙◌, subst, arith}
-use Rattle.revision_machine.specs.Path.{Path}
+use Rattle.rev_num.specs.Path.{Path}
 use Rattle.revision_machine.specs.PathMap.{PathMap, with_at}
 use Rattle.revision_machine.specs.Machine.{Ended, Machine, Entry, Plain, Global, Twice, Live, nowhere, Revisions, start, step, Runs}
 use Rattle.revision_machine.specs.Conditions.{Counts, Spends}

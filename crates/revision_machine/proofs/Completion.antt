@@ -1,6 +1,6 @@
 -- Every run can be completed, since one that goes on has no more steps than its bound.
 use Rattle.std.proofs.Common.{◌≡◌, ◌⊎◌, inl, inr, ℕ, zero, suc, ◌+◌, ◌*◌, ◌≤◌, List, [], ◌∷◌, ◌++◌, length, Option, Some, None, refl, ap, ◌∙◌, arith, length-append}
-use Rattle.revision_machine.specs.Path.{Path}
+use Rattle.rev_num.specs.Path.{Path}
 use Rattle.revision_machine.specs.Machine.{Machine, Entry, Global, Twice, Live, start, step, step_at, Runs, Final, Complete, Reached}
 use Rattle.revision_machine.specs.Conditions.{Counts, Spends}
 use Rattle.revision_machine.specs.Laws.{IsIn, Amounts, CompletionLaw}

@@ -1,7 +1,7 @@
 -- Complete runs, where one machine does what another does.
 use Rattle.std.proofs.Common.{◌≡◌, ◌≢◌, true, List, [], ◌++◌, Option, Some, None, replicate, refl, sym, ap, ◌∙◌, subst}
 use Rattle.std.proofs.lemmas.Bool.{true≢false}
-use Rattle.revision_machine.specs.Path.{Path, before}
+use Rattle.rev_num.specs.Path.{Path, before}
 use Rattle.revision_machine.specs.PathMap.{with_at}
 use Rattle.revision_machine.specs.Machine.{Event, Moves, Forks, Joins, Ended, Machine, Entry, Plain, Joined, Global, Twice, Live, Revisions, start, step, step_at, happens, join_at, join_ended, Runs, Final, Reached}
 use Rattle.revision_machine.specs.Conditions.{Counts, Handles, HoldsNone}

@@ -1,6 +1,6 @@
 -- Two steps in either order.
 use Rattle.std.proofs.Common.{◌≡◌, ◌≢◌, ◌⊎◌, inl, inr, Some, None, refl, sym, ap, ◌∙◌}
-use Rattle.revision_machine.specs.Path.{Path, child}
+use Rattle.rev_num.specs.Path.{Path, child}
 use Rattle.revision_machine.specs.PathMap.{PathMap, with_at}
 use Rattle.revision_machine.specs.Machine.{Joins, Ended, Machine, Entry, Plain, Joined, Global, Twice, Live, Revisions, step}
 use Rattle.revision_machine.specs.Laws.{Diamond}

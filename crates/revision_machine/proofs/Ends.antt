@@ -1,6 +1,6 @@
 -- The diamond from any reached state, and the one end of all complete runs.
 use Rattle.std.proofs.Common.{◌≡◌, ◌≢◌, ◌⊎◌, inl, inr, List, [], ◌∷◌, Some, None, refl, sym, ap, ◌∙◌, subst}
-use Rattle.revision_machine.specs.Path.{Path}
+use Rattle.rev_num.specs.Path.{Path}
 use Rattle.revision_machine.specs.Machine.{Machine, Global, Twice, Live, start, step, Runs, Final}
 use Rattle.revision_machine.specs.Conditions.{Counts}
 use Rattle.revision_machine.specs.Laws.{WellForked, Follows, Diamond, DiamondLaw, UniqueEnd, ForkerLaw, TwiceIsFinal, TwiceInAll}

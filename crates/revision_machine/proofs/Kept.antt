@@ -1,6 +1,6 @@
 -- What each event keeps holds of each revision.
 use Rattle.std.proofs.Common.{◌≡◌, ◌≢◌, ◌⊎◌, inl, inr, [], ◌∷◌, Some, None, sym, ap, ◌∙◌, subst}
-use Rattle.revision_machine.specs.Path.{Path}
+use Rattle.rev_num.specs.Path.{Path}
 use Rattle.revision_machine.specs.Machine.{Machine, Entry, Plain, Joined, Global, Twice, Live, Revisions, start, step}
 use Rattle.revision_machine.specs.Conditions.{IsKept}
 use Rattle.revision_machine.specs.Laws.{local_of, Everywhere, KeptLaw}

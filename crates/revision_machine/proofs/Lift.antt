@@ -1,7 +1,7 @@
 -- A simulation of local states gives one of whole runs.
 use Rattle.std.proofs.Common.{◌≡◌, ◌≢◌, inl, ℕ, suc, Bool, true, false, cond, List, [], ◌∷◌, ◌++◌, replicate, Option, Some, None, refl, sym, ap, ◌∙◌, subst}
 use mathlib.Core.Path.{fun_ext}
-use Rattle.revision_machine.specs.Path.{Path, child, same}
+use Rattle.rev_num.specs.Path.{Path, child, same}
 use Rattle.revision_machine.specs.PathMap.{PathMap, with_at}
 use Rattle.revision_machine.specs.Machine.{Joins, Ended, Machine, Entry, Plain, Joined, Global, Twice, Live, nowhere, Revisions, start, step, step_at, happens, join_at, join_ended, Runs, Final}
 use Rattle.revision_machine.specs.Laws.{IsIn, AllEnded}

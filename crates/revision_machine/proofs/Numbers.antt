@@ -1,6 +1,6 @@
 -- A replay by numbers is a run by paths, for every table that goes on from the world's paths.
 use Rattle.std.proofs.Common.{◌≡◌, ◌≢◌, inl, inr, ℕ, zero, suc, Bool, true, false, cond, List, [], ◌∷◌, ◌++◌, length, Option, Some, None, refl, sym, ap, ◌∙◌, subst, append_assoc, append-nil}
-use Rattle.revision_machine.specs.Path.{Path, child, same}
+use Rattle.rev_num.specs.Path.{Path, child, same}
 use Rattle.revision_machine.specs.PathMap.{with_at}
 use Rattle.revision_machine.specs.Machine.{Joins, Ended, Entry, Plain, Joined, Twice, Live, step, step_at, happens, join_at, join_ended}
 use Rattle.revision_machine.specs.Laws.{IsIn, IsDistinct}

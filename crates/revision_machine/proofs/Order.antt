@@ -1,6 +1,6 @@
 -- Each handle precedes its holder, and so no complete run is blocked.
 use Rattle.std.proofs.Common.{◌≡◌, ◌≢◌, ◌⊎◌, inl, inr, ℕ, ◌<◌, true, [], ◌∷◌, ◌++◌, Some, sym, ap, ◌∙◌, subst, arith, append_assoc, IsTrue}
-use Rattle.revision_machine.specs.Path.{Path, child, before}
+use Rattle.rev_num.specs.Path.{Path, child, before}
 use Rattle.revision_machine.specs.Machine.{Machine, Entry, Plain, Joined, Revisions}
 use Rattle.revision_machine.specs.Conditions.{Handles}
 use Rattle.revision_machine.specs.Laws.{local_of, HasForker, IsForked, IsBelow, IsOrdered}

@@ -2,7 +2,7 @@
 use Rattle.std.proofs.Common.{◌≡◌, ◌≢◌, ◌⊎◌, inl, inr, ℕ, Bool, true, false, cond, [], ◌∷◌, Some, refl, sym, ap, ◌∙◌, subst}
 use Rattle.std.proofs.lemmas.Bool.{eqb-true, eq-eqb, and_parts, and_from, true≢false}
 use mathlib.Core.Path.{fun_ext}
-use Rattle.revision_machine.specs.Path.{Path, child, same}
+use Rattle.rev_num.specs.Path.{Path, child, same}
 use Rattle.revision_machine.specs.PathMap.{PathMap, with_at}
 
 pub same_refl : (p : Path) → same p p ≡ true

@@ -1,6 +1,6 @@
 -- A legal schedule of numbers is a run by paths, and the other way round.
 use Rattle.std.proofs.Common.{◌≡◌, ℕ, zero, suc, Bool, true, false, cond, List, [], ◌∷◌, ◌++◌, length, inl, inr, Option, Some, None, is_some, refl, sym, ap, ◌∙◌, subst, append_assoc, append-nil, arith}
-use Rattle.revision_machine.specs.Path.{Path, child, same}
+use Rattle.rev_num.specs.Path.{Path, child, same}
 use Rattle.revision_machine.specs.Machine.{Machine, Entry, Plain, Joined, Global, Twice, Live, start, step, step_at, happens, join_at, join_ended, Final}
 use Rattle.revision_machine.specs.Conditions.{Counts, Spends, Handles, HoldsNone}
 use Rattle.revision_machine.specs.Laws.{IsIn, IsDistinct}

@@ -1,6 +1,6 @@
 -- What the revisions of a state have together, by any list of them.
 use Rattle.std.proofs.Common.{◌≡◌, ◌≢◌, inl, inr, ℕ, ◌+◌, ◌≤◌, Bool, true, false, cond, List, [], ◌∷◌, length, Some, refl, sym, ap, ◌∙◌, subst, arith}
-use Rattle.revision_machine.specs.Path.{Path, same}
+use Rattle.rev_num.specs.Path.{Path, same}
 use Rattle.revision_machine.specs.PathMap.{PathMap}
 use Rattle.revision_machine.specs.Machine.{Machine, Entry, Plain, Live, Revisions, Runs, Reached}
 use Rattle.revision_machine.specs.Conditions.{Counts, Spends}

@@ -1,6 +1,6 @@
 -- Runs with the children that they fork.
 use Rattle.std.specs.Prelude.{Option, Some, None, ◌≡◌, List, [], ◌∷◌, ◌++◌}
-use Rattle.revision_machine.specs.Path.{Path, child}
+use Rattle.rev_num.specs.Path.{Path, child}
 use Rattle.revision_machine.specs.Machine.{Event, Moves, Forks, Joins, Ended, Machine, Entry, Plain, Joined, Global, Twice, Live, step}
 use Rattle.revision_machine.specs.Laws.{IsIn}
 

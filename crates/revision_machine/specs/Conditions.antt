@@ -1,6 +1,6 @@
 -- What a machine of revisions has to keep for the laws: conditions on its local states alone.
 use Rattle.std.specs.Prelude.{◌≡◌, ◌⊎◌, ℕ, suc, ◌+◌, ◌≤◌}
-use Rattle.revision_machine.specs.Path.{Path, child}
+use Rattle.rev_num.specs.Path.{Path, child}
 use Rattle.revision_machine.specs.Machine.{Moves, Forks, Joins, Ended, Machine}
 
 module _ (M : Machine) where

@@ -1,6 +1,6 @@
 -- The laws of every machine of revisions that keeps the conditions: what holds of each state that a run reaches.
 use Rattle.std.specs.Prelude.{Option, Some, None, ◌≡◌, ◌≢◌, ◌⊎◌, ℕ, ◌+◌, ◌<◌, ◌≤◌, ◌*◌, List, [], ◌∷◌, length, IsTrue}
-use Rattle.revision_machine.specs.Path.{Path, child, before}
+use Rattle.rev_num.specs.Path.{Path, child, before}
 use Rattle.revision_machine.specs.PathMap.{PathMap}
 use Rattle.revision_machine.specs.Machine.{Ended, Machine, Entry, Plain, Joined, Global, Twice, Live, Revisions, start, step, Runs, Final, Complete, Reached}
 

@@ -1,4 +1,3 @@
-pub mod Path
 pub mod PathMap
 pub mod Machine
 pub mod Conditions

@@ -1,6 +1,6 @@
 -- A machine of revisions: global states and their steps, whatever a local state is.
 use Rattle.std.specs.Prelude.{Option, Some, None, ◌≡◌, ℕ, List, [], ◌∷◌}
-use Rattle.revision_machine.specs.Path.{Path, child}
+use Rattle.rev_num.specs.Path.{Path, child}
 use Rattle.revision_machine.specs.PathMap.{PathMap, with_at}
 
 -- what a revision does next

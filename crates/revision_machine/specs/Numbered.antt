@@ -1,6 +1,6 @@
 -- Worlds whose revisions are numbered in the order of their forks, and whose local states hold numbers as handles.
 use Rattle.std.specs.Prelude.{Option, Some, None, ◌≡◌, ◌↔◌, ◌≤◌, ℕ, zero, suc, cond, List, [], ◌∷◌, ◌++◌, length}
-use Rattle.revision_machine.specs.Path.{Path, child, same}
+use Rattle.rev_num.specs.Path.{Path, child, same}
 use Rattle.revision_machine.specs.PathMap.{PathMap, with_at}
 use Rattle.revision_machine.specs.Laws.{IsDistinct}
 use Rattle.revision_machine.specs.Births.{RunsBearing}

@@ -1,6 +1,6 @@
 -- Maps from paths.
 use Rattle.std.specs.Prelude.{Option, Some, cond}
-use Rattle.revision_machine.specs.Path.{Path, same}
+use Rattle.rev_num.specs.Path.{Path, same}
 
 abbrev pub PathMap : Type 0 → Type 0
 PathMap A = Path → Option A

@@ -1,6 +1,6 @@
 -- Worlds by number whose local states agree with those of a machine by paths.
 use Rattle.std.specs.Prelude.{List, ℕ}
-use Rattle.revision_machine.specs.Path.{Path}
+use Rattle.rev_num.specs.Path.{Path}
 use Rattle.revision_machine.specs.Machine.{Machine, Global, start, Runs, Final}
 use Rattle.revision_machine.specs.Laws.{AllEnded}
 use Rattle.revision_machine.specs.Simulation.{Agrees}

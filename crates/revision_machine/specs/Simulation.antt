@@ -1,6 +1,6 @@
 -- One machine does what another does: each step of the second is some steps of the same revision in the first.
 use Rattle.std.specs.Prelude.{Option, Some, None, ◌≡◌, ℕ, List, replicate}
-use Rattle.revision_machine.specs.Path.{Path, child}
+use Rattle.rev_num.specs.Path.{Path, child}
 use Rattle.revision_machine.specs.Machine.{Moves, Forks, Joins, Ended, Machine, Entry, Plain, Joined, Global, Twice, Live, start, step, Runs, Final, Complete}
 use Rattle.revision_machine.specs.Laws.{AllEnded}
 use Rattle.revision_machine.specs.Births.{born, RunsBearing, AllKnown}

@@ -1,5 +1,5 @@
 use Rattle.std.proofs.Common.{◌≡◌, ◌+◌, get_or, sym, ap, ◌∙◌, subst, refl, Some}
-use Rattle.revision_machine.specs.Path.{child}
+use Rattle.rev_num.specs.Path.{child}
 use Rattle.revision_machine.specs.Machine.{Live, step}
 use Rattle.revision_machine.specs.Laws.{IsDistinct}
 use Rattle.plain_runner.specs.declared.state.Slot.{Slot}

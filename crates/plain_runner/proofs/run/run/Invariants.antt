@@ -1,5 +1,5 @@
 use Rattle.std.proofs.Common.{List}
-use Rattle.revision_machine.specs.Path.{Path}
+use Rattle.rev_num.specs.Path.{Path}
 use Rattle.revision_machine.specs.Machine.{Live, start, Runs}
 use Rattle.revision_machine.specs.Laws.{IsDistinct}
 use Rattle.plain_runner.specs.Runner.{machine_of}
