@@ -1,0 +1,43 @@
+-- Worked values.
+use Rattle.std.proofs.Common.{◌≡◌, refl, ℕ, pos, negsuc, List, [], ◌∷◌, Ok, Err, None, true, false}
+use Rattle.rev_num.specs.declared.value.Value.TheVariants as v
+use Rattle.rev_num.specs.declared.outcome.Cause.TheVariants as cause
+use Rattle.rev_num.specs.declared.value.ValueKind.TheVariants as kind
+use Rattle.rev_syntax.specs.Trees as t
+use Rattle.rev_syntax.specs.Trees.{Word, Term, Binder, Entry, Whole}
+use Rattle.rev_syntax.specs.declared.tree.BinaryOp.TheVariants as b
+use Rattle.merge_decl.specs.Definitions.{merge_value_of}
+
+abbrev name : ℕ → Word
+name c = record { at = 0; text = c ∷ [] }
+
+abbrev var : ℕ → Term
+var c = t.placed 0 (t.var (name c))
+
+abbrev int_binder : ℕ → Binder
+int_binder c = record { name = name c; kind_at = 0; kind = kind.Int }
+
+-- m + j - r, for the names 1, 2 and 3
+abbrev sum : Entry
+sum = t.merge (name 9) (name 1) (name 2) (name 3)
+    (t.placed 0 (t.chain (var 1) (t.link b.Add (var 2) (t.link b.Sub (var 3) t.no_links))))
+
+-- a fun f of x that is x + 1, a later f that is 0, and a merge f(j)
+abbrev twice_named : List Entry
+twice_named =
+    t.fun (name 7) (int_binder 1 ∷ []) kind.Int (t.placed 0 (t.chain (var 1) (t.link b.Add (t.placed 0 (t.int (pos 1))) t.no_links)))
+    ∷ t.fun (name 7) (int_binder 1 ∷ []) kind.Int (t.placed 0 (t.int (pos 0)))
+    ∷ t.merge (name 9) (name 1) (name 2) (name 3) (t.placed 0 (t.apply (name 7) (t.term (var 2) t.no_terms)))
+    ∷ []
+
+abbrev text_of : List Entry → Whole
+text_of es = record { entries = es; main_at = 0; main = t.no_steps }
+
+row_six : merge_value_of (text_of (sum ∷ [])) 0 (v.Int (pos 15)) (v.Int (pos 6)) (v.Int (pos 5)) ≡ Ok (v.Int (pos 16))
+row_six = refl
+
+row_overflow : merge_value_of (text_of (sum ∷ [])) 0 (v.Int (pos 9223372036854775807)) (v.Int (pos 1)) (v.Int (pos 1)) ≡ Err cause.Overflow
+row_overflow = refl
+
+first_counts : merge_value_of (text_of twice_named) 0 (v.Int (pos 1)) (v.Int (pos 6)) (v.Int (pos 5)) ≡ Ok (v.Int (pos 7))
+first_counts = refl

@@ -1,0 +1,10 @@
+use Rattle.std.proofs.Common.{◌≡◌, ◌++◌, drop}
+use Rattle.merge_decl.specs.FunRules as rule
+use Rattle.merge_decl.specs.Table.{find}
+use Rattle.merge_decl.specs.Uses.{uses_of}
+use Rattle.merge_decl.proofs.expand.numbers.Given as goal
+
+abbrev pub invariant-loop-u : goal.invariant-loop-u
+invariant-loop-u l =
+    l.all.items ++ rule.numbers_of (λ name. find name l.table) (uses_of (drop l.u-index l.uses))
+    ≡ rule.numbers_of (λ name. find name l.table) (uses_of l.uses)

@@ -1,0 +1,20 @@
+use Rattle.std.proofs.Common.{◌∙◌, ap, sym}
+use Rattle.rev_syntax.specs.View.{program as whole}
+use Rattle.merge_decl.specs.FunRules as rule
+use Rattle.merge_decl.specs.Least.{least}
+use Rattle.merge_decl.specs.Table.{find}
+use Rattle.merge_decl.specs.Uses.{uses_of}
+use Rattle.merge_decl.proofs.Leasts.{first_is, none_is}
+use Rattle.merge_decl.proofs.expand.resolved.Goals as goal
+
+pub returns-in-Some-clause-err : goal.returns-in-Some-clause-err
+returns-in-Some-clause-err c =
+    λ _. first_is rule.place rule.rank (rule.broken_in (λ name. find name c.args.table.now) (rule.uses_in (whole c.args.program.now))) c.in-Some.fault
+    (ap (λ us. least rule.place rule.rank (rule.broken_in (λ name. find name c.args.table.now) us)) (sym (ap uses_of c.deref.ensures.value ∙ c.in_ok-uses.ensures))
+    ∙ sym c.in-Some.ensures)
+
+pub returns-clause-keeps : goal.returns-clause-keeps
+returns-clause-keeps c =
+    none_is rule.place rule.rank (rule.broken_in (λ name. find name c.args.table.now) (rule.uses_in (whole c.args.program.now)))
+    (ap (λ us. least rule.place rule.rank (rule.broken_in (λ name. find name c.args.table.now) us)) (sym (ap uses_of c.deref.ensures.value ∙ c.in_ok-uses.ensures))
+    ∙ sym c.in_default.ensures)

@@ -1,0 +1,232 @@
+//! The applications of funs in a program.
+
+ghost use Rattle.std.specs.Prelude.{◌≡◌, ◌++◌, OnOk, IfOk, map};
+ghost use Rattle.rev_syntax.specs.View.{act, arms, block, entry, links, program as whole, right, shape, shown, term, terms};
+ghost use Rattle.merge_decl.specs.FunRules as rule;
+ghost use Rattle.merge_decl.specs.Uses.{uses_of};
+
+use rev_syntax::tree::{Arm, Block, Decl, Expr, Form, Item, Link, Name, Node, Program, Rhs, Stmt};
+use std::alloc::{AllocError, AllocFailed, Global};
+
+/// An application of a fun: the name, how many arguments it has, and how many of the program's
+/// first declarations it may use.
+#[derive(Drop)]
+pub struct Use<'a> {
+    pub name: &'a Name,
+    pub args: usize,
+    pub within: usize,
+}
+
+/// Appends the applications of an expression that may use the first `within` declarations.
+#[cycle(term)]
+fn add_term<'a>(
+    uses: &mut Vec<Use<'a>>,
+    within: usize,
+    e: &'a Expr,
+) -> Result<(), AllocFailed<Use<'a>>>
+    ensures { OnOk result (uses_of uses.new.items ≡ uses_of uses.old.items ++ rule.term_uses within (term e.now)) }
+{
+    add_node(uses, within, &e.node)
+}
+
+#[cycle(term)]
+fn add_node<'a>(
+    uses: &mut Vec<Use<'a>>,
+    within: usize,
+    node: &'a Node,
+) -> Result<(), AllocFailed<Use<'a>>>
+    ensures { OnOk result (uses_of uses.new.items ≡ uses_of uses.old.items ++ rule.shape_uses within (shape node.now)) }
+{
+    match node {
+        Node::Cell { name: _, index } => add_term(uses, within, index),
+        Node::Apply { name, args } => {
+            uses.push(Use {
+                name,
+                args: args.len(),
+                within,
+            })?;
+            add_terms(uses, within, args)?;
+            Ok(())
+        }
+        Node::Input { word_at: _, index } => add_term(uses, within, index),
+        Node::Pick { test, yes, no } => {
+            add_term(uses, within, test)?;
+            add_term(uses, within, yes)?;
+            add_term(uses, within, no)?;
+            Ok(())
+        }
+        Node::Unary { op: _, part } => add_term(uses, within, part),
+        Node::Chain { first, rest } => {
+            add_term(uses, within, first)?;
+            add_links(uses, within, rest)?;
+            Ok(())
+        }
+        Node::Int(_) => Ok(()),
+        Node::Bool(_) => Ok(()),
+        Node::NoRev => Ok(()),
+        Node::Var(_) => Ok(()),
+        Node::Inputs { word_at: _ } => Ok(()),
+    }
+}
+
+#[cycle(term)]
+fn add_terms<'a>(
+    uses: &mut Vec<Use<'a>>,
+    within: usize,
+    args: &'a [Expr],
+) -> Result<(), AllocFailed<Use<'a>>>
+    ensures { OnOk result (uses_of uses.new.items ≡ uses_of uses.old.items ++ rule.terms_uses within (terms args.now)) }
+{
+    for arg in args {
+        add_term(uses, within, arg)?;
+    }
+    Ok(())
+}
+
+#[cycle(term)]
+fn add_links<'a>(
+    uses: &mut Vec<Use<'a>>,
+    within: usize,
+    rest: &'a [Link],
+) -> Result<(), AllocFailed<Use<'a>>>
+    ensures { OnOk result (uses_of uses.new.items ≡ uses_of uses.old.items ++ rule.links_uses within (links rest.now)) }
+{
+    for link in rest {
+        add_term(uses, within, &link.part)?;
+    }
+    Ok(())
+}
+
+/// Appends the applications of a right side.
+fn add_right<'a>(
+    uses: &mut Vec<Use<'a>>,
+    within: usize,
+    rhs: &'a Rhs,
+) -> Result<(), AllocFailed<Use<'a>>>
+    ensures { OnOk result (uses_of uses.new.items ≡ uses_of uses.old.items ++ rule.right_uses within (right rhs.now)) }
+{
+    match rhs {
+        Rhs::Plain(e) => add_term(uses, within, e),
+        Rhs::Call { at: _, name: _, args } => add_terms(uses, within, args),
+        Rhs::Fork { at: _, name: _, args } => add_terms(uses, within, args),
+        Rhs::Try { at: _, handle } => add_term(uses, within, handle),
+    }
+}
+
+/// Appends the applications of a print's items.
+fn add_items<'a>(
+    uses: &mut Vec<Use<'a>>,
+    within: usize,
+    items: &'a [Item],
+) -> Result<(), AllocFailed<Use<'a>>>
+    ensures { OnOk result (uses_of uses.new.items ≡ uses_of uses.old.items ++ rule.items_uses within (map shown items.now)) }
+{
+    for it in items {
+        if let Item::Value(e) = it {
+            add_term(uses, within, e)?;
+        }
+    }
+    Ok(())
+}
+
+/// Appends the applications of a statement.
+#[cycle(form)]
+#[tactic(auto, using(crate::proofs::Appends::appends))]
+fn add_form<'a>(
+    uses: &mut Vec<Use<'a>>,
+    within: usize,
+    form: &'a Form,
+) -> Result<(), AllocFailed<Use<'a>>>
+    ensures { OnOk result (uses_of uses.new.items ≡ uses_of uses.old.items ++ rule.act_uses within (act form.now)) }
+{
+    match form {
+        Form::Let { name: _, rhs } => add_right(uses, within, rhs),
+        Form::Assign { name: _, rhs } => add_right(uses, within, rhs),
+        Form::AssignCell { name: _, index, value } => {
+            add_term(uses, within, index)?;
+            add_term(uses, within, value)
+        }
+        Form::If { arms, last } => {
+            add_arms(uses, within, arms)?;
+            match last {
+                Some(block) => add_block(uses, within, block),
+                None => Ok(()),
+            }
+        }
+        Form::While { test, body } => {
+            add_term(uses, within, test)?;
+            add_block(uses, within, body)
+        }
+        Form::Call { name: _, args } => add_terms(uses, within, args),
+        Form::Return { value } => match value {
+            Some(e) => add_term(uses, within, e),
+            None => Ok(()),
+        },
+        Form::Fork { name: _, args } => add_terms(uses, within, args),
+        Form::Join { handle } => add_term(uses, within, handle),
+        Form::Print { items } => add_items(uses, within, items),
+        Form::Assert { test } => add_term(uses, within, test),
+    }
+}
+
+#[cycle(form)]
+#[tactic(auto, using(crate::proofs::Appends::appends))]
+fn add_arms<'a>(
+    uses: &mut Vec<Use<'a>>,
+    within: usize,
+    all: &'a [Arm],
+) -> Result<(), AllocFailed<Use<'a>>>
+    ensures { OnOk result (uses_of uses.new.items ≡ uses_of uses.old.items ++ rule.arms_uses within (arms all.now)) }
+{
+    for arm in all {
+        add_term(uses, within, &arm.test)?;
+        add_block(uses, within, &arm.body)?;
+    }
+    Ok(())
+}
+
+/// Appends the applications of a block.
+#[cycle(form)]
+fn add_block<'a>(
+    uses: &mut Vec<Use<'a>>,
+    within: usize,
+    body: &'a Block,
+) -> Result<(), AllocFailed<Use<'a>>>
+    ensures { OnOk result (uses_of uses.new.items ≡ uses_of uses.old.items ++ rule.steps_uses within (block body.now)) }
+{
+    for stmt in &body.stmts {
+        add_form(uses, within, &stmt.form)?;
+    }
+    Ok(())
+}
+
+/// Appends the applications of declaration number `decl`, in a program of `all` declarations.
+fn add_decl<'a>(
+    uses: &mut Vec<Use<'a>>,
+    all: usize,
+    number: usize,
+    decl: &'a Decl,
+) -> Result<(), AllocFailed<Use<'a>>>
+    ensures { OnOk result (uses_of uses.new.items ≡ uses_of uses.old.items ++ rule.entry_uses all number (entry decl.now)) }
+{
+    match decl {
+        Decl::Fun { name: _, params: _, result: _, body } => add_term(uses, number, body),
+        Decl::Merge { name: _, main: _, join: _, root: _, body } => add_term(uses, number, body),
+        Decl::Shared { name: _, by: _, kind_at: _, holds: _, size: _, first: _ } => Ok(()),
+        Decl::Proc { name: _, params: _, result: _, body } => add_block(uses, all, body),
+    }
+}
+
+#[tactic(auto, using(crate::proofs::Appends::appends))]
+/// The applications of a program, in the order of their places.
+pub fn uses_in(alloc: Global, program: &Program) -> Result<Vec<Use<'_>>, AllocError>
+    ensures { IfOk result (λ us. uses_of us.items ≡ rule.uses_in (whole program.now)) }
+{
+    let mut uses = Vec::new(alloc);
+    let all = program.decls.len();
+    for (number, decl) in program.decls.iter().enumerate() {
+        add_decl(&mut uses, all, number, decl)?;
+    }
+    add_block(&mut uses, all, &program.main)?;
+    Ok(uses)
+}
