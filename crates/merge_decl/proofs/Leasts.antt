@@ -56,19 +56,23 @@ module _ {F : Type 0} (place rank : F → ℕ) where
   least_of_two : (f : F) (fs : List F) (g : F) (b : Bool) → precedes place rank g f ≡ b → IsFirst place rank fs g → IsFirst place rank (f ∷ fs) (cond b g f)
   least_of_two f fs g true h k = record {
     among = inr k.among;
-    first = λ x m. elim m [ inl e ↦ subst (λ y. IsBefore place rank g y) e (is_after (place f) (place g) (rank f) (rank g) h) | inr r ↦ k.first x r ]
+    first = λ x m. elim m [ inl e ↦ subst (λ y. IsBefore place rank g y) e (is_after (place f) (place g) (rank f) (rank g) h) | inr r ↦ k.first x r ];
   }
   least_of_two f fs g false h k = record {
     among = inl refl;
-    first = λ x m. elim m [ inl e ↦ subst (λ y. IsBefore place rank f y) e (IsBefore-refl f)
-      | inr r ↦ IsBefore-trans f g x (is_before (place f) (place g) (rank f) (rank g) h) (k.first x r) ]
+    first = λ x m. elim m [
+      | inl e ↦ subst (λ y. IsBefore place rank f y) e (IsBefore-refl f)
+      | inr r ↦ IsBefore-trans f g x (is_before (place f) (place g) (rank f) (rank g) h) (k.first x r)
+    ];
   }
 
   more : (f : F) (fs : List F) (o : Option F) → IsLeastOf fs o → IsLeastOf (f ∷ fs) (first_of place rank (Some f) o)
   more f fs None h = record {
     among = inl refl;
-    first = λ x m. elim m [ inl e ↦ subst (λ y. IsBefore place rank f y) e (IsBefore-refl f)
-      | inr r ↦ absurd (subst (λ l. Among l x) h r) ]
+    first = λ x m. elim m [
+      | inl e ↦ subst (λ y. IsBefore place rank f y) e (IsBefore-refl f)
+      | inr r ↦ absurd (subst (λ l. Among l x) h r)
+    ];
   }
   more f fs (Some g) h = least_of_two f fs g _ refl h
 

@@ -68,7 +68,7 @@ abbrev pub or_else : {A : Type 0} → Option A → Option A → Option A
 or_else (Some x) o = Some x
 or_else None o = o
 
-or_else-none : {A : Type 0} (o : Option A) → or_else o None ≡ o
+pub or_else-none : {A : Type 0} (o : Option A) → or_else o None ≡ o
 or_else-none None = refl
 or_else-none (Some x) = refl
 

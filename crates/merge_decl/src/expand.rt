@@ -158,7 +158,13 @@ fn fun_table(alloc: Global, decls: &[Decl]) -> Result<NameTable<FunHead>, AllocE
     let mut table = NameTable::new(alloc);
     let mut number = 0u32;
     for (decl, d) in decls.iter().enumerate() {
-        if let Decl::Fun { name, params, result: _, body: _ } = d {
+        if let Decl::Fun {
+            name,
+            params,
+            result: _,
+            body: _,
+        } = d
+        {
             let head = FunHead {
                 decl: decl as u32,
                 number,
@@ -177,7 +183,13 @@ fn fun_list(alloc: Global, decls: &[Decl]) -> Result<Vec<FunDef>, AllocError>
 {
     let mut funs = Vec::new(alloc);
     for (decl, d) in decls.iter().enumerate() {
-        if let Decl::Fun { name: _, params: _, result: _, body: _ } = d {
+        if let Decl::Fun {
+            name: _,
+            params: _,
+            result: _,
+            body: _,
+        } = d
+        {
             funs.push(FunDef { decl: decl as u32 })?;
         }
     }
@@ -190,7 +202,14 @@ fn merge_list(alloc: Global, decls: &[Decl]) -> Result<Vec<MergeRef>, AllocError
 {
     let mut merges = Vec::new(alloc);
     for (decl, d) in decls.iter().enumerate() {
-        if let Decl::Merge { name: _, main: _, join: _, root: _, body: _ } = d {
+        if let Decl::Merge {
+            name: _,
+            main: _,
+            join: _,
+            root: _,
+            body: _,
+        } = d
+        {
             merges.push(MergeRef { decl: decl as u32 })?;
         }
     }
@@ -206,11 +225,7 @@ fn number_at(head: Option<FunHead>) -> u32
     }
 }
 
-fn numbers(
-    alloc: Global,
-    table: &NameTable<FunHead>,
-    uses: &[Use],
-) -> Result<Vec<u32>, AllocError>
+fn numbers(alloc: Global, table: &NameTable<FunHead>, uses: &[Use]) -> Result<Vec<u32>, AllocError>
     ensures { IfOk result (λ ns. ns.items ≡ rule.numbers_of (λ name. find name table.now) (uses_of uses.now)) }
 {
     let mut all = Vec::with_capacity(alloc, uses.len())?;

@@ -107,8 +107,16 @@ fn add_right<'a>(
 {
     match rhs {
         Rhs::Plain(e) => add_term(uses, within, e),
-        Rhs::Call { at: _, name: _, args } => add_terms(uses, within, args),
-        Rhs::Fork { at: _, name: _, args } => add_terms(uses, within, args),
+        Rhs::Call {
+            at: _,
+            name: _,
+            args,
+        } => add_terms(uses, within, args),
+        Rhs::Fork {
+            at: _,
+            name: _,
+            args,
+        } => add_terms(uses, within, args),
         Rhs::Try { at: _, handle } => add_term(uses, within, handle),
     }
 }
@@ -142,7 +150,11 @@ fn add_form<'a>(
     match form {
         Form::Let { name: _, rhs } => add_right(uses, within, rhs),
         Form::Assign { name: _, rhs } => add_right(uses, within, rhs),
-        Form::AssignCell { name: _, index, value } => {
+        Form::AssignCell {
+            name: _,
+            index,
+            value,
+        } => {
             add_term(uses, within, index)?;
             add_term(uses, within, value)
         }
@@ -210,10 +222,33 @@ fn add_decl<'a>(
     ensures { OnOk result (uses_of uses.new.items ≡ uses_of uses.old.items ++ rule.entry_uses all number (entry decl.now)) }
 {
     match decl {
-        Decl::Fun { name: _, params: _, result: _, body } => add_term(uses, number, body),
-        Decl::Merge { name: _, main: _, join: _, root: _, body } => add_term(uses, number, body),
-        Decl::Shared { name: _, by: _, kind_at: _, holds: _, size: _, first: _ } => Ok(()),
-        Decl::Proc { name: _, params: _, result: _, body } => add_block(uses, all, body),
+        Decl::Fun {
+            name: _,
+            params: _,
+            result: _,
+            body,
+        } => add_term(uses, number, body),
+        Decl::Merge {
+            name: _,
+            main: _,
+            join: _,
+            root: _,
+            body,
+        } => add_term(uses, number, body),
+        Decl::Shared {
+            name: _,
+            by: _,
+            kind_at: _,
+            holds: _,
+            size: _,
+            first: _,
+        } => Ok(()),
+        Decl::Proc {
+            name: _,
+            params: _,
+            result: _,
+            body,
+        } => add_block(uses, all, body),
     }
 }
 

@@ -31,7 +31,11 @@ impl Locals<'_> {
     {
         match self {
             Locals::Empty => None,
-            Locals::Bound { name: bound, value, rest } => {
+            Locals::Bound {
+                name: bound,
+                value,
+                rest,
+            } => {
                 if name == *bound {
                     Some(*value)
                 } else {

@@ -8,9 +8,9 @@ ghost use Rattle.plain_runner.specs.Answers.{IsReached};
 ghost use Rattle.plain_runner.specs.Diamonds.{Orders, SteppedTo, IsBoth};
 
 use crate::language::Language;
-use rev_num::Path;
 use crate::state::{Revisions, Slot, State};
 use crate::step::{Stepped, step};
+use rev_num::Path;
 use std::alloc::{AllocError, Global};
 
 /// What two steps in both orders lead to.

@@ -25,9 +25,9 @@ ghost use Rattle.plain_runner.specs.Answers.{IsReached};
 ghost use Rattle.plain_runner.specs.Lists.{IsAt, Does, with_state, with_mark};
 
 use crate::language::{Language, Next};
-use rev_num::Path;
 use crate::state::Slot;
 use crate::step::Stepped;
+use rev_num::Path;
 use std::alloc::{AllocError, Global};
 
 /// The place of the revision with this path.

@@ -23,9 +23,9 @@ ghost use Rattle.plain_runner.specs.Progress.{Progresses, CannotStep, GoesOn, mo
 
 use crate::language::Language;
 use crate::list::step_at;
-use rev_num::Path;
 use crate::state::{Revisions, Slot, State};
 use crate::step::Stepped;
+use rev_num::Path;
 use std::alloc::{AllocError, Global};
 
 /// What came of some steps.

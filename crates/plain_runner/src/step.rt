@@ -9,8 +9,8 @@ ghost use Rattle.plain_runner.specs.Answers.{IsReached, Answers};
 
 use crate::language::Language;
 use crate::list::{find, step_at};
-use rev_num::Path;
 use crate::state::{Revisions, Slot, State};
+use rev_num::Path;
 use std::alloc::{AllocError, Global};
 
 /// How a step came out.

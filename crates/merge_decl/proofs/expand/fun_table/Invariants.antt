@@ -10,5 +10,5 @@ abbrev pub invariant-loop-decl : goal.invariant-loop-decl
 invariant-loop-decl l = record {
   number_small : l.number ≤ l.decl;
   found : (name : Name) → or_else (find name l.table) (rule.first_fun l.decl l.number (map entry (drop l.decl l.decls)) name)
-      ≡ rule.first_fun 0 0 (map entry l.decls) name
+      ≡ rule.first_fun 0 0 (map entry l.decls) name;
 }
