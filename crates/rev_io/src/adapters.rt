@@ -1,5 +1,6 @@
 // Readers and writers of the standard library as sources and sinks.
-ghost use Rattle.std.specs.Prelude.{◌≡◌};
+ghost use Rattle.std.specs.Prelude.{◌≡◌, IfErr};
+ghost use Rattle.rev_io.specs.Stream.{Writes};
 ghost use Rattle.rev_io.specs.Memory.{untold};
 
 use super::{Failed, Sink, SinkFault, Source};
@@ -57,7 +58,10 @@ impl<W: Write + Drop> StdSink<W> {
 impl<W: Write + Drop> Sink for StdSink<W> {
     ghost stream = { λ s. untold s.faults };
 
-    fn write(&mut self, piece: &[u8]) -> Result<usize, SinkFault> {
+    fn write(&mut self, piece: &[u8]) -> Result<usize, SinkFault>
+        ensures untold { Writes (untold self.old.faults) (untold self.new.faults) piece.now result }
+        ensures failed { IfErr result (λ fault. fault ≡ SinkFault.Failed) }
+    {
         match self.writer.write(piece) {
             Ok(count) if count > 0 || piece.is_empty() => Ok(count),
             _ => {
