@@ -39,6 +39,10 @@ Reads old new before after (Ok n) = (n ≤ length before) × Gave old (take n af
     × (n ≡ 0 → 0 < length before → (all : List ℕ) → old.told ≡ Some all → all ≡ [])
 Reads old new before after (Err e) = Rose old new × (new.told ≡ old.told)
 
+-- at most so many bytes left the source, whether or not it failed
+abbrev pub GaveAtMost : ℕ → Stream → Stream → Type 0
+GaveAtMost most old new = (bytes : List ℕ) × (length bytes ≤ most) × Leave old bytes new
+
 -- all bytes up to the end, at most `limit`; at most `limit + 1` bytes were taken, and exactly so
 -- many where that is too long
 abbrev pub ReadsText : ℕ → Stream → Stream → Result (Vec ℕ Global) ReadText → Type 0
@@ -46,10 +50,9 @@ ReadsText limit old new (Ok v) = Gave old v.items new × (length v.items ≤ lim
     × ((all : List ℕ) → old.told ≡ Some all → all ≡ v.items)
 ReadsText limit old new (Err text.TooLong) =
     (bytes : List ℕ) × (length bytes ≡ limit + 1) × Gave old bytes new
-ReadsText limit old new (Err text.Fault) =
-    Rose old new × ((bytes : List ℕ) × (length bytes ≤ limit) × Leave old bytes new)
+ReadsText limit old new (Err text.Fault) = Rose old new × GaveAtMost limit old new
 ReadsText limit old new (Err text.OutOfMemory) =
-    (bytes : List ℕ) × (length bytes ≤ limit + 1) × Gave old bytes new
+    (new.faults ≡ old.faults) × GaveAtMost (limit + 1) old new
 
 -- ---- sinks
 

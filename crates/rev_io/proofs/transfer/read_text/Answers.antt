@@ -7,4 +7,5 @@ pub returns-then-is_err : goal.returns-then-is_err
 returns-then-is_err g c =
     let read = c.in-Ok.ensures in
     let most : length (c.loop-piece.text.items ++ take c.in-Ok.count c.read.new.buf) ≤ c.args.limit + 1 = grind (arith, common_steps) in
-    (c.loop-piece.text.items ++ take c.in-Ok.count c.read.new.buf, most, gave_more _ _ _ _ _ c.loop-piece.invariant.gave read.1)
+    let gave = gave_more _ _ _ _ _ c.loop-piece.invariant.gave read.1 in
+    (gave.calm, (c.loop-piece.text.items ++ take c.in-Ok.count c.read.new.buf, most, gave.told))
