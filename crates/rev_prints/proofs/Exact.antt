@@ -201,3 +201,10 @@ only_if lists text (Some v) e = λ ls h.
     let same : Some (lists v) ≡ Some ls = e ∙ prints_read text ls h in
     cc
 only_if lists text None e = tt
+
+-- a text prints one list of lists at most
+pub prints_once : (text : List ℕ) (lists others : List (List ℤ)) → Prints text lists → Prints text others → lists ≡ others
+prints_once text lists others h k = go (sym (prints_read text lists h) ∙ prints_read text others k)
+  where
+    go : Some lists ≡ Some others → lists ≡ others
+    go e = cc
