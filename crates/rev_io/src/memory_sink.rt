@@ -25,7 +25,13 @@ impl Model for MemSink {
 
     ghost Value = { Store };
 
-    ghost view = { λ s. record { held = s.bytes.items; step = s.step; fails = s.fails.items; calls = s.calls; faults = s.faults } };
+    ghost view = { λ s. record {
+      held = s.bytes.items;
+      step = s.step;
+      fails = s.fails.items;
+      calls = s.calls;
+      faults = s.faults;
+    } };
 
     ghost invariant = { λ s. 1 ≤ s.step };
 }
@@ -34,7 +40,13 @@ impl MemSink {
     /// A sink that holds nothing, and was not called yet.
     pub fn new(alloc: Global, step: usize, fails: Vec<u64>) -> MemSink
         requires { 1 ≤ step }
-        ensures { result ≡ record { held = []; step = step; fails = fails.items; calls = 0; faults = 0 } }
+        ensures { result ≡ record {
+          held = [];
+          step = step;
+          fails = fails.items;
+          calls = 0;
+          faults = 0;
+        } }
     {
         MemSink {
             bytes: Vec::new(alloc),

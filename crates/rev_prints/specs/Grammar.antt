@@ -12,7 +12,8 @@ Numbers (n ∷ m ∷ ns) bs rest = (next : List ℕ) × (int_at bs ≡ Some (n, 
 
 -- one `print` after another, and a closing brace at the end
 abbrev pub Statements : List (List ℤ) → List ℕ → Type 0
-Statements [] bs = (rest : List ℕ) × (sign_at closing_brace bs ≡ Some rest) × (behind is_blank rest ≡ [])
+Statements [] bs = (rest : List ℕ) × (sign_at closing_brace bs ≡ Some rest)
+    × (behind is_blank rest ≡ [])
 Statements (ns ∷ lists) bs = (next : List ℕ) × (word_at (codes "print") bs ≡ Some next)
     × (length ns ≤ 64) × (rest : List ℕ) × Numbers ns next rest × Statements lists rest
 

@@ -3,7 +3,8 @@ use Rattle.std.specs.Prelude.{ℕ, ℤ, zero, suc, List, [], ◌∷◌, ◌++◌
 use Rattle.rev_prints.specs.Tokens.{behind, closing_brace, comma, int_at, is_blank, opening_brace, semicolon, sign_at, word_at}
 
 -- the numbers behind a first one, at most `room` of them
-abbrev pub more : (List ℕ → Option (List ℤ × List ℕ)) → Option (List ℕ) → List ℕ → Option (List ℤ × List ℕ)
+abbrev pub more : (List ℕ → Option (List ℤ × List ℕ)) → Option (List ℕ) → List ℕ
+    → Option (List ℤ × List ℕ)
 more next (Some rest) bs = Some ([], rest)
 more next None bs = option_and_then next (sign_at comma bs)
 
@@ -12,7 +13,8 @@ with_first n read = option_map (λ p. (n ∷ p.0, p.1)) read
 
 unfoldable pub numbers_at : ℕ → List ℕ → Option (List ℤ × List ℕ)
 numbers_at zero bs = None
-numbers_at (suc room) bs = option_and_then (λ p. with_first p.0 (more (numbers_at room) (sign_at semicolon p.1) p.1)) (int_at bs)
+numbers_at (suc room) bs = option_and_then
+    (λ p. with_first p.0 (more (numbers_at room) (sign_at semicolon p.1) p.1)) (int_at bs)
 
 abbrev pub nothing_behind : List ℕ → Option (List (List ℤ))
 nothing_behind [] = Some []
@@ -25,7 +27,8 @@ print_at bs = option_and_then (numbers_at 64) (word_at (codes "print") bs)
 abbrev pub statement : (List ℕ → Option (List (List ℤ))) → List ℕ → Option (List (List ℤ))
 statement next bs = option_and_then (λ p. option_map (λ lists. p.0 ∷ lists) (next p.1)) (print_at bs)
 
-abbrev pub closed_or : (List ℕ → Option (List (List ℤ))) → Option (List ℕ) → List ℕ → Option (List (List ℤ))
+abbrev pub closed_or : (List ℕ → Option (List (List ℤ))) → Option (List ℕ) → List ℕ
+    → Option (List (List ℤ))
 closed_or next (Some rest) bs = nothing_behind (behind is_blank rest)
 closed_or next None bs = statement next bs
 

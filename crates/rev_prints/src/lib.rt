@@ -90,7 +90,8 @@ fn word_at<'a>(word: &[u8], text: &'a [u8]) -> Option<&'a [u8]>
 
 /// The value of the digits at the front, and the bytes behind them.
 fn digits_of(text: &[u8]) -> Option<(i64, &[u8])>
-    ensures { option_map (λ p. (p.0, p.1.now)) result ≡ digits_read (front is_digit text.now) (behind is_digit text.now) }
+    ensures { option_map (λ p. (p.0, p.1.now)) result
+        ≡ digits_read (front is_digit text.now) (behind is_digit text.now) }
 {
     let mut value: u64 = 0;
     let mut rest = text;
@@ -166,7 +167,8 @@ fn statements_at(
     turns: usize,
     text: &[u8],
 ) -> Result<Option<Vec<Vec<i64>>>, AllocError>
-    ensures { IfOk result (λ o. option_map (λ v. map (λ ns. ns.items) v.items) o ≡ statements_at turns text.now) }
+    ensures { IfOk result (λ o. option_map (λ v. map (λ ns. ns.items) v.items) o
+        ≡ statements_at turns text.now) }
 {
     let mut lists = Vec::new(alloc);
     let mut rest = text;
@@ -190,7 +192,8 @@ fn statements_at(
 
 /// The numbers of each `print` of a whole text.
 fn prints_of(alloc: Global, text: &[u8]) -> Result<Option<Vec<Vec<i64>>>, AllocError>
-    ensures { IfOk result (λ o. option_map (λ v. map (λ ns. ns.items) v.items) o ≡ prints_of text.now) }
+    ensures { IfOk result (λ o. option_map (λ v. map (λ ns. ns.items) v.items) o
+        ≡ prints_of text.now) }
 {
     match word_at(b"main", text) {
         Some(next) => match sign_at(b'{', next) {
@@ -203,9 +206,12 @@ fn prints_of(alloc: Global, text: &[u8]) -> Result<Option<Vec<Vec<i64>>>, AllocE
 
 /// The numbers of each print of a text, or None where the text is not one that only prints.
 pub fn read_prints(alloc: Global, text: &[u8]) -> Result<Option<Vec<Vec<i64>>>, AllocError>
-    ensures some { IfOk result (λ o. IfSome o (λ v. Prints text.now (map (λ ns. ns.items) v.items))) }
-    ensures only { IfOk result (λ o. IfSome o (λ v. (lists : List (List ℤ)) → Prints text.now lists → lists ≡ map (λ ns. ns.items) v.items)) }
-    ensures none { IfOk result (λ o. IfNone o ((lists : List (List ℤ)) → Prints text.now lists → ⊥)) }
+    ensures some { IfOk result (λ o. IfSome o
+        (λ v. Prints text.now (map (λ ns. ns.items) v.items))) }
+    ensures only { IfOk result (λ o. IfSome o (λ v. (lists : List (List ℤ))
+        → Prints text.now lists → lists ≡ map (λ ns. ns.items) v.items)) }
+    ensures none { IfOk result (λ o. IfNone o
+        ((lists : List (List ℤ)) → Prints text.now lists → ⊥)) }
 {
     prints_of(alloc, text)
 }

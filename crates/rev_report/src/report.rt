@@ -17,7 +17,8 @@ pub struct Report {
 
 /// The report of a run that is done and printed these numbers, one list for each print.
 pub fn printed_report(alloc: Global, lists: &[Vec<i64>]) -> Result<Report, AllocError>
-    ensures { IfOk result (λ r. output r ≡ done (lines (map (λ numbers. numbers.items) lists.now))) }
+    ensures { IfOk result (λ r. output r
+        ≡ done (lines (map (λ numbers. numbers.items) lists.now))) }
 {
     let mut out = Vec::new(alloc);
     for numbers in lists {

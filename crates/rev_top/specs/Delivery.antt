@@ -55,8 +55,10 @@ pub data Delivered (o : Output) (out out' err err' : Stream) (status : ℕ) : Ty
 
 -- a call made an answer that belongs to its words and its source, and delivered it; or memory ran
 -- out before
-pub data Happened (words : Option Words) (source source' out out' err err' : Stream) (status : ℕ) : Type 0 where
-  answered : (a : Answer) → Answers words source source' a → Delivered (shown a) out out' err err' status
+pub data Happened (words : Option Words) (source source' out out' err err' : Stream) (status : ℕ)
+    : Type 0 where
+  answered : (a : Answer) → Answers words source source' a
+      → Delivered (shown a) out out' err err' status
       → Happened words source source' out out' err err' status
   no_report : status ≡ no_memory_status → NoReport out out' err err'
       → Happened words source source' out out' err err' status

@@ -43,16 +43,26 @@ pub record Calm (source source' out out' err err' : Stream) (status : ℕ) : Typ
 abbrev pub Cut : ℕ → Type 0
 Cut status = (status ≡ write_fault_status) ⊎ (status ≡ no_memory_status)
 
-pub record Keeps (words : Option Words) (source source' out out' err err' : Stream) (status : ℕ) : Type 0 where
+-- the words, the text, its length or the source was refused
+abbrev pub IsRefused : ℕ → Type 0
+IsRefused status = (status ≡ refused_status)
+    ⊎ ((status ≡ usage_status) ⊎ (status ≡ read_fault_status))
+
+-- of the words, what the source and both sinks tell before and after the call, and its status
+pub record Keeps (words : Option Words) (source source' out out' err err' : Stream) (status : ℕ)
+    : Type 0 where
   -- where nothing failed, the status and the bytes that both sinks took are those of the answer to
   -- the words and to all bytes that the source had left; and there is such an answer
-  pub headline : Calm source source' out out' err err' status → (all : List ℕ) → source.told ≡ Some all
+  pub headline : Calm source source' out out' err err' status
+      → (all : List ℕ) → source.told ≡ Some all
       → (a : Answer) → AnswerTo words all a → Wrote (shown a) out out' err err' status
-  pub has_answer : Calm source source' out out' err err' status → (all : List ℕ) → source.told ≡ Some all
+  pub has_answer : Calm source source' out out' err err' status
+      → (all : List ℕ) → source.told ≡ Some all
       → (a : Answer) × AnswerTo words all a
   -- every status but 6 and 7 is that of an answer that belongs to the words and to what the source
   -- gave, and both sinks took all of its bytes
-  pub written : (Cut status → ⊥) → (a : Answer) × Answers words source source' a × Wrote (shown a) out out' err err' status
+  pub written : (Cut status → ⊥) → (a : Answer) × Answers words source source' a
+      × Wrote (shown a) out out' err err' status
   -- usage comes exactly where the words have no reading, and then the source is not touched
   pub usage : status ≡ usage_status → words ≡ None
   pub no_reading : words ≡ None → (status ≡ usage_status) ⊎ Cut status
@@ -68,13 +78,13 @@ pub record Keeps (words : Option Words) (source source' out out' err err' : Stre
   pub out_failed : out.faults < out'.faults → status ≡ write_fault_status
   pub err_failed : err.faults < err'.faults → Cut status
   -- a refusal writes nothing on `out`
-  pub refusal : (status ≡ refused_status) ⊎ ((status ≡ usage_status) ⊎ (status ≡ read_fault_status)) → Took out [] out'
+  pub refusal : IsRefused status → Took out [] out'
   -- at 6 the sink that failed holds a first part of the bytes of one answer: nothing went to `err`
   -- where `out` failed, and all of `out` was written where `err` failed
   pub partly : status ≡ write_fault_status → (a : Answer) × Answers words source source' a
       × (OutFailed (shown a) out out' err err' ⊎ ErrFailed (shown a) out out' err err')
-  -- at 7 `out` holds a first part of the bytes of one answer, and `err` a first part of these, where
-  -- `out` holds all of its own, or of the message for want of memory
+  -- at 7 `out` holds a first part of the bytes of one answer, and `err` a first part of its own,
+  -- where `out` holds all, or of the message for want of memory
   pub at_want : status ≡ no_memory_status → NoReport out out' err err'
       ⊎ ((a : Answer) × Answers words source source' a
       × (NoRoomAtOut (shown a) out out' err err' ⊎ NoRoomAtErr (shown a) out out' err err'))

@@ -30,14 +30,16 @@ fn run_text(alloc: Global, text: &[u8]) -> Result<Report, Stop>
 /// All bytes up to the end of the source.
 fn whole_text<S: Source>(alloc: Global, source: &mut S, limit: usize) -> Result<Vec<u8>, Stop>
     requires { limit < 2 ^ 32 }
-    ensures meets { Meets (λ v. v.items) result (Given limit (S.stream source.old) (S.stream source.new)) }
+    ensures meets { Meets (λ v. v.items) result
+        (Given limit (S.stream source.old) (S.stream source.new)) }
     ensures most { GaveAtMost (limit + 1) (S.stream source.old) (S.stream source.new) }
 {
     Ok(read_text(alloc, source, limit)?)
 }
 
 fn run<S: Source>(alloc: Global, source: &mut S) -> Result<Report, Stop>
-    ensures meets { Meets output result (FromSource source_limit Runs (S.stream source.old) (S.stream source.new)) }
+    ensures meets { Meets output result
+        (FromSource source_limit Runs (S.stream source.old) (S.stream source.new)) }
     ensures most { GaveAtMost (source_limit + 1) (S.stream source.old) (S.stream source.new) }
 {
     let text = whole_text(alloc, source, SOURCE_LIMIT)?;
@@ -45,7 +47,8 @@ fn run<S: Source>(alloc: Global, source: &mut S) -> Result<Report, Stop>
 }
 
 fn answer_as<S: Source>(alloc: Global, mode: Mode, source: &mut S) -> Result<Report, Stop>
-    ensures meets { Meets output result (AnswersAs mode (S.stream source.old) (S.stream source.new)) }
+    ensures meets { Meets output result
+        (AnswersAs mode (S.stream source.old) (S.stream source.new)) }
     ensures most { GaveAtMost (source_limit + 1) (S.stream source.old) (S.stream source.new) }
 {
     match mode {
@@ -54,8 +57,10 @@ fn answer_as<S: Source>(alloc: Global, mode: Mode, source: &mut S) -> Result<Rep
 }
 
 fn answer<S: Source>(alloc: Global, words: &[String], source: &mut S) -> Result<Report, Stop>
-    ensures meets { Meets output result (Answers (reading (map string_bytes words.now)) (S.stream source.old) (S.stream source.new)) }
-    ensures touches { Touches (reading (map string_bytes words.now)) (S.stream source.old) (S.stream source.new) }
+    ensures meets { Meets output result (Answers (reading (map string_bytes words.now))
+        (S.stream source.old) (S.stream source.new)) }
+    ensures touches { Touches (reading (map string_bytes words.now))
+        (S.stream source.old) (S.stream source.new) }
 {
     let words = read_words(alloc, words)?;
     answer_as(alloc, words.mode, source)
@@ -67,8 +72,10 @@ pub fn make_report<S: Source>(
     words: &[String],
     source: &mut S,
 ) -> Result<Report, AllocError>
-    ensures report { IfOk result (λ r. IsReport (reading (map string_bytes words.now)) (S.stream source.old) (S.stream source.new) (output r)) }
-    ensures touches { Touches (reading (map string_bytes words.now)) (S.stream source.old) (S.stream source.new) }
+    ensures report { IfOk result (λ r. IsReport (reading (map string_bytes words.now))
+        (S.stream source.old) (S.stream source.new) (output r)) }
+    ensures touches { Touches (reading (map string_bytes words.now))
+        (S.stream source.old) (S.stream source.new) }
 {
     match answer(alloc, words, source) {
         Ok(report) => Ok(report),

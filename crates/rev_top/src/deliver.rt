@@ -24,7 +24,8 @@ fn tell_want<E: Sink>(err: &mut E) -> u8
 }
 
 fn deliver<O: Sink, E: Sink>(out: &mut O, err: &mut E, report: &Report) -> u8
-    ensures { Delivered (output report.now) (O.stream out.old) (O.stream out.new) (E.stream err.old) (E.stream err.new) result }
+    ensures { Delivered (output report.now) (O.stream out.old) (O.stream out.new)
+        (E.stream err.old) (E.stream err.new) result }
 {
     match write_all(out, report.out.as_slice()) {
         Err(SinkFault::Failed) => status::WRITE_FAULT,
@@ -45,8 +46,11 @@ pub fn happen<S: Source, O: Sink, E: Sink>(
     out: &mut O,
     err: &mut E,
 ) -> u8
-    ensures happened { Happened (reading (map string_bytes words.now)) (S.stream source.old) (S.stream source.new) (O.stream out.old) (O.stream out.new) (E.stream err.old) (E.stream err.new) result }
-    ensures touches { Touches (reading (map string_bytes words.now)) (S.stream source.old) (S.stream source.new) }
+    ensures happened { Happened (reading (map string_bytes words.now))
+        (S.stream source.old) (S.stream source.new) (O.stream out.old) (O.stream out.new)
+        (E.stream err.old) (E.stream err.new) result }
+    ensures touches { Touches (reading (map string_bytes words.now))
+        (S.stream source.old) (S.stream source.new) }
 {
     match make_report(alloc, words, source) {
         Ok(report) => deliver(out, err, &report),

@@ -38,8 +38,9 @@ pub fn rev_main<R: AllocGlobal, S: Source, O: Sink, E: Sink>(
     out: &mut O,
     err: &mut E,
 ) -> u8
-    ensures { Keeps (reading (map string_bytes words.now)) (S.stream source.old) (S.stream source.new)
-        (O.stream out.old) (O.stream out.new) (E.stream err.old) (E.stream err.new) result }
+    ensures { Keeps (reading (map string_bytes words.now))
+        (S.stream source.old) (S.stream source.new) (O.stream out.old) (O.stream out.new)
+        (E.stream err.old) (E.stream err.new) result }
 {
     happen(rt.alloc(), words, source, out, err)
 }
