@@ -1,6 +1,6 @@
 -- Decimals: the function is exact for the grammar, agrees with std's `parse`, and reads what is written.
-use Rattle.std.proofs.Common.{◌≡◌, zero, suc, ◌≤◌, ◌∙◌, sym, ap, subst, ℕ, ◌+◌, ◌<◌, ◌^◌, ◌≢◌, Bool, true, false, ◌⊎◌, inl, inr, ℤ, List, [], ◌∷◌, length, get_or, refl, arith, rules}
-use Rattle.std.specs.Prelude.{nat_eq, Option, Some, None, if◌then◌else◌, ◌&&◌, ◌==◌, IfSome, IfNone, Result, Ok, Err, pos, negsuc, neg_ℤ, IsTrue, All, FitsSigned}
+use Rattle.std.proofs.Common.{◌≡◌, zero, suc, ◌≤◌, ◌∙◌, sym, ap, subst, ℕ, ◌<◌, ◌^◌, ◌≢◌, Bool, true, false, inl, inr, ℤ, List, [], ◌∷◌, length, get_or, refl, arith, rules}
+use Rattle.std.specs.Prelude.{nat_eq, Option, Some, None, if◌then◌else◌, ◌&&◌, ◌==◌, IfSome, IfNone, Result, Ok, Err, pos, negsuc, neg_ℤ, IsTrue, All}
 use Rattle.std.specs.Result.{result_ok}
 use Rattle.std.specs.List.{starts_with}
 use Rattle.std.specs.Char.{IsAsciiDigit}
@@ -8,13 +8,13 @@ use Rattle.std.specs.Str.{all_ascii_digits, IsUtf8, IsAscii}
 use Rattle.std.specs.Str.Parse.{ParsesSigned}
 use Rattle.std.specs.Int.{w64}
 use Rattle.std.specs.Fmt.{decimal, signed_decimal}
-use Rattle.std.proofs.lemmas.Grind.{common_steps}
+use Rattle.std.proofs.lemmas.Fmt.{decimal_nonempty, digits_decimal, digits_value-decimal}
 use Rattle.std.proofs.lemmas.Str.{IsUtf8-from_ascii}
 use Rattle.std.proofs.lemmas.Str.Parse.{IsNumeralModel, numerals_by_weight, tells_all_ascii_digits, parse_signed_plain, parse_signed_minus}
-use Rattle.std.proofs.lemmas.Str.Ascii.{IsAscii-cons, IsAscii-nil, IsAscii-from_all}
+use Rattle.std.proofs.lemmas.Str.Ascii.{IsAscii-cons, IsAscii-nil}
 use Rattle.std.proofs.lemmas.List.Elements.{All-cons, All-head, All-tail, All-nil}
 use Rattle.rev_num.specs.Arith.{fits_i64}
-use Rattle.rev_num.specs.Decimal.{IsDigits, IsUnsigned, IsNegated, IsDecimal, spelled, is_digits, number_behind, decimal_in}
+use Rattle.rev_num.specs.Decimal.{IsDigits, IsUnsigned, IsDecimal, spelled, is_digits, number_behind, decimal_in}
 
 pub own : IsNumeralModel (λ ds. all_ascii_digits ds ≡ true) spelled
 own = numerals_by_weight _ tells_all_ascii_digits spelled (search rules)
@@ -31,11 +31,11 @@ digits_all [] h = refl
 digits_all (d ∷ ds) h =
     tells_all_ascii_digits.more d ds (All-head IsAsciiDigit d ds h) (digits_all ds (All-tail IsAsciiDigit d ds h))
 
-digits_tested : (ds : List ℕ) → is_digits ds ≡ true → IsDigits ds
+pub digits_tested : (ds : List ℕ) → is_digits ds ≡ true → IsDigits ds
 digits_tested [] h = grind arith
 digits_tested (d ∷ ds) h = record { some = omega arith; each = all_digits (d ∷ ds) (grind (arith, rules)) }
 
-digits_pass : (ds : List ℕ) → IsDigits ds → is_digits ds ≡ true
+pub digits_pass : (ds : List ℕ) → IsDigits ds → is_digits ds ≡ true
 digits_pass [] h = absurd (omega (arith, h.some))
 digits_pass (d ∷ ds) h = let all = digits_all (d ∷ ds) h.each in grind (arith, rules)
 
@@ -94,7 +94,7 @@ abbrev Reads : {E : Type 0} → List ℕ → Result ℤ E → Type 0
 Reads bytes (Ok n) = (fits_i64 n ≡ true) × IsDecimal bytes n
 Reads bytes (Err e) = (n : ℤ) → fits_i64 n ≡ true → IsDecimal bytes n → ⊥
 
-fits_negated : (k : ℕ) → k ≤ 2 ^ 63 → fits_i64 (neg_ℤ (pos k)) ≡ true
+pub fits_negated : (k : ℕ) → k ≤ 2 ^ 63 → fits_i64 (neg_ℤ (pos k)) ≡ true
 fits_negated zero h = refl
 fits_negated (suc k) h = grind (arith, rules)
 
@@ -102,10 +102,10 @@ negated_fits : (k : ℕ) → fits_i64 (neg_ℤ (pos k)) ≡ true → k ≤ 2 ^ 6
 negated_fits zero h = omega arith
 negated_fits (suc k) h = grind (arith, rules)
 
-fits_pos : (k : ℕ) → k < 2 ^ 63 → fits_i64 (pos k) ≡ true
+pub fits_pos : (k : ℕ) → k < 2 ^ 63 → fits_i64 (pos k) ≡ true
 fits_pos k h = grind (arith, rules)
 
-pos_fits : (k : ℕ) → fits_i64 (pos k) ≡ true → k < 2 ^ 63
+pub pos_fits : (k : ℕ) → fits_i64 (pos k) ≡ true → k < 2 ^ 63
 pos_fits k h = grind (arith, rules)
 
 digits_from : (ds : List ℕ) → (all_ascii_digits ds ≡ true) → 0 < length ds → IsDigits ds
@@ -125,13 +125,14 @@ with_no_minus bytes n first (inr d) = absurd (first (ap (λ b. get_or b 0 0) d.m
 
 parsed_minus : {E : Type 0} (cs : List ℕ) (r : Result ℤ E) → ParsesSigned w64 10 (45 ∷ cs) r → Reads (45 ∷ cs) r
 parsed_minus {E} cs (Ok x) h =
-    let is = parse_signed_minus own {E = E} w64 (45 ∷ cs) (Ok x) h refl in
-    (ap fits_i64 is.1 ∙ fits_negated (spelled cs) is.0.2
-    , inr (record { behind = cs; minus = refl; digits = digits_from cs is.0.0 is.0.1; value = is.1 }))
+    let is = parse_signed_minus own {E = E} w64 (45 ∷ cs) (Ok x) h refl in (
+      ap fits_i64 is.1 ∙ fits_negated (spelled cs) is.0.2,
+      inr (record { behind = cs; minus = refl; digits = digits_from cs is.0.0 is.0.1; value = is.1 }),
+    )
 parsed_minus {E} cs (Err e) h = λ n fits d.
     let parts = behind_minus cs n d in
     parse_signed_minus own {E = E} w64 (45 ∷ cs) (Err e) h refl
-        (digits_all cs parts.0.each, parts.0.some, negated_fits (spelled cs) (ap fits_i64 (sym parts.1) ∙ fits))
+    (digits_all cs parts.0.each, parts.0.some, negated_fits (spelled cs) (ap fits_i64 (sym parts.1) ∙ fits))
 
 parsed_plain : {E : Type 0} (bytes : List ℕ) (r : Result ℤ E) → get_or bytes 0 0 ≢ 43 → get_or bytes 0 0 ≢ 45 → ParsesSigned w64 10 bytes r → Reads bytes r
 parsed_plain {E} bytes (Ok x) plus minus h =
@@ -140,7 +141,7 @@ parsed_plain {E} bytes (Ok x) plus minus h =
 parsed_plain {E} bytes (Err e) plus minus h = λ n fits d.
     let is = with_no_minus bytes n minus d in
     parse_signed_plain own {E = E} w64 bytes (Err e) h plus minus
-        (digits_all bytes is.digits.each, is.digits.some, pos_fits (spelled bytes) (ap fits_i64 (sym is.value) ∙ fits))
+    (digits_all bytes is.digits.each, is.digits.some, pos_fits (spelled bytes) (ap fits_i64 (sym is.value) ∙ fits))
 
 parsed : {E : Type 0} (bytes : List ℕ) (r : Result ℤ E) → get_or bytes 0 0 ≢ 43 → ParsesSigned w64 10 bytes r → Reads bytes r
 parsed [] r plus h = parsed_plain [] r plus (omega arith) h
@@ -202,3 +203,26 @@ is_none bytes (Some n) is = tt
 pub plus_first : (bytes : List ℕ) → starts_with nat_eq bytes (43 ∷ []) ≡ false → get_or bytes 0 0 ≢ 43
 plus_first [] h = λ plus. omega (arith, plus)
 plus_first (c ∷ cs) h = λ plus. grind (arith, rules)
+
+-- ---- what is written is read
+
+decimal_digits : (n : ℕ) → n < 2 ^ 64 → IsDigits (decimal n)
+decimal_digits n small = digits_from (decimal n) (digits_decimal own n small) (decimal_nonempty n small)
+
+pub decimal_in-signed_decimal : (n : ℤ) → fits_i64 n ≡ true → decimal_in (signed_decimal n) ≡ Some n
+decimal_in-signed_decimal (pos n) fits =
+    let small : n < 2 ^ 64 = omega (arith, pos_fits n fits) in
+    is-decimal_in (decimal n) (pos n) fits
+    (inl (record { digits = decimal_digits n small; value = ap pos (sym (digits_value-decimal own n small)) }))
+decimal_in-signed_decimal (negsuc n) fits =
+    let small : suc n < 2 ^ 64 = omega (arith, negsuc_fits n fits) in
+    is-decimal_in (45 ∷ decimal (suc n)) (negsuc n) fits
+    (inr (record {
+      behind = decimal (suc n);
+      minus = refl;
+      digits = decimal_digits (suc n) small;
+      value = ap (λ m. neg_ℤ (pos m)) (sym (digits_value-decimal own (suc n) small));
+    }))
+  where
+    negsuc_fits : (m : ℕ) → fits_i64 (negsuc m) ≡ true → m < 2 ^ 63
+    negsuc_fits m h = grind (arith, rules)

@@ -1,2 +1,4 @@
 pub mod PostOrder
 pub mod Decimals
+pub mod Dots
+pub mod Division

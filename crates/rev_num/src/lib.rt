@@ -2,6 +2,7 @@
 #![tactic(auto)]
 
 mod items;
+mod laws;
 mod number;
 mod outcome;
 mod path;
@@ -9,8 +10,12 @@ mod text;
 mod value;
 
 pub use items::{Bytes, Items};
+pub use laws::{decimal_laws, division_laws, post_order_laws, word_laws};
 pub use number::{add, div, int_of_word, mul, neg, rem, sub, word_of_int};
 pub use outcome::{Cause, Outcome, Shown, Trap};
 pub use path::Path;
-pub use text::{append_decimal, read_decimal};
+pub use text::{append_decimal, append_path, read_decimal};
 pub use value::{NumFault, Value, ValueKind};
+
+#[cfg(test)]
+mod tests;

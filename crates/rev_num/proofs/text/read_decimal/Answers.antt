@@ -1,4 +1,4 @@
-use Rattle.std.proofs.Common.{◌∙◌, sym, ap, ◌≡◌, ◌≢◌, get_or,  arith, rules}
+use Rattle.std.proofs.Common.{◌∙◌, ap, ◌≡◌, ◌≢◌, get_or, arith}
 use Rattle.std.proofs.lemmas.Grind.{common_steps}
 use Rattle.rev_num.specs.Decimal.{decimal_in}
 use Rattle.rev_num.proofs.Decimals.{decimal_in-no_text, decimal_in-parses, is_none, is_spelled, plus_first}

@@ -1,0 +1,30 @@
+use Rattle.std.proofs.Common.{refl}
+use Rattle.clap.proofs.OnLiterals.{clap_on_literals}
+use Rattle.rev_words.specs.Command.{command}
+use Rattle.rev_words.proofs.laws.row_laws.Goals as goal
+
+pub returns-clause-read : goal.returns-clause-read
+unfolding clap_on_literals command
+returns-clause-read c = record {
+  alone = refl;
+  attached = refl;
+  plus = refl;
+  between_numbers = refl;
+  schedule = refl;
+  empty_schedule = refl;
+}
+
+pub returns-clause-usage : goal.returns-clause-usage
+unfolding clap_on_literals command
+returns-clause-usage c = record {
+  no_words = refl;
+  other_mode = refl;
+  no_workers = refl;
+  no_number = refl;
+  no_value = refl;
+  flag_twice = refl;
+  help = refl;
+  minus = refl;
+  plus_number = refl;
+  empty_entry = refl;
+}

@@ -1,0 +1,18 @@
+use Rattle.std.proofs.Common.{◌≡◌, ◌∙◌, Bor, ap, sym, rules, ◌+◌, [], ◌∷◌, ◌++◌, get_or, map, drop}
+use Rattle.std.specs.Prelude.{Some}
+use Rattle.clap.specs.Words.{Text}
+use Rattle.rev_num.specs.Decimal.{decimal_in}
+use Rattle.rev_words.specs.Each.{each_said}
+use Rattle.rev_words.proofs.Each.{one_more_text, with_front}
+use Rattle.rev_words.proofs.numbers.numbers_in.Goals as goal
+
+pub loop-text-preserved : goal.loop-text-preserved
+loop-text-preserved c =
+    let texts = c.args.texts.now in
+    let i = c.loop-text.text-index in
+    let nothing : Bor Text = record { ref_ptr = (0, 0); now = [] } in
+    let is : decimal_in ((get_or texts i nothing).now) ≡ Some c.in_ok-ok_or.field-0 = search rules in
+    let pushed : c.push.new.self.items ≡ c.loop-text.numbers.items ++ c.in_ok-ok_or.field-0 ∷ [] = search rules in
+    c.loop-text.invariant
+    ∙ one_more_text decimal_in c.loop-text.numbers.items texts i nothing c.in_ok-ok_or.field-0 c.loop-text-test.true is
+    ∙ ap (λ ns. with_front ns (each_said decimal_in (map (λ s. s.now) (drop (i + 1) texts)))) (sym pushed)

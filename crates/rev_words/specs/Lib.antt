@@ -1,0 +1,6 @@
+pub mod Answer
+pub mod Command
+pub mod Each
+pub mod Reading
+pub mod Rows
+pub mod Schedule
