@@ -1,17 +1,18 @@
 //! Running a program.
 
 ghost use Rattle.std.specs.Prelude.{◌≡◌, ◌+◌, ◌*◌, ◌≤◌, IfOk};
-ghost use Rattle.revision_machine.specs.Machine.{Live};
+ghost use Rattle.revision_machine.specs.Machine.{start as start_of};
 ghost use Rattle.plain_runner.specs.States.{shown};
-ghost use Rattle.plain_runner.specs.Answers.{IsEnd};
+ghost use Rattle.plain_runner.specs.Answers.{IsEnd, IsReached};
 ghost use Rattle.plain_runner.specs.Runner.{machine_of};
 ghost use Rattle.tiny_revisions.specs.Tiny.{first};
 ghost use Rattle.tiny_revisions.specs.Machines.{machine};
+ghost use Rattle.tiny_revisions.specs.Held.{Holds, weight};
 
 use crate::program::Program;
 use crate::state::State;
 use plain_runner::language::{Language, Next};
-use plain_runner::run::run;
+use plain_runner::run::{run, start};
 use plain_runner::state::State as Global;
 use rev_num::Path;
 use std::alloc::{AllocError, Global as Heap};
@@ -74,6 +75,16 @@ impl Language for Program {
     ) -> Result<(), AllocError> {
         state.settle(alloc, self, ended)
     }
+}
+
+/// The start of a run of the program with this fuel.
+pub fn start_program(alloc: Heap, program: &Program, fuel: u64) -> Result<Global<State>, AllocError>
+    requires { fuel ≤ 1000000000 }
+    ensures start { IfOk result (λ g. shown g ≡ start_of (machine program.now) (first program.now fuel)) }
+    ensures reached { IfOk result (λ g. IsReached (machine program.now) Holds (λ l. l.made + weight l) 4294967295 (shown g)) }
+{
+    let main = State::first(alloc, program, fuel)?;
+    start(program, alloc, main)
 }
 
 /// Runs the program with this fuel: the state that every complete run of it ends in.

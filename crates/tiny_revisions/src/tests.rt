@@ -1,11 +1,16 @@
 //! Programs that run through the generic runner.
 
+ghost use Rattle.std.specs.Prelude.{◌+◌, IfOk};
+ghost use Rattle.plain_runner.specs.States.{shown};
+ghost use Rattle.plain_runner.specs.Answers.{IsReached};
+ghost use Rattle.tiny_revisions.specs.Machines.{machine};
+ghost use Rattle.tiny_revisions.specs.Held.{Holds, weight};
+
 use crate::program::{Expr, Instr, Kind, Procedure, Program};
-use crate::run::run_program;
+use crate::run::{run_program, start_program};
 use crate::state::State;
 use crate::value::Value;
 use plain_runner::diamond::{Diamond, diamond_step};
-use plain_runner::run::start;
 use plain_runner::state::State as Global;
 use plain_runner::step::{Stepped, step};
 use rev_num::Path;
@@ -80,5 +85,132 @@ fn joins(rt: HostRuntime) -> Result<(), Fail> {
         let end = run_program(alloc, &program, 1000)?;
         assert!(rt; ends_with(&end, &[*wanted]));
     }
+    Ok(())
+}
+
+#[test]
+fn merges(rt: HostRuntime) -> Result<(), Fail> {
+    let alloc = rt.alloc();
+    let sum = program(
+        alloc,
+        &[Kind::Summed],
+        &[
+            &[
+                Instr::Set(0, Expr::Num(5)),
+                Instr::Fork(0, 1),
+                Instr::Set(0, Expr::Plus(0, 10)),
+                Instr::Join(0),
+                Instr::Print(Expr::Var(0)),
+            ],
+            &[Instr::Set(0, Expr::Plus(0, 1))],
+        ],
+    )?;
+    let end = run_program(alloc, &sum, 1000)?;
+    assert!(rt; ends_with(&end, &[16]));
+    Ok(())
+}
+
+#[test]
+fn two_tests(rt: HostRuntime) -> Result<(), Fail> {
+    let alloc = rt.alloc();
+    let tests = program(
+        alloc,
+        &[Kind::Versioned, Kind::Versioned],
+        &[
+            &[
+                Instr::Fork(0, 1),
+                Instr::UnlessZero(1, 1),
+                Instr::Set(0, Expr::Plus(0, 1)),
+                Instr::Join(0),
+                Instr::Print(Expr::Var(0)),
+                Instr::Print(Expr::Var(1)),
+            ],
+            &[Instr::UnlessZero(0, 1), Instr::Set(1, Expr::Plus(1, 1))],
+        ],
+    )?;
+    let end = run_program(alloc, &tests, 1000)?;
+    assert!(rt; ends_with(&end, &[1, 1]));
+    Ok(())
+}
+
+#[test]
+fn second_joins(rt: HostRuntime) -> Result<(), Fail> {
+    let alloc = rt.alloc();
+    let twice = program(
+        alloc,
+        &[],
+        &[
+            &[
+                Instr::Print(Expr::Num(1)),
+                Instr::Fork(0, 1),
+                Instr::Join(0),
+                Instr::Join(0),
+            ],
+            &[],
+        ],
+    )?;
+    assert!(rt; is_twice(&run_program(alloc, &twice, 1000)?));
+    assert!(rt; is_twice(&run_program(alloc, &joiners(alloc)?, 1000)?));
+    Ok(())
+}
+
+/// Two revisions that come to join a third.
+fn joiners(alloc: Heap) -> Result<Program, std::alloc::AllocError> {
+    program(
+        alloc,
+        &[],
+        &[
+            &[Instr::Fork(0, 1), Instr::Fork(1, 2), Instr::Fork(2, 2)],
+            &[],
+            &[Instr::Join(0)],
+        ],
+    )
+}
+
+/// The state after steps of these.
+fn after_three(
+    alloc: Heap,
+    program: &Program,
+    state: Global<State>,
+    a: &Path,
+    b: &Path,
+    c: &Path,
+) -> Result<Global<State>, std::alloc::AllocError>
+    requires { IsReached (machine program.now) Holds (λ l. l.made + weight l) 4294967295 (shown state) }
+    ensures { IfOk result (λ g. IsReached (machine program.now) Holds (λ l. l.made + weight l) 4294967295 (shown g)) }
+{
+    let (state, _) = step(program, alloc, state, a)?;
+    let (state, _) = step(program, alloc, state, b)?;
+    let (state, _) = step(program, alloc, state, c)?;
+    Ok(state)
+}
+
+#[test]
+fn answers(rt: HostRuntime) -> Result<(), Fail> {
+    let alloc = rt.alloc();
+    let program = joiners(alloc)?;
+    let main = Path::root(alloc);
+    let one = main.child(alloc, 1)?;
+    let state = start_program(alloc, &program, 1000)?;
+    let state = after_three(alloc, &program, state, &main, &main, &one)?;
+    let (_, stepped) = step(&program, alloc, state, &one)?;
+    assert!(rt; matches!(stepped, Stepped::Waits { .. }));
+    Ok(())
+}
+
+/// Both orders of the joins of two joiners of one revision that has ended.
+#[test]
+fn both_orders(rt: HostRuntime) -> Result<(), Fail> {
+    let alloc = rt.alloc();
+    let program = joiners(alloc)?;
+    let main = Path::root(alloc);
+    let ended = main.child(alloc, 0)?;
+    let one = main.child(alloc, 1)?;
+    let other = main.child(alloc, 2)?;
+    let state = start_program(alloc, &program, 1000)?;
+    let state = after_three(alloc, &program, state, &main, &main, &main)?;
+    let state = after_three(alloc, &program, state, &ended, &one, &other)?;
+    let both = diamond_step(&program, alloc, &state, &one, &other)?;
+    assert!(rt; matches!(both, Diamond::Twice));
     Ok(())
 }
