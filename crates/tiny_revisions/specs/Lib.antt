@@ -7,3 +7,4 @@ pub mod Meets
 pub mod Shown
 pub mod Same
 pub mod Examples
+pub mod Renamed

@@ -1,6 +1,7 @@
 //! What holds of every program of the language and of every order of its steps, and worked examples.
 
-ghost use Rattle.std.specs.Prelude.{◌≡◌, ℕ, ◌+◌, ◌*◌, length};
+ghost use Rattle.std.specs.Prelude.{◌≡◌, ℕ, List, ◌+◌, ◌*◌, length};
+ghost use Rattle.rev_num.specs.Path.{Path};
 ghost use Rattle.revision_machine.specs.Laws.{
   DiamondLaw,
   UniqueEnd,
@@ -13,6 +14,7 @@ ghost use Rattle.revision_machine.specs.Laws.{
   BoundLaw,
   KeptLaw,
   CompletionLaw,
+  IsIn,
 };
 ghost use Rattle.revision_machine.specs.Simulation.{
   StepLaw,
@@ -27,11 +29,14 @@ ghost use Rattle.revision_machine.specs.Numbered.{
   RunIsSchedule,
   OverLaw,
   ScheduleBound,
+  named,
 };
+ghost use Rattle.revision_machine.specs.Schedules.{ScheduleAgrees, CompleteScheduleAgrees};
 ghost use Rattle.tiny_revisions.specs.Setting.{Setting};
 ghost use Rattle.tiny_revisions.specs.Tiny.{first};
 ghost use Rattle.tiny_revisions.specs.Machines.{machine, numbered};
 ghost use Rattle.tiny_revisions.specs.Held.{Holds, weight};
+ghost use Rattle.tiny_revisions.specs.Renamed.{IsNumbered};
 ghost use Rattle.tiny_revisions.specs.Same.{IsSame, IsAny};
 ghost use Rattle.tiny_revisions.specs.Examples as example;
 
@@ -71,15 +76,24 @@ pub fn schedule_laws()
     ensures bound { (s : Setting) (fuel : ℕ) → ScheduleBound (numbered s) (first s fuel) (3 * fuel + 1) }
 {}
 
-/// The laws of one machine that does what another does, where both are the program's own: each step, run and complete
-/// run of the one agrees with one of the other, none is blocked, and all complete runs end in states that agree.
+/// The program by paths does what it does by numbers, with the paths of a table `t` for its numbers: each step and run
+/// and complete run by numbers, whose children the table has, agrees with one by paths, none is blocked, and all
+/// complete runs end in states that agree. So the world after a legal schedule agrees with a state that a run reaches,
+/// and after a complete schedule with the end of the complete runs, in which every revision has ended.
 pub fn simulation_laws()
-    ensures steps { (s : Setting) → StepLaw (machine s) (machine s) IsSame IsAny }
-    ensures runs { (s : Setting) (fuel : ℕ) → RunLaw (machine s) (machine s) IsSame IsAny (first s fuel) (first s fuel) }
-    ensures unblocked { (s : Setting) (fuel : ℕ) → UnblockedLaw (machine s) (machine s) IsSame IsAny (first s fuel) (first s fuel) }
-    ensures complete { (s : Setting) (fuel : ℕ) → CompleteLaw (machine s) (machine s) IsSame IsAny (first s fuel) (first s fuel) }
-    ensures same_end { (s : Setting) (fuel : ℕ) → SameEnd (machine s) (machine s) IsSame IsAny (first s fuel) (first s fuel) }
-    ensures converse { (s : Setting) (fuel : ℕ) → ConverseLaw (machine s) (machine s) IsSame IsAny (first s fuel) (first s fuel) }
+    ensures steps { (s : Setting) (t : List Path) → StepLaw (machine s) (named (numbered s) t) (IsNumbered t) (λ p. IsIn p t) }
+    ensures runs { (s : Setting) (fuel : ℕ) (t : List Path) → RunLaw (machine s) (named (numbered s) t) (IsNumbered t) (λ p. IsIn p t) (first s fuel) (first s fuel) }
+    ensures unblocked { (s : Setting) (fuel : ℕ) (t : List Path) → UnblockedLaw (machine s) (named (numbered s) t) (IsNumbered t) (λ p. IsIn p t) (first s fuel) (first s fuel) }
+    ensures complete { (s : Setting) (fuel : ℕ) (t : List Path) → CompleteLaw (machine s) (named (numbered s) t) (IsNumbered t) (λ p. IsIn p t) (first s fuel) (first s fuel) }
+    ensures same_end { (s : Setting) (fuel : ℕ) (t : List Path) → SameEnd (machine s) (named (numbered s) t) (IsNumbered t) (λ p. IsIn p t) (first s fuel) (first s fuel) }
+    ensures schedule { (s : Setting) (fuel : ℕ) → ScheduleAgrees (machine s) (numbered s) IsNumbered (first s fuel) (first s fuel) }
+    ensures complete_schedule { (s : Setting) (fuel : ℕ) → CompleteScheduleAgrees (machine s) (numbered s) IsNumbered (first s fuel) (first s fuel) }
+{}
+
+/// The program does what it does itself, with every child known: so each complete run of the one machine ends in a
+/// state that agrees with the end of a complete run of the other.
+pub fn converse_law()
+    ensures { (s : Setting) (fuel : ℕ) → ConverseLaw (machine s) (machine s) IsSame IsAny (first s fuel) (first s fuel) }
 {}
 
 /// Worked examples, each by the steps of one run.
