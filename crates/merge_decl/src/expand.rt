@@ -14,7 +14,7 @@ ghost use Rattle.merge_decl.specs.declared.expand.MergeFault.TheVariants.{OutOfM
 use crate::table::NameTable;
 use crate::uses::{Use, uses_in};
 use rev_num::Items;
-use rev_syntax::tree::{Decl, Program};
+use rev_syntax::{Decl, Program};
 use std::alloc::{AllocError, Global};
 
 /// A rule on funs that a program breaks, with the place of the name of the application.

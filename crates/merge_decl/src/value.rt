@@ -5,7 +5,7 @@ ghost use Rattle.merge_decl.specs.Flat.{answer, flat, flat_option, local};
 ghost use Rattle.merge_decl.specs.Value as spec;
 
 use rev_num::{Cause, NumFault};
-use rev_syntax::tree::{BinaryOp, UnaryOp};
+use rev_syntax::{BinaryOp, UnaryOp};
 
 /// A value inside a fun or a merge. The only handle there is `none`.
 #[derive(Clone, Copy, Drop)]

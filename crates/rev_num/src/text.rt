@@ -1,6 +1,6 @@
 //! Numbers and paths as text.
 
-ghost use Rattle.std.specs.Prelude.{◌≡◌, ◌++◌, OnOk, IfSome, IfNone, ℤ, IsTrue};
+ghost use Rattle.std.specs.Prelude.{◌≡◌, ◌++◌, OnErr, OnOk, IfNone, IfSome, IsTrue, length, take, ℤ};
 ghost use Rattle.std.specs.Fmt.{signed_decimal};
 ghost use Rattle.rev_num.specs.Arith.{fits_i64};
 ghost use Rattle.std.specs.List.{flat_map};
@@ -25,20 +25,37 @@ pub fn read_decimal(bytes: &[u8]) -> Option<i64>
     text.parse::<i64>().ok()
 }
 
-/// Appends the number in decimal, with a minus in front of it where it is negative.
+/// Appends the number in decimal, with a minus in front of it where it is negative. Where memory
+/// is wanting, the text stays as it was.
 pub fn append_decimal(text: &mut Vec<u8>, n: i64) -> Result<(), AllocError>
-    ensures { OnOk result (text.new.items ≡ text.old.items ++ signed_decimal n) }
+    ensures ok { OnOk result (text.new.items ≡ text.old.items ++ signed_decimal n) }
+    ensures err { OnErr result (text.new.items ≡ text.old.items) }
 {
     let mut buffer = Buffer::new();
     text.extend_from_slice(buffer.format(n).as_bytes())?;
     Ok(())
 }
 
-/// Appends the numbers of the path with a dot between them, and `main` for the empty path.
+/// Appends the numbers of the path with a dot between them, and `main` for the empty path. Where
+/// memory is wanting, the text stays as it was.
 pub fn append_path(text: &mut Vec<u8>, path: &Path) -> Result<(), AllocError>
-    ensures { OnOk result (text.new.items ≡ text.old.items ++ path_text path.now) }
+    ensures ok { OnOk result (text.new.items ≡ text.old.items ++ path_text path.now) }
+    ensures err { OnErr result (text.new.items ≡ text.old.items) }
 {
-    match path.numbers() {
+    let len = text.len();
+    let appended = append_dotted(text, path.numbers());
+    if appended.is_err() {
+        text.truncate(len);
+    }
+    appended
+}
+
+/// Appends the path that the numbers name, or a front of it where memory is wanting.
+fn append_dotted(text: &mut Vec<u8>, numbers: &[u32]) -> Result<(), AllocError>
+    ensures ok { OnOk result (text.new.items ≡ text.old.items ++ path_text numbers.now) }
+    ensures kept { take (length text.old.items) text.new.items ≡ text.old.items }
+{
+    match numbers {
         [] => text.extend_from_slice(b"main"),
         [first, rest @ ..] => {
             append_decimal(text, *first as i64)?;
@@ -47,9 +64,10 @@ pub fn append_path(text: &mut Vec<u8>, path: &Path) -> Result<(), AllocError>
     }
 }
 
-/// Appends each number with a dot in front of it.
+/// Appends each number with a dot in front of it, or a front of that where memory is wanting.
 fn append_behind_dots(text: &mut Vec<u8>, numbers: &[u32]) -> Result<(), AllocError>
-    ensures { OnOk result (text.new.items ≡ text.old.items ++ flat_map behind_dot numbers.now) }
+    ensures ok { OnOk result (text.new.items ≡ text.old.items ++ flat_map behind_dot numbers.now) }
+    ensures kept { take (length text.old.items) text.new.items ≡ text.old.items }
 {
     for number in numbers {
         text.push(b'.')?;

@@ -1,2 +1,8 @@
 pub mod Trees
 pub mod View
+pub mod Bytes
+pub mod Words
+pub mod Small
+pub mod Tokens
+pub mod Scan
+pub mod Places

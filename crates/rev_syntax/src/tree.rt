@@ -1,6 +1,7 @@
-// Programs as they are written.
-//
-// A place `at` is the offset of a byte of the source, counted from 0.
+//! Programs as they are written.
+//!
+//! A place `at` is the offset of a byte of the source, counted from 0. Where contracts speak of a tree, they speak
+//! of the plain tree that `specs/View.antt` makes of it.
 
 use rev_num::{Value, ValueKind};
 

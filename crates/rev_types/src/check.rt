@@ -18,7 +18,7 @@ use crate::tables::{SharedInfo, Tables};
 use crate::typed::{Typed, make_typed};
 use merge_decl::expand::Expanded;
 use merge_decl::table::NameTable;
-use rev_syntax::tree::{Decl, Name, Program};
+use rev_syntax::{Decl, Name, Program};
 use std::alloc::{AllocError, Global};
 
 /// The first rule that declarations break.

@@ -17,7 +17,7 @@ use crate::passed::{Passed, cells_in, located_after, weight};
 use crate::steps::{Body, new_local, one_more_local};
 use merge_decl::table::NameTable;
 use rev_num::ValueKind;
-use rev_syntax::tree::{Arm, Block, Const, Decl, Expr, Form, Name, Param, Size, Stmt};
+use rev_syntax::{Arm, Block, Const, Decl, Expr, Form, Name, Param, Size, Stmt};
 use std::alloc::{AllocError, Global};
 
 // ---- which blocks return

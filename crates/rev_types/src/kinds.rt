@@ -9,7 +9,7 @@ ghost use Rattle.rev_types.specs.Walk as rule;
 use crate::fault::{TypeFault, first};
 use crate::names::{Callee, Holder};
 use rev_num::ValueKind;
-use rev_syntax::tree::{BinaryOp, Link, Name, Param, UnaryOp};
+use rev_syntax::{BinaryOp, Link, Name, Param, UnaryOp};
 
 pub fn same_kind(a: ValueKind, b: ValueKind) -> bool
     ensures { result ≡ kind.same_kind a b }

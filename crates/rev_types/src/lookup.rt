@@ -6,7 +6,7 @@ ghost use Rattle.rev_types.specs.Tables as spec;
 
 use crate::names::{Callee, Holder};
 use merge_decl::table::NameTable;
-use rev_syntax::tree::Decl;
+use rev_syntax::Decl;
 use std::alloc::{AllocError, Global};
 
 /// The first shared variable of each name.

@@ -2,7 +2,7 @@
 
 use merge_decl::table::NameTable;
 use rev_num::ValueKind;
-use rev_syntax::tree::Param;
+use rev_syntax::Param;
 
 /// A shared variable: the kind of its values, and whether it is an array.
 #[derive(Clone, Copy, PartialEq, Eq, Debug, Drop)]

@@ -7,7 +7,7 @@ ghost use Rattle.rev_types.specs.Passing.{passed_of};
 ghost use Rattle.rev_types.specs.Program as program;
 
 use merge_decl::table::NameTable;
-use rev_syntax::tree::{Decl, Expr, Link, Name, Node, Size};
+use rev_syntax::{Decl, Expr, Link, Name, Node, Size};
 use std::alloc::{AllocError, Global};
 
 /// What the declarations before a place declare: their names, each with the number of its first

@@ -11,7 +11,7 @@ use crate::kinds::{alike, array_use, name_kind, not_rev, scalar_use};
 use crate::names::{Checker, Holder, Locals};
 use crate::terms::right_place;
 use rev_num::ValueKind;
-use rev_syntax::tree::{Arm, Block, Expr, Form, Item, Name, Rhs, Stmt};
+use rev_syntax::{Arm, Block, Expr, Form, Item, Name, Rhs, Stmt};
 use std::alloc::{AllocError, Global};
 
 /// The locals of a body: those in scope, and how many more there may be, up to and with the first

@@ -14,7 +14,7 @@ use crate::kinds::{
 };
 use crate::names::{Callee, Checker, Holder, Locals};
 use rev_num::ValueKind;
-use rev_syntax::tree::{Expr, Link, Name, Node, Param, Rhs};
+use rev_syntax::{Expr, Link, Name, Node, Param, Rhs};
 
 /// An expression that was checked: its kind, if it has one, and the first rule that it breaks.
 #[derive(Clone, Copy, Drop)]

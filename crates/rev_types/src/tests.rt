@@ -2,7 +2,7 @@ use crate::check::check;
 use crate::fault::{TypeFault, Which};
 use merge_decl::expand::expand_funs;
 use rev_num::ValueKind;
-use rev_syntax::tree::{
+use rev_syntax::{
     BinaryOp, Block, Decl, Expr, Form, Item, Link, Name, Node, Program, Rhs, Size, Stmt,
 };
 use std::alloc::{AllocError, Global};

@@ -1,3 +1,5 @@
 pub mod Each
 pub mod Naturals
 pub mod Simple
+pub mod Schedules
+pub mod Ranges

@@ -1,4 +1,5 @@
--- What the calls answer: wrong usage exactly where there is nothing to find or to read, unless memory runs out.
+-- What the calls answer: wrong usage exactly where there is nothing to find or to read, unless
+-- memory runs out.
 use Rattle.std.specs.Prelude.{◌≡◌, true, false, List, Option, Some, None, Result, Ok, Err, ⊤}
 use Rattle.clap.specs.declared.parser.ArgMatches.{ArgMatches}
 use Rattle.clap.specs.Words.{Text, found_of, matches_of, rows_of}

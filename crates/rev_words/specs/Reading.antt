@@ -1,5 +1,5 @@
 -- What words say.
-use Rattle.std.specs.Prelude.{ℕ, ℤ, Bool, false, ◌&&◌, List, [], length, Option, Some, None, codes, if◌then◌else◌, nat_le, unwrap_or, option_and_then}
+use Rattle.std.specs.Prelude.{ℕ, ◌≤◌, ℤ, Bool, false, ◌&&◌, List, [], length, Option, Some, None, codes, if◌then◌else◌, nat_le, unwrap_or, option_and_then}
 use Rattle.std.specs.Str.{bytes_eq}
 use Rattle.std.specs.Str.Parse.{digits_value, without_leading_plus}
 use Rattle.clap.specs.Words.{Row, Text, all_of, fault_of, first_of, matches_of}
@@ -51,6 +51,12 @@ schedule_said (Some text) = schedule_in text
 
 -- ---- the whole
 
+-- each step of a reading takes what the steps before it gave
+infixl 10 ◌>>=◌
+abbrev pub ◌>>=◌ : {A B : Type 0} → Option A → (A → Option B) → Option B
+None >>= f = None
+(Some x) >>= f = f x
+
 -- what the rows that the command found say
 abbrev pub said : List Row → Option Words
 said rows = do
@@ -75,11 +81,6 @@ said rows = do
     seed = seed;
     size = size;
   })
-  where
-    infixl 10 ◌>>=◌
-    ◌>>=◌ : {A B : Type 0} → Option A → (A → Option B) → Option B
-    None >>= f = None
-    (Some x) >>= f = f x
 
 -- the command takes the words: no step of its parse is at fault
 abbrev pub is_taken : List Text → Bool
@@ -88,3 +89,15 @@ is_taken words = is_empty (fault_of command words)
 -- what the words say, where the command takes them and each value keeps its rule
 abbrev pub reading : List Text → Option Words
 reading words = if is_taken words then said (matches_of command words) else None
+
+-- ---- what a caller can rely on
+
+pub record KeepsRanges (w : Words) : Type 0 where
+  pub numbers : length w.numbers ≤ 1024
+  pub workers : (1 ≤ w.workers) × (w.workers ≤ 64)
+  pub segments : w.segments ≤ 65536
+  pub fuel : (1 ≤ w.fuel) × (w.fuel ≤ 4000000000)
+  pub share : w.share ≤ 4000000000
+  pub schedule : length w.schedule ≤ 65536
+  pub seed : w.seed ≤ 2147483647
+  pub size : (1 ≤ w.size) × (w.size ≤ 500)

@@ -1,5 +1,6 @@
 -- Words with what they say, and words that say nothing.
-use Rattle.std.specs.Prelude.{◌≡◌, [], ◌∷◌, pos, negsuc, true, false, Some, None, codes}
+use Rattle.std.specs.Prelude.{◌≡◌, ◌==◌, ℕ, List, [], ◌∷◌, pos, negsuc, true, false, Some, None, codes}
+use Rattle.std.specs.List.{slice_split}
 use Rattle.rev_words.specs.Reading.{reading}
 use Rattle.rev_words.specs.declared.Mode.TheVariants as modes
 use Rattle.rev_words.specs.declared.Words.{Words}
@@ -19,22 +20,29 @@ run_alone = record {
   size = 200;
 }
 
+-- the words of a line, with a blank between two of them
+abbrev pub words_in : List ℕ → List (List ℕ)
+words_in line = slice_split (λ b. b == 32) line
+
 pub record RowsAreRead : Type 0 where
-  pub alone : reading (codes "run" ∷ []) ≡ Some run_alone
-  pub attached : reading (codes "run" ∷ codes "--fuel=7" ∷ codes "3" ∷ codes "--values" ∷ codes "--" ∷ codes "-4" ∷ []) ≡ Some (record run_alone { fuel = 7; numbers = pos 3 ∷ negsuc 3 ∷ []; values = true })
-  pub plus : reading (codes "run" ∷ codes "--fuel" ∷ codes "+5" ∷ []) ≡ Some (record run_alone { fuel = 5 })
-  pub between_numbers : reading (codes "--seed" ∷ codes "9" ∷ codes "run" ∷ codes "3" ∷ codes "--values" ∷ codes "4" ∷ []) ≡ Some (record run_alone { numbers = pos 3 ∷ pos 4 ∷ []; values = true; seed = 9 })
-  pub schedule : reading (codes "run" ∷ codes "--schedule" ∷ codes "0,0,1" ∷ []) ≡ Some (record run_alone { schedule = 0 ∷ 0 ∷ 1 ∷ [] })
-  pub empty_schedule : reading (codes "run" ∷ codes "--schedule=" ∷ []) ≡ Some run_alone
+  pub alone : reading (words_in (codes "run")) ≡ Some run_alone
+  pub attached : reading (words_in (codes "run --fuel=7 3 --values -- -4"))
+      ≡ Some (record run_alone { fuel = 7; numbers = pos 3 ∷ negsuc 3 ∷ []; values = true })
+  pub plus : reading (words_in (codes "run --fuel +5")) ≡ Some (record run_alone { fuel = 5 })
+  pub between_numbers : reading (words_in (codes "--seed 9 run 3 --values 4"))
+      ≡ Some (record run_alone { numbers = pos 3 ∷ pos 4 ∷ []; values = true; seed = 9 })
+  pub schedule : reading (words_in (codes "run --schedule 0,0,1"))
+      ≡ Some (record run_alone { schedule = 0 ∷ 0 ∷ 1 ∷ [] })
+  pub empty_schedule : reading (words_in (codes "run --schedule=")) ≡ Some run_alone
 
 pub record RowsAreUsage : Type 0 where
   pub no_words : reading [] ≡ None
-  pub other_mode : reading (codes "walk" ∷ []) ≡ None
-  pub no_workers : reading (codes "run" ∷ codes "--workers" ∷ codes "0" ∷ []) ≡ None
-  pub no_number : reading (codes "run" ∷ codes "x" ∷ []) ≡ None
-  pub no_value : reading (codes "run" ∷ codes "--fuel" ∷ []) ≡ None
-  pub flag_twice : reading (codes "run" ∷ codes "--values" ∷ codes "--values" ∷ []) ≡ None
-  pub help : reading (codes "run" ∷ codes "--help" ∷ []) ≡ None
-  pub minus : reading (codes "run" ∷ codes "-5" ∷ []) ≡ None
-  pub plus_number : reading (codes "run" ∷ codes "+5" ∷ []) ≡ None
-  pub empty_entry : reading (codes "run" ∷ codes "--schedule" ∷ codes "1," ∷ []) ≡ None
+  pub other_mode : reading (words_in (codes "walk")) ≡ None
+  pub no_workers : reading (words_in (codes "run --workers 0")) ≡ None
+  pub no_number : reading (words_in (codes "run x")) ≡ None
+  pub no_value : reading (words_in (codes "run --fuel")) ≡ None
+  pub flag_twice : reading (words_in (codes "run --values --values")) ≡ None
+  pub help : reading (words_in (codes "run --help")) ≡ None
+  pub minus : reading (words_in (codes "run -5")) ≡ None
+  pub plus_number : reading (words_in (codes "run +5")) ≡ None
+  pub empty_entry : reading (words_in (codes "run --schedule 1,")) ≡ None

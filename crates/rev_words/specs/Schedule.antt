@@ -1,5 +1,5 @@
 -- The text of a schedule: numbers of one or more digits with one comma between two of them.
-use Rattle.std.specs.Prelude.{◌≡◌, ℕ, ◌^◌, ◌<◌, ◌≤◌, ◌&&◌, ◌==◌, List, [], ◌∷◌, length, map, All, nat_le, nat_lt, if◌then◌else◌, Option, Some, None}
+use Rattle.std.specs.Prelude.{◌≡◌, ◌↔◌, ℕ, ◌^◌, ◌<◌, ◌≤◌, ◌&&◌, ◌==◌, List, [], ◌∷◌, length, map, All, nat_le, nat_lt, if◌then◌else◌, Option, Some, None}
 use Rattle.std.specs.List.{join_with_byte, slice_split}
 use Rattle.rev_words.specs.Each.{each_said}
 use Rattle.rev_num.specs.Decimal.{IsDigits, is_digits, spelled}
@@ -32,3 +32,7 @@ few_entries_in parts = if nat_le (length parts) 65536 then entries_in parts else
 abbrev pub schedule_in : List ℕ → Option (List ℕ)
 schedule_in [] = Some []
 schedule_in (c ∷ cs) = few_entries_in (slice_split (λ b. b == 44) (c ∷ cs))
+
+-- the function is exact for the grammar
+abbrev pub SchedulesAreExact : Type 0
+SchedulesAreExact = (text entries : List ℕ) → (schedule_in text ≡ Some entries) ↔ IsSchedule text entries

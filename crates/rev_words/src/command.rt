@@ -97,7 +97,8 @@ pub(crate) fn text_of<'a>(matches: &ArgMatches<'a>, name: &str) -> Option<&'a st
 
 /// The values of an argument, where it was used.
 pub(crate) fn texts_of<'m, 'a>(matches: &'m ArgMatches<'a>, name: &str) -> Option<&'m [&'a str]>
-    ensures { option_map (λ s. map (λ v. v.now) s.now) result ≡ all_of name.now (rows_of (found_of matches.now)) }
+    ensures { option_map (λ s. map (λ v. v.now) s.now) result
+        ≡ all_of name.now (rows_of (found_of matches.now)) }
 {
     matches.get_strs(name)
 }

@@ -1,9 +1,15 @@
-//! Words with what they say: a function that does nothing, whose clauses are the rows.
+//! Laws: functions that do nothing, whose clauses hold of all words.
 
 ghost use Rattle.rev_words.specs.Rows.{RowsAreRead, RowsAreUsage};
+ghost use Rattle.rev_words.specs.Schedule.{SchedulesAreExact};
 
 /// Rows of words: those that are read, and those that are wrong usage.
 pub fn row_laws()
     ensures read { RowsAreRead }
     ensures usage { RowsAreUsage }
+{}
+
+/// The texts of schedules are those of the grammar.
+pub fn schedule_law()
+    ensures { SchedulesAreExact }
 {}

@@ -4,10 +4,10 @@
 //! words; the rules of the single values stand beside it.
 #![tactic(auto)]
 
-ghost use Rattle.std.specs.Prelude.{map};
+ghost use Rattle.std.specs.Prelude.{IfOk, map};
 ghost use Rattle.std.specs.String.{string_bytes};
 ghost use Rattle.clap.specs.Words.{found_of, rows_of};
-ghost use Rattle.rev_words.specs.Reading.{reading, said};
+ghost use Rattle.rev_words.specs.Reading.{KeepsRanges, reading, said};
 ghost use Rattle.rev_words.specs.Answer.{Gives};
 
 mod command;
@@ -19,7 +19,7 @@ mod settings;
 use clap::ArgMatches;
 use command::matches_of;
 pub use fault::WordsFault;
-pub use laws::row_laws;
+pub use laws::{row_laws, schedule_law};
 use numbers::{numbers_of, schedule_of};
 use rev_num::Items;
 use settings::{is_flagged, mode_of, setting, small_setting};
@@ -57,7 +57,8 @@ pub struct Words {
 
 /// What the words say. The words come without the program's name.
 pub fn read_words(alloc: Global, words: &[String]) -> Result<Words, WordsFault>
-    ensures { Gives (λ w. w) result (reading (map string_bytes words.now)) }
+    ensures reading { Gives (λ w. w) result (reading (map string_bytes words.now)) }
+    ensures ranges { IfOk result (λ w. KeepsRanges w) }
 {
     let matches = matches_of(alloc, words)?;
     words_of(alloc, &matches)
@@ -89,3 +90,6 @@ fn words_of(alloc: Global, matches: &ArgMatches) -> Result<Words, WordsFault>
         size,
     })
 }
+
+#[cfg(test)]
+mod tests;

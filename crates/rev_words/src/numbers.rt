@@ -37,7 +37,8 @@ fn few_numbers_in(alloc: Global, texts: &[&str]) -> Result<Vec<i64>, WordsFault>
 
 /// The input numbers.
 pub(crate) fn numbers_of(alloc: Global, matches: &ArgMatches) -> Result<Vec<i64>, WordsFault>
-    ensures { Gives (λ v. v.items) result (few_numbers_in (unwrap_or (all_of (codes "numbers") (rows_of (found_of matches.now))) [])) }
+    ensures { let texts = unwrap_or (all_of (codes "numbers") (rows_of (found_of matches.now))) [] in
+        Gives (λ v. v.items) result (few_numbers_in texts) }
 {
     match texts_of(matches, "numbers") {
         Some(texts) => few_numbers_in(alloc, texts),
@@ -68,7 +69,8 @@ fn entries_in(alloc: Global, texts: &[&str]) -> Result<Vec<u32>, WordsFault>
 
 /// The parts of a text between its commas.
 fn parts_of<'a>(alloc: Global, text: &'a str) -> Result<Vec<&'a str>, AllocError>
-    ensures { IfOk result (λ v. map (λ s. s.now) v.items ≡ slice_split (λ b. b == 44) text.entry.now) }
+    ensures { IfOk result (λ v.
+        map (λ s. s.now) v.items ≡ slice_split (λ b. b == 44) text.entry.now) }
 {
     text.split(',').collect(alloc)
 }
@@ -90,7 +92,8 @@ fn schedule_in(alloc: Global, text: &str) -> Result<Vec<u32>, WordsFault>
 
 /// The schedule.
 pub(crate) fn schedule_of(alloc: Global, matches: &ArgMatches) -> Result<Vec<u32>, WordsFault>
-    ensures { Gives (λ v. v.items) result (schedule_said (first_of (codes "schedule") (rows_of (found_of matches.now)))) }
+    ensures { let text = first_of (codes "schedule") (rows_of (found_of matches.now)) in
+        Gives (λ v. v.items) result (schedule_said text) }
 {
     match text_of(matches, "schedule") {
         Some(text) => schedule_in(alloc, text),

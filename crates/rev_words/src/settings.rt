@@ -34,7 +34,8 @@ pub(crate) fn setting(
     most: u64,
     default: u64,
 ) -> Option<u64>
-    ensures { result ≡ setting least most default (first_of name.now (rows_of (found_of matches.now))) }
+    ensures { let text = first_of name.now (rows_of (found_of matches.now)) in
+        result ≡ setting least most default text }
 {
     match text_of(matches, name) {
         Some(text) => within(least, most, natural_of(text)?),
@@ -50,7 +51,8 @@ pub(crate) fn small_setting(
     most: u32,
     default: u32,
 ) -> Option<u32>
-    ensures { result ≡ setting least most default (first_of name.now (rows_of (found_of matches.now))) }
+    ensures { let text = first_of name.now (rows_of (found_of matches.now)) in
+        result ≡ setting least most default text }
 {
     match text_of(matches, name) {
         Some(text) => Some(within(least as u64, most as u64, natural_of(text)?)? as u32),
@@ -69,7 +71,8 @@ fn mode_named(text: &str) -> Option<Mode>
 
 /// The mode that the first word names, if it is built.
 pub(crate) fn mode_of(matches: &ArgMatches) -> Option<Mode>
-    ensures { result ≡ option_and_then mode_named (first_of (codes "mode") (rows_of (found_of matches.now))) }
+    ensures { let text = first_of (codes "mode") (rows_of (found_of matches.now)) in
+        result ≡ option_and_then mode_named text }
 {
     mode_named(text_of(matches, "mode")?)
 }

@@ -1,0 +1,27 @@
+//! The program: the standard streams as source and sinks, the words behind the program's name, and
+//! the status of the call as exit status.
+#![tactic(auto)]
+
+use rev_io::{StdSink, StdSource};
+use rev_top::rev_main;
+use std::env::Env;
+use std::process::ExitCode;
+use std::{env, io};
+
+/// The words behind the program's name.
+fn words_given<R: Env + AllocGlobal>(rt: &R) -> io::Result<Vec<String>> {
+    let mut words = Vec::new(rt.alloc());
+    for word in env::args(rt)?.skip(1) {
+        words.push(word)?;
+    }
+    Ok(words)
+}
+
+fn main(rt: HostRuntime) -> ExitCode {
+    let mut source = StdSource::new(rt.stdin());
+    let mut out = StdSink::new(rt.stdout());
+    let mut err = StdSink::new(rt.stderr());
+    // Words that cannot be had are wrong usage, as no words are.
+    let words = words_given(&rt).unwrap_or(Vec::new(rt.alloc()));
+    ExitCode::from(rev_main(&rt, words.as_slice(), &mut source, &mut out, &mut err))
+}

@@ -1,7 +1,0 @@
-use Rattle.std.proofs.lemmas.Grind.{common_steps}
-use Rattle.std.proofs.Common.{arith}
-use Rattle.rev_num.proofs.Dots.{path_text-split}
-use Rattle.rev_num.proofs.text.append_path.Goals as goal
-
-pub returns-in_ok-append_decimal-in-len1-up : goal.returns-in_ok-append_decimal-in-len1-up
-returns-in_ok-append_decimal-in-len1-up c = grind (arith, common_steps, path_text-split c.args.path.now)

@@ -1,0 +1,72 @@
+-- The next token decides the grammar.
+use Rattle.std.proofs.Common.{◌≡◌, ◌||◌, not, Bool, true, false, List, ℕ, refl}
+use Rattle.token_grammar.specs.Exact.{all_of, extends, is_decided, is_plain}
+use Rattle.token_grammar.proofs.Exact.{Decided}
+use Rattle.rev_parse.specs.declared.sort.Sort.{Sort}
+use Rattle.rev_parse.specs.declared.sort.Sort.TheVariants as s
+use Rattle.rev_parse.specs.Sorts.{is_same, sorts}
+use Rattle.rev_parse.specs.Grammar.{alphabet, Inner, Operand, Parens, Index, Arguments, Parts, Body, Params, Names, Cells, rank_sign, bracketed, choice, name, name_tail, primary, unary, product, sum, comparison, conjunction, expr, parens, index, arguments, parts}
+use Rattle.rev_parse.specs.Statements.{block, actual, application, right_side, item, assigned, assignment, arm, else_part, else_parts, let_form, if_form, while_form, call_form, return_form, fork_form, join_form, print_form, assert_form, statement, statements, body}
+use Rattle.rev_parse.specs.Declarations.{kind, constant, cells, size, first_value, param, params, names, formal, head, meaning, fun_form, merge_form, variable, versioned_form, cumulative_form, proc_form, declaration, declarations, program, inner}
+use Rattle.rev_parse.proofs.Complete.{complete}
+use Rattle.rev_parse.proofs.Samples.{sample}
+
+-- a unary expression goes on with an index or arguments behind a name, the others end with a closing sign
+abbrev pub going_on : Inner → Sort → Bool
+going_on Operand k = is_same s.OpenBracket k || is_same s.OpenParen k
+going_on _ k = false
+
+module _ (bytes : List ℕ) where
+  rules_decided : (i : Inner) → is_decided alphabet going_on sorts (inner bytes i) ≡ true
+  unfolding rank_sign bracketed choice name name_tail primary unary product sum comparison conjunction expr parens index arguments parts block actual application right_side item assigned assignment arm else_part else_parts let_form if_form while_form call_form return_form fork_form join_form print_form assert_form statement statements body kind constant cells size first_value param params names formal head meaning fun_form merge_form variable versioned_form cumulative_form proc_form declaration declarations program inner
+  rules_decided Operand = refl
+  rules_decided Parens = refl
+  rules_decided Index = refl
+  rules_decided Arguments = refl
+  rules_decided Parts = refl
+  rules_decided Body = refl
+  rules_decided Params = refl
+  rules_decided Names = refl
+  rules_decided Cells = refl
+
+  rules_plain : (i : Inner) → is_plain alphabet going_on (inner bytes i) ≡ true
+  unfolding rank_sign bracketed choice name name_tail primary unary product sum comparison conjunction expr parens index arguments parts block actual application right_side item assigned assignment arm else_part else_parts let_form if_form while_form call_form return_form fork_form join_form print_form assert_form statement statements body kind constant cells size first_value param params names formal head meaning fun_form merge_form variable versioned_form cumulative_form proc_form declaration declarations program inner
+  rules_plain Operand = refl
+  rules_plain Parens = refl
+  rules_plain Index = refl
+  rules_plain Arguments = refl
+  rules_plain Parts = refl
+  rules_plain Body = refl
+  rules_plain Params = refl
+  rules_plain Names = refl
+  rules_plain Cells = refl
+
+  -- an inner rule goes on with no other kinds
+  extends_only : (i : Inner) → all_of (λ k. not (extends alphabet going_on (inner bytes i) k) || going_on i k) sorts ≡ true
+  unfolding rank_sign bracketed choice name name_tail primary unary product sum comparison conjunction expr parens index arguments parts block actual application right_side item assigned assignment arm else_part else_parts let_form if_form while_form call_form return_form fork_form join_form print_form assert_form statement statements body kind constant cells size first_value param params names formal head meaning fun_form merge_form variable versioned_form cumulative_form proc_form declaration declarations program inner
+  extends_only Operand = refl
+  extends_only Parens = refl
+  extends_only Index = refl
+  extends_only Arguments = refl
+  extends_only Parts = refl
+  extends_only Body = refl
+  extends_only Params = refl
+  extends_only Names = refl
+  extends_only Cells = refl
+
+  implied : (a b : Bool) → not a || b ≡ true → a ≡ true → b ≡ true
+  implied true b e h = e
+  implied false b e h = absurd cc
+
+  pub grammar_decided : Decided alphabet (inner bytes) going_on sorts
+  grammar_decided = record {
+    complete = complete;
+    sample = sample;
+    decided = rules_decided;
+    extended = λ i k h. implied (extends alphabet going_on (inner bytes i) k) (going_on i k) (complete (λ k. not (extends alphabet going_on (inner bytes i) k) || going_on i k) (extends_only i) k) h;
+    plain = rules_plain;
+  }
+
+  pub program_decided : is_decided alphabet going_on sorts (program bytes) ≡ true
+  unfolding rank_sign bracketed choice name name_tail primary unary product sum comparison conjunction expr parens index arguments parts block actual application right_side item assigned assignment arm else_part else_parts let_form if_form while_form call_form return_form fork_form join_form print_form assert_form statement statements body kind constant cells size first_value param params names formal head meaning fun_form merge_form variable versioned_form cumulative_form proc_form declaration declarations program inner
+  program_decided = refl

@@ -1,0 +1,14 @@
+use Rattle.std.proofs.Common.{◌≡◌, ◌-◌, [], map}
+use Rattle.rev_parse.specs.Declarations as spec
+use Rattle.rev_parse.specs.Lists.{more_of}
+use Rattle.rev_parse.specs.Pieces.{AreNatural}
+use Rattle.rev_syntax.specs.View as view
+use Rattle.rev_parse.proofs.declaration.declarations.Given as goal
+
+abbrev pub invariant-loop-turn : goal.invariant-loop-turn
+invariant-loop-turn l = record {
+  natural : AreNatural l.cursor.rest.now;
+  same :
+      more_of l.source.bytes.now l.levels (spec.declaration l.source.bytes.now) l._turn-end [] l.initial.cursor.rest.now
+      ≡ more_of l.source.bytes.now l.levels (spec.declaration l.source.bytes.now) (l._turn-end - l._turn) (map view.entry l.found.items) l.cursor.rest.now;
+}

@@ -1,0 +1,11 @@
+pub mod Sorts
+pub mod Source
+pub mod Reads
+pub mod Grammar
+pub mod Statements
+pub mod Declarations
+pub mod Parse
+pub mod Lists
+pub mod Parts
+pub mod Pieces
+pub mod Verdicts

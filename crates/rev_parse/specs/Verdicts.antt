@@ -1,0 +1,43 @@
+-- What the parser promises of a text's tokens.
+use Rattle.std.specs.Prelude.{◌≡◌, ℕ, List, [], ◌∷◌, length, drop, Result, Ok, Err, ⊤}
+use Rattle.rev_syntax.specs.Trees.{Whole}
+use Rattle.rev_syntax.specs.View.{program as view}
+use Rattle.rev_syntax.specs.declared.tree.Program.{Program}
+use Rattle.rev_syntax.specs.declared.token.Token.{Token}
+use Rattle.token_grammar.specs.First as first
+use Rattle.rev_parse.specs.Grammar.{alphabet}
+use Rattle.rev_parse.specs.Declarations.{inner, program}
+use Rattle.rev_parse.specs.declared.whole.SyntaxFault.{SyntaxFault}
+use Rattle.rev_parse.specs.declared.whole.SyntaxFault.TheVariants as f
+
+-- how many levels may be open at once
+abbrev pub most_levels : ℕ
+most_levels = 200
+
+-- The tokens are a program, no more levels are open at once than may be, and no other tree of any nesting is derived.
+abbrev pub IsProgram : List ℕ → List Token → Whole → Type 0
+IsProgram bytes ts p = first.IsOnly alphabet (inner bytes) (program bytes) most_levels ts p
+
+-- With the token of this number, or with the end behind the last, no program of any nesting goes on as the tokens do.
+-- Those before it begin a program and open no level too many.
+abbrev pub IsUnexpected : List ℕ → List Token → ℕ → Type 0
+IsUnexpected bytes ts n = first.IsUnexpected alphabet (inner bytes) (program bytes) most_levels ts n
+
+-- The token of this number is the first that opens a level too many, and with it the tokens begin a program still.
+abbrev pub IsTooDeep : List ℕ → List Token → ℕ → Type 0
+IsTooDeep bytes ts n = first.IsTooDeep alphabet (inner bytes) (program bytes) most_levels ts n
+
+-- where the first of these tokens stands, or the end of the text where there is none
+abbrev pub place_of : List ℕ → List Token → ℕ
+place_of bytes [] = length bytes
+place_of bytes (t ∷ ts) = t.start
+
+-- a fault of the token of some number, at its place
+abbrev pub At : (ℕ → Type 0) → List ℕ → List Token → ℕ → Type 0
+At IsFault bytes ts at = (n : ℕ) × IsFault n × (at ≡ place_of bytes (drop n ts))
+
+abbrev pub Parses : List ℕ → List Token → Result Program SyntaxFault → Type 0
+Parses bytes ts (Ok p) = IsProgram bytes ts (view p)
+Parses bytes ts (Err (f.Unexpected at)) = At (IsUnexpected bytes ts) bytes ts at
+Parses bytes ts (Err (f.TooDeep at)) = At (IsTooDeep bytes ts) bytes ts at
+Parses bytes ts (Err f.OutOfMemory) = ⊤

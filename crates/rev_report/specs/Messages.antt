@@ -1,0 +1,32 @@
+-- What is written of a refusal.
+use Rattle.std.specs.Prelude.{ℕ, List, [], ◌∷◌, ◌++◌, codes, Result, Ok, Err}
+use Rattle.rev_report.specs.Status.{read_fault_status, refused_status, usage_status}
+use Rattle.rev_report.specs.Lines.{line_feed}
+use Rattle.rev_report.specs.Report.{Output}
+use Rattle.rev_report.specs.declared.refusal.Refusal.{Refusal}
+use Rattle.rev_report.specs.declared.refusal.Refusal.TheVariants as refusals
+
+abbrev pub message : Refusal → List ℕ
+message refusals.Usage = codes "usage: revise MODE [options] [numbers]"
+message refusals.ReadFault = codes "error: read fault"
+message refusals.TooLong = codes "error: source too long"
+message refusals.NotBuilt = codes "error: not built yet"
+
+abbrev pub status_of : Refusal → ℕ
+status_of refusals.Usage = usage_status
+status_of refusals.ReadFault = read_fault_status
+status_of refusals.TooLong = refused_status
+status_of refusals.NotBuilt = refused_status
+
+-- the message and a line feed on standard error
+abbrev pub refused : Refusal → Output
+refused f = record { out = []; err = message f ++ line_feed ∷ []; status = status_of f }
+
+-- what is written of an answer: of an output itself, or of a refusal
+abbrev pub shown : Result Output Refusal → Output
+shown (Ok o) = o
+shown (Err f) = refused f
+
+-- the message for want of memory
+abbrev pub no_memory : List ℕ
+no_memory = codes "error: out of memory" ++ line_feed ∷ []

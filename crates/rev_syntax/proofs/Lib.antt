@@ -1,0 +1,6 @@
+pub mod Lists
+pub mod PieceKinds
+pub mod Exact
+pub mod Reading
+pub mod Unique
+pub mod Spans

@@ -1,0 +1,5 @@
+use Rattle.rev_syntax.proofs.Unique.{one-list}
+use Rattle.rev_syntax.proofs.laws.one_list.Goals as goal
+
+pub returns : goal.returns
+returns c = one-list

@@ -1,0 +1,128 @@
+//! Worked cases, each with its tokens or its first fault.
+
+use crate::lex::tokens;
+use crate::place::line_column;
+use crate::scan::LexFault;
+use crate::token::{SIGNS, Token, TokenKind, WORDS};
+use std::alloc::Global;
+use std::test::Fail;
+
+fn read(alloc: Global, source: &[u8]) -> Result<Vec<Token>, LexFault> {
+    if source.len() < 1000 {
+        tokens(alloc, source)
+    } else {
+        Err(LexFault::OutOfMemory)
+    }
+}
+
+const fn token(kind: TokenKind, start: u32, end: u32) -> Token {
+    Token { kind, start, end }
+}
+
+#[test]
+fn reads_each_word_and_sign(rt: HostRuntime) -> Result<(), Fail> {
+    let words =
+        b"fun merge versioned cumulative by proc main int bool rev let if else while call return rfork rjoin tryjoin print assert true false none input inputs pick";
+    let found = read(rt.alloc(), words)?;
+    assert_eq!(rt; found.len(), WORDS.len());
+    for (token, kind) in found.iter().zip(WORDS) {
+        assert_eq!(rt; token.kind, kind, "at {token:?}");
+    }
+    let signs = b"== != <= >= && || ( ) { } [ ] , ; : = + - * / % ! < >";
+    let found = read(rt.alloc(), signs)?;
+    assert_eq!(rt; found.len(), SIGNS.len());
+    for (token, kind) in found.iter().zip(SIGNS) {
+        assert_eq!(rt; token.kind, kind, "at {token:?}");
+    }
+    Ok(())
+}
+
+#[test]
+fn reads_the_longest_piece(rt: HostRuntime) -> Result<(), Fail> {
+    let cases: [(&[u8], &[Token]); 12] = [
+        (b"", &[]),
+        (b"forx", &[token(TokenKind::Name, 0, 4)]),
+        (b"rjoin", &[token(TokenKind::Join, 0, 5)]),
+        (b"_r2", &[token(TokenKind::Name, 0, 3)]),
+        (
+            b"<==",
+            &[
+                token(TokenKind::LessEqual, 0, 2),
+                token(TokenKind::Assign, 2, 3),
+            ],
+        ),
+        (
+            b"===",
+            &[
+                token(TokenKind::Equal, 0, 2),
+                token(TokenKind::Assign, 2, 3),
+            ],
+        ),
+        (
+            b"&&||",
+            &[token(TokenKind::And, 0, 2), token(TokenKind::Or, 2, 4)],
+        ),
+        (
+            b"007 9223372036854775807",
+            &[
+                token(TokenKind::Int(7), 0, 3),
+                token(TokenKind::Int(9223372036854775807), 4, 23),
+            ],
+        ),
+        (
+            b"\"a\\b\"x",
+            &[token(TokenKind::Text, 0, 5), token(TokenKind::Name, 5, 6)],
+        ),
+        (
+            b"x// \x80\xff \"&\n\ty",
+            &[token(TokenKind::Name, 0, 1), token(TokenKind::Name, 11, 12)],
+        ),
+        (
+            b"/ /\r\n//",
+            &[token(TokenKind::Slash, 0, 1), token(TokenKind::Slash, 2, 3)],
+        ),
+        (
+            b"-12",
+            &[
+                token(TokenKind::Minus, 0, 1),
+                token(TokenKind::Int(12), 1, 3),
+            ],
+        ),
+    ];
+    for (source, want) in cases {
+        let found = read(rt.alloc(), source)?;
+        assert_eq!(rt; found.as_slice(), want, "of {source:?}");
+    }
+    Ok(())
+}
+
+#[test]
+fn reads_the_first_fault(rt: HostRuntime) {
+    let cases: [(&[u8], LexFault); 12] = [
+        (b"a &b", LexFault::BadByte { at: 2 }),
+        (b"&&&", LexFault::BadByte { at: 2 }),
+        (b"|", LexFault::BadByte { at: 0 }),
+        (b"a\x0cb", LexFault::BadByte { at: 1 }),
+        (b"1\xff", LexFault::BadByte { at: 1 }),
+        (b"\x80", LexFault::BadByte { at: 0 }),
+        (b" 12ab", LexFault::BadNumber { at: 1 }),
+        (b"12_", LexFault::BadNumber { at: 0 }),
+        (b"9223372036854775808", LexFault::BadNumber { at: 0 }),
+        (b"x \"ab", LexFault::OpenText { at: 2 }),
+        (b"\"ab\n\" &", LexFault::OpenText { at: 0 }),
+        (b"\"\x7f\"", LexFault::OpenText { at: 0 }),
+    ];
+    for (source, want) in cases {
+        assert_eq!(rt; read(rt.alloc(), source).err(), Some(want), "of {source:?}");
+    }
+}
+
+#[test]
+fn counts_lines_and_columns(rt: HostRuntime) {
+    let text = b"ab\n\ncd\r\n";
+    assert_eq!(rt; line_column(text, 0), (1, 1));
+    assert_eq!(rt; line_column(text, 2), (1, 3));
+    assert_eq!(rt; line_column(text, 3), (2, 1));
+    assert_eq!(rt; line_column(text, 7), (3, 4));
+    assert_eq!(rt; line_column(text, 8), (4, 1));
+}

@@ -1,0 +1,5 @@
+use Rattle.rev_top.proofs.Causes.{one_answer_to}
+use Rattle.rev_top.proofs.law.one_answer.Goals as goal
+
+pub returns : goal.returns
+returns c = one_answer_to

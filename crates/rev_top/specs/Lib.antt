@@ -1,0 +1,4 @@
+pub mod Answer
+pub mod Stops
+pub mod Delivery
+pub mod Promises

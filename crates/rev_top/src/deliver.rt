@@ -1,0 +1,59 @@
+//! Writing the report: out bytes first, then err bytes.
+ghost use Rattle.std.specs.Prelude.{◌≡◌, map};
+ghost use Rattle.std.specs.String.{string_bytes};
+ghost use Rattle.rev_io.specs.Stream.{TookSome};
+ghost use Rattle.rev_words.specs.Reading.{reading};
+ghost use Rattle.rev_report.specs.Report.{output};
+ghost use Rattle.rev_report.specs.Messages.{no_memory};
+ghost use Rattle.rev_report.specs.Status.{no_memory_status};
+ghost use Rattle.rev_top.specs.Answer.{Touches};
+ghost use Rattle.rev_top.specs.Delivery.{Delivered, Happened};
+
+use crate::answer::make_report;
+use rev_io::{Sink, SinkFault, Source, write_all};
+use rev_report::{Report, no_memory_message, status};
+use std::alloc::Global;
+
+/// Writes the message for want of memory, as far as `err` takes it.
+fn tell_want<E: Sink>(err: &mut E) -> u8
+    ensures status { result ≡ no_memory_status }
+    ensures some { TookSome (E.stream err.old) no_memory (E.stream err.new) }
+{
+    let _ = write_all(err, no_memory_message());
+    status::NO_MEMORY
+}
+
+fn deliver<O: Sink, E: Sink>(out: &mut O, err: &mut E, report: &Report) -> u8
+    ensures { Delivered (output report.now) (O.stream out.old) (O.stream out.new)
+        (E.stream err.old) (E.stream err.new) result }
+{
+    match write_all(out, report.out.as_slice()) {
+        Err(SinkFault::Failed) => status::WRITE_FAULT,
+        Err(SinkFault::OutOfMemory) => tell_want(err),
+        Ok(()) => match write_all(err, report.err.as_slice()) {
+            Err(SinkFault::Failed) => status::WRITE_FAULT,
+            Err(SinkFault::OutOfMemory) => status::NO_MEMORY,
+            Ok(()) => report.status,
+        },
+    }
+}
+
+/// Makes the report and writes it.
+pub fn happen<S: Source, O: Sink, E: Sink>(
+    alloc: Global,
+    words: &[String],
+    source: &mut S,
+    out: &mut O,
+    err: &mut E,
+) -> u8
+    ensures happened { Happened (reading (map string_bytes words.now))
+        (S.stream source.old) (S.stream source.new) (O.stream out.old) (O.stream out.new)
+        (E.stream err.old) (E.stream err.new) result }
+    ensures touches { Touches (reading (map string_bytes words.now))
+        (S.stream source.old) (S.stream source.new) }
+{
+    match make_report(alloc, words, source) {
+        Ok(report) => deliver(out, err, &report),
+        Err(_) => tell_want(err),
+    }
+}

@@ -1,0 +1,46 @@
+//! The top call: from the words and the source to the bytes on both outputs and the status.
+#![tactic(auto)]
+
+ghost use Rattle.std.specs.Prelude.{map};
+ghost use Rattle.std.specs.String.{string_bytes};
+ghost use Rattle.rev_words.specs.Reading.{reading};
+ghost use Rattle.rev_top.specs.Promises.{Keeps};
+
+mod answer;
+mod deliver;
+mod law;
+mod stop;
+#[cfg(test)]
+mod tests;
+
+use deliver::happen;
+pub use law::one_answer;
+use rev_io::{Sink, Source};
+
+/// One call of the program, with the words that follow its name. It writes the bytes of the report
+/// on `out`, then those on `err`, and answers the status.
+///
+/// | Status | Meaning |
+/// |---|---|
+/// | 0 | done |
+/// | 2 | the text is too long, or is not one that runs yet |
+/// | 4 | the words have no reading |
+/// | 5 | the source failed |
+/// | 6 | a sink failed |
+/// | 7 | memory ran out |
+///
+/// Words come before the source, a read fault before the length, and the length before the text.
+/// A sink that fails, and want of memory, can come in place of each of them.
+pub fn rev_main<R: AllocGlobal, S: Source, O: Sink, E: Sink>(
+    rt: &R,
+    words: &[String],
+    source: &mut S,
+    out: &mut O,
+    err: &mut E,
+) -> u8
+    ensures { Keeps (reading (map string_bytes words.now))
+        (S.stream source.old) (S.stream source.new) (O.stream out.old) (O.stream out.new)
+        (E.stream err.old) (E.stream err.new) result }
+{
+    happen(rt.alloc(), words, source, out, err)
+}

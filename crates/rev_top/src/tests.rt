@@ -1,0 +1,140 @@
+// Whole calls: the words and the source, and then both outputs and the status.
+use super::*;
+use rev_io::{CalmSink, CalmSource, MemSink, MemSource};
+use std::alloc::AllocError;
+use std::test::Fail;
+
+const SEVEN: &str = "main { print 7; }";
+
+const USAGE: &str = "usage: revise MODE [options] [numbers]\n";
+
+/// The words of a line.
+fn words_of(rt: &HostRuntime, line: &str) -> Result<Vec<String>, AllocError> {
+    let mut words = Vec::new(rt.alloc());
+    for word in line.split_whitespace() {
+        words.push(String::from_str(rt.alloc(), word)?)?;
+    }
+    Ok(words)
+}
+
+/// Whether the call answers this: bytes of both outputs and the status.
+fn answers<S: Source>(
+    rt: &HostRuntime,
+    line: &str,
+    source: &mut S,
+    want: (&str, &str, u8),
+) -> Result<bool, AllocError> {
+    let words = words_of(rt, line)?;
+    let mut out = CalmSink::new(rt.alloc());
+    let mut err = CalmSink::new(rt.alloc());
+    let status = rev_main(rt, words.as_slice(), source, &mut out, &mut err);
+    let written = out.bytes() == want.0.as_bytes() && err.bytes() == want.1.as_bytes();
+    Ok(written && status == want.2)
+}
+
+/// A source over the text with so many spaces behind it.
+fn source_over(rt: &HostRuntime, text: &str, spaces: usize) -> Result<CalmSource, AllocError> {
+    let mut bytes = Vec::from_slice(rt.alloc(), text.as_bytes())?;
+    for _ in 0..spaces {
+        bytes.push(b' ')?;
+    }
+    Ok(CalmSource::new(bytes))
+}
+
+#[test]
+fn texts(rt: HostRuntime) -> Result<(), Fail> {
+    let too_long = ("", "error: source too long\n", 2);
+    let not_built = ("", "error: not built yet\n", 2);
+    let wants = [
+        ("run", SEVEN, 0, ("7\n", "", 0)),
+        ("run", SEVEN, 1_048_559, ("7\n", "", 0)),
+        ("run", SEVEN, 1_048_560, too_long),
+        ("run", "main { print 1 + 1; }", 0, not_built),
+        ("run", "", 0, not_built),
+        (
+            "run",
+            "main { print 1, 2; print 3; }\n",
+            0,
+            ("1 2\n3\n", "", 0),
+        ),
+        ("run --fuel=7 3 --values -- -4", SEVEN, 0, ("7\n", "", 0)),
+        ("run --schedule 0,1 --workers 64", SEVEN, 0, ("7\n", "", 0)),
+    ];
+    for (line, text, spaces, want) in wants {
+        let mut source = source_over(&rt, text, spaces)?;
+        assert!(rt;
+            answers(&rt, line, &mut source, want)?,
+            "{line}: {text}, {spaces} spaces"
+        );
+    }
+    Ok(())
+}
+
+#[test]
+fn usage_reads_nothing(rt: HostRuntime) -> Result<(), Fail> {
+    let lines = [
+        "",
+        "walk",
+        "run --workers 0",
+        "run x",
+        "run --fuel",
+        "run --values --values",
+        "--help",
+    ];
+    for line in lines {
+        let bytes = Vec::from_slice(rt.alloc(), SEVEN.as_bytes())?;
+        let mut source = MemSource::new(bytes, 4, vec![in rt.alloc(); 0]?);
+        assert!(rt; answers(&rt, line, &mut source, ("", USAGE, 4))?, "{line}");
+        // The call that fails is still to come.
+        assert!(rt; source.read(&mut [0; 4]).is_err(), "{line}");
+    }
+    Ok(())
+}
+
+#[test]
+fn read_faults(rt: HostRuntime) -> Result<(), Fail> {
+    for call in 0..6u64 {
+        let bytes = Vec::from_slice(rt.alloc(), SEVEN.as_bytes())?;
+        let mut source = MemSource::new(bytes, 4, vec![in rt.alloc(); call]?);
+        let want = ("", "error: read fault\n", 5);
+        assert!(rt; answers(&rt, "run", &mut source, want)?, "call {call}");
+    }
+    Ok(())
+}
+
+#[test]
+fn write_faults(rt: HostRuntime) -> Result<(), Fail> {
+    let number = "main { print 12345; }";
+    let sum = "main { print 1 + 1; }";
+    let wants = [
+        (number, 3, 1, "123", "", 6),
+        (number, 1, 0, "", "", 6),
+        (number, 1, 1, "1", "", 6),
+        (number, 1, 2, "12", "", 6),
+        (number, 1, 3, "123", "", 6),
+        (number, 1, 4, "1234", "", 6),
+        (number, 1, 5, "12345", "", 6),
+        (number, 1, 6, "12345\n", "", 0),
+        (sum, 5, 0, "", "", 6),
+        (sum, 5, 2, "", "error: not", 6),
+        (sum, 5, 5, "", "error: not built yet\n", 2),
+    ];
+    let words = words_of(&rt, "run")?;
+    for (text, step, call, held_out, held_err, want) in wants {
+        let mut source = source_over(&rt, text, 0)?;
+        let step: usize = step;
+        let mut out = MemSink::new(rt.alloc(), step.max(1), vec![in rt.alloc(); call]?);
+        let mut err = MemSink::new(rt.alloc(), step.max(1), vec![in rt.alloc(); call]?);
+        let status = rev_main(&rt, words.as_slice(), &mut source, &mut out, &mut err);
+        assert!(rt; status == want, "{text}: step {step}, call {call}");
+        assert!(rt;
+            out.bytes() == held_out.as_bytes(),
+            "{text}: step {step}, call {call}"
+        );
+        assert!(rt;
+            err.bytes() == held_err.as_bytes(),
+            "{text}: step {step}, call {call}"
+        );
+    }
+    Ok(())
+}

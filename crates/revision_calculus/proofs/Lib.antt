@@ -1,0 +1,10 @@
+pub mod Played
+pub mod Values
+pub mod Handles
+pub mod Moves
+pub mod Events
+pub mod Joining
+pub mod Meets
+pub mod EveryRun
+pub mod Outcomes
+pub mod Shapes

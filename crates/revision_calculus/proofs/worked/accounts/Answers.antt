@@ -1,0 +1,17 @@
+use Rattle.std.specs.Prelude.{[], ◌∷◌}
+use Rattle.std.specs.Fmt.{digits}
+use Rattle.std.proofs.Common.{refl}
+use Rattle.revision_calculus.specs.Examples as x
+use Rattle.revision_calculus.specs.Examples.{given, sharing, usual, usual_fuel}
+use Rattle.revision_calculus.proofs.EveryRun.{always_tells, run_latest}
+use Rattle.revision_calculus.proofs.worked.accounts.Goals as goal
+
+pub returns : goal.returns
+unfolding digits
+returns c = record {
+  child_fuel = always_tells (sharing 10 x.sums) 100 (0 ∷ []) (λ l. l.fuel) (run_latest 100 (sharing 10 x.sums) 100) _ refl;
+  main_fuel = always_tells (sharing 10 x.sums) 100 [] (λ l. l.fuel) (run_latest 100 (sharing 10 x.sums) 100) _ refl;
+  main_lists = always_tells (sharing 10 x.sums) 100 [] (λ l. l.noted) (run_latest 100 (sharing 10 x.sums) 100) _ refl;
+  child_writes = always_tells (sharing 10 x.sums) 100 (0 ∷ []) (λ l. l.slots) (run_latest 100 (sharing 10 x.sums) 100) _ refl;
+  main_writes = always_tells (sharing 10 x.sums) 100 [] (λ l. l.slots) (run_latest 100 (sharing 10 x.sums) 100) _ refl;
+}

@@ -1,0 +1,29 @@
+-- The calculus: the machine of revisions of a program, from its start.
+use Rattle.std.specs.Prelude.{ℕ, List, [], ◌∷◌, ◌++◌, replicate, None}
+use Rattle.rev_num.specs.declared.value.Value.{Value}
+use Rattle.revision_machine.specs.Machine.{Machine}
+use Rattle.revision_calculus.specs.Program.{SharedVariable, variables, Setting}
+use Rattle.revision_calculus.specs.State.{fresh, running, Local}
+use Rattle.revision_calculus.specs.Step.{next}
+use Rattle.revision_calculus.specs.Join.{join}
+
+-- the start value of each location
+abbrev pub start_values : List SharedVariable → List Value
+start_values [] = []
+start_values (x ∷ xs) = replicate x.cells x.first ++ start_values xs
+
+-- `main` with this fuel, before its first statement
+abbrev pub main : Setting → ℕ → Local
+main s fuel = record {
+  slots = fresh (start_values (variables s.program));
+  frames = record { locals = []; rest = s.program.main; left = None } ∷ [];
+  fuel = fuel;
+  forks = 0;
+  noted = [];
+  text = [];
+  line = 0;
+  phase = running;
+}
+
+abbrev pub calculus : Setting → Machine
+calculus s = record { Local = Local; next = next s; forks = λ l. l.forks; join = join s }

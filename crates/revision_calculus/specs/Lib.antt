@@ -1,0 +1,13 @@
+pub mod Program
+pub mod State
+pub mod Evaluation
+pub mod Step
+pub mod Join
+pub mod Calculus
+pub mod Outcome
+pub mod Report
+pub mod Held
+pub mod Kept
+pub mod Complete
+pub mod Words
+pub mod Examples

@@ -1,0 +1,182 @@
+-- The finitely many revisions of a state, and what they have together.
+use Rattle.std.proofs.Common.{◌≡◌, ◌≢◌, ◌⊎◌, inl, inr, ℕ, ◌+◌, ◌*◌, ◌≤◌, length, List, [], ◌∷◌, Some, None, refl, sym, ap, ◌∙◌, subst, arith}
+use Rattle.rev_num.specs.Path.{Path}
+use Rattle.revision_machine.specs.PathMap.{PathMap, with_at}
+use Rattle.revision_machine.specs.Machine.{Ended, Machine, Entry, Plain, Global, Twice, Live, nowhere, Revisions, start, step, Runs}
+use Rattle.revision_machine.specs.Conditions.{Counts, Spends}
+use Rattle.revision_machine.specs.Laws.{WellForked, IsIn, IsDistinct, amount, total, Census, Amounts, SpendingLaw, BoundLaw}
+use Rattle.revision_machine.proofs.Paths.{child-apart, at_here, at_other, decide_same}
+use Rattle.revision_machine.proofs.Way.{put_two, Role, Way, writes, twice, way, Place, own, new, marks, place, going, ended_apart}
+use Rattle.revision_machine.proofs.Diamond.{two_here, two_there, two_other, gone, IsFresh}
+use Rattle.revision_machine.proofs.Forker.{fresh_of, keeps_forked, start_forked}
+
+module _ {L : Type 0} (of : L → ℕ) where
+  total-elsewhere : (revs : PathMap (Entry L)) (r : Path) (e : Entry L) (ps : List Path) → (IsIn r ps → ⊥) → total of (with_at revs r e) ps ≡ total of revs ps
+  total-elsewhere revs r e [] out = refl
+  total-elsewhere revs r e (p ∷ ps) out =
+      let h : amount of (with_at revs r e p) ≡ amount of (revs p) = ap (amount of) (at_other revs r e p (λ v. out (inl v))) in
+      let t = total-elsewhere revs r e ps (λ v. out (inr v)) in
+      omega arith
+
+  total-at : (revs : PathMap (Entry L)) (r : Path) (e : Entry L) (ps : List Path) → IsDistinct ps → IsIn r ps → total of (with_at revs r e) ps + amount of (revs r) ≡ total of revs ps + amount of (Some e)
+  total-at revs r e [] distinct none = absurd none
+  total-at revs r e (p ∷ ps) distinct (inl is) =
+      let h : amount of (with_at revs r e p) ≡ amount of (Some e) = ap (λ v. amount of (with_at revs r e v)) (sym is) ∙ ap (amount of) (at_here revs r e) in
+      let p' : amount of (revs r) ≡ amount of (revs p) = ap (λ v. amount of (revs v)) is in
+      let t = total-elsewhere revs r e ps (λ v. distinct.0 (subst (λ w. IsIn w ps) is v)) in
+      omega arith
+  total-at revs r e (p ∷ ps) distinct (inr is) =
+      let apart : r ≢ p = λ v. distinct.0 (subst (λ w. IsIn w ps) v is) in
+      let h : amount of (with_at revs r e p) ≡ amount of (revs p) = ap (amount of) (at_other revs r e p apart) in
+      let t = total-at revs r e ps distinct.1 is in
+      omega arith
+
+  pub at_most : (revs : PathMap (Entry L)) (ps : List Path) (r : Path) → IsIn r ps → amount of (revs r) ≤ total of revs ps
+  at_most revs [] r none = absurd none
+  at_most revs (p ∷ ps) r (inl is) = let h : amount of (revs r) ≡ amount of (revs p) = ap (λ v. amount of (revs v)) is in omega arith
+  at_most revs (p ∷ ps) r (inr is) = let h = at_most revs ps r is in omega arith
+
+module _ (M : Machine) where
+  census_after : {A : Type 0} (revs : PathMap A) (s o : Path) (a b : A) (ps : List Path) → Census revs ps → IsIn s ps → IsIn o ps → Census (put_two revs s a o b) ps
+  census_after {A} revs s o a b ps c is io = record { each = each'; all = all'; distinct = c.distinct }
+    where
+      each' : (p : Path) → IsIn p ps → (e : A) × (put_two revs s a o b p ≡ Some e)
+      each' p i = go (decide_same s p) (decide_same o p)
+        where
+          go : (s ≡ p) ⊎ (s ≢ p) → (o ≡ p) ⊎ (o ≢ p) → (e : A) × (put_two revs s a o b p ≡ Some e)
+          go (inl u) v = (a, ap (put_two revs s a o b) (sym u) ∙ two_here revs s o a b)
+          go (inr u) (inl v) = (b, ap (put_two revs s a o b) (sym v) ∙ two_there revs s o a b (λ w. u (w ∙ v)))
+          go (inr u) (inr v) = let was = c.each p i in (was.0, two_other revs s o a b p u v ∙ was.1)
+
+      all' : (p : Path) (e : A) → put_two revs s a o b p ≡ Some e → IsIn p ps
+      all' p e there = go (decide_same s p) (decide_same o p)
+        where
+          go : (s ≡ p) ⊎ (s ≢ p) → (o ≡ p) ⊎ (o ≢ p) → IsIn p ps
+          go (inl u) v = subst (λ w. IsIn w ps) u is
+          go (inr u) (inl v) = subst (λ w. IsIn w ps) v io
+          go (inr u) (inr v) = c.all p e (sym (two_other revs s o a b p u v) ∙ there)
+
+  census_more : {A : Type 0} (revs : PathMap A) (s o : Path) (a b : A) (ps : List Path) → Census revs ps → IsIn s ps → s ≢ o → (IsIn o ps → ⊥) → Census (put_two revs s a o b) (o ∷ ps)
+  census_more {A} revs s o a b ps c is apart out = record { each = each'; all = all'; distinct = (out, c.distinct) }
+    where
+      each' : (p : Path) → IsIn p (o ∷ ps) → (e : A) × (put_two revs s a o b p ≡ Some e)
+      each' p i = go i (decide_same s p) (decide_same o p)
+        where
+          go : IsIn p (o ∷ ps) → (s ≡ p) ⊎ (s ≢ p) → (o ≡ p) ⊎ (o ≢ p) → (e : A) × (put_two revs s a o b p ≡ Some e)
+          go i (inl u) v = (a, ap (put_two revs s a o b) (sym u) ∙ two_here revs s o a b)
+          go i (inr u) (inl v) = (b, ap (put_two revs s a o b) (sym v) ∙ two_there revs s o a b apart)
+          go (inl i) (inr u) (inr v) = absurd (v (sym i))
+          go (inr i) (inr u) (inr v) = let was = c.each p i in (was.0, two_other revs s o a b p u v ∙ was.1)
+
+      all' : (p : Path) (e : A) → put_two revs s a o b p ≡ Some e → IsIn p (o ∷ ps)
+      all' p e there = go (decide_same s p) (decide_same o p)
+        where
+          go : (s ≡ p) ⊎ (s ≢ p) → (o ≡ p) ⊎ (o ≢ p) → IsIn p (o ∷ ps)
+          go (inl u) v = inr (subst (λ w. IsIn w ps) u is)
+          go (inr u) (inl v) = inl (sym v)
+          go (inr u) (inr v) = inr (c.all p e (sym (two_other revs s o a b p u v) ∙ there))
+
+  -- what is left after a step
+  Left : ℕ → (M.Local → ℕ) → Global M.Local → ℕ → Type 0
+  Left cost of h n = (m : ℕ) × Amounts M of h m × (m + cost ≤ n)
+
+  spend_step : (cost : ℕ) (of : M.Local → ℕ) → Spends M cost of → (revs : Revisions M) → IsFresh M revs → (n : ℕ) → Amounts M of (Live revs) n → (s : Path) (l l' : M.Local) (o : Path) (e : Entry M.Local) → revs s ≡ Some (Plain l) → Role M revs s l l' o e → Left cost of (Live (put_two revs s (Plain l') o e)) n
+  unfolding Left
+  spend_step cost of spends revs fresh n has s l l' o e here x = go (place M x)
+    where
+      ps : List Path
+      ps = has.0
+
+      c : Census revs ps
+      c = has.1
+
+      was : total of revs ps ≡ n
+      was = has.2
+
+      at_s : amount of (revs s) ≡ of l
+      at_s = ap (amount of) here
+
+      is : IsIn s ps
+      is = c.all s (Plain l) here
+
+      mid : Revisions M
+      mid = with_at revs o e
+
+      go : Place M revs s l l' o e → Left cost of (Live (put_two revs s (Plain l') o e)) n
+      go (own does a ee) =
+          let io : IsIn o ps = subst (λ v. IsIn v ps) (sym a) is in
+          let one = total-at of revs o e ps c.distinct io in
+          let two = total-at of mid s (Plain l') ps c.distinct is in
+          let amount_o : amount of (revs o) ≡ of l = ap (λ v. amount of (revs v)) a ∙ at_s in
+          let amount_e : amount of (Some e) ≡ of l' = ap (λ v. amount of (Some v)) ee in
+          let amount_s : amount of (mid s) ≡ of l' = ap (λ v. amount of (mid v)) (sym a) ∙ ap (amount of) (at_here revs o e) ∙ amount_e in
+          let law = spends.moves s l l' does in
+          (total of (put_two revs s (Plain l') o e) ps, (ps, census_after revs s o (Plain l') e ps c is io, refl), omega (arith, was))
+      go (marks lq does there ended jl ee) =
+          let io : IsIn o ps = c.all o (Plain lq) there in
+          let on : M.next s l ≢ Ended = going M x in
+          let apart : o ≢ s = λ v. ended_apart M revs s o l lq here on there ended (sym v) in
+          let one = total-at of revs o e ps c.distinct io in
+          let two = total-at of mid s (Plain l') ps c.distinct is in
+          let amount_o : amount of (revs o) ≡ of lq = ap (amount of) there in
+          let amount_e : amount of (Some e) ≡ 0 = ap (λ v. amount of (Some v)) ee in
+          let amount_s : amount of (mid s) ≡ of l = ap (amount of) (at_other revs o e s apart) ∙ at_s in
+          let law : of l' + cost ≤ of l + of lq = subst (λ v. of v + cost ≤ of l + of lq) (sym jl) (spends.joins s o l lq does ended) in
+          (total of (put_two revs s (Plain l') o e) ps, (ps, census_after revs s o (Plain l') e ps c is io, refl), omega (arith, was))
+      go (new k does a ee) =
+          let apart : o ≢ s = λ v. child-apart s (M.forks l) (sym (sym a ∙ v)) in
+          let out : IsIn o ps → ⊥ = λ v. let had = c.each o v in gone M revs o (ap revs a ∙ fresh s l here) had.1 in
+          let one = total-elsewhere of revs o e ps out in
+          let two = total-at of mid s (Plain l') ps c.distinct is in
+          let amount_e : amount of (Some e) ≡ of k = ap (λ v. amount of (Some v)) ee in
+          let amount_o : amount of (put_two revs s (Plain l') o e o) ≡ of k = ap (amount of) (two_there revs s o (Plain l') e (λ v. apart (sym v))) ∙ amount_e in
+          let amount_s : amount of (mid s) ≡ of l = ap (amount of) (at_other revs o e s apart) ∙ at_s in
+          let law = spends.forks s l l' k does in
+          (total of (put_two revs s (Plain l') o e) (o ∷ ps), (o ∷ ps, census_more revs s o (Plain l') e ps c is (λ v. apart (sym v)) out, refl), omega (arith, was))
+
+  census_of_start : (main : M.Local) → Census {A = Entry M.Local} (with_at nowhere [] (Plain main)) ([] ∷ [])
+  census_of_start main = record { each = each'; all = all'; distinct = (λ v. v, tt) }
+    where
+      each' : (p : Path) → IsIn p ([] ∷ []) → (e : Entry M.Local) × (with_at nowhere [] (Plain main) p ≡ Some e)
+      each' p (inl i) = (Plain main, ap (with_at nowhere [] (Plain main)) i)
+      each' p (inr i) = absurd i
+
+      all' : (p : Path) (e : Entry M.Local) → with_at nowhere [] (Plain main) p ≡ Some e → IsIn p ([] ∷ [])
+      all' [] e there = inl refl
+      all' (x ∷ p) e there = absurd cc
+
+  spend : (cost : ℕ) (of : M.Local → ℕ) → Spends M cost of → (g h : Global M.Local) (r : Path) → WellForked M g → step M g r ≡ Some h → (n : ℕ) → Amounts M of g n → Left cost of h n
+  unfolding Left
+  spend cost of spends Twice h r good s n has = none_some s
+    where
+      none_some : {P : Type 0} → None ≡ Some h → P
+      none_some e = absurd cc
+  spend cost of spends (Live revs) h r good s n has = by h (way M revs r h s)
+    where
+      by : (h : Global M.Local) → Way M revs r h → Left cost of h n
+      by h (writes l l' o e here x) = spend_step cost of spends revs (fresh_of M revs good) n has r l l' o e here x
+      by h (twice l q lq here does there) =
+          let low = at_most of revs has.0 r (has.1.all r (Plain l) here) in
+          let here' : amount of (revs r) ≡ of l = ap (amount of) here in
+          let law = spends.wants r q l does in
+          let sum = has.2 in
+          (0, refl, omega arith)
+
+  pub runs_spend : (cost : ℕ) (of : M.Local → ℕ) → Counts M → Spends M cost of → (rs : List Path) (g h : Global M.Local) → WellForked M g → Runs M g rs h → (n : ℕ) → Amounts M of g n → (m : ℕ) × Amounts M of h m × (m + length rs * cost ≤ n)
+  unfolding Left
+  runs_spend cost of counts spends [] g h good runs n has = (n, subst (λ v. Amounts M of v n) runs has, omega arith)
+  runs_spend cost of counts spends (r ∷ rs) g h good runs n has =
+      let one = spend cost of spends g runs.0 r good runs.1 n has in
+      let rest = runs_spend cost of counts spends rs runs.0 h (keeps_forked M counts g runs.0 r good runs.1) runs.2 one.0 one.1 in
+      let used = one.2 in
+      let later = rest.2 in
+      (rest.0, rest.1, omega arith)
+
+  pub spending_law : (main : M.Local) (cost : ℕ) (of : M.Local → ℕ) → Counts M → Spends M cost of → SpendingLaw M main cost of
+  spending_law main cost of counts spends g rs runs = runs_spend cost of counts spends rs (start M main) g (start_forked M main) runs (of main) ([] ∷ [], census_of_start main, omega arith)
+
+  pub no_cost : Spends M 0 (λ l. 0)
+  no_cost = record { moves = λ r l l' e. omega arith; forks = λ r l l' c e. omega arith; wants = λ r q l e. omega arith; joins = λ r q l lq e f. omega arith }
+
+  pub bound_law : (main : M.Local) (of : M.Local → ℕ) → Counts M → Spends M 1 of → BoundLaw M main (of main)
+  bound_law main of counts spends g rs runs = let law = (spending_law main 1 of counts spends g rs runs).2 in omega arith

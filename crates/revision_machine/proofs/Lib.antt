@@ -1,0 +1,17 @@
+pub mod Paths
+pub mod Way
+pub mod Diamond
+pub mod Forker
+pub mod Ends
+pub mod PostOrder
+pub mod Order
+pub mod Census
+pub mod Totals
+pub mod Blocked
+pub mod Bearing
+pub mod Lift
+pub mod Kept
+pub mod Completion
+pub mod Converse
+pub mod Numbers
+pub mod Schedules

@@ -1,0 +1,4 @@
+pub mod Cells
+pub mod SameLemmas
+pub mod Renames
+pub mod NumberedLemmas

@@ -1,0 +1,10 @@
+pub mod Setting
+pub mod Tiny
+pub mod Machines
+pub mod Held
+pub mod Kept
+pub mod Meets
+pub mod Shown
+pub mod Same
+pub mod Examples
+pub mod Renamed

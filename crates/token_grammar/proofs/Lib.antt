@@ -1,0 +1,4 @@
+pub mod Words
+pub mod Good
+pub mod Exact
+pub mod Whole

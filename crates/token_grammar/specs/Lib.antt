@@ -1,0 +1,5 @@
+pub mod Outcome
+pub mod Form
+pub mod Reader
+pub mod Exact
+pub mod First
