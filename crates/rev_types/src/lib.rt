@@ -12,6 +12,4 @@ pub mod passed;
 pub mod steps;
 pub mod tables;
 pub mod terms;
-#[cfg(test)]
-mod tests;
 pub mod typed;
