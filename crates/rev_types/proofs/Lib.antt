@@ -1,4 +1,9 @@
+pub mod Applying
+pub mod DeclsLimits
+pub mod DeclsSound
 pub mod Gather
 pub mod Lists
 pub mod Named
+pub mod StepsLimits
+pub mod StepsSound
 pub mod Typings

@@ -1,5 +1,5 @@
 -- What is checked has the kind that the rules give, and no other.
-use Rattle.std.proofs.Common.{◌≡◌, ◌∙◌, ◌≢◌, ℕ, ◌+◌, Bool, true, false, cond, if◌then◌else◌, Option, Some, None, List, [], ◌∷◌, ◌++◌, refl, sym, ap, subst, slice_get, length}
+use Rattle.std.proofs.Common.{◌≡◌, ◌∙◌, ◌≢◌, ℕ, ◌+◌, Bool, true, false, if◌then◌else◌, Option, Some, None, List, [], ◌∷◌, ◌++◌, refl, sym, ap, subst, slice_get, length}
 use Rattle.rev_num.specs.declared.value.ValueKind.{ValueKind}
 use Rattle.rev_num.specs.declared.value.ValueKind.TheVariants as k
 use Rattle.rev_syntax.specs.Trees.{Word, Binder, Term, placed, Shape, Terms, Links, int, bool, no_rev, var, cell, apply, input, inputs, pick, unary, chain, no_terms, term, no_links, link}
@@ -12,27 +12,21 @@ use Rattle.rev_types.specs.declared.fault.TypeFault.TheVariants.{WrongType}
 use Rattle.rev_types.specs.declared.names.Holder.{Holder}
 use Rattle.rev_types.specs.Kinds.{Callee, Names, Locals, same_kind, name_kind, result_of, kind_in, shape_kind, links_kind, operand_kind, term_place}
 use Rattle.rev_types.specs.Rules as r
+use Rattle.rev_types.proofs.Lists.{parts, whole, held, failed}
 use Rattle.rev_types.specs.Typing.{ScalarHas, ArrayHas, TakesLeft, TakesRight, TakesFirst, IsOfKind, HasKind, ShapeHas, ArgsHave, LinksHave, AllKinded, IsKnown, Applies, ShapeApplies, TermsApply, LinksApply, HasLink, Sound, Complete, Only}
 
-abbrev All : Type 0
+abbrev pub All : Type 0
 All = List TypeFault
 
-abbrev one : TypeFault → All
+abbrev pub one : TypeFault → All
 one f = f ∷ []
 
-abbrev app : All → All → All
+abbrev pub app : All → All → All
 app xs ys = xs ++ ys
-
-parts : (xs ys : All) → xs ++ ys ≡ [] → (xs ≡ []) × (ys ≡ [])
-parts [] ys h = (refl, h)
-parts (x ∷ xs) ys h = absurd (let e : x ∷ (xs ++ ys) ≡ [] = h in cc)
-
-whole : (xs ys : All) → xs ≡ [] → ys ≡ [] → xs ++ ys ≡ []
-whole xs ys p q = λ i. p i ++ q i
 
 -- ---- kinds that are wanted
 
-same_true : (a w : ValueKind) → same_kind a w ≡ true → a ≡ w
+pub same_true : (a w : ValueKind) → same_kind a w ≡ true → a ≡ w
 same_true k.Int k.Int h = refl
 same_true k.Bool k.Bool h = refl
 same_true k.Rev k.Rev h = refl
@@ -43,16 +37,7 @@ same_true k.Bool k.Rev h = absurd (let e : false ≡ true = h in cc)
 same_true k.Rev k.Int h = absurd (let e : false ≡ true = h in cc)
 same_true k.Rev k.Bool h = absurd (let e : false ≡ true = h in cc)
 
--- a test that finds nothing
-held : (x : Bool) (f : TypeFault) → cond x [] (f ∷ []) ≡ [] → x ≡ true
-held true f h = refl
-held false f h = absurd (let e : f ∷ [] ≡ [] = h in cc)
-
-failed : (x : Bool) (f : TypeFault) → cond x (f ∷ []) [] ≡ [] → x ≡ false
-failed false f h = refl
-failed true f h = absurd (let e : f ∷ [] ≡ [] = h in cc)
-
-wanted_is : (at : ℕ) (found : Option ValueKind) (t w : ValueKind) → found ≡ Some t → r.wants [] one app at found w ≡ [] → t ≡ w
+pub wanted_is : (at : ℕ) (found : Option ValueKind) (t w : ValueKind) → found ≡ Some t → r.wants [] one app at found w ≡ [] → t ≡ w
 wanted_is at found t w e h = same_true t w (held (same_kind t w) _ (subst (λ f. r.wants [] one app at f w ≡ []) e h))
 
 wants_self : (at : ℕ) (t : ValueKind) → r.wants [] one app at (Some t) t ≡ []
@@ -60,23 +45,23 @@ wants_self at k.Int = refl
 wants_self at k.Bool = refl
 wants_self at k.Rev = refl
 
-wants_nothing : (at : ℕ) (found : Option ValueKind) (t : ValueKind) → found ≡ Some t → r.wants [] one app at found t ≡ []
+pub wants_nothing : (at : ℕ) (found : Option ValueKind) (t : ValueKind) → found ≡ Some t → r.wants [] one app at found t ≡ []
 wants_nothing at found t e = ap (λ f. r.wants [] one app at f t) e ∙ wants_self at t
 
-no_handle : (at : ℕ) (found : Option ValueKind) (t : ValueKind) → found ≡ Some t → r.not_rev [] one app at found ≡ [] → t ≢ k.Rev
+pub no_handle : (at : ℕ) (found : Option ValueKind) (t : ValueKind) → found ≡ Some t → r.not_rev [] one app at found ≡ [] → t ≢ k.Rev
 no_handle at found k.Int e h p = absurd (let q : k.Int ≡ k.Rev = p in cc)
 no_handle at found k.Bool e h p = absurd (let q : k.Bool ≡ k.Rev = p in cc)
 no_handle at found k.Rev e h p = let q : r.not_rev [] one app at (Some k.Rev) ≡ [] = subst (λ f. r.not_rev [] one app at f ≡ []) e h in cc
 
-handle_not : (at : ℕ) (t : ValueKind) → t ≢ k.Rev → r.not_rev [] one app at (Some t) ≡ []
+pub handle_not : (at : ℕ) (t : ValueKind) → t ≢ k.Rev → r.not_rev [] one app at (Some t) ≡ []
 handle_not at k.Int n = refl
 handle_not at k.Bool n = refl
 handle_not at k.Rev n = absurd (n refl)
 
-alike_is : (at : ℕ) (left found : Option ValueKind) (w t : ValueKind) → left ≡ Some w → found ≡ Some t → r.alike [] one app at left found ≡ [] → t ≡ w
+pub alike_is : (at : ℕ) (left found : Option ValueKind) (w t : ValueKind) → left ≡ Some w → found ≡ Some t → r.alike [] one app at left found ≡ [] → t ≡ w
 alike_is at left found w t p q h = wanted_is at found t w q (subst (λ x. r.alike [] one app at x found ≡ []) p h)
 
-alike_nothing : (at : ℕ) (left found : Option ValueKind) (t : ValueKind) → left ≡ Some t → found ≡ Some t → r.alike [] one app at left found ≡ []
+pub alike_nothing : (at : ℕ) (left found : Option ValueKind) (t : ValueKind) → left ≡ Some t → found ≡ Some t → r.alike [] one app at left found ≡ []
 alike_nothing at left found t p q = ap (λ x. r.alike [] one app at x found) p ∙ wants_nothing at found t q
 
 -- ---- operators
@@ -96,7 +81,7 @@ left_takes b.Ge at found t e h = wanted_is at found t k.Int e h
 left_takes b.And at found t e h = wanted_is at found t k.Bool e h
 left_takes b.Or at found t e h = wanted_is at found t k.Bool e h
 
-wants_of : (at : ℕ) (found : Option ValueKind) (t w : ValueKind) → found ≡ Some t → t ≡ w → r.wants [] one app at found w ≡ []
+pub wants_of : (at : ℕ) (found : Option ValueKind) (t w : ValueKind) → found ≡ Some t → t ≡ w → r.wants [] one app at found w ≡ []
 wants_of at found t w e p = wants_nothing at found w (e ∙ ap Some p)
 
 left_taken : (op : BinaryOp) (at : ℕ) (found : Option ValueKind) (t : ValueKind) → found ≡ Some t → TakesLeft op t → r.left_operand [] one app op at found ≡ []
@@ -136,7 +121,7 @@ right_takes b.Ge left at found w t p q h = ordered_takes left at found w t p q h
 right_takes b.And left at found w t p q h = wanted_is at found t k.Bool q h
 right_takes b.Or left at found w t p q h = wanted_is at found t k.Bool q h
 
-alike_of : (at : ℕ) (left found : Option ValueKind) (w t : ValueKind) → left ≡ Some w → found ≡ Some t → t ≡ w → r.alike [] one app at left found ≡ []
+pub alike_of : (at : ℕ) (left found : Option ValueKind) (w t : ValueKind) → left ≡ Some w → found ≡ Some t → t ≡ w → r.alike [] one app at left found ≡ []
 alike_of at left found w t p q e = alike_nothing at left found w p (q ∙ ap Some e)
 
 ordered_taken : (left : Option ValueKind) (at : ℕ) (found : Option ValueKind) (w t : ValueKind) → left ≡ Some w → found ≡ Some t → (t ≡ k.Int) × (t ≡ w)
@@ -161,25 +146,25 @@ right_taken b.Or left at found w t p q h = wants_of at found t k.Bool q h
 
 -- ---- names
 
-scalar_sound : (n : Word) (l : Option (Option ValueKind)) (o : Option Holder) → l ≢ Some None → r.scalar_use [] one app n l o ≡ []
+pub scalar_sound : (n : Word) (l : Option (Option ValueKind)) (o : Option Holder) → l ≢ Some None → r.scalar_use [] one app n l o ≡ []
     → (t : ValueKind) × (name_kind l o ≡ Some t) × ScalarHas l o t
 scalar_sound n (Some (Some t)) o kinded h = (t, refl, refl)
 scalar_sound n (Some None) o kinded h = absurd (kinded refl)
 scalar_sound n None (Some x) kinded h = (x.kind, refl, (failed x.array _ h, refl))
 scalar_sound n None None kinded h = absurd (let e : r.scalar_use [] one app n None None ≡ [] = h in cc)
 
-array_sound : (n : Word) (l : Option (Option ValueKind)) (o : Option Holder) → r.array_use [] one app n l o ≡ []
+pub array_sound : (n : Word) (l : Option (Option ValueKind)) (o : Option Holder) → r.array_use [] one app n l o ≡ []
     → (t : ValueKind) × (name_kind l o ≡ Some t) × ArrayHas l o t
 array_sound n (Some found) o h = absurd (let e : r.array_use [] one app n (Some found) o ≡ [] = h in cc)
 array_sound n None (Some x) h = (x.kind, refl, (held x.array _ h, refl))
 array_sound n None None h = absurd (let e : r.array_use [] one app n None None ≡ [] = h in cc)
 
-scalar_complete : (n : Word) (l : Option (Option ValueKind)) (o : Option Holder) (t : ValueKind) → ScalarHas l o t → (r.scalar_use [] one app n l o ≡ []) × (name_kind l o ≡ Some t)
+pub scalar_complete : (n : Word) (l : Option (Option ValueKind)) (o : Option Holder) (t : ValueKind) → ScalarHas l o t → (r.scalar_use [] one app n l o ≡ []) × (name_kind l o ≡ Some t)
 scalar_complete n (Some found) o t h = (refl, h)
 scalar_complete n None (Some x) t h = (ap (λ a. if a then one (WrongType n.at) else []) h.0, ap Some h.1)
 scalar_complete n None None t h = absurd h
 
-array_complete : (n : Word) (l : Option (Option ValueKind)) (o : Option Holder) (t : ValueKind) → ArrayHas l o t → (r.array_use [] one app n l o ≡ []) × (name_kind l o ≡ Some t)
+pub array_complete : (n : Word) (l : Option (Option ValueKind)) (o : Option Holder) (t : ValueKind) → ArrayHas l o t → (r.array_use [] one app n l o ≡ []) × (name_kind l o ≡ Some t)
 array_complete n (Some found) o t h = absurd h
 array_complete n None (Some x) t h = (ap (λ a. if a then [] else one (WrongType n.at)) h.0, ap Some h.1)
 array_complete n None None t h = absurd h
@@ -214,10 +199,10 @@ known_callee (Some g) n h = (g, refl, h.0, h.1)
 
 -- ---- what breaks no rule has a kind
 
-abbrev Kinded : Names → Locals → Term → Type 0
+abbrev pub Kinded : Names → Locals → Term → Type 0
 Kinded c l e = (t : ValueKind) × (kind_in c l e ≡ Some t) × HasKind c l e t
 
-has_wanted : (c : Names) (l : Locals) (e : Term) (w : ValueKind) → Kinded c l e → r.wants [] one app (term_place e) (kind_in c l e) w ≡ [] → HasKind c l e w
+pub has_wanted : (c : Names) (l : Locals) (e : Term) (w : ValueKind) → Kinded c l e → r.wants [] one app (term_place e) (kind_in c l e) w ≡ [] → HasKind c l e w
 has_wanted c l e w h p = subst (λ t. HasKind c l e t) (wanted_is (term_place e) (kind_in c l e) h.0 w h.1 p) h.2
 
 mutual
@@ -263,7 +248,7 @@ mutual
       let given = links_kind_of rest p.1 in
       (given.0, given.1, (left.0, left.2, first_takes rest (term_place e) (kind_in c l e) left.0 p.1 left.1 head.1, all.1 left.0 left.1, given.1))
 
-  args_sound : (c : Names) (l : Locals) (ps : List Binder) (n : ℕ) (found : All) (ts : Terms) → AllKinded l → TermsApply c ts → r.args_by [] one app c l ps n found ts ≡ []
+  pub args_sound : (c : Names) (l : Locals) (ps : List Binder) (n : ℕ) (found : All) (ts : Terms) → AllKinded l → TermsApply c ts → r.args_by [] one app c l ps n found ts ≡ []
       → (found ≡ []) × ArgsHave c l ps n ts
   args_sound c l ps n found no_terms a p h = (h, tt)
   args_sound c l ps n found (term x xs) a p h =
@@ -322,7 +307,7 @@ mutual
       let left = term_complete c l e h.0 h.1 in
       (links_complete c l (kind_in c l e) h.0 _ rest left.1 (whole _ _ left.0 (first_taken rest (term_place e) (kind_in c l e) h.0 left.1 h.2)) h.3, h.4)
 
-  args_complete : (c : Names) (l : Locals) (ps : List Binder) (n : ℕ) (found : All) (ts : Terms) → found ≡ [] → ArgsHave c l ps n ts → r.args_by [] one app c l ps n found ts ≡ []
+  pub args_complete : (c : Names) (l : Locals) (ps : List Binder) (n : ℕ) (found : All) (ts : Terms) → found ≡ [] → ArgsHave c l ps n ts → r.args_by [] one app c l ps n found ts ≡ []
   args_complete c l ps n found no_terms p h = p
   args_complete c l ps n found (term x xs) p h =
       let i = term_complete c l x h.0.0 h.0.1 in

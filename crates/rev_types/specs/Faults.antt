@@ -33,3 +33,13 @@ rank (WrongCount at) = 4
 rank (NoReturn at) = 5
 rank (LimitOf at which limit) = order which
 rank OutOfMemory = 13
+
+-- a limit that is passed, and no other rule
+abbrev pub IsLimit : TypeFault → Type 0
+IsLimit (LimitOf at which limit) = Unit {0}
+IsLimit (UnknownName at) = ⊥
+IsLimit (Redeclared at) = ⊥
+IsLimit (WrongType at) = ⊥
+IsLimit (WrongCount at) = ⊥
+IsLimit (NoReturn at) = ⊥
+IsLimit OutOfMemory = ⊥

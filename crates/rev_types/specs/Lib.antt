@@ -1,4 +1,6 @@
+pub mod Accepted
 pub mod Faults
+pub mod Judgement
 pub mod Kinds
 pub mod Passing
 pub mod Program

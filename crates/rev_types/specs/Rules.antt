@@ -2,7 +2,7 @@
 --
 -- The rules are written once for every way to gather faults: by lists they are the set of all that
 -- is broken, and by the first of two faults they are the first that is broken.
-use Rattle.std.specs.Prelude.{ℕ, ◌+◌, Bool, true, false, if◌then◌else◌, nat_eq, Option, Some, None, List, [], slice_get, length}
+use Rattle.std.specs.Prelude.{ℕ, ◌+◌, Bool, if◌then◌else◌, nat_eq, Option, Some, None, List, [], slice_get, length}
 use Rattle.rev_num.specs.declared.value.ValueKind.{ValueKind}
 use Rattle.rev_num.specs.declared.value.ValueKind.TheVariants as k
 use Rattle.rev_syntax.specs.Trees.{Word, Binder, Term, placed, Shape, Terms, Links, int, bool, no_rev, var, cell, apply, input, inputs, pick, unary, chain, no_terms, term, no_links, link, Right, plain, called, forked, tried}
@@ -13,7 +13,7 @@ use Rattle.merge_decl.specs.Table.{find}
 use Rattle.rev_types.specs.declared.names.Holder.{Holder}
 use Rattle.rev_types.specs.declared.fault.TypeFault.{TypeFault}
 use Rattle.rev_types.specs.declared.fault.TypeFault.TheVariants.{UnknownName, WrongType, WrongCount}
-use Rattle.rev_types.specs.Kinds.{Callee, Names, Locals, same_kind, name_kind, operand_kind, kind_in, right_kind, term_place}
+use Rattle.rev_types.specs.Kinds.{Callee, Names, Locals, same_kind, operand_kind, kind_in, term_place}
 
 module _ {M : Type 0} (none : M) (one : TypeFault → M) (both : M → M → M) where
   -- this kind is wanted; what has no kind violates no rule on kinds

@@ -1,5 +1,6 @@
 //! What the rules on kinds say of expressions.
 
+ghost use Rattle.rev_types.specs.Accepted.{Typed, LimitsAlone};
 ghost use Rattle.rev_types.specs.Typing.{Sound, Complete, Only};
 
 /// An expression that breaks no rule has a kind by the typing rules, which is the kind that its
@@ -9,4 +10,10 @@ pub fn typing_laws()
     ensures sound { Sound }
     ensures complete { Complete }
     ensures only { Only }
+{}
+
+/// A program that breaks no rule is typed, and all that a typed program breaks is limits.
+pub fn program_laws()
+    ensures typed { Typed }
+    ensures limits_alone { LimitsAlone }
 {}

@@ -1,0 +1,110 @@
+-- An expression that breaks no rule on funs applies known funs, each to as many arguments as it has
+-- parameters.
+use Rattle.std.proofs.Common.{◌≡◌, ◌∙◌, ℕ, ◌+◌, Bool, true, false, cond, ◌&&◌, IsTrue, nat_eq, nat_le, length, Option, Some, None, List, [], ◌∷◌, ◌++◌, refl, sym, ap, subst, true≢false}
+use Rattle.rev_syntax.specs.Trees.{Binder, Term, placed, Shape, Terms, Links, int, bool, no_rev, var, cell, apply, input, inputs, pick, unary, chain, no_terms, term, no_links, link, Entry, fun, merge, shared, proc}
+use Rattle.rev_syntax.specs.Small.{word_formed, term_formed, shape_formed, terms_formed, links_formed, is_chain, term_small, terms_small, nodes_around, chains_around}
+use Rattle.merge_decl.specs.FunRules.{Use, count, head, later_here, broken_by, broken_in, first_fun, term_uses, shape_uses, terms_uses, links_uses}
+use Rattle.merge_decl.specs.Names.{Name, same}
+use Rattle.merge_decl.specs.declared.expand.FunHead.{FunHead}
+use Rattle.rev_types.specs.Kinds.{Callee, Names}
+use Rattle.rev_types.specs.Program.{fun_named}
+use Rattle.rev_types.specs.Typing.{IsKnown, Applies, ShapeApplies, TermsApply, LinksApply, HasLink}
+use Rattle.rev_types.proofs.Lists.{parts, whole, held, and_parts, equal}
+
+-- ---- the funs of a program
+
+by_head : (b : Bool) (d k : ℕ) (ps : List Binder) (f : Callee) (t : Option Callee) (rest : Option FunHead) (h : FunHead)
+    → length ps ≡ length f.params → IsKnown (length f.params) (Some f) → (rest ≡ Some h → IsKnown h.params t)
+    → cond b (Some (head d k (length ps))) rest ≡ Some h → IsKnown h.params (cond b (Some f) t)
+by_head true d k ps f t rest h e i more p = let q : h.params ≡ length f.params = (let r : head d k (length ps) ≡ h = cc in sym (ap (λ x. x.params) r)) ∙ e in (q, i.1)
+by_head false d k ps f t rest h e i more p = more p
+
+-- a fun that the rules on funs know has that many parameters, and a result
+pub known_fun : (d k : ℕ) (es : List Entry) (name : Name) (h : FunHead) → first_fun d k es name ≡ Some h → IsKnown h.params (fun_named es name)
+known_fun d k [] name h p = cc
+known_fun d k (fun w ps r body ∷ es) name h p =
+    by_head (same name w.text) d k ps (record { params = ps; result = Some r }) (fun_named es name) (first_fun (d + 1) (k + 1) es name) h refl (refl, (r, refl))
+    (known_fun (d + 1) (k + 1) es name h) p
+known_fun d k (merge w m j r body ∷ es) name h p = known_fun (d + 1) k es name h p
+known_fun d k (shared x ∷ es) name h p = known_fun (d + 1) k es name h p
+known_fun d k (proc w ps r body ∷ es) name h p = known_fun (d + 1) k es name h p
+
+-- ---- applications
+
+-- an application that breaks no rule is that of a known fun, with its number of arguments
+applied : (u : Use) (o : Option FunHead) → broken_by u o ≡ [] → (h : FunHead) × (o ≡ Some h) × (u.args ≡ h.params)
+applied u None h = absurd (let e : broken_by u None ≡ [] = h in cc)
+applied u (Some g) h = (g, refl, equal u.args g.params (held (nat_eq u.args g.params) _ (parts (later_here u g) _ h).1))
+
+-- applications that break no rule, in their parts
+pub broken_parts : (named : Name → Option FunHead) (us vs : List Use) → broken_in named (us ++ vs) ≡ [] → (broken_in named us ≡ []) × (broken_in named vs ≡ [])
+broken_parts named [] vs h = (refl, h)
+broken_parts named (u ∷ us) vs h =
+    let here = parts (broken_by u (named u.name.text)) (broken_in named (us ++ vs)) h in
+    let rest = broken_parts named us vs here.1 in
+    (whole _ _ here.0 rest.0, rest.1)
+
+chain_linked : (ls : Links) → IsTrue (is_chain ls) → HasLink ls
+chain_linked no_links h = absurd (true≢false (sym h))
+chain_linked (link op x rest) h = tt
+
+module _ (named : Name → Option FunHead) (c : Names) (known : (name : Name) (h : FunHead) → named name ≡ Some h → IsKnown h.params (c.funs name)) where
+  mutual
+    term_applies : (n : ℕ) (e : Term) → broken_in named (term_uses n e) ≡ [] → IsTrue (term_formed e) → Applies c e
+    term_applies n (placed at s) h f = shape_applies n s h f
+
+    shape_applies : (n : ℕ) (s : Shape) → broken_in named (shape_uses n s) ≡ [] → IsTrue (shape_formed s) → ShapeApplies c s
+    shape_applies n (int z) h f = tt
+    shape_applies n (bool x) h f = tt
+    shape_applies n no_rev h f = tt
+    shape_applies n (var w) h f = tt
+    shape_applies n (inputs at) h f = tt
+    shape_applies n (cell w index) h f = term_applies n index h (and_parts (word_formed w) (term_formed index) f).1
+    shape_applies n (apply w args) h f =
+        let here = parts (broken_by (record { name = w; args = count args; within = n }) (named w.text)) (broken_in named (terms_uses n args)) h in
+        let g = applied (record { name = w; args = count args; within = n }) (named w.text) here.0 in (
+          subst (λ k. IsKnown k (c.funs w.text)) (sym g.2) (known w.text g.0 g.1),
+          terms_apply n args here.1 (and_parts (word_formed w) (terms_formed args) f).1,
+        )
+    shape_applies n (input at index) h f = term_applies n index h f
+    shape_applies n (pick x y z) h f =
+        let first = broken_parts named (term_uses n x ++ term_uses n y) (term_uses n z) h in
+        let second = broken_parts named (term_uses n x) (term_uses n y) first.0 in
+        let fz = and_parts (term_formed x && term_formed y) (term_formed z) f in
+        let fx = and_parts (term_formed x) (term_formed y) fz.0 in
+        (term_applies n x second.0 fx.0, term_applies n y second.1 fx.1, term_applies n z first.1 fz.1)
+    shape_applies n (unary op e) h f = term_applies n e h f
+    shape_applies n (chain e rest) h f =
+        let both = broken_parts named (term_uses n e) (links_uses n rest) h in
+        let fr = and_parts (is_chain rest && term_formed e) (links_formed rest) f in
+        let fe = and_parts (is_chain rest) (term_formed e) fr.0 in
+        (term_applies n e both.0 fe.1, chain_linked rest fe.0, links_apply n rest both.1 fr.1)
+
+    terms_apply : (n : ℕ) (ts : Terms) → broken_in named (terms_uses n ts) ≡ [] → IsTrue (terms_formed ts) → TermsApply c ts
+    terms_apply n no_terms h f = tt
+    terms_apply n (term x xs) h f =
+        let both = broken_parts named (term_uses n x) (terms_uses n xs) h in
+        let fx = and_parts (term_formed x) (terms_formed xs) f in
+        (term_applies n x both.0 fx.0, terms_apply n xs both.1 fx.1)
+
+    links_apply : (n : ℕ) (ls : Links) → broken_in named (links_uses n ls) ≡ [] → IsTrue (links_formed ls) → LinksApply c ls
+    links_apply n no_links h f = tt
+    links_apply n (link op x rest) h f =
+        let both = broken_parts named (term_uses n x) (links_uses n rest) h in
+        let fx = and_parts (term_formed x) (links_formed rest) f in
+        (term_applies n x both.0 fx.0, links_apply n rest both.1 fx.1)
+
+  small_formed : (e : Term) → IsTrue (term_small e) → IsTrue (term_formed e)
+  small_formed e f = (and_parts (term_formed e) (nat_le (nodes_around e) 200) (and_parts (term_formed e && nat_le (nodes_around e) 200) (nat_le (chains_around e) 1005) f).0).0
+
+  -- an expression of a small tree
+  pub small_applies : (n : ℕ) (e : Term) → broken_in named (term_uses n e) ≡ [] → IsTrue (term_small e) → Applies c e
+  small_applies n e h f = term_applies n e h (small_formed e f)
+
+  -- the arguments of a `call` or an `rfork` in a small tree
+  pub small_apply : (n : ℕ) (ts : Terms) → broken_in named (terms_uses n ts) ≡ [] → IsTrue (terms_small ts) → TermsApply c ts
+  small_apply n no_terms h f = tt
+  small_apply n (term x xs) h f =
+      let both = broken_parts named (term_uses n x) (terms_uses n xs) h in
+      let fx = and_parts (term_small x) (terms_small xs) f in
+      (small_applies n x both.0 fx.0, small_apply n xs both.1 fx.1)
