@@ -1,9 +1,13 @@
 pub mod Applying
-pub mod DeclsLimits
+pub mod DeclsFaults
 pub mod DeclsSound
+pub mod DeclsWithin
 pub mod Gather
 pub mod Lists
 pub mod Named
-pub mod StepsLimits
+pub mod Namings
+pub mod StepsFaults
 pub mod StepsSound
+pub mod StepsWithin
 pub mod Typings
+pub mod Weights

@@ -2,6 +2,8 @@ pub mod Accepted
 pub mod Faults
 pub mod Judgement
 pub mod Kinds
+pub mod Limits
+pub mod Naming
 pub mod Passing
 pub mod Program
 pub mod Rules

@@ -1,6 +1,7 @@
 //! What the rules on kinds say of expressions.
 
-ghost use Rattle.rev_types.specs.Accepted.{Typed, LimitsAlone};
+ghost use Rattle.rev_types.specs.Accepted.{Typed, Within, Accepts, LimitsAlone, Located};
+ghost use Rattle.rev_types.specs.Naming.{FirstCounts};
 ghost use Rattle.rev_types.specs.Typing.{Sound, Complete, Only};
 
 /// An expression that breaks no rule has a kind by the typing rules, which is the kind that its
@@ -12,8 +13,18 @@ pub fn typing_laws()
     ensures only { Only }
 {}
 
-/// A program that breaks no rule is typed, and all that a typed program breaks is limits.
+/// A program that breaks no rule is typed and within the limits, and a program that is both breaks
+/// none; all that a typed program breaks is limits; and the locations of a program within the limits
+/// are the cells that it declares.
 pub fn program_laws()
     ensures typed { Typed }
+    ensures within { Within }
+    ensures accepts { Accepts }
     ensures limits_alone { LimitsAlone }
+    ensures located { Located }
+{}
+
+/// A name means the first declaration of it.
+pub fn name_laws()
+    ensures { FirstCounts }
 {}

@@ -1,6 +1,13 @@
-use Rattle.rev_types.proofs.DeclsLimits.{program_limits}
+use Rattle.rev_types.proofs.DeclsFaults.{limits_alone}
 use Rattle.rev_types.proofs.DeclsSound.{program_typed}
+use Rattle.rev_types.proofs.DeclsWithin.{program_within, program_accepts, program_located}
 use Rattle.rev_types.proofs.laws.program_laws.Goals as goal
 
 pub returns : goal.returns
-returns c = record { typed = program_typed; limits_alone = program_limits }
+returns c = record {
+  typed = program_typed;
+  within = program_within;
+  accepts = program_accepts;
+  limits_alone = limits_alone;
+  located = program_located;
+}

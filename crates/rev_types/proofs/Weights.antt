@@ -1,0 +1,74 @@
+-- A weight that stops at one past the limit is the least of the weight and that.
+use Rattle.std.proofs.Common.{◌≡◌, ◌∙◌, ℕ, ◌+◌, min, Bool, true, false, if◌then◌else◌, Option, Some, None, option_map, [], refl, sym, ap, arith}
+use Rattle.rev_syntax.specs.Trees.{Term, placed, Shape, Terms, Links, int, bool, no_rev, var, cell, apply, input, inputs, pick, unary, chain, no_terms, term, no_links, link}
+use Rattle.merge_decl.specs.Names.{Name, same}
+use Rattle.merge_decl.specs.Table.{Table, find, added}
+use Rattle.merge_decl.proofs.Tables.{or_else, find-added}
+use Rattle.rev_types.specs.Program as p
+use Rattle.rev_types.specs.Limits.{term_weight, shape_weight, terms_weight, links_weight}
+
+-- one past the limit
+abbrev pub cap : ℕ → ℕ
+cap n = min n 65537
+
+cap_plus : (a b : ℕ) → min (min a 65537 + min b 65537) 65537 ≡ min (a + b) 65537
+cap_plus a b = omega arith
+
+plus_caps : (x y a b : ℕ) → x ≡ cap a → y ≡ cap b → p.plus x y ≡ cap (a + b)
+plus_caps x y a b e f = (λ i. p.plus (e i) (f i)) ∙ cap_plus a b
+
+plus_one : (x a : ℕ) → x ≡ cap a → p.plus 1 x ≡ cap (1 + a)
+plus_one x a e = plus_caps 1 x 1 a refl e
+
+-- a table of weights that stop
+abbrev pub Caps : Table ℕ → Table ℕ → Type 0
+Caps ws vs = (name : Name) → find name vs ≡ option_map cap (find name ws)
+
+pub none_caps : Caps [] []
+none_caps name = refl
+
+added_by : (o : Option ℕ) (b : Bool) (n : ℕ) → or_else (option_map cap o) (if b then Some (cap n) else None) ≡ option_map cap (or_else o (if b then Some n else None))
+added_by (Some x) b n = refl
+added_by None true n = refl
+added_by None false n = refl
+
+pub added_caps : (ws vs : Table ℕ) (w : Name) (n m : ℕ) → Caps ws vs → m ≡ cap n → Caps (added ws w n) (added vs w m)
+added_caps ws vs w n m c e name =
+    ap (λ x. find name (added vs w x)) e ∙ find-added name w (cap n) vs ∙ ap (λ o. or_else o (if same name w then Some (cap n) else None)) (c name)
+    ∙ added_by (find name ws) (same name w) n ∙ sym (ap (λ o. option_map cap o) (find-added name w n ws))
+
+known_caps : (o : Option ℕ) → p.known_weight (option_map cap o) ≡ cap (p.known_weight o)
+known_caps None = refl
+known_caps (Some n) = refl
+
+module _ (ws vs : Table ℕ) (c : Caps ws vs) where
+  mutual
+    pub term_caps : (e : Term) → p.weight vs e ≡ cap (term_weight ws e)
+    term_caps (placed at s) = shape_caps s
+
+    shape_caps : (s : Shape) → p.shape_weight vs s ≡ cap (shape_weight ws s)
+    shape_caps (int n) = refl
+    shape_caps (bool x) = refl
+    shape_caps no_rev = refl
+    shape_caps (var w) = refl
+    shape_caps (inputs at) = refl
+    shape_caps (cell w index) = plus_one _ _ (term_caps index)
+    shape_caps (input at index) = plus_one _ _ (term_caps index)
+    shape_caps (apply w args) =
+        terms_caps _ (1 + p.known_weight (find w.text ws)) args (plus_one _ _ (ap p.known_weight (c w.text) ∙ known_caps (find w.text ws)))
+    shape_caps (pick x y z) =
+        plus_caps _ _ (1 + term_weight ws x + term_weight ws y) _ (plus_caps _ _ (1 + term_weight ws x) _ (plus_one _ _ (term_caps x)) (term_caps y)) (term_caps z)
+    shape_caps (unary op e) = plus_one _ _ (term_caps e)
+    shape_caps (chain e rest) = links_caps _ (term_weight ws e) rest (term_caps e)
+
+    terms_caps : (x n : ℕ) (ts : Terms) → x ≡ cap n → p.terms_weight vs x ts ≡ cap (n + terms_weight ws ts)
+    terms_caps x n no_terms h = h ∙ ap cap (let e : n ≡ n + 0 = omega arith in e)
+    terms_caps x n (term e es) h =
+        terms_caps _ (n + term_weight ws e) es (plus_caps _ _ n _ h (term_caps e))
+        ∙ ap cap (let d : n + term_weight ws e + terms_weight ws es ≡ n + (term_weight ws e + terms_weight ws es) = omega arith in d)
+
+    links_caps : (x n : ℕ) (ls : Links) → x ≡ cap n → p.links_weight vs x ls ≡ cap (n + links_weight ws ls)
+    links_caps x n no_links h = h ∙ ap cap (let e : n ≡ n + 0 = omega arith in e)
+    links_caps x n (link op e rest) h =
+        links_caps _ (n + (1 + term_weight ws e)) rest (plus_caps _ _ n _ h (plus_one _ _ (term_caps e)))
+        ∙ ap cap (let d : n + (1 + term_weight ws e) + links_weight ws rest ≡ n + (1 + term_weight ws e + links_weight ws rest) = omega arith in d)
