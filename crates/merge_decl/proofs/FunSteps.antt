@@ -1,5 +1,5 @@
 -- The loops over the applications and the funs of a program, a turn each.
-use Rattle.std.proofs.Common.{◌≡◌, ◌∙◌, ℕ, ◌+◌, ◌<◌, List, [], ◌∷◌, ◌++◌, Option, Some, length, get_or, map, if◌then◌else◌, Vec, Global, drop, drop-cons, add-one, suc, refl, sym, ap, arith}
+use Rattle.std.proofs.Common.{◌≡◌, ◌∙◌, ℕ, ◌+◌, ◌<◌, List, ◌∷◌, Option, Some, length, get_or, map, if◌then◌else◌, Vec, Global, drop, drop-cons, add-one, suc, refl, sym, ap}
 use Rattle.rev_num.specs.declared.value.ValueKind.{ValueKind}
 use Rattle.rev_syntax.specs.Trees.{Entry}
 use Rattle.rev_syntax.specs.View.{entry, binder}

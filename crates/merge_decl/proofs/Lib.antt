@@ -1,6 +1,10 @@
 pub mod Appends
+pub mod Counts
+pub mod Declared
+pub mod Evaluations
 pub mod FunSteps
 pub mod Leasts
+pub mod Meanings
 mod Rows
 pub mod Shapes
 pub mod Tables

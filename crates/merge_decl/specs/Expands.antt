@@ -1,5 +1,5 @@
 -- What the numbering of the applications of a program answers.
-use Rattle.std.specs.Prelude.{◌≡◌, ◌≢◌, ℕ, List, [], map, Option}
+use Rattle.std.specs.Prelude.{◌≢◌, ℕ, List, map, Option}
 use Rattle.rev_syntax.specs.Trees.{Whole}
 use Rattle.merge_decl.specs.FunRules.{Use, broken_in, fun_faults, place, rank}
 use Rattle.merge_decl.specs.Least.{IsFirst}

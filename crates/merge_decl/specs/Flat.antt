@@ -1,5 +1,5 @@
 -- What a contract sees of the values inside a fun or a merge.
-use Rattle.std.specs.Prelude.{ℤ, List, ℕ, Option, Some, None, Result, Ok, Err}
+use Rattle.std.specs.Prelude.{Option, Some, None, Result, Ok, Err}
 use Rattle.rev_num.specs.declared.value.Value.{Value}
 use Rattle.rev_num.specs.declared.value.Value.TheVariants as v
 use Rattle.rev_num.specs.declared.outcome.Cause.{Cause}

@@ -1,5 +1,5 @@
 -- The rules on applications of funs: which funs may be applied where, and to how many arguments.
-use Rattle.std.specs.Prelude.{ℕ, ◌+◌, Bool, true, false, if◌then◌else◌, nat_eq, nat_le, length, map, flat_map, Option, Some, None, List, [], ◌∷◌, ◌++◌}
+use Rattle.std.specs.Prelude.{ℕ, ◌+◌, if◌then◌else◌, nat_eq, nat_le, length, map, Option, Some, None, List, [], ◌∷◌, ◌++◌}
 use Rattle.rev_syntax.specs.Trees.{Word, Term, placed, Shape, Terms, Links, int, bool, no_rev, var, cell, apply, input, inputs, pick, unary, chain, no_terms, term, no_links, link, Right, plain, called, forked, tried, Shown, text, shown, Step, step, Act, bind, assign, assign_cell, choose, choose_or, repeat, call, return, fork, join, print, assert, Steps, no_steps, steps, Arms, no_arms, arm, Entry, fun, merge, shared, proc, Whole}
 use Rattle.merge_decl.specs.Names.{Name, same}
 use Rattle.merge_decl.specs.declared.expand.MergeFault.{MergeFault}

@@ -1,4 +1,5 @@
 pub mod Definitions
+pub mod Evaluation
 pub mod Expands
 pub mod Flat
 pub mod FunRules

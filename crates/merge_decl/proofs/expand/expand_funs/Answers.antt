@@ -1,9 +1,8 @@
-use Rattle.std.proofs.Common.{◌≡◌, ◌≢◌, ◌∙◌, ap, sym, subst, Result, Ok, Err, IfErr, map}
+use Rattle.std.proofs.Common.{◌≡◌, ◌∙◌, ap, sym, subst, Result, Ok, Err, IfErr, map}
 use Rattle.std.specs.Result.{IsErrAnd}
 use Rattle.rev_syntax.specs.View.{entry, program as whole}
 use Rattle.merge_decl.specs.FunRules as rule
 use Rattle.merge_decl.specs.Least.{IsFirst}
-use Rattle.merge_decl.specs.Table.{find}
 use Rattle.merge_decl.specs.Expands.{Refuses}
 use Rattle.merge_decl.specs.declared.expand.MergeFault.{MergeFault}
 use Rattle.merge_decl.specs.declared.expand.Expanded.{Expanded}

@@ -1,4 +1,4 @@
-use Rattle.std.proofs.Common.{◌≡◌, ◌++◌, drop, map}
+use Rattle.std.proofs.Common.{◌≡◌, ◌++◌, drop}
 use Rattle.rev_syntax.specs.View.{arms, stmts}
 use Rattle.merge_decl.specs.FunRules as rule
 use Rattle.merge_decl.specs.Uses.{uses_of}

@@ -1,5 +1,5 @@
-use Rattle.std.proofs.Common.{◌≡◌, ◌∙◌, ap, sym, is_some, Option, None, Some, true, false, ◌++◌, ◌∷◌, []}
-use Rattle.merge_decl.specs.Table.{find, rows, added}
+use Rattle.std.proofs.Common.{◌≡◌, ◌∙◌, ap, sym, is_some, None}
+use Rattle.merge_decl.specs.Table.{find, rows}
 use Rattle.merge_decl.proofs.Tables.{found, kept, not_there, entered_new}
 use Rattle.merge_decl.proofs.table.NameTable.add.Goals as goal
 

@@ -1,0 +1,27 @@
+use Rattle.std.proofs.Common.{◌∙◌, ap, sym, subst, map}
+use Rattle.rev_syntax.specs.View.{entry}
+use Rattle.merge_decl.specs.Evaluation.{IsMeant}
+use Rattle.merge_decl.specs.Table.{find}
+use Rattle.merge_decl.proofs.Meanings.{meant_none, meant_later, meant_some}
+use Rattle.merge_decl.proofs.value.fun_before.Goals as goal
+
+pub returns-in_err-head-clause-meaning : goal.returns-in_err-head-clause-meaning
+returns-in_err-head-clause-meaning c =
+    subst (λ f. IsMeant (map entry c.args.expanded.now.program.decls.items) c.args.within c.args.name.now.text.items f) (sym c.from_residual.ensures)
+    (meant_none (map entry c.args.expanded.now.program.decls.items) c.args.within c.args.name.now.text.items
+    (sym (c.args.expanded.now.funs_found c.args.name.now.text.items) ∙ ap (λ n. find n c.args.expanded.now.table) (sym c.deref.ensures.value)
+    ∙ sym c.in_err-head.ensures))
+
+pub returns-then-decl-within-clause-meaning : goal.returns-then-decl-within-clause-meaning
+returns-then-decl-within-clause-meaning c =
+    meant_some (map entry c.args.expanded.now.program.decls.items) c.args.within c.args.name.now.text.items c.in_ok-head.head
+    (sym (c.args.expanded.now.funs_found c.args.name.now.text.items) ∙ ap (λ n. find n c.args.expanded.now.table) (sym c.deref.ensures.value)
+    ∙ sym c.in_ok-head.ensures)
+    c.if-decl-within.true
+
+pub returns-else-decl-within-clause-meaning : goal.returns-else-decl-within-clause-meaning
+returns-else-decl-within-clause-meaning c =
+    meant_later (map entry c.args.expanded.now.program.decls.items) c.args.within c.args.name.now.text.items c.in_ok-head.head
+    (sym (c.args.expanded.now.funs_found c.args.name.now.text.items) ∙ ap (λ n. find n c.args.expanded.now.table) (sym c.deref.ensures.value)
+    ∙ sym c.in_ok-head.ensures)
+    c.if-decl-within.false
