@@ -9,3 +9,4 @@ pub mod Feeds
 pub mod Naturals
 pub mod DeclarationRules
 pub mod OfAnswer
+pub mod OneVerdict

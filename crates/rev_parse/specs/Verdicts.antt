@@ -36,8 +36,24 @@ place_of bytes (t ∷ ts) = t.start
 abbrev pub At : (ℕ → Type 0) → List ℕ → List Token → ℕ → Type 0
 At IsFault bytes ts at = (n : ℕ) × IsFault n × (at ≡ place_of bytes (drop n ts))
 
+-- what the tokens of a text are: a program, or at fault at a place
+pub data Verdict : Type 0 where
+  tree : Whole → Verdict
+  unexpected : ℕ → Verdict
+  too_deep : ℕ → Verdict
+
+abbrev pub IsVerdict : List ℕ → List Token → Verdict → Type 0
+IsVerdict bytes ts (tree p) = IsProgram bytes ts p
+IsVerdict bytes ts (unexpected at) = At (IsUnexpected bytes ts) bytes ts at
+IsVerdict bytes ts (too_deep at) = At (IsTooDeep bytes ts) bytes ts at
+
+-- No tokens have two verdicts: one tree at most, one first fault at most, and not both.
+abbrev pub OneVerdict : Type 0
+OneVerdict = (bytes : List ℕ) (ts : List Token) (a b : Verdict) → IsVerdict bytes ts a → IsVerdict bytes ts b → a ≡ b
+
+-- the answer is the verdict
 abbrev pub Parses : List ℕ → List Token → Result Program SyntaxFault → Type 0
-Parses bytes ts (Ok p) = IsProgram bytes ts (view p)
-Parses bytes ts (Err (f.Unexpected at)) = At (IsUnexpected bytes ts) bytes ts at
-Parses bytes ts (Err (f.TooDeep at)) = At (IsTooDeep bytes ts) bytes ts at
+Parses bytes ts (Ok p) = IsVerdict bytes ts (tree (view p))
+Parses bytes ts (Err (f.Unexpected at)) = IsVerdict bytes ts (unexpected at)
+Parses bytes ts (Err (f.TooDeep at)) = IsVerdict bytes ts (too_deep at)
 Parses bytes ts (Err f.OutOfMemory) = ⊤

@@ -9,9 +9,11 @@ mod cursor;
 mod declaration;
 mod expr;
 mod form;
+mod laws;
 mod sort;
 mod source;
 mod statement;
 mod whole;
 
+pub use laws::one_verdict;
 pub use whole::{MOST_LEVELS, SyntaxFault, parse};

@@ -2,3 +2,4 @@ pub mod Words
 pub mod Good
 pub mod Exact
 pub mod Whole
+pub mod OneVerdict

@@ -1,0 +1,5 @@
+use Rattle.rev_parse.proofs.OneVerdict.{one_verdict}
+use Rattle.rev_parse.proofs.laws.one_verdict.Goals as goal
+
+pub returns : goal.returns
+returns c = one_verdict

@@ -1,0 +1,7 @@
+//! Laws of the verdicts on the tokens of a text.
+ghost use Rattle.rev_parse.specs.Verdicts.{OneVerdict};
+
+/// The tokens of a text have one verdict at most: they are one program, or have one first fault.
+pub fn one_verdict()
+    ensures { OneVerdict }
+{}
