@@ -10,3 +10,9 @@ pub mod Naturals
 pub mod DeclarationRules
 pub mod OfAnswer
 pub mod OneVerdict
+pub mod TextTokens
+pub mod Holds
+pub mod SmallValues
+pub mod SmallTerms
+pub mod SmallSteps
+pub mod SmallPrograms

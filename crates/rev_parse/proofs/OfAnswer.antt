@@ -13,8 +13,10 @@ use Rattle.rev_parse.specs.Sorts.{sorts}
 use Rattle.rev_parse.specs.Grammar.{alphabet}
 use Rattle.rev_parse.specs.Declarations.{inner, program}
 use Rattle.rev_parse.specs.Parse.{parse}
+use Rattle.rev_parse.specs.SmallTree.{IsSmallTree}
 use Rattle.rev_parse.specs.Verdicts.{most_levels, IsProgram, IsUnexpected, IsTooDeep, At, place_of}
 use Rattle.rev_parse.proofs.Decides.{going_on, grammar_decided, program_decided}
+use Rattle.rev_parse.proofs.SmallPrograms.{program_small}
 
 module _ (bytes : List ℕ) (ts : List Token) where
   abbrev Verdict : Outcome Token Whole → Type 0
@@ -53,8 +55,9 @@ module _ (bytes b : List ℕ) (ts : List Token) (same : b ≡ bytes) (r : Result
   failed_is x is known =
       let k : x ≢ f.OutOfMemory → parse bytes most_levels (program bytes) ts ≡ Failed (stop_of x) rest = subst (λ r. Reads (parse bytes most_levels (program bytes) ts) view r rest) is here in k known
 
-  pub ok_only : (p : Program) → r ≡ Ok p → length rest ≡ 0 → IsProgram bytes ts (view p)
-  ok_only p is none = whole_program bytes ts (view p) rest (read_is p is) none
+  pub ok_only : (p : Program) → r ≡ Ok p → length rest ≡ 0 → IsProgram bytes ts (view p) × IsSmallTree bytes ts (view p)
+  ok_only p is none =
+      let program = whole_program bytes ts (view p) rest (read_is p is) none in (program, program_small bytes ts (view p) program)
 
   pub ok_more : (p : Program) (at : ℕ) → r ≡ Ok p → length rest ≢ 0 → at ≡ place_of bytes rest → At (IsUnexpected bytes ts) bytes ts at
   ok_more p at is some e = more_left bytes ts (view p) rest at (read_is p is) some e

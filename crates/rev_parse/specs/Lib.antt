@@ -8,4 +8,5 @@ pub mod Parse
 pub mod Lists
 pub mod Parts
 pub mod Pieces
+pub mod SmallTree
 pub mod Verdicts

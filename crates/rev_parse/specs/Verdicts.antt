@@ -7,6 +7,7 @@ use Rattle.rev_syntax.specs.declared.token.Token.{Token}
 use Rattle.token_grammar.specs.First as first
 use Rattle.rev_parse.specs.Grammar.{alphabet}
 use Rattle.rev_parse.specs.Declarations.{inner, program}
+use Rattle.rev_parse.specs.SmallTree.{IsSmallTree}
 use Rattle.rev_parse.specs.declared.whole.SyntaxFault.{SyntaxFault}
 use Rattle.rev_parse.specs.declared.whole.SyntaxFault.TheVariants as f
 
@@ -51,9 +52,9 @@ IsVerdict bytes ts (too_deep at) = At (IsTooDeep bytes ts) bytes ts at
 abbrev pub OneVerdict : Type 0
 OneVerdict = (bytes : List ℕ) (ts : List Token) (a b : Verdict) → IsVerdict bytes ts a → IsVerdict bytes ts b → a ≡ b
 
--- the answer is the verdict
+-- the answer is the verdict, and the tree of a text that is not too long is small
 abbrev pub Parses : List ℕ → List Token → Result Program SyntaxFault → Type 0
-Parses bytes ts (Ok p) = IsVerdict bytes ts (tree (view p))
+Parses bytes ts (Ok p) = IsVerdict bytes ts (tree (view p)) × IsSmallTree bytes ts (view p)
 Parses bytes ts (Err (f.Unexpected at)) = IsVerdict bytes ts (unexpected at)
 Parses bytes ts (Err (f.TooDeep at)) = IsVerdict bytes ts (too_deep at)
 Parses bytes ts (Err f.OutOfMemory) = ⊤

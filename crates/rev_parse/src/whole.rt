@@ -45,7 +45,7 @@ fn place(bytes: &[u8], cursor: &Cursor<'_>) -> u32
     }
 }
 
-/// The program that a text is, of which these are the tokens.
+/// The program that a text is, of which these are the tokens. The tree of a text of at most a megabyte is small.
 pub fn parse(alloc: Global, bytes: &[u8], tokens: &[Token]) -> Result<Program, SyntaxFault>
     requires small { length bytes.now < 2 ^ 32 - 1 }
     requires tokens { All (IsToken bytes.now) tokens.now }
