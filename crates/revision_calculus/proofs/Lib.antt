@@ -8,3 +8,8 @@ pub mod Meets
 pub mod EveryRun
 pub mod Outcomes
 pub mod Shapes
+pub mod ValueKinds
+pub mod FunKinds
+pub mod SlotKinds
+pub mod ScopeKinds
+pub mod StepKinds

@@ -8,6 +8,7 @@ pub mod Outcome
 pub mod Report
 pub mod Held
 pub mod Kept
+pub mod Kinded
 pub mod Complete
 pub mod Words
 pub mod Examples

@@ -5,6 +5,7 @@ ghost use Rattle.std.specs.Prelude.{◌≡◌, [], ◌∷◌, Some, false, negsu
 ghost use Rattle.rev_num.specs.declared.value.Value.TheVariants as v;
 ghost use Rattle.revision_calculus.specs.Complete.{Reports, Tells, runs_to};
 ghost use Rattle.revision_calculus.specs.State.{forked, joined, written_at};
+ghost use Rattle.revision_calculus.specs.Kinded.{IsWellTyped};
 ghost use Rattle.revision_calculus.specs.Examples as x;
 ghost use Rattle.revision_calculus.specs.Examples.{given, joins_twice, prints, sharing, traps, usual, usual_fuel};
 
@@ -69,4 +70,12 @@ pub fn accounts()
     ensures main_lists { Tells (sharing 10 x.sums) 100 [] (λ l. l.noted) (forked (0 ∷ []) 6 ∷ joined (0 ∷ []) 8 ∷ []) }
     ensures child_writes { Tells (sharing 10 x.sums) 100 (0 ∷ []) (λ l. l.slots) (written_at (v.Int (pos 5)) (v.Int (pos 6)) ∷ []) }
     ensures main_writes { Tells (sharing 10 x.sums) 100 [] (λ l. l.slots) (written_at (v.Int (pos 0)) (v.Int (pos 16)) ∷ []) }
+{}
+
+/// Programs that the laws on kinds speak of.
+pub fn typed_programs()
+    ensures handle_travels { IsWellTyped x.handle_travels }
+    ensures merges_fault { IsWellTyped x.merges_fault }
+    ensures tries { IsWellTyped x.tries }
+    ensures adds_inputs { IsWellTyped x.adds_inputs }
 {}
