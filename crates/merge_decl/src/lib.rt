@@ -3,5 +3,7 @@
 
 pub mod expand;
 pub mod table;
+#[cfg(test)]
+mod tests;
 pub mod uses;
 pub mod value;
