@@ -16,3 +16,4 @@ pub mod SmallValues
 pub mod SmallTerms
 pub mod SmallSteps
 pub mod SmallPrograms
+pub mod SomeVerdict

@@ -52,6 +52,10 @@ IsVerdict bytes ts (too_deep at) = At (IsTooDeep bytes ts) bytes ts at
 abbrev pub OneVerdict : Type 0
 OneVerdict = (bytes : List ℕ) (ts : List Token) (a b : Verdict) → IsVerdict bytes ts a → IsVerdict bytes ts b → a ≡ b
 
+-- All tokens have a verdict.
+abbrev pub SomeVerdict : Type 0
+SomeVerdict = (bytes : List ℕ) (ts : List Token) → (v : Verdict) × IsVerdict bytes ts v
+
 -- the answer is the verdict, and the tree of a text that is not too long is small
 abbrev pub Parses : List ℕ → List Token → Result Program SyntaxFault → Type 0
 Parses bytes ts (Ok p) = IsVerdict bytes ts (tree (view p)) × IsSmallTree bytes ts (view p)

@@ -15,5 +15,8 @@ mod source;
 mod statement;
 mod whole;
 
-pub use laws::one_verdict;
+pub use laws::{one_verdict, some_verdict};
 pub use whole::{MOST_LEVELS, SyntaxFault, parse};
+
+#[cfg(test)]
+mod tests;
