@@ -9,9 +9,22 @@ use Rattle.rev_parse.specs.Grammar.{alphabet, Rule, Inner, Value, behind, before
 use Rattle.rev_parse.specs.Verdicts.{most_levels}
 use Rattle.rev_parse.proofs.TextTokens.{IsProper, AreProper, span, spans, proper_front, proper_back, spans-append}
 
--- of a value, by so many levels that are left for it, and so many bytes
+-- Of a value: with n levels left for it, and tokens of at most w bytes.
 abbrev pub Property : Type 0 → Type 1
 Property A = ℕ → ℕ → A → Type 0
+
+abbrev pub Any : {A : Type 0} → Property A
+Any n w x = Unit {0}
+
+-- lists that begin with no value and grow by one at the front, up to one that ends them
+abbrev pub Starts : {A : Type 0} → Property (List A) → Type 0
+Starts L = (n w : ℕ) → L n w []
+
+abbrev pub GrowsTo : {A : Type 0} → (A → Bool) → Property A → Property (List A) → Type 0
+GrowsTo {A = A} ends P L = (n u v : ℕ) (x : A) (xs : List A) → n ≤ most_levels → P n u x → L n v xs → (ends x ≡ true → xs ≡ []) → L n (u + v) (x ∷ xs)
+
+abbrev pub Grows : {A : Type 0} → Property A → Property (List A) → Type 0
+Grows {A = A} P L = (n u v : ℕ) (x : A) (xs : List A) → n ≤ most_levels → P n u x → L n v xs → L n (u + v) (x ∷ xs)
 
 -- with one level more than the property has
 pub record Within {A : Type 0} (P : Property A) (n w : ℕ) (x : A) : Type 0 where
@@ -90,15 +103,15 @@ module _ (bytes : List ℕ) where
         one n k w ts x fits (inl d) = p.word n k w ts x fits d
         one n k w ts x fits (inr d) = q.word n k w ts x fits d
 
-    many_word : {A : Type 0} {P : Property A} (L : Property (List A)) (ends : A → Bool) {F : Rule A} → Holds P F → ((n w : ℕ) → L n w []) → ((n u v : ℕ) (a : A) (rest : List A) → n ≤ most_levels → P n u a → L n v rest → (ends a ≡ true → rest ≡ []) → L n (u + v) (a ∷ rest)) → (xs : List A) (n k w : ℕ) (ts : List Token) → Weighs n k w ts → Many alphabet (Derives alphabet I F) ends n k ts xs → L n w xs
+    many_word : {A : Type 0} {P : Property A} (L : Property (List A)) (ends : A → Bool) {F : Rule A} → Holds P F → Starts L → GrowsTo ends P L → (xs : List A) (n k w : ℕ) (ts : List Token) → Weighs n k w ts → Many alphabet (Derives alphabet I F) ends n k ts xs → L n w xs
     many_word L ends p start grow [] n k w ts fits d = start n w
-    many_word L ends p start grow (a ∷ rest) n k w ts fits d =
+    many_word L ends p start grow (x ∷ xs) n k w ts fits d =
         let back = weighs_back d.0 d.1 ts n k w d.2 fits in
-        let one = p.word n k (spans d.0) d.0 a (weighs_front d.0 d.1 ts n k w d.2 fits) d.3 in
-        let more = many_word L ends p start grow rest n (left k d.0) (w - spans d.0) d.1 back.0 d.4 in
-        subst (λ w. L n w (a ∷ rest)) back.1 (grow n (spans d.0) (w - spans d.0) a rest fits.levels one more d.5)
+        let one = p.word n k (spans d.0) d.0 x (weighs_front d.0 d.1 ts n k w d.2 fits) d.3 in
+        let more = many_word L ends p start grow xs n (left k d.0) (w - spans d.0) d.1 back.0 d.4 in
+        subst (λ w. L n w (x ∷ xs)) back.1 (grow n (spans d.0) (w - spans d.0) x xs fits.levels one more d.5)
 
-    pub holds_many : {A B : Type 0} {P : Property A} {L : Property (List A)} {Q : Property B} {f : List A → B} {ends : A → Bool} {F : Rule A} → Holds P F → ((n w : ℕ) → L n w []) → ((n u v : ℕ) (a : A) (rest : List A) → n ≤ most_levels → P n u a → L n v rest → (ends a ≡ true → rest ≡ []) → L n (u + v) (a ∷ rest)) → ((n w : ℕ) (xs : List A) → L n w xs → Q n w (f xs)) → Holds Q (many f ends F)
+    pub holds_many : {A B : Type 0} {P : Property A} {L : Property (List A)} {Q : Property B} {f : List A → B} {ends : A → Bool} {F : Rule A} → Holds P F → Starts L → GrowsTo ends P L → ((n w : ℕ) (xs : List A) → L n w xs → Q n w (f xs)) → Holds Q (many f ends F)
     holds_many {L = L} {Q = Q} {f = f} {ends = ends} p start grow last = record {
       word = λ n k w ts x fits d. subst (Q n w) (sym d.2) (last n w d.0 (many_word L ends p start grow d.0 n k w ts fits d.1));
     }
@@ -118,18 +131,15 @@ module _ (bytes : List ℕ) where
     }
 
     -- a list of values, one behind the other
-    pub holds_all : {A : Type 0} {P : Property A} {L : Property (List A)} {F : Rule A} → Holds P F → ((n w : ℕ) → L n w []) → ((n u v : ℕ) (a : A) (rest : List A) → n ≤ most_levels → P n u a → L n v rest → L n (u + v) (a ∷ rest)) → Holds L (all F)
-    holds_all p start grow = holds_many p start (λ n u v a rest levels one more ends. grow n u v a rest levels one more) (λ n w xs h. h)
+    pub holds_all : {A : Type 0} {P : Property A} {L : Property (List A)} {F : Rule A} → Holds P F → Starts L → Grows P L → Holds L (all F)
+    holds_all p start grow = holds_many p start (λ n u v x xs levels one more ends. grow n u v x xs levels one more) (λ n w xs h. h)
 
-    pub holds_listing : {A : Type 0} {P : Property A} {L : Property (List A)} {F : Rule A} → Holds P F → ((n w : ℕ) → L n w []) → ((n u v : ℕ) (a : A) (rest : List A) → n ≤ most_levels → P n u a → L n v rest → L n (u + v) (a ∷ rest)) → Holds L (listing F)
+    pub holds_listing : {A : Type 0} {P : Property A} {L : Property (List A)} {F : Rule A} → Holds P F → Starts L → Grows P L → Holds L (listing F)
     holds_listing p start grow = holds_either (holds_both p (holds_all (holds_behind p) start grow) grow) (holds_nothing start)
 
     -- the same property, put otherwise
     pub holds_as : {A : Type 0} {P Q : Property A} {F : Rule A} → Holds P F → ((n w : ℕ) (x : A) → n ≤ most_levels → P n w x → Q n w x) → Holds Q F
     holds_as p h = record { word = λ n k w ts x fits d. h n w x fits.levels (p.word n k w ts x fits d) }
-
-    abbrev pub Any : {A : Type 0} → Property A
-    Any n w x = Unit {0}
 
     pub holds_any : {A : Type 0} {F : Rule A} → Holds Any F
     holds_any = record { word = λ n k w ts x fits d. tt }

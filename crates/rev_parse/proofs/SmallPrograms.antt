@@ -1,5 +1,5 @@
 -- Declarations and programs that are parsed have few parts, in their forms.
-use Rattle.std.proofs.Common.{◌≡◌, ℕ, ℤ, pos, zero, suc, ◌+◌, ◌*◌, ◌≤◌, true, false, List, ◌∷◌, length, Option, Some, None, refl, sym, subst, arith}
+use Rattle.std.proofs.Common.{◌≡◌, ℕ, ℤ, pos, zero, suc, ◌+◌, ◌*◌, ◌≤◌, true, false, List, length, Option, Some, None, refl, sym, subst, arith}
 use Rattle.std.proofs.lemmas.Bool.{and_from, le-leb, lt-ltb}
 use Rattle.std.specs.Prelude.{neg_ℤ}
 use Rattle.std.specs.List.{list_all}
@@ -7,7 +7,7 @@ use Rattle.rev_num.specs.declared.value.Value.{Value as Number}
 use Rattle.rev_num.specs.declared.value.Value.TheVariants as v
 use Rattle.rev_syntax.specs.Trees as t
 use Rattle.rev_syntax.specs.Trees.{Word, Term, Steps, Binder, Extent, Constant, Entry, Whole}
-use Rattle.rev_syntax.specs.Small.{word_count, term_count, binders_count, by_count, entry_count, entries_count, count, word_formed, term_small, steps_small, binder_formed, by_formed, size_formed, value_formed, first_formed, entry_small}
+use Rattle.rev_syntax.specs.Small.{word_count, term_count, binders_count, by_count, entry_count, entries_count, count, word_formed, term_small, steps_small, binder_formed, by_formed, size_formed, value_formed, first_formed, entry_small, greatest}
 use Rattle.rev_syntax.specs.declared.token.Token.{Token}
 use Rattle.token_grammar.specs.Form.{level, Lang, Nested, AnyNested}
 use Rattle.rev_parse.specs.declared.sort.Sort.{Sort}
@@ -18,7 +18,7 @@ use Rattle.rev_parse.specs.Verdicts.{most_levels, IsProgram}
 use Rattle.rev_parse.specs.Grammar.{alphabet, Rule, Inner, Value, Operand, Parens, Index, Arguments, Parts, Body, Params, Names, Cells}
 use Rattle.rev_parse.specs.Declarations.{KindAt, constant_word, constant, optional, cells, size, first_value, param, params, names, formal, head, meaning, fun_form, merge_form, variable, shared_of, versioned_form, cumulative_form, proc_form, declaration, declarations, program, inner}
 use Rattle.rev_parse.proofs.TextTokens.{IsNumber, text_tokens, text_spans, proper_number, spans}
-use Rattle.rev_parse.proofs.Holds.{Property, Weighs, Holds, Inside, holds_nothing, holds_token, holds_both, holds_either, holds_as, holds_any, holds_behind, holds_before, holds_all, holds_listing, holds_within}
+use Rattle.rev_parse.proofs.Holds.{Property, Grows, Weighs, Holds, Inside, holds_nothing, holds_token, holds_both, holds_either, holds_as, holds_any, holds_behind, holds_before, holds_all, holds_listing, holds_within}
 use Rattle.rev_parse.proofs.SmallValues.{IsSmallWord, IsSmallBlock, AreSmallBinders, AreSmallNames, IsSmallExtent, Has}
 use Rattle.rev_parse.proofs.SmallTerms.{holds_name, holds_unary, holds_parens, holds_inner_index, holds_arguments, holds_parts}
 use Rattle.rev_parse.proofs.SmallSteps.{IsShallow, holds_shallow, holds_block, holds_body}
@@ -72,22 +72,22 @@ record IsSmallWhole (n w : ℕ) (x : Whole) : Type 0 where
 -- ---- what the parts make
 
 natural_formed : (z : ℤ) → IsNumber z → value_formed (v.Int z) ≡ true
-natural_formed z h = subst (λ z. value_formed (v.Int z) ≡ true) (sym h.1) (le-leb h.0 9223372036854775807 h.2)
+natural_formed z h = subst (λ z. value_formed (v.Int z) ≡ true) (sym h.1) (le-leb h.0 greatest h.2)
 
-negated_formed : (m : ℕ) → m ≤ 9223372036854775807 → value_formed (v.Int (neg_ℤ (pos m))) ≡ true
-negated_formed zero h = le-leb 0 9223372036854775807 h
-negated_formed (suc m) h = lt-ltb m 9223372036854775807 h
+negated_formed : (m : ℕ) → m ≤ greatest → value_formed (v.Int (neg_ℤ (pos m))) ≡ true
+negated_formed zero h = le-leb 0 greatest h
+negated_formed (suc m) h = lt-ltb m greatest h
 
 negative_formed : (z : ℤ) → IsNumber z → value_formed (v.Int (neg_ℤ z)) ≡ true
 negative_formed z h = subst (λ z. value_formed (v.Int (neg_ℤ z)) ≡ true) (sym h.1) (negated_formed h.0 h.2)
 
 extent_formed : (at : ℕ) (z : ℤ) → IsNumber z → size_formed (Some (record { at = at; cells = z })) ≡ true
-extent_formed at z h = subst (λ z. size_formed (Some (record { at = at; cells = z })) ≡ true) (sym h.1) (le-leb h.0 9223372036854775807 h.2)
+extent_formed at z h = subst (λ z. size_formed (Some (record { at = at; cells = z })) ≡ true) (sym h.1) (le-leb h.0 greatest h.2)
 
-binders_grow : (n u v : ℕ) (x : Binder) (xs : List Binder) → n ≤ most_levels → IsSmallBinder n u x → AreSmallBinders n v xs → AreSmallBinders n (u + v) (x ∷ xs)
+binders_grow : Grows IsSmallBinder AreSmallBinders
 binders_grow n u v x xs levels one more = record { few = omega arith; formed = and_from _ _ one.formed more.formed }
 
-entries_grow : (n u v : ℕ) (x : Entry) (xs : List Entry) → n ≤ most_levels → IsSmallEntry n u x → AreSmallEntries n v xs → AreSmallEntries n (u + v) (x ∷ xs)
+entries_grow : Grows IsSmallEntry AreSmallEntries
 entries_grow n u v x xs levels one more = record { few = omega arith; small = and_from _ _ one.small more.small }
 
 two_names : (n u v : ℕ) (x y : Word) → IsSmallWord n u x → IsSmallWord n v y → AreTwoNames n (u + v) (x, y)

@@ -1,5 +1,5 @@
 -- Statements that are parsed have few parts, in their forms.
-use Rattle.std.proofs.Common.{◌≡◌, ℕ, ◌+◌, ◌*◌, ◌≤◌, ◌<◌, Bool, true, List, [], ◌∷◌, Option, Some, None, refl, arith}
+use Rattle.std.proofs.Common.{◌≡◌, ℕ, ◌+◌, ◌*◌, ◌≤◌, ◌<◌, Bool, true, List, ◌∷◌, Option, Some, None, refl, arith}
 use Rattle.std.proofs.lemmas.Bool.{and_from}
 use Rattle.std.specs.List.{list_all}
 use Rattle.rev_syntax.specs.Trees as t
@@ -15,7 +15,7 @@ use Rattle.rev_parse.specs.Verdicts.{most_levels}
 use Rattle.rev_parse.specs.Grammar.{alphabet, Rule, Inner, Value, Arguments, Body, bracketed, expr}
 use Rattle.rev_parse.specs.Statements.{Else, Test, Last, is_last, tests_of, last_of, conditional, block, actual, application, right_side, item, assigned, assignment, arm, else_part, else_parts, stmt, let_form, if_form, while_form, call_form, return_form, fork_form, join_form, print_form, assert_form, statement, statements, body}
 use Rattle.rev_parse.proofs.TextTokens.{proper_name, proper_text, text_length}
-use Rattle.rev_parse.proofs.Holds.{Property, Within, Holds, Inside, holds_nothing, holds_token, holds_both, holds_either, holds_many, holds_as, holds_any, holds_behind, holds_before, holds_all, holds_listing, holds_within}
+use Rattle.rev_parse.proofs.Holds.{Property, Grows, GrowsTo, Within, Holds, Inside, holds_nothing, holds_token, holds_both, holds_either, holds_many, holds_as, holds_any, holds_behind, holds_before, holds_all, holds_listing, holds_within}
 use Rattle.rev_parse.proofs.SmallValues.{IsSmallWord, IsSmallTerm, IsSmallBlock, Has}
 use Rattle.rev_parse.proofs.SmallTerms.{word_small, term_is_small, holds_place, holds_name, holds_index, holds_expr}
 
@@ -92,13 +92,13 @@ shallow n w x levels h = record { few = h.few; small = term_is_small n w x level
 shallow_inside : (n w : ℕ) (x : Term) → n ≤ most_levels → Within (IsSmallTerm 5) n w x → IsShallow n w x
 shallow_inside n w x levels h = record { few = h.inside.few; small = term_is_small h.below w x (omega arith) h.inside }
 
-items_grow : (n u v : ℕ) (x : Shown) (xs : List Shown) → n ≤ most_levels → IsSmallItem n u x → AreSmallItems n v xs → AreSmallItems n (u + v) (x ∷ xs)
+items_grow : Grows IsSmallItem AreSmallItems
 items_grow n u v x xs levels one more = record { few = omega arith; small = and_from _ _ one.small more.small }
 
-steps_grow : (n u v : ℕ) (x : Step) (xs : List Step) → n ≤ most_levels → IsSmallStep n u x → AreSmallSteps n v xs → AreSmallSteps n (u + v) (x ∷ xs)
+steps_grow : Grows IsSmallStep AreSmallSteps
 steps_grow n u v x xs levels one more = record { few = omega arith; small = and_from _ _ one.small more.small }
 
-elses_grow : (n u v : ℕ) (x : Else) (xs : List Else) → n ≤ most_levels → IsSmallElse n u x → AreSmallElses n v xs → (is_last x ≡ true → xs ≡ []) → AreSmallElses n (u + v) (x ∷ xs)
+elses_grow : GrowsTo is_last IsSmallElse AreSmallElses
 elses_grow n u v (Test x) xs levels one more ends = record { few = omega arith; tests = and_from _ _ (and_from _ _ one.test one.body) more.tests; last = more.last }
 elses_grow n u v (Last b) xs levels one more ends = record { few = omega arith; tests = more.tests; last = one.small }
 

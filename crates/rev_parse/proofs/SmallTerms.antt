@@ -1,9 +1,9 @@
 -- Expressions that are parsed have few parts, in their forms, and lie no deeper than the levels allow.
-use Rattle.std.proofs.Common.{◌≡◌, ℕ, suc, ◌+◌, ◌*◌, ◌≤◌, ◌<◌, true, ◌&&◌, ◌||◌, List, [], ◌∷◌, length, refl, sym, ap, subst, arith}
+use Rattle.std.proofs.Common.{◌≡◌, ℕ, suc, ◌+◌, ◌*◌, ◌≤◌, ◌<◌, Bool, true, false, ◌&&◌, ◌||◌, List, [], ◌∷◌, length, refl, sym, ap, subst, arith}
 use Rattle.std.proofs.lemmas.Bool.{and_from, and_parts, le-leb, eq-eqb, eqb-true}
 use Rattle.std.specs.Prelude.{nat_lt, ◌==◌, max}
 use Rattle.rev_syntax.specs.Trees as t
-use Rattle.rev_syntax.specs.Trees.{Word, Term, Terms, Links}
+use Rattle.rev_syntax.specs.Trees.{Word, Term, Shape, Terms, Links}
 use Rattle.rev_syntax.specs.View.{terms_of, links_of}
 use Rattle.rev_syntax.specs.declared.tree.UnaryOp.{UnaryOp}
 use Rattle.rev_syntax.specs.declared.tree.UnaryOp.TheVariants as u
@@ -20,7 +20,7 @@ use Rattle.rev_parse.specs.Verdicts.{most_levels}
 use Rattle.rev_parse.specs.Grammar.{alphabet, Rule, Inner, Value, Operand, Index, Parts, place, moved, joined, operator, linked, rank_sign, is_single, links_by, bracketed, choice, name, name_tail, primary, unary, product, sum, comparison, conjunction, expr, parens, index, arguments, parts}
 use Rattle.rev_parse.proofs.TextTokens.{IsProper, span, proper_name, word_length}
 use Rattle.rev_parse.proofs.SmallValues.{IsSmallWord, IsSmallTerm, AreSmallArguments, AreSmallParts, IsSome, Has}
-use Rattle.rev_parse.proofs.Holds.{Within, holds_within, holds_before, holds_listing, Holds, Inside, holds_nothing, holds_token, holds_both, holds_either, holds_many, holds_level}
+use Rattle.rev_parse.proofs.Holds.{Within, Grows, GrowsTo, holds_within, holds_before, holds_listing, Holds, Inside, holds_nothing, holds_token, holds_both, holds_either, holds_many, holds_level}
 
 -- how tightly the operators of a rank bind
 abbrev strength_of : Rank → ℕ
@@ -70,8 +70,8 @@ term_is_small n w x levels h =
 links_start : (rank : Rank) (of n w : ℕ) → AreSmallLinks rank of n w []
 links_start rank of n w = record { few = omega arith; formed = refl; nodes = omega arith; chains = omega arith; bind = refl; alone = λ e. omega arith }
 
-links_grow : (rank : Rank) (of n u v : ℕ) (x : BinaryOp × Term) (xs : List (BinaryOp × Term)) → IsSmallLink rank of n u x → AreSmallLinks rank of n v xs → (is_single rank ≡ true → xs ≡ []) → AreSmallLinks rank of n (u + v) (x ∷ xs)
-links_grow rank of n u v x xs one more ends = record {
+links_grow : (rank : Rank) (of : ℕ) → GrowsTo (λ l. is_single rank) (IsSmallLink rank of) (AreSmallLinks rank of)
+links_grow rank of n u v x xs levels one more ends = record {
   few = omega arith;
   formed = and_from _ _ one.formed more.formed;
   nodes = omega arith;
@@ -109,7 +109,7 @@ joined_small rank of n u v first (x ∷ xs) one more = record {
 arguments_start : (n w : ℕ) → AreSmallArguments n w []
 arguments_start n w = record { few = omega arith; formed = refl; nodes = omega arith; chains = omega arith; small = refl }
 
-arguments_grow : (n u v : ℕ) (x : Term) (xs : List Term) → n ≤ most_levels → IsSmallTerm 5 n u x → AreSmallArguments n v xs → AreSmallArguments n (u + v) (x ∷ xs)
+arguments_grow : Grows (IsSmallTerm 5) AreSmallArguments
 arguments_grow n u v x xs levels one more = record {
   few = omega arith;
   formed = and_from _ _ one.formed more.formed;
@@ -119,6 +119,20 @@ arguments_grow n u v x xs levels one more = record {
 }
 
 -- ---- the forms of a term
+
+abbrev is_leaf : Shape → Bool
+is_leaf (t.int n) = true
+is_leaf (t.bool b) = true
+is_leaf t.no_rev = true
+is_leaf (t.inputs word_at) = true
+is_leaf _ = false
+
+leaf_small : (n w at : ℕ) (s : Shape) → is_leaf s ≡ true → 1 ≤ w → IsSmallTerm 0 n w (t.placed at s)
+leaf_small n w at (t.int z) e some = record { few = omega arith; formed = refl; nodes = omega arith; chains = omega arith }
+leaf_small n w at (t.bool b) e some = record { few = omega arith; formed = refl; nodes = omega arith; chains = omega arith }
+leaf_small n w at t.no_rev e some = record { few = omega arith; formed = refl; nodes = omega arith; chains = omega arith }
+leaf_small n w at (t.inputs word_at) e some = record { few = omega arith; formed = refl; nodes = omega arith; chains = omega arith }
+leaf_small n w at _ e some = absurd cc
 
 word_alone : (n w : ℕ) (x : Word) → IsSmallWord n w x → IsSmallTerm 0 n w (t.placed x.at (t.var x))
 word_alone n w x h = record { few = omega arith; formed = h.formed; nodes = omega arith; chains = omega arith }
@@ -165,6 +179,9 @@ module _ (bytes : List ℕ) (I : (i : Inner) → Lang alphabet (Value i)) where
   unfolding name
   holds_name = holds_token bytes I (λ n w x h e weight. word_small bytes n w x h (proper_name bytes x h e) weight)
 
+  holds_leaf : {s : Sort} {val : Token → Shape} → ((x : Token) → is_leaf (val x) ≡ true) → Holds bytes I (IsSmallTerm 0) (token s (λ x. t.placed x.start (val x)))
+  holds_leaf {val = val} leaf = holds_token bytes I (λ n w x h e weight. let some : x.start < x.end = h.some in leaf_small n w x.start (val x) (leaf x) (omega arith))
+
   holds_operator : (rank : Rank) {s : Sort} {op : BinaryOp} → strength op ≡ strength_of rank → Holds bytes I (IsOperator rank) (operator s op)
   holds_operator rank e = holds_token bytes I (λ n w x h same weight. let some : x.start < x.end = h.some in record { some = omega arith; binds = e })
 
@@ -185,7 +202,7 @@ module _ (bytes : List ℕ) (I : (i : Inner) → Lang alphabet (Value i)) where
 
   holds_links : (rank : Rank) (of : ℕ) {F : Rule Term} → Holds bytes I (IsSmallTerm of) F → Holds bytes I (AreSmallLinks rank of) (links_by rank (rank_sign rank) F)
   holds_links rank of operand =
-      holds_many bytes I (holds_link rank of operand) (links_start rank of) (λ n u v x xs levels one more ends. links_grow rank of n u v x xs one more ends) (λ n w xs h. h)
+      holds_many bytes I (holds_link rank of operand) (links_start rank of) (links_grow rank of) (λ n w xs h. h)
 
   holds_ranked : (rank : Rank) (of : ℕ) {F : Rule Term} → Holds bytes I (IsSmallTerm of) F → Holds bytes I (IsSmallTerm (of + 1)) (both joined F (links_by rank (rank_sign rank) F))
   holds_ranked rank of operand =
@@ -207,19 +224,16 @@ module _ (bytes : List ℕ) (I : (i : Inner) → Lang alphabet (Value i)) where
         (holds_either bytes I (holds_level bytes I {Has = Has} inside (λ n u v x args proper levels weight h. record { at_name = λ m w word. apply_small n m u v w args word h }))
         (holds_nothing bytes I (λ n w. record { at_name = λ m x word. word_alone n (m + w) x (record { few = let few = word.few in omega arith; formed = word.formed }) })))
 
-    holds_leaf : {s : Sort} {val : Token → Term} → ((n w : ℕ) (x : Token) → 1 ≤ w → IsSmallTerm 0 n w (val x)) → Holds bytes I (IsSmallTerm 0) (token s val)
-    holds_leaf h = holds_token bytes I (λ n w x proper e weight. let some : x.start < x.end = proper.some in h n w x (omega arith))
-
     holds_primary : Holds bytes I (IsSmallTerm 0) (primary bytes)
     unfolding primary
     holds_primary =
-        holds_either bytes I (holds_leaf (λ n w x some. record { few = omega arith; formed = refl; nodes = omega arith; chains = omega arith }))
-        (holds_either bytes I (holds_leaf (λ n w x some. record { few = omega arith; formed = refl; nodes = omega arith; chains = omega arith }))
-        (holds_either bytes I (holds_leaf (λ n w x some. record { few = omega arith; formed = refl; nodes = omega arith; chains = omega arith }))
-        (holds_either bytes I (holds_leaf (λ n w x some. record { few = omega arith; formed = refl; nodes = omega arith; chains = omega arith }))
+        holds_either bytes I (holds_leaf (λ x. refl))
+        (holds_either bytes I (holds_leaf (λ x. refl))
+        (holds_either bytes I (holds_leaf (λ x. refl))
+        (holds_either bytes I (holds_leaf (λ x. refl))
         (holds_either bytes I (holds_both bytes I holds_name holds_tail (λ n u v w f levels word tail. tail.at_name u w word))
         (holds_either bytes I (holds_both bytes I holds_place holds_index (λ n u v at i levels some h. input_small n u v at i some h))
-        (holds_either bytes I (holds_leaf (λ n w x some. record { few = omega arith; formed = refl; nodes = omega arith; chains = omega arith }))
+        (holds_either bytes I (holds_leaf (λ x. refl))
         (holds_either bytes I (holds_both bytes I holds_place holds_choice (λ n u v at x levels some h. pick_small n u v at x some h))
         (holds_level bytes I {Has = Has} inside (λ n u v x e proper levels weight h. moved_small n u v x.start e h)))))))))
 
