@@ -52,7 +52,7 @@ pub record AreSmallNames (n w : ℕ) (x : Word × Word × Word) : Type 0 where
 abbrev pub IsSmallExtent : Property Extent
 IsSmallExtent n w x = size_formed (Some x) ≡ true
 
--- any tokens
+-- of at least one byte
 abbrev pub IsSome : {A : Type 0} → Property A
 IsSome n w x = 1 ≤ w
 
