@@ -1,8 +1,8 @@
 -- The funs and the merges of a well-typed program give values of their kinds.
-use Rattle.std.proofs.Common.{◌≡◌, ◌∙◌, ◌≢◌, ◌⊎◌, inl, inr, ℕ, zero, suc, ◌+◌, ◌<◌, ◌≤◌, Bool, true, false, cond, ◌&&◌, IsTrue, List, [], ◌∷◌, length, Option, Some, None, refl, sym, ap, subst, arith}
+use Rattle.std.proofs.Common.{◌≡◌, ◌∙◌, ◌≢◌, ◌⊎◌, inl, inr, ℕ, zero, suc, ◌+◌, ◌≤◌, Bool, true, false, cond, ◌&&◌, IsTrue, List, [], ◌∷◌, length, Option, Some, None, refl, sym, ap, subst, arith}
 use Rattle.std.specs.Prelude.{nat_le, if◌then◌else◌, slice_get}
 use Rattle.std.specs.List.{list_all}
-use Rattle.std.proofs.lemmas.Bool.Decides.{nat_tests}
+use Rattle.std.proofs.lemmas.Bool.{leb-false}
 use Rattle.rev_num.specs.declared.value.Value.{Value}
 use Rattle.rev_num.specs.declared.value.ValueKind.{ValueKind}
 use Rattle.rev_num.specs.declared.value.ValueKind.TheVariants as k
@@ -133,9 +133,6 @@ abbrev AreMerges : List MergeDef → Type 0
 AreMerges [] = Unit {0}
 AreMerges (d ∷ ds) = MergeIs d × AreMerges ds
 
-earlier_decl : (m n : ℕ) → nat_le m n ≡ false → n < m
-earlier_decl m n h = grind (arith, nat_tests)
-
 module _ (p : Whole) where
   abbrev inner : Names
   inner = within p.entries
@@ -155,7 +152,7 @@ module _ (p : Whole) where
           fits_fun f (known x.name.text) (funs_of fs x.name.text) (sofar.fits x.name.text) (g.1 ∙ sym same ∙ sym (sofar.all x.name.text) ∙ means)
       before h e (inr q) =
           let from = first_from d n rest x.name.text h q in
-          let less = earlier_decl x.within h.decl e in
+          let less = leb-false x.within h.decl e in
           absurd (omega arith)
 
       by : (o : Option FunHead) → rule.fun_named p x.name.text ≡ o → broken_by x o ≡ [] → FunIs f (funs_of fs x.name.text)

@@ -9,7 +9,8 @@ use Rattle.rev_syntax.specs.Trees.{Constant, Entry, fun, merge, shared, proc}
 use Rattle.merge_decl.specs.Definitions.{MergeDef, merges_in}
 use Rattle.revision_machine.specs.Machine.{Event, Joins, Ended}
 use Rattle.revision_machine.specs.Conditions.{Counts, Handles, HoldsNone, Spends}
-use Rattle.revision_calculus.specs.Program.{zero_value, written_value, first_value, cells_of, variables_from, variables, Setting}
+use Rattle.rev_types.specs.Program.{cells_of}
+use Rattle.revision_calculus.specs.Program.{zero_value, written_value, first_value, variables_from, variables, Setting}
 use Rattle.revision_calculus.specs.State.{running, joining, fresh, Local}
 use Rattle.revision_calculus.specs.Step.{next}
 use Rattle.revision_calculus.specs.Join.{join}

@@ -2,6 +2,7 @@
 use Rattle.std.proofs.Common.{◌≡◌, ◌∙◌, ◌≢◌, Bool, true, false, cond, ◌&&◌, IsTrue, List, [], ◌∷◌, Option, Some, None, refl, sym, ap, subst, true≢false}
 use Rattle.std.specs.Prelude.{if◌then◌else◌}
 use Rattle.std.specs.List.{list_all}
+use Rattle.std.specs.Cmp.Lexicographic.{other_text}
 use Rattle.rev_num.specs.declared.value.Value.{Value}
 use Rattle.rev_num.specs.declared.value.ValueKind.{ValueKind}
 use Rattle.rev_syntax.specs.Trees.{Word, Binder, Step, step, bind, assign, assign_cell, choose, choose_or, repeat, call, return, fork, join, print, assert, Steps, no_steps, steps, Entry, fun, merge, shared, proc}
@@ -27,9 +28,6 @@ use Rattle.revision_calculus.proofs.ValueKinds.{and_both, ArgsAre}
 
 -- ---- names
 
-other_name : (name w : Name) → same name w ≡ false → name ≢ w
-other_name name w e is = true≢false (sym (same-self w) ∙ ap (λ n. same n w) (sym is) ∙ e)
-
 over_by : {A : Type 0} (d : Bool) (x y : A) (r : Option A) → cond d (Some x) r ≡ cond d (Some x) (cond d (Some y) r)
 over_by true x y r = refl
 over_by false x y r = refl
@@ -49,7 +47,7 @@ find-with_local (e ∷ es) w x name = by (same w e.0) refl (find-with_local es w
     by true q rest = over_by (same name e.0) x e.1 (find name es) ∙ ap (λ n. cond (same name n) (Some x) (cond (same name e.0) (Some e.1) (find name es))) (sym (same_equal w e.0 q))
     by false q rest =
         ap (λ o. cond (same name e.0) (Some e.1) o) rest
-        ∙ swap_by (same name e.0) (same name w) x e.1 (find name es) (λ i j. other_name w e.0 q (sym (same_equal name w j) ∙ same_equal name e.0 i))
+        ∙ swap_by (same name e.0) (same name w) x e.1 (find name es) (λ i j. other_text w e.0 (sym q) (sym (same_equal name w j) ∙ same_equal name e.0 i))
 
 -- ---- scopes
 
@@ -188,7 +186,7 @@ module _ (c : Names) where
         where
           by : (d : Bool) → same name w ≡ d → IsSomeOf u (cond d (Some x) (find name values))
           by true e = is ∙ (let q : Some (Some t) ≡ Some (Some u) = sym found ∙ ap (λ n. find n scope) (sym (same_equal name w e)) ∙ h in cc)
-          by false e = are.kinds name u (λ q. other_name name w e (let p : w ≡ name = cc in sym p)) h
+          by false e = are.kinds name u (λ q. other_text name w (sym e) (let p : w ≡ name = cc in sym p)) h
 
       apart : (name : Name) (h : Holder) → c.shared name ≡ Some h → (find name scope ≡ None) × (find name (with_local values w x) ≡ None)
       apart name h e = (old.0, find-with_local values w x name ∙ by (same name w) refl)

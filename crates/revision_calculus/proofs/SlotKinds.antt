@@ -13,9 +13,9 @@ use Rattle.merge_decl.specs.Definitions.{MergeDef, merge_value_of}
 use Rattle.merge_decl.specs.Value.{Answer}
 use Rattle.rev_types.specs.declared.names.Holder.{Holder}
 use Rattle.rev_types.specs.Kinds.{Names}
-use Rattle.rev_types.specs.Program.{holder, shared_named}
+use Rattle.rev_types.specs.Program.{cells_of, holder, shared_named}
 use Rattle.rev_types.specs.Judgement.{ByTyped, FirstTyped, EntriesTyped}
-use Rattle.revision_calculus.specs.Program.{SharedVariable, zero_value, written_value, first_value, cells_of, merge_number, shared_variable, variables_from, variable_named}
+use Rattle.revision_calculus.specs.Program.{SharedVariable, zero_value, written_value, first_value, merge_number, shared_variable, variables_from, variable_named}
 use Rattle.revision_calculus.specs.State.{Slot, seen, seen_at, write_at, fresh}
 use Rattle.revision_calculus.specs.Join.{merges_of, new_value, taken_over, merged_slot, Composed, merged, faults, and_later, compose}
 use Rattle.revision_calculus.specs.Calculus.{start_values}

@@ -1,6 +1,7 @@
 -- Each step of a well-typed program keeps the kinds of all values.
 use Rattle.std.proofs.Common.{◌≡◌, ◌∙◌, ℕ, zero, suc, ◌+◌, ℤ, pos, negsuc, Bool, true, false, cond, ◌&&◌, IsTrue, List, [], ◌∷◌, ◌++◌, length, Option, Some, None, Result, Ok, Err, IfOk, refl, sym, ap, subst, arith, true≢false}
 use Rattle.std.specs.Prelude.{nat_le, nat_lt, if◌then◌else◌}
+use Rattle.std.proofs.lemmas.Bool.{ltb-true}
 use Rattle.rev_num.specs.Path.{Path, child}
 use Rattle.rev_num.specs.declared.value.Value.{Value}
 use Rattle.rev_num.specs.declared.value.Value.TheVariants as v
@@ -18,7 +19,7 @@ use Rattle.merge_decl.specs.Names.{Name}
 use Rattle.merge_decl.specs.Table.{find, added}
 use Rattle.merge_decl.specs.FunRules.{count, term_uses, terms_uses}
 use Rattle.merge_decl.specs.Value.{Answer, and_then, truth_of, number_of, scalar, array, funs_of}
-use Rattle.merge_decl.specs.Definitions.{merges_in, funs_in}
+use Rattle.merge_decl.specs.Definitions.{merge_value_of, merges_in, funs_in}
 use Rattle.rev_types.specs.declared.names.Holder.{Holder}
 use Rattle.rev_types.specs.Kinds.{Callee, Locals}
 use Rattle.rev_types.specs.Program.{within, shared_named, proc_named, with_params}
@@ -34,10 +35,10 @@ use Rattle.revision_calculus.specs.Step.{traps, with_answer, enter, followed, ta
 use Rattle.revision_calculus.specs.Join as joining_spec
 use Rattle.revision_calculus.specs.Join.{merges_of, Composed, merged, faults, compose, composed, dropped, joined_in, waiting, listed}
 use Rattle.revision_calculus.specs.Calculus.{main, calculus}
-use Rattle.revision_calculus.specs.Kinded.{IsWellTyped, IsOf, IsSomeOf, location_kinds, SlotsAre, LocalsAre, RestTyped, FrameIs, Takes, FramesAre, FramesTrapped, FramesAt, names, IsKinded, ValueLaw}
+use Rattle.revision_calculus.specs.Kinded.{IsWellTyped, MergeLaw, IsOf, IsSomeOf, slot_kinds, SlotsAre, LocalsAre, RestTyped, FrameIs, Takes, FramesAre, FramesTrapped, FramesAt, names, IsKinded, ValueLaw}
 use Rattle.revision_calculus.proofs.Values.{OfOk, then_ok}
 use Rattle.revision_calculus.proofs.Events.{joins_phase}
-use Rattle.revision_calculus.proofs.ValueKinds.{and_both, small_formed, terms_small_formed, below, SharedIs, EnvIs, ArgsAre, value_is, values_is}
+use Rattle.revision_calculus.proofs.ValueKinds.{and_both, small_formed, terms_small_formed, SharedIs, EnvIs, ArgsAre, value_is, values_is}
 use Rattle.revision_calculus.proofs.FunKinds.{rules_kept, funs_apply, merges_give}
 use Rattle.revision_calculus.proofs.SlotKinds.{IsAt, seen_at_is, write_is, fresh_is, Located, located, start_is, merges_fit, compose_is}
 use Rattle.revision_calculus.proofs.ScopeKinds.{within_self, whole_typed, block_typed, block_small, returns_behind, returns_block, returns_before, shared_new, locals_wait, locals_within, locals_let, let_takes, locals_set, locals_shared, ProcIs, proc_is, call_frame, none_waits, are_trapped}
@@ -49,6 +50,13 @@ Any x = Unit {0}
 any_ok : {A : Type 0} (a : Result A Cause) → OfOk Any a
 any_ok (Ok x) = tt
 any_ok (Err c) = tt
+
+if_ok : (P : Value → Type 0) (a : Answer) → OfOk P a → IfOk a P
+if_ok P (Ok x) h = h
+if_ok P (Err c) h = tt
+
+pub merge_law : (p : Whole) → IsWellTyped p → MergeLaw p
+merge_law p well n m j r km kj kr = if_ok (IsOf k.Int) (merge_value_of p n m j r) (merges_give p well n m j r km kj kr)
 
 -- ---- what is read and assigned
 
@@ -67,21 +75,18 @@ shared_is kinds slots (Some y) (Some g) h are at e = subst (λ x. SharedIs x (re
         (plain, seen_at_is kinds slots y.base g.kind are (subst (λ n. IsAt kinds n g.kind) here first))
 
 module _ (s : Setting) (well : IsWellTyped s.program) where
-  abbrev kinds : List ValueKind
-  kinds = location_kinds s.program.entries
-
   program : ProgramTyped s.program
   program = rules_kept s.program well
 
-  place : (name : Name) → Located (location_kinds s.program.entries) (variable_named (variables s.program) name) (shared_named s.program.entries name)
+  place : (name : Name) → Located (slot_kinds s) (variable_named (variables s.program) name) (shared_named s.program.entries name)
   place name = located (merges_in s.program) [] s.program.entries name
 
-  env_is : (l : Local) (f : Frame) (fs : List Frame) (scope : Locals) → SlotsAre (location_kinds s.program.entries) l.slots → l.frames ≡ f ∷ fs → LocalsAre (names s) scope None f.locals → EnvIs (names s) scope (env s l)
+  env_is : (l : Local) (f : Frame) (fs : List Frame) (scope : Locals) → SlotsAre (slot_kinds s) l.slots → l.frames ≡ f ∷ fs → LocalsAre (names s) scope None f.locals → EnvIs (names s) scope (env s l)
   env_is l f fs scope slots top are = record {
     local = λ name u h. subst (λ x. IsSomeOf u (find name (top_locals x))) (sym top) (are.kinds name u (λ e. cc) h);
     shared = λ name h none e. (
       ap (λ x. find name (top_locals x)) top ∙ (are.apart name h e).1,
-      shared_is (location_kinds s.program.entries) l.slots (variable_named (variables s.program) name) (shared_named s.program.entries name) h slots (place name) e,
+      shared_is (slot_kinds s) l.slots (variable_named (variables s.program) name) (shared_named s.program.entries name) h slots (place name) e,
     );
   }
 
@@ -93,38 +98,35 @@ module _ (s : Setting) (well : IsWellTyped s.program) where
   evals_are l scope es ps is small same has = values_is (names s) scope (funs_of (funs_in s.program)) (env s l) is 0 es ps (funs_apply s.program well 0 (terms_uses 0 es)) (terms_small_formed es small) same has
 
   pub value_law : ValueLaw s
-  value_law l f fs scope e u slots top are formed has =
-      by (eval s l e) (value_is (names s) scope (funs_of (funs_in s.program)) (env s l) (env_is l f fs scope slots top are) 0 e u (funs_apply s.program well 0 (term_uses 0 e)) formed has)
-    where
-      by : (a : Answer) → OfOk (IsOf u) a → IfOk a (IsOf u)
-      by (Ok x) is = is
-      by (Err c) is = tt
+  value_law l f fs scope known e u slots top are inside formed has =
+      if_ok (IsOf u) (eval s l e)
+      (value_is (names s) known (funs_of (funs_in s.program)) (env s l) (env_is l f fs known slots top (locals_within (names s) known scope f.locals inside are)) 0 e u (funs_apply s.program well 0 (term_uses 0 e)) formed has)
 
   -- the left side that waits has a value, and nothing else changed
   record Given (l l' : Local) : Type 0 where
-    slots : SlotsAre (location_kinds s.program.entries) l'.slots
+    slots : SlotsAre (slot_kinds s) l'.slots
     frames : FramesAre (names s) None None l'.frames
     phase : l'.phase ≡ l.phase
 
   -- an assignment to a shared scalar
-  set_shared : (l : Local) (f : Frame) (fs : List Frame) (name : Name) (u : ValueKind) (x : Value) (h : Holder) (o : Option SharedVariable) → SlotsAre (location_kinds s.program.entries) l.slots → l.frames ≡ f ∷ fs → FramesAre (names s) (Some name) (Some u) (f ∷ fs)
-      → (names s).shared name ≡ Some h → (h.array ≡ false) × (h.kind ≡ u) → Located (location_kinds s.program.entries) o (Some h) → IsOf u x → Given l (set_named o l name x)
+  set_shared : (l : Local) (f : Frame) (fs : List Frame) (name : Name) (u : ValueKind) (x : Value) (h : Holder) (o : Option SharedVariable) → SlotsAre (slot_kinds s) l.slots → l.frames ≡ f ∷ fs → FramesAre (names s) (Some name) (Some u) (f ∷ fs)
+      → (names s).shared name ≡ Some h → (h.array ≡ false) × (h.kind ≡ u) → Located (slot_kinds s) o (Some h) → IsOf u x → Given l (set_named o l name x)
   set_shared l f fs name u x h None slots top are e has at is = absurd at
   set_shared l f fs name u x h (Some y) slots top are e has at is = record {
-    slots = write_is (location_kinds s.program.entries) l.slots y.base u x slots (subst (λ w. IsAt (location_kinds s.program.entries) y.base w) has.1 (subst (λ n. IsAt (location_kinds s.program.entries) n h.kind) here first)) is;
+    slots = write_is (slot_kinds s) l.slots y.base u x slots (subst (λ w. IsAt (slot_kinds s) y.base w) has.1 (subst (λ n. IsAt (slot_kinds s) n h.kind) here first)) is;
     frames = subst (λ z. FramesAre (names s) None None z) (sym top) (are.0, are.1, tt, record { locals = locals_shared (names s) are.0 name h f.locals are.3.locals e; rest = are.3.rest; small = are.3.small }, are.4, are.5);
     phase = refl;
   }
     where
-      first : IsAt (location_kinds s.program.entries) (y.base + 0) h.kind
+      first : IsAt (slot_kinds s) (y.base + 0) h.kind
       first = let one : y.cells ≡ 1 = at.1 has.0 in at.2 0 (omega arith)
 
       here : y.base + 0 ≡ y.base
       here = omega arith
 
   -- an assignment to a local
-  set_own : (l : Local) (f : Frame) (fs : List Frame) (name : Name) (u : ValueKind) (x : Value) (o : Option SharedVariable) → SlotsAre (location_kinds s.program.entries) l.slots → l.frames ≡ f ∷ fs → (are : FramesAre (names s) (Some name) (Some u) (f ∷ fs))
-      → find name are.0 ≡ Some (Some u) → Located (location_kinds s.program.entries) o None → IsOf u x → Given l (set_named o l name x)
+  set_own : (l : Local) (f : Frame) (fs : List Frame) (name : Name) (u : ValueKind) (x : Value) (o : Option SharedVariable) → SlotsAre (slot_kinds s) l.slots → l.frames ≡ f ∷ fs → (are : FramesAre (names s) (Some name) (Some u) (f ∷ fs))
+      → find name are.0 ≡ Some (Some u) → Located (slot_kinds s) o None → IsOf u x → Given l (set_named o l name x)
   set_own l f fs name u x (Some y) slots top are found at is = absurd at
   set_own l f fs name u x None slots top are found at is = record {
     slots = slots;
@@ -132,20 +134,20 @@ module _ (s : Setting) (well : IsWellTyped s.program) where
     phase = refl;
   }
 
-  set_is : (l : Local) (fs : List Frame) (name : Name) (u : ValueKind) (x : Value) → SlotsAre (location_kinds s.program.entries) l.slots → l.frames ≡ fs → FramesAre (names s) (Some name) (Some u) fs → IsOf u x → Given l (set s l name x)
+  set_is : (l : Local) (fs : List Frame) (name : Name) (u : ValueKind) (x : Value) → SlotsAre (slot_kinds s) l.slots → l.frames ≡ fs → FramesAre (names s) (Some name) (Some u) fs → IsOf u x → Given l (set s l name x)
   set_is l [] name u x slots top are is = cc
   set_is l (f ∷ fs) name u x slots top are is = by (find name are.0) refl (shared_named s.program.entries name) refl are.2
     where
       by : (o : Option (Option ValueKind)) → find name are.0 ≡ o → (h : Option Holder) → shared_named s.program.entries name ≡ h → ScalarHas o h u → Given l (set s l name x)
       by (Some found) p h q has =
           set_own l f fs name u x (variable_named (variables s.program) name) slots top are (p ∙ ap Some has)
-          (subst (λ g. Located (location_kinds s.program.entries) (variable_named (variables s.program) name) g) (shared_new (names s) are.0 (Some name) f.locals name found are.3.locals p) (place name)) is
+          (subst (λ g. Located (slot_kinds s) (variable_named (variables s.program) name) g) (shared_new (names s) are.0 (Some name) f.locals name found are.3.locals p) (place name)) is
       by None p (Some h) q has =
           set_shared l f fs name u x h (variable_named (variables s.program) name) slots top are q has
-          (subst (λ g. Located (location_kinds s.program.entries) (variable_named (variables s.program) name) g) q (place name)) is
+          (subst (λ g. Located (slot_kinds s) (variable_named (variables s.program) name) g) q (place name)) is
       by None p None q has = absurd has
 
-  give_is : (l : Local) (left : Option Name) (u : ValueKind) (x : Value) → SlotsAre (location_kinds s.program.entries) l.slots → FramesAre (names s) left (Some u) l.frames → IsOf u x → Given l (give s l left (Some x))
+  give_is : (l : Local) (left : Option Name) (u : ValueKind) (x : Value) → SlotsAre (slot_kinds s) l.slots → FramesAre (names s) left (Some u) l.frames → IsOf u x → Given l (give s l left (Some x))
   give_is l None u x slots are is = record { slots = slots; frames = none_waits (names s) (Some u) None l.frames are; phase = refl }
   give_is l (Some name) u x slots are is = set_is l l.frames name u x slots refl are is
 
@@ -162,7 +164,7 @@ module _ (s : Setting) (well : IsWellTyped s.program) where
   Kinded r l (Joins q) = Unit {0}
   Kinded r l Ended = Unit {0}
 
-  finished_is : (r : Path) (l : Local) → SlotsAre (location_kinds s.program.entries) l.slots → IsKinded s r (finished l)
+  finished_is : (r : Path) (l : Local) → SlotsAre (slot_kinds s) l.slots → IsKinded s r (finished l)
   finished_is r l slots = record { slots = slots; frames = refl }
 
   -- the procedure that is called
@@ -170,7 +172,7 @@ module _ (s : Setting) (well : IsWellTyped s.program) where
   callee_is name q e = proc_is (names s) (within s.program.entries) [] s.program.entries name q program.entries well.small.entries e
 
   -- a statement that was paid for, where it traps as the frames are
-  module _ (r : Path) (l : Local) (slots : SlotsAre (location_kinds s.program.entries) l.slots) (run : l.phase ≡ running) (halted : FramesTrapped (names s) l.frames) where
+  module _ (r : Path) (l : Local) (slots : SlotsAre (slot_kinds s) l.slots) (run : l.phase ≡ running) (halted : FramesTrapped (names s) l.frames) where
     traps_are : (c : Cause) → Kinded r l (traps r l c)
     traps_are c = record { slots = slots; frames = halted }
 
@@ -179,7 +181,7 @@ module _ (s : Setting) (well : IsWellTyped s.program) where
     answer_are P (Err c) go p is = traps_are c
 
     -- the same frames go on
-    goes_on : (l' : Local) → SlotsAre (location_kinds s.program.entries) l'.slots → FramesAre (names s) None None l'.frames → l'.phase ≡ l.phase → IsKinded s r l'
+    goes_on : (l' : Local) → SlotsAre (slot_kinds s) l'.slots → FramesAre (names s) None None l'.frames → l'.phase ≡ l.phase → IsKinded s r l'
     goes_on l' are frames same = given_kinded r l l' run (record { slots = are; frames = frames; phase = same })
 
     cond_events : (d : Bool) (x y : Event Local) → Kinded r l x → Kinded r l y → Kinded r l (cond d x y)
@@ -196,7 +198,7 @@ module _ (s : Setting) (well : IsWellTyped s.program) where
 
     child_is : (q : Callee) (d : Procedure) (args : List Value) → ProcIs (names s) q d → ArgsAre q.params args → IsKinded s (child r l.forks) (forked_child s l d args)
     child_is q d args is are = record {
-      slots = fresh_is (location_kinds s.program.entries) l.slots slots;
+      slots = fresh_is (slot_kinds s) l.slots slots;
       frames = (with_params [] q.params, q.result, tt, call_frame (names s) q d args None is are, is.returns, refl);
     }
 
@@ -245,35 +247,35 @@ module _ (s : Setting) (well : IsWellTyped s.program) where
 
   -- ---- cells
 
-  location_is : (o : Option SharedVariable) (h : Holder) (u : ValueKind) (z : ℤ) → Located (location_kinds s.program.entries) o (Some h) → h.kind ≡ u → OfOk (λ n. IsAt (location_kinds s.program.entries) n u) (location_of o z)
+  location_is : (o : Option SharedVariable) (h : Holder) (u : ValueKind) (z : ℤ) → Located (slot_kinds s) o (Some h) → h.kind ≡ u → OfOk (λ n. IsAt (slot_kinds s) n u) (location_of o z)
   location_is None h u z at is = absurd at
   location_is (Some y) h u (negsuc i) at is = tt
   location_is (Some y) h u (pos i) at is = by (nat_lt i y.cells) refl
     where
-      by : (d : Bool) → nat_lt i y.cells ≡ d → OfOk (λ n. IsAt (location_kinds s.program.entries) n u) (cond d (Ok (y.base + i)) (Err cause.Index))
-      by true e = subst (λ w. IsAt (location_kinds s.program.entries) (y.base + i) w) is (at.2 i (below i y.cells e))
+      by : (d : Bool) → nat_lt i y.cells ≡ d → OfOk (λ n. IsAt (slot_kinds s) n u) (cond d (Ok (y.base + i)) (Err cause.Index))
+      by true e = subst (λ w. IsAt (slot_kinds s) (y.base + i) w) is (at.2 i (ltb-true i y.cells e))
       by false e = tt
 
-  cell_is : (scope : Locals) (name : Name) (u : ValueKind) (z : ℤ) → ArrayHas (find name scope) ((names s).shared name) u → OfOk (λ n. IsAt (location_kinds s.program.entries) n u) (cell_location s name z)
+  cell_is : (scope : Locals) (name : Name) (u : ValueKind) (z : ℤ) → ArrayHas (find name scope) ((names s).shared name) u → OfOk (λ n. IsAt (slot_kinds s) n u) (cell_location s name z)
   cell_is scope name u z has = by (find name scope) (shared_named s.program.entries name) refl has
     where
-      by : (o : Option (Option ValueKind)) (h : Option Holder) → shared_named s.program.entries name ≡ h → ArrayHas o h u → OfOk (λ n. IsAt (location_kinds s.program.entries) n u) (cell_location s name z)
+      by : (o : Option (Option ValueKind)) (h : Option Holder) → shared_named s.program.entries name ≡ h → ArrayHas o h u → OfOk (λ n. IsAt (slot_kinds s) n u) (cell_location s name z)
       by (Some found) h q has = absurd has
-      by None (Some h) q has = location_is (variable_named (variables s.program) name) h u z (subst (λ g. Located (location_kinds s.program.entries) (variable_named (variables s.program) name) g) q (place name)) has.1
+      by None (Some h) q has = location_is (variable_named (variables s.program) name) h u z (subst (λ g. Located (slot_kinds s) (variable_named (variables s.program) name) g) q (place name)) has.1
       by None None q has = absurd has
 
   -- ---- returns
 
   -- the frame below goes on, with no value
-  none_given : (r : Path) (l : Local) (left : Option Name) (g : Frame) (gs : List Frame) → SlotsAre (location_kinds s.program.entries) l.slots → l.phase ≡ running → FramesAre (names s) left None (g ∷ gs) → IsKinded s r (give s (record l { frames = g ∷ gs }) left None)
+  none_given : (r : Path) (l : Local) (left : Option Name) (g : Frame) (gs : List Frame) → SlotsAre (slot_kinds s) l.slots → l.phase ≡ running → FramesAre (names s) left None (g ∷ gs) → IsKinded s r (give s (record l { frames = g ∷ gs }) left None)
   none_given r l (Some name) g gs slots run are = absurd are.2
   none_given r l None g gs slots run are = given_kinded r l (record l { frames = g ∷ gs }) run (record { slots = slots; frames = are; phase = refl })
 
-  return_none : (r : Path) (l : Local) (f : Frame) (fs : List Frame) → SlotsAre (location_kinds s.program.entries) l.slots → l.phase ≡ running → FramesAre (names s) f.left None fs → IsKinded s r (returned s l (f ∷ fs) None)
+  return_none : (r : Path) (l : Local) (f : Frame) (fs : List Frame) → SlotsAre (slot_kinds s) l.slots → l.phase ≡ running → FramesAre (names s) f.left None fs → IsKinded s r (returned s l (f ∷ fs) None)
   return_none r l f [] slots run are = finished_is r l slots
   return_none r l f (g ∷ gs) slots run are = none_given r l f.left g gs slots run are
 
-  return_some : (r : Path) (l : Local) (f : Frame) (fs : List Frame) (u : ValueKind) (x : Value) → SlotsAre (location_kinds s.program.entries) l.slots → l.phase ≡ running → FramesAre (names s) f.left (Some u) fs → IsOf u x
+  return_some : (r : Path) (l : Local) (f : Frame) (fs : List Frame) (u : ValueKind) (x : Value) → SlotsAre (slot_kinds s) l.slots → l.phase ≡ running → FramesAre (names s) f.left (Some u) fs → IsOf u x
       → IsKinded s r (returned s l (f ∷ fs) (Some x))
   return_some r l f [] u x slots run are is = finished_is r l slots
   return_some r l f (g ∷ gs) u x slots run are is =
@@ -308,7 +310,7 @@ module _ (s : Setting) (well : IsWellTyped s.program) where
   -- ---- statements
 
   -- a revision that runs, with its top frame and those below it
-  module _ (r : Path) (l : Local) (f : Frame) (fs : List Frame) (slots : SlotsAre (location_kinds s.program.entries) l.slots) (run : l.phase ≡ running) (top : l.frames ≡ f ∷ fs)
+  module _ (r : Path) (l : Local) (f : Frame) (fs : List Frame) (slots : SlotsAre (slot_kinds s) l.slots) (run : l.phase ≡ running) (top : l.frames ≡ f ∷ fs)
       (result : Option ValueKind) (under : FramesAre (names s) f.left result fs) where
     -- an assignment to a name, which waits for the value of the right side
     assigns : (known scope : Locals) (name : Name) (right : Right) (u : ValueKind) → LocalsAre (names s) known None f.locals → FrameIs (names s) result scope (Some name) f → Takes (names s) scope (Some name) (Some u) → Returns result f.rest
@@ -331,7 +333,7 @@ module _ (s : Setting) (well : IsWellTyped s.program) where
       answers : {A : Type 0} (P : A → Type 0) (a : Result A Cause) (go : A → Event Local) → OfOk P a → ((x : A) → P x → Kinded r l (go x)) → Kinded r l (with_answer r l a go)
       answers = answer_are r l slots run halted
 
-      same_frames : (l' : Local) → SlotsAre (location_kinds s.program.entries) l'.slots → l'.frames ≡ l.frames → l'.phase ≡ l.phase → Returns result f.rest → IsKinded s r l'
+      same_frames : (l' : Local) → SlotsAre (slot_kinds s) l'.slots → l'.frames ≡ l.frames → l'.phase ≡ l.phase → Returns result f.rest → IsKinded s r l'
       same_frames l' are same phase ends = given_kinded r l l' run (record { slots = are; frames = subst (λ z. FramesAre (names s) None None z) (sym same) (frames ends); phase = phase })
 
       enters : (block : Steps) → StepsTyped (names s) result scope block → IsTrue (steps_small block) → Returns result (followed block f.rest) → IsKinded s r (enter block l)
@@ -354,10 +356,10 @@ module _ (s : Setting) (well : IsWellTyped s.program) where
       cell_set : (a : Word) (index e : Term) (u : ValueKind) → ArrayHas (find a.text scope) ((names s).shared a.text) u → HasKind (names s) scope e u → IsTrue (term_small e) → Returns result f.rest
           → Kinded r l (with_answer r l (and_then (eval s l index) (λ i. cell_location s a.text (number_of i))) (λ n. with_answer r l (eval s l e) (λ x. Moves (record l { slots = write_at l.slots n x }))))
       cell_set a index e u cells has small ends =
-          answers (λ n. IsAt (location_kinds s.program.entries) n u) (and_then (eval s l index) (λ i. cell_location s a.text (number_of i))) (λ n. with_answer r l (eval s l e) (λ x. Moves (record l { slots = write_at l.slots n x })))
-          (then_ok Any (λ n. IsAt (location_kinds s.program.entries) n u) (eval s l index) (λ i. cell_location s a.text (number_of i)) (any_ok (eval s l index)) (λ i any. cell_is scope a.text u (number_of i) cells))
+          answers (λ n. IsAt (slot_kinds s) n u) (and_then (eval s l index) (λ i. cell_location s a.text (number_of i))) (λ n. with_answer r l (eval s l e) (λ x. Moves (record l { slots = write_at l.slots n x })))
+          (then_ok Any (λ n. IsAt (slot_kinds s) n u) (eval s l index) (λ i. cell_location s a.text (number_of i)) (any_ok (eval s l index)) (λ i any. cell_is scope a.text u (number_of i) cells))
           (λ n at. answers (IsOf u) (eval s l e) (λ x. Moves (record l { slots = write_at l.slots n x })) (eval_is l scope e u reads small has)
-          (λ x kx. same_frames (record l { slots = write_at l.slots n x }) (write_is (location_kinds s.program.entries) l.slots n u x slots at kx) refl refl ends))
+          (λ x kx. same_frames (record l { slots = write_at l.slots n x }) (write_is (slot_kinds s) l.slots n u x slots at kx) refl refl ends))
 
       cond_local : (d : Bool) (x y : Local) → IsKinded s r x → IsKinded s r y → IsKinded s r (cond d x y)
       cond_local true x y p q = p
@@ -384,7 +386,7 @@ module _ (s : Setting) (well : IsWellTyped s.program) where
   both_true false e h = absurd (true≢false (sym h))
 
   -- a statement whose effect this is, where what remains is that of the top frame
-  does_are : (r : Path) (l : Local) (f : Frame) (fs : List Frame) (slots : SlotsAre (location_kinds s.program.entries) l.slots) (run : l.phase ≡ running) (top : l.frames ≡ f ∷ fs)
+  does_are : (r : Path) (l : Local) (f : Frame) (fs : List Frame) (slots : SlotsAre (slot_kinds s) l.slots) (run : l.phase ≡ running) (top : l.frames ≡ f ∷ fs)
       (result : Option ValueKind) (under : FramesAre (names s) f.left result fs) (known after : Locals) (x : Step) → LocalsAre (names s) known None f.locals → StepTyped (names s) result known x after
       → RestTyped (names s) result after f.rest → IsTrue (step_small x) → IsTrue (steps_small f.rest) → Returns result (steps x f.rest) → Kinded r l (does s r l x)
   does_are r l f fs slots run top result under known after (step at line (bind w right)) locals typed later small rest ends =
@@ -454,7 +456,7 @@ module _ (s : Setting) (well : IsWellTyped s.program) where
   -- ---- events
 
   -- the top frame has a statement left
-  begins_are : (r : Path) (l : Local) (f : Frame) (fs : List Frame) → SlotsAre (location_kinds s.program.entries) l.slots → l.phase ≡ running → l.frames ≡ f ∷ fs → FramesAre (names s) None None (f ∷ fs) → (fuel : ℕ) (x : Step) (rest : Steps) → f.rest ≡ steps x rest
+  begins_are : (r : Path) (l : Local) (f : Frame) (fs : List Frame) → SlotsAre (slot_kinds s) l.slots → l.phase ≡ running → l.frames ≡ f ∷ fs → FramesAre (names s) None None (f ∷ fs) → (fuel : ℕ) (x : Step) (rest : Steps) → f.rest ≡ steps x rest
       → Kinded r l (begins s r l fuel f fs x rest)
   begins_are r l f fs slots run top are zero (step at line act) rest e = record { slots = slots; frames = subst (λ z. FramesTrapped (names s) z) (sym top) (are_trapped (names s) None None (f ∷ fs) are) }
   begins_are r l f fs slots run top are (suc fuel) (step at line act) rest e = by (does s r paid (step at line act)) done_is
@@ -483,7 +485,7 @@ module _ (s : Setting) (well : IsWellTyped s.program) where
       by Ended is = tt
 
   -- the top frame has none left
-  ends_are : (r : Path) (l : Local) (f : Frame) (fs : List Frame) → SlotsAre (location_kinds s.program.entries) l.slots → l.phase ≡ running → FramesAre (names s) None None (f ∷ fs) → f.rest ≡ no_steps → IsKinded s r (returned s l (f ∷ fs) None)
+  ends_are : (r : Path) (l : Local) (f : Frame) (fs : List Frame) → SlotsAre (slot_kinds s) l.slots → l.phase ≡ running → FramesAre (names s) None None (f ∷ fs) → f.rest ≡ no_steps → IsKinded s r (returned s l (f ∷ fs) None)
   ends_are r l f fs slots run are e = by are.1 (subst (λ z. Returns are.1 z) e are.4) are.5
     where
       by : (o : Option ValueKind) → Returns o no_steps → FramesAre (names s) f.left o fs → IsKinded s r (returned s l (f ∷ fs) None)
@@ -509,20 +511,20 @@ module _ (s : Setting) (well : IsWellTyped s.program) where
 
   -- ---- joins
 
-  compose_kinded : (ms js cs : List Slot) → SlotsAre (location_kinds s.program.entries) ms → SlotsAre (location_kinds s.program.entries) js → compose s.program 0 (merges_of (variables s.program)) ms js ≡ merged cs → SlotsAre (location_kinds s.program.entries) cs
+  compose_kinded : (ms js cs : List Slot) → SlotsAre (slot_kinds s) ms → SlotsAre (slot_kinds s) js → compose s.program 0 (merges_of (variables s.program)) ms js ≡ merged cs → SlotsAre (slot_kinds s) cs
   compose_kinded ms js cs =
-      compose_is s.program (merges_give s.program well) 0 (location_kinds s.program.entries) (merges_of (variables s.program)) ms js cs
+      compose_is s.program (merges_give s.program well) 0 (slot_kinds s) (merges_of (variables s.program)) ms js cs
       (merges_fit (names s) (within s.program.entries) [] (merges_in s.program) 0 s.program.entries program.entries)
 
   -- the joiner's left side waits for a bool
-  joined_are : (r : Path) (l : Local) (q : Path) (left : Option Name) (j : Local) → IsKinded s r l → l.phase ≡ joining q left → SlotsAre (location_kinds s.program.entries) j.slots → (p : Phase) → IsKinded s r (joined_in s r (listed q l) left j p)
+  joined_are : (r : Path) (l : Local) (q : Path) (left : Option Name) (j : Local) → IsKinded s r l → l.phase ≡ joining q left → SlotsAre (slot_kinds s) j.slots → (p : Phase) → IsKinded s r (joined_in s r (listed q l) left j p)
   joined_are r l q left j h waits js = by
     where
       are : FramesAre (names s) left (Some k.Bool) l.frames
       are = subst (λ p. FramesAt (names s) p l.frames) waits h.frames
 
       -- the joiner runs again
-      again : (l' : Local) (to : Option Name) (d : Bool) → SlotsAre (location_kinds s.program.entries) l'.slots → FramesAre (names s) to (Some k.Bool) l'.frames → l'.phase ≡ running → IsKinded s r (give s l' to (Some (v.Bool d)))
+      again : (l' : Local) (to : Option Name) (d : Bool) → SlotsAre (slot_kinds s) l'.slots → FramesAre (names s) to (Some k.Bool) l'.frames → l'.phase ≡ running → IsKinded s r (give s l' to (Some (v.Bool d)))
       again l' to d slots frames run = given_kinded r l' (give s l' to (Some (v.Bool d))) run (give_is l' to k.Bool (v.Bool d) slots frames refl)
 
       of_composed : (o : Composed) → compose s.program 0 (merges_of (variables s.program)) l.slots j.slots ≡ o → IsKinded s r (composed s r (listed q l) left j o)
@@ -540,7 +542,7 @@ module _ (s : Setting) (well : IsWellTyped s.program) where
       by done = of_composed (compose s.program 0 (merges_of (variables s.program)) l.slots j.slots) refl
       by (trapped tr) = of_dropped left are tr
 
-  join_kinded : (r : Path) (l : Local) (q : Path) (j : Local) → IsKinded s r l → SlotsAre (location_kinds s.program.entries) j.slots → next s r l ≡ Joins q → IsKinded s r (joining_spec.join s r l q j)
+  join_kinded : (r : Path) (l : Local) (q : Path) (j : Local) → IsKinded s r l → SlotsAre (slot_kinds s) j.slots → next s r l ≡ Joins q → IsKinded s r (joining_spec.join s r l q j)
   join_kinded r l q j h js e =
       let phase = joins_phase s r l q e in
       subst (λ o. IsKinded s r (joined_in s r (listed q l) o j j.phase)) (sym (ap waiting phase.1)) (joined_are r l q phase.0 j h phase.1 js j.phase)

@@ -1,7 +1,7 @@
 -- The value of an expression has the kind that the typing rules give it.
 use Rattle.std.proofs.Common.{◌≡◌, ◌∙◌, ℕ, suc, ◌+◌, ◌<◌, ℤ, pos, negsuc, Bool, true, false, cond, ◌&&◌, IsTrue, List, [], ◌∷◌, ◌++◌, length, Option, Some, None, Result, Ok, Err, refl, sym, ap, subst, arith, true≢false}
 use Rattle.std.specs.Prelude.{nat_le, nat_lt, if◌then◌else◌, slice_get, ◌==◌}
-use Rattle.std.proofs.lemmas.Bool.Decides.{nat_tests}
+use Rattle.std.proofs.lemmas.Bool.{ltb-true, eqb-true}
 use Rattle.rev_num.specs.declared.value.Value.{Value}
 use Rattle.rev_num.specs.declared.value.Value.TheVariants as v
 use Rattle.rev_num.specs.declared.value.ValueKind.{ValueKind}
@@ -95,9 +95,6 @@ scalar_read t None unknown h none is has = absurd is
 scalar_read t None (scalar x) h none is has = is.1 ∙ has.1
 scalar_read t None (array n f) h none is has = absurd (true≢false (sym is.0 ∙ has.0))
 
-pub below : (i n : ℕ) → nat_lt i n ≡ true → i < n
-below i n h = grind (arith, nat_tests)
-
 cell_read : (t : ValueKind) (found : Shared) (h : Holder) → SharedIs h found → (h.array ≡ true) × (h.kind ≡ t) → (i : ℤ) → OfOk (IsOf t) (read_cell found i)
 cell_read t unknown h is has i = absurd is
 cell_read t (scalar x) h is has i = absurd (true≢false (sym has.0 ∙ is.0))
@@ -105,7 +102,7 @@ cell_read t (array n f) h is has (negsuc i) = tt
 cell_read t (array n f) h is has (pos i) = by (nat_lt i n) refl
   where
     by : (x : Bool) → nat_lt i n ≡ x → OfOk (IsOf t) (cond x (Ok (f i)) (Err cause.Index))
-    by true e = is.1 i (below i n e) ∙ has.1
+    by true e = is.1 i (ltb-true i n e) ∙ has.1
     by false e = tt
 
 input_read : (zs : List ℤ) (i : ℤ) → OfOk (IsOf k.Int) (read_input zs i)
@@ -173,9 +170,6 @@ given_class b.Gt = refl
 given_class b.Ge = refl
 given_class b.And = refl
 given_class b.Or = refl
-
-same_strength : (m n : ℕ) → IsTrue (m == n) → m ≡ n
-same_strength m n h = grind (arith, nat_tests)
 
 -- the operators of a chain bind alike
 chain_binds : (op : BinaryOp) (part : Term) (rest : Links) → IsTrue (is_chain (link op part rest)) → IsTrue (all_bind (strength op) rest)
@@ -290,7 +284,7 @@ module _ (c : Names) (scope : Locals) (fs : Funs) (e : Env) (env : EnvIs c scope
         let formed = and_parts (term_formed part) (links_formed rest) ok in
         let bind = and_parts (strength op == tight) (all_bind tight rest) alike in
         let here = value_is n part has.0.0 both.0 formed.0 has.0.1 in
-        let gives : given_kind op ≡ t = given_class op ∙ ap class (same_strength (strength op) tight bind.0) ∙ sym is in
+        let gives : given_kind op ≡ t = given_class op ∙ ap class (eqb-true (strength op) tight bind.0) ∙ sym is in
         then_ok (IsOf t) (IsOf t) (linked op x (value_by fs e part) (short op x)) (λ z. chained fs e z rest)
         (subst (λ u. OfOk (IsOf u) (linked op x (value_by fs e part) (short op x))) gives (link_is op left has.0.0 x (value_by fs e part) has.0.2 here))
         (links_are n left tight t rest both.1 formed.1 is bind.1 has.1)

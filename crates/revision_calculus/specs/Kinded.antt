@@ -1,5 +1,5 @@
 -- Values of the kinds that the static rules give, in the local states of a well-typed program.
-use Rattle.std.specs.Prelude.{◌≡◌, ◌≢◌, ◌++◌, replicate, IsTrue, IfOk, List, [], ◌∷◌, Option, Some, None}
+use Rattle.std.specs.Prelude.{◌≡◌, ◌≢◌, ℕ, ◌++◌, replicate, IsTrue, IfOk, List, [], ◌∷◌, Option, Some, None}
 use Rattle.rev_num.specs.Path.{Path}
 use Rattle.rev_num.specs.Value.{kind_of}
 use Rattle.rev_num.specs.declared.value.Value.{Value}
@@ -10,12 +10,13 @@ use Rattle.rev_syntax.specs.Small.{term_formed, steps_small, IsSmall}
 use Rattle.merge_decl.specs.Names.{Name}
 use Rattle.merge_decl.specs.Table.{Table, find}
 use Rattle.merge_decl.specs.FunRules.{fun_faults}
+use Rattle.merge_decl.specs.Definitions.{merge_value_of}
 use Rattle.rev_types.specs.declared.names.Holder.{Holder}
 use Rattle.rev_types.specs.Kinds.{Names, Locals}
-use Rattle.rev_types.specs.Program.{outside, faults}
+use Rattle.rev_types.specs.Program.{cells_of, outside, faults}
 use Rattle.rev_types.specs.Typing.{ScalarHas, HasKind}
 use Rattle.rev_types.specs.Judgement.{StepTyped, Returns}
-use Rattle.revision_calculus.specs.Program.{cells_of, Setting}
+use Rattle.revision_calculus.specs.Program.{Setting}
 use Rattle.revision_calculus.specs.State.{Slot, Frame, Phase, running, joining, done, trapped, Local}
 use Rattle.revision_calculus.specs.Evaluation.{eval}
 
@@ -114,21 +115,32 @@ FramesAt c (joining q left) fs = FramesAre c left (Some kind.Bool) fs
 FramesAt c done fs = FramesAre c None None fs
 FramesAt c (trapped t) fs = FramesTrapped c fs
 
+-- ---- local states
+
 -- what names mean in procedures and in `main`
 abbrev pub names : Setting → Names
 names s = outside s.program.entries
 
+-- the kinds of the locations of a run
+abbrev pub slot_kinds : Setting → List ValueKind
+slot_kinds s = location_kinds s.program.entries
+
 -- each value is of the kind that the static rules give
 pub record IsKinded (s : Setting) (r : Path) (l : Local) : Type 0 where
-  pub slots : SlotsAre (location_kinds s.program.entries) l.slots
+  pub slots : SlotsAre (slot_kinds s) l.slots
   pub frames : FramesAt (names s) l.phase l.frames
 
--- ---- the values of expressions
+-- ---- values that are worked out
 
--- In a state whose values are of their kinds, an expression of a small tree that is typed with the names in scope in
--- the top frame has a value of its kind, where it has one.
+-- In a state whose values are of their kinds, an expression of a small tree that is typed with names in scope in the
+-- top frame has a value of its kind, where it has one.
 abbrev pub ValueLaw : Setting → Type 0
 ValueLaw s =
-    (l : Local) (f : Frame) (fs : List Frame) (scope : Locals) (e : Term) (t : ValueKind)
-    → SlotsAre (location_kinds s.program.entries) l.slots → l.frames ≡ f ∷ fs → LocalsAre (names s) scope None f.locals
-    → IsTrue (term_formed e) → HasKind (names s) scope e t → IfOk (eval s l e) (IsOf t)
+    (l : Local) (f : Frame) (fs : List Frame) (scope known : Locals) (e : Term) (t : ValueKind)
+    → SlotsAre (slot_kinds s) l.slots → l.frames ≡ f ∷ fs → LocalsAre (names s) scope None f.locals → IsWithin known scope
+    → IsTrue (term_formed e) → HasKind (names s) known e t → IfOk (eval s l e) (IsOf t)
+
+-- a merge of three ints is an int, where it has a value
+abbrev pub MergeLaw : Whole → Type 0
+MergeLaw p =
+    (n : ℕ) (m j r : Value) → IsOf kind.Int m → IsOf kind.Int j → IsOf kind.Int r → IfOk (merge_value_of p n m j r) (IsOf kind.Int)

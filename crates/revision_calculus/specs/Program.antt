@@ -1,12 +1,13 @@
 -- What the declarations of a program give to its runs: the shared variables with their locations, and the procedures.
-use Rattle.std.specs.Prelude.{ℕ, suc, ◌+◌, ℤ, pos, negsuc, Bool, false, is_some, List, [], ◌∷◌, Option, Some, None, option_map, if◌then◌else◌}
+use Rattle.std.specs.Prelude.{ℕ, suc, ◌+◌, ℤ, pos, Bool, false, is_some, List, [], ◌∷◌, Option, Some, None, option_map, if◌then◌else◌}
 use Rattle.rev_num.specs.declared.value.Value.{Value}
 use Rattle.rev_num.specs.declared.value.Value.TheVariants as v
 use Rattle.rev_num.specs.declared.value.ValueKind.{ValueKind}
 use Rattle.rev_num.specs.declared.value.ValueKind.TheVariants as kind
-use Rattle.rev_syntax.specs.Trees.{Steps, no_steps, Extent, Constant, Variable, Entry, fun, merge, shared, proc, Whole}
+use Rattle.rev_syntax.specs.Trees.{Steps, no_steps, Constant, Variable, Entry, fun, merge, shared, proc, Whole}
 use Rattle.merge_decl.specs.Names.{Name, same}
 use Rattle.merge_decl.specs.Definitions.{MergeDef, merges_in, names_of}
+use Rattle.rev_types.specs.Program.{cells_of}
 
 -- ---- shared variables
 
@@ -35,15 +36,6 @@ written_value (v.Rev h) = v.Rev None
 abbrev pub first_value : ValueKind → Option Constant → Value
 first_value k None = zero_value k
 first_value k (Some c) = written_value c.value
-
-abbrev pub count_of : ℤ → ℕ
-count_of (pos n) = n
-count_of (negsuc n) = 0
-
--- a scalar has one cell
-abbrev pub cells_of : Option Extent → ℕ
-cells_of None = 1
-cells_of (Some e) = count_of e.cells
 
 -- the number of the first merge of this name
 abbrev pub merge_number : List MergeDef → Name → ℕ

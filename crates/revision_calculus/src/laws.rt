@@ -2,6 +2,7 @@
 //! fuel and share, whatever the order of the steps.
 
 ghost use Rattle.std.specs.Prelude.{ℕ, ◌+◌, ◌*◌};
+ghost use Rattle.rev_syntax.specs.Trees.{Whole};
 ghost use Rattle.revision_machine.specs.Laws.{
   BoundLaw,
   CompletionLaw,
@@ -20,7 +21,7 @@ ghost use Rattle.revision_calculus.specs.Calculus.{calculus, main};
 ghost use Rattle.revision_calculus.specs.Complete.{OneOutcome};
 ghost use Rattle.revision_calculus.specs.Held.{Holds};
 ghost use Rattle.revision_calculus.specs.Kept.{IsShaped};
-ghost use Rattle.revision_calculus.specs.Kinded.{IsKinded, IsWellTyped, ValueLaw};
+ghost use Rattle.revision_calculus.specs.Kinded.{IsKinded, IsWellTyped, MergeLaw, ValueLaw};
 
 /// Runs are determinate: two steps of different revisions can be made in either order, any two complete runs from
 /// one state end in equal states, and the error state of a second join is reached in every complete run or in none.
@@ -58,10 +59,11 @@ pub fn shape_laws()
 {}
 
 /// In every state that a run of a well-typed program reaches, each value is of the kind that the static rules give:
-/// in the snapshot and the writes of each location, in the locals of each frame, which have all names in scope, and
-/// where a left side waits for a value. What remains of each frame is typed. So an expression has a value of its kind,
-/// and no operator, index or test meets a value of another.
+/// in the snapshot and the writes of each location, in the locals of each frame, which has all names in scope, and
+/// where a left side waits. What remains of each frame is typed, so that what is returned is of the procedure's kind.
+/// An expression has a value of its kind, and a merge of three ints is an int, where they have a value.
 pub fn kind_laws()
     ensures kinded { (s : Setting) (fuel : ℕ) → IsWellTyped s.program → KeptLaw (calculus s) (main s fuel) (IsKinded s) }
     ensures values { (s : Setting) → IsWellTyped s.program → ValueLaw s }
+    ensures merges { (p : Whole) → IsWellTyped p → MergeLaw p }
 {}

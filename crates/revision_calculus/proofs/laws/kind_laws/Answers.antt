@@ -1,11 +1,12 @@
 use Rattle.revision_machine.proofs.Kept.{kept_law}
 use Rattle.revision_calculus.specs.Calculus.{calculus, main}
 use Rattle.revision_calculus.specs.Kinded.{IsKinded}
-use Rattle.revision_calculus.proofs.StepKinds.{value_law, kind_kept, main_kinded}
+use Rattle.revision_calculus.proofs.StepKinds.{merge_law, value_law, kind_kept, main_kinded}
 use Rattle.revision_calculus.proofs.laws.kind_laws.Goals as goal
 
 pub returns : goal.returns
 returns c = record {
   kinded = λ s fuel well. kept_law (calculus s) (main s fuel) (IsKinded s) (kind_kept s well) (main_kinded s well fuel);
   values = value_law;
+  merges = merge_law;
 }
