@@ -25,10 +25,10 @@ use Rattle.revision_calculus.proofs.Moves.{weight_running, Stepped, Moved, stepp
 -- ---- statements that were paid for
 
 -- nothing is said of a value
-abbrev Any : {A : Type 0} → A → Type 0
+abbrev pub Any : {A : Type 0} → A → Type 0
 Any x = Unit {0}
 
-any_ok : {A : Type 0} (a : Result A Cause) → OfOk Any a
+pub any_ok : {A : Type 0} (a : Result A Cause) → OfOk Any a
 any_ok (Ok x) = tt
 any_ok (Err c) = tt
 

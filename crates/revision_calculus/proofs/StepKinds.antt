@@ -37,19 +37,11 @@ use Rattle.revision_calculus.specs.Join.{merges_of, Composed, merged, faults, co
 use Rattle.revision_calculus.specs.Calculus.{main, calculus}
 use Rattle.revision_calculus.specs.Kinded.{IsWellTyped, MergeLaw, IsOf, IsSomeOf, slot_kinds, SlotsAre, LocalsAre, RestTyped, FrameIs, Takes, FramesAre, FramesTrapped, FramesAt, names, IsKinded, ValueLaw}
 use Rattle.revision_calculus.proofs.Values.{OfOk, then_ok}
-use Rattle.revision_calculus.proofs.Events.{joins_phase}
-use Rattle.revision_calculus.proofs.ValueKinds.{and_both, small_formed, terms_small_formed, SharedIs, EnvIs, ArgsAre, value_is, values_is}
+use Rattle.revision_calculus.proofs.Events.{Any, any_ok, joins_phase}
+use Rattle.revision_calculus.proofs.ValueKinds.{either, and_both, small_formed, terms_small_formed, SharedIs, EnvIs, ArgsAre, value_is, values_is}
 use Rattle.revision_calculus.proofs.FunKinds.{rules_kept, funs_apply, merges_give}
 use Rattle.revision_calculus.proofs.SlotKinds.{IsAt, seen_at_is, write_is, fresh_is, Located, located, start_is, merges_fit, compose_is}
 use Rattle.revision_calculus.proofs.ScopeKinds.{within_self, whole_typed, block_typed, block_small, returns_behind, returns_block, returns_before, shared_new, locals_wait, locals_within, locals_let, let_takes, locals_set, locals_shared, ProcIs, proc_is, call_frame, none_waits, are_trapped}
-
--- nothing is said of a value
-abbrev Any : {A : Type 0} → A → Type 0
-Any x = Unit {0}
-
-any_ok : {A : Type 0} (a : Result A Cause) → OfOk Any a
-any_ok (Ok x) = tt
-any_ok (Err c) = tt
 
 if_ok : (P : Value → Type 0) (a : Answer) → OfOk P a → IfOk a P
 if_ok P (Ok x) h = h
@@ -184,16 +176,12 @@ module _ (s : Setting) (well : IsWellTyped s.program) where
     goes_on : (l' : Local) → SlotsAre (slot_kinds s) l'.slots → FramesAre (names s) None None l'.frames → l'.phase ≡ l.phase → IsKinded s r l'
     goes_on l' are frames same = given_kinded r l l' run (record { slots = are; frames = frames; phase = same })
 
-    cond_events : (d : Bool) (x y : Event Local) → Kinded r l x → Kinded r l y → Kinded r l (cond d x y)
-    cond_events true x y p q = p
-    cond_events false x y p q = q
-
     calls_are : (left : Option Name) (name : Name) (q : Callee) (args : List Value) → proc_named s.program.entries name ≡ Some q → ArgsAre q.params args → FramesAre (names s) left q.result l.frames → Kinded r l (calls s r l left name args)
     calls_are left name q args e are frames =
         let d = procedure_named (procedures s.program) name in
         let is = callee_is name q e in
         let l' : Local = record l { frames = frame_of d args left ∷ l.frames } in
-        cond_events (nat_le most_frames (length l.frames)) (traps r l cause.CallDepth) (Moves l') (traps_are cause.CallDepth)
+        either (Kinded r l) (nat_le most_frames (length l.frames)) (traps r l cause.CallDepth) (Moves l') (traps_are cause.CallDepth)
         (goes_on l' slots (with_params [] q.params, q.result, tt, call_frame (names s) q d args left is are, is.returns, frames) refl)
 
     child_is : (q : Callee) (d : Procedure) (args : List Value) → ProcIs (names s) q d → ArgsAre q.params args → IsKinded s (child r l.forks) (forked_child s l d args)
@@ -361,10 +349,6 @@ module _ (s : Setting) (well : IsWellTyped s.program) where
           (λ n at. answers (IsOf u) (eval s l e) (λ x. Moves (record l { slots = write_at l.slots n x })) (eval_is l scope e u reads small has)
           (λ x kx. same_frames (record l { slots = write_at l.slots n x }) (write_is (slot_kinds s) l.slots n u x slots at kx) refl refl ends))
 
-      cond_local : (d : Bool) (x y : Local) → IsKinded s r x → IsKinded s r y → IsKinded s r (cond d x y)
-      cond_local true x y p q = p
-      cond_local false x y p q = q
-
       returns_value : (e : Term) → ReturnTyped (names s) scope result (Some e) → IsTrue (term_small e) → Kinded r l (with_answer r l (eval s l e) (λ x. Moves (returned s l l.frames (Some x))))
       returns_value e typed small = by result typed under
         where
@@ -421,7 +405,7 @@ module _ (s : Setting) (well : IsWellTyped s.program) where
       let repeated : FrameIs (names s) result known None g =
       record { locals = locals; rest = (known, known, within_self known, (typed.0, refl), behind); small = and_both (step_small x) (steps_small f.rest) small rest } in
       answers r l f fs slots run top result under known frame Any (eval s l test) (λ y. Moves (if truth_of y then enter body (enter again l) else l)) (any_ok (eval s l test))
-      (λ y any. cond_local r l f fs slots run top result under known frame (truth_of y) (enter body (enter again l)) l
+      (λ y any. either (IsKinded s r) (truth_of y) (enter body (enter again l)) l
       (enters r (enter again l) g fs slots run (ap (λ z. on_top (λ h. record h { rest = followed again h.rest }) z) top) result under known repeated body typed.0.1 smalls.1 (returns_before result body (steps x f.rest) ends))
       (same_frames r l f fs slots run top result under known frame l slots refl refl (returns_behind result x f.rest refl ends)))
   does_are r l f fs slots run top result under known after (step at line (call p args)) locals typed later small rest ends =
@@ -450,7 +434,7 @@ module _ (s : Setting) (well : IsWellTyped s.program) where
       let frame : FrameIs (names s) result known None f = record { locals = locals; rest = subst (λ m. RestTyped (names s) result m f.rest) typed.1 later; small = rest } in
       let stopped = halted r l f fs slots run top result under known frame in
       answers r l f fs slots run top result under known frame Any (eval s l test) (λ y. if truth_of y then Moves l else traps r l cause.Assert) (any_ok (eval s l test))
-      (λ y any. cond_events r l slots run stopped (truth_of y) (Moves l) (traps r l cause.Assert)
+      (λ y any. either (Kinded r l) (truth_of y) (Moves l) (traps r l cause.Assert)
       (same_frames r l f fs slots run top result under known frame l slots refl refl (returns_behind result (step at line (assert test)) f.rest refl ends)) (traps_are r l slots run stopped cause.Assert))
 
   -- ---- events

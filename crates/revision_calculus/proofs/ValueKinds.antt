@@ -27,6 +27,11 @@ use Rattle.rev_types.proofs.Lists.{and_parts}
 use Rattle.revision_calculus.specs.Kinded.{IsOf, IsSomeOf}
 use Rattle.revision_calculus.proofs.Values.{OfOk, then_ok}
 
+-- what holds of both holds of either
+pub either : {A : Type 0} (P : A → Type 0) (d : Bool) (x y : A) → P x → P y → P (cond d x y)
+either P true x y p q = p
+either P false x y p q = q
+
 pub and_both : (x y : Bool) → IsTrue x → IsTrue y → IsTrue (x && y)
 and_both true y p q = q
 and_both false y p q = absurd (true≢false (sym p))
@@ -120,10 +125,6 @@ number_is (Ok z) = refl
 number_is (Err fault.Overflow) = tt
 number_is (Err fault.ZeroDivisor) = tt
 
-any_is : (r : Answer) → OfOk (λ x. Unit {0}) r
-any_is (Ok x) = tt
-any_is (Err c) = tt
-
 -- a link gives a value of its operator's kind
 link_is : (op : BinaryOp) (left t : ValueKind) (x : Value) (right : Answer) → TakesRight op left t → OfOk (IsOf t) right → OfOk (IsOf (given_kind op)) (linked op x right (short op x))
 link_is b.Add left t x right takes is = then_ok (IsOf t) (IsOf k.Int) right (operated b.Add x) is (λ y ky. number_is (sum_of (number_of x) (number_of y)))
@@ -186,10 +187,6 @@ called_is : (o : Option Fun) (f : Callee) (xs : List Value) (t : ValueKind) → 
 called_is None f xs t h is r = absurd h
 called_is (Some g) f xs t h is r = h xs is t r
 
-cond_is : (t : ValueKind) (d : Bool) (x y : Answer) → OfOk (IsOf t) x → OfOk (IsOf t) y → OfOk (IsOf t) (cond d x y)
-cond_is t true x y p q = p
-cond_is t false x y p q = q
-
 -- ---- expressions
 
 -- where names mean this, with these names in scope, under these funs and with these values
@@ -238,7 +235,7 @@ module _ (c : Names) (scope : Locals) (fs : Funs) (e : Env) (env : EnvIs c scope
         let tested = value_is n test k.Bool first.0 parts.0 has.0 in
         let p = value_is n x t first.1 parts.1 has.1 in
         let q = value_is n y t uses.1 formed.1 has.2 in
-        then_ok (IsOf k.Bool) (IsOf t) (value_by fs e test) (λ d. if truth_of d then value_by fs e x else value_by fs e y) tested (λ d kd. cond_is t (truth_of d) (value_by fs e x) (value_by fs e y) p q)
+        then_ok (IsOf k.Bool) (IsOf t) (value_by fs e test) (λ d. if truth_of d then value_by fs e x else value_by fs e y) tested (λ d kd. either (OfOk (IsOf t)) (truth_of d) (value_by fs e x) (value_by fs e y) p q)
     shape_is n (unary op part) t us ok has =
         let is = value_is n part (operand_kind op) us ok has.1 in
         subst (λ u. OfOk (IsOf u) (shape_value fs e (unary op part))) (sym has.0)
