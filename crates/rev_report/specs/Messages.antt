@@ -1,21 +1,37 @@
 -- What is written of a refusal.
 use Rattle.std.specs.Prelude.{ℕ, List, [], ◌∷◌, ◌++◌, codes, Result, Ok, Err}
+use Rattle.std.specs.Fmt.{decimal}
 use Rattle.rev_report.specs.Status.{read_fault_status, refused_status, usage_status}
 use Rattle.rev_report.specs.Lines.{line_feed}
 use Rattle.rev_report.specs.Report.{Output}
+use Rattle.rev_report.specs.Faults.{name_of_fault, name_of_limited}
+use Rattle.rev_report.specs.declared.fault.Place.{Place}
+use Rattle.rev_report.specs.declared.fault.Limited.{Limited}
 use Rattle.rev_report.specs.declared.refusal.Refusal.{Refusal}
 use Rattle.rev_report.specs.declared.refusal.Refusal.TheVariants as refusals
+
+-- what is said of a place of the text
+abbrev pub at_place : Place → List ℕ → List ℕ
+at_place p what =
+    codes "error: line " ++ (decimal p.line ++ (codes " column " ++ (decimal p.column ++ (codes ": " ++ what))))
+
+abbrev pub more_than : ℕ → Limited → List ℕ
+more_than limit which = codes "more than " ++ (decimal limit ++ (codes " " ++ name_of_limited which))
 
 abbrev pub message : Refusal → List ℕ
 message refusals.Usage = codes "usage: revise MODE [options] [numbers]"
 message refusals.ReadFault = codes "error: read fault"
 message refusals.TooLong = codes "error: source too long"
+message (refusals.Text place fault) = at_place place (name_of_fault fault)
+message (refusals.OverLimit place limit which) = at_place place (more_than limit which)
 message refusals.NotBuilt = codes "error: not built yet"
 
 abbrev pub status_of : Refusal → ℕ
 status_of refusals.Usage = usage_status
 status_of refusals.ReadFault = read_fault_status
 status_of refusals.TooLong = refused_status
+status_of (refusals.Text place fault) = refused_status
+status_of (refusals.OverLimit place limit which) = refused_status
 status_of refusals.NotBuilt = refused_status
 
 -- the message and a line feed on standard error

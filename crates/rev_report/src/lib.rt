@@ -4,11 +4,13 @@
 //! which has its printed lines, and one for each refusal, which has its message alone.
 #![tactic(auto)]
 
+mod fault;
 mod lines;
 mod refusal;
 mod report;
 pub mod status;
 
+pub use fault::{Limited, Place, TextFault};
 pub use lines::append_line;
 pub use refusal::{Refusal, no_memory_message, refusal_bytes};
 pub use report::{Report, printed_report};
@@ -47,6 +49,66 @@ mod tests {
             assert!(rt; report.status == status, "{message}");
         }
         assert!(rt; no_memory_message() == b"error: out of memory\n".as_slice());
+        Ok(())
+    }
+
+    #[test]
+    fn faults_of_texts(rt: HostRuntime) -> Result<(), Fail> {
+        let wants = [
+            (TextFault::BadByte, "bad byte"),
+            (TextFault::BadNumber, "bad number"),
+            (TextFault::OpenText, "open text"),
+            (TextFault::UnexpectedToken, "unexpected token"),
+            (TextFault::UnexpectedEnd, "unexpected end"),
+            (TextFault::TooDeep, "nested too deep"),
+            (TextFault::UnknownFun, "unknown fun"),
+            (TextFault::LaterFun, "fun declared later"),
+            (TextFault::ArgumentCount, "wrong number of arguments"),
+            (TextFault::UnknownName, "unknown name"),
+            (TextFault::Redeclared, "redeclared name"),
+            (TextFault::WrongType, "wrong type"),
+            (TextFault::WrongCount, "wrong count"),
+            (TextFault::NoReturn, "missing return"),
+        ];
+        let place = Place {
+            line: 1,
+            column: 1048577,
+        };
+        for (fault, name) in wants {
+            let report = refusal_bytes(rt.alloc(), &Refusal::Text { place, fault })?;
+            let want = format!(in rt.alloc(); "error: line 1 column 1048577: {name}\n")?;
+            assert!(rt; report.err.as_slice() == want.as_bytes(), "{name}");
+            assert!(rt; report.out.is_empty() && report.status == 2, "{name}");
+        }
+        Ok(())
+    }
+
+    #[test]
+    fn limits_of_texts(rt: HostRuntime) -> Result<(), Fail> {
+        let wants = [
+            (4096, Limited::Locations, "more than 4096 locations"),
+            (256, Limited::Procedures, "more than 256 procedures"),
+            (256, Limited::Funs, "more than 256 funs"),
+            (8, Limited::Parameters, "more than 8 parameters"),
+            (64, Limited::Locals, "more than 64 locals"),
+            (64, Limited::Items, "more than 64 items"),
+            (65536, Limited::Weight, "more than 65536 weight"),
+        ];
+        let place = Place {
+            line: 10,
+            column: 2,
+        };
+        for (limit, which, what) in wants {
+            let refusal = Refusal::OverLimit {
+                place,
+                limit,
+                which,
+            };
+            let report = refusal_bytes(rt.alloc(), &refusal)?;
+            let want = format!(in rt.alloc(); "error: line 10 column 2: {what}\n")?;
+            assert!(rt; report.err.as_slice() == want.as_bytes(), "{what}");
+            assert!(rt; report.out.is_empty() && report.status == 2, "{what}");
+        }
         Ok(())
     }
 }
