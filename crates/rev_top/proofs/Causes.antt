@@ -1,17 +1,23 @@
 -- Which answer there is, and why it has its status.
 use Rattle.std.proofs.Common.{◌≡◌, ◌∙◌, refl, sym, subst, List, ℕ, ◌≤◌, inl, inr, arith, true, length, ap}
 use Rattle.std.specs.Prelude.{Option, Some, None, Result, Ok, Err, is_some, []}
-use Rattle.rev_io.specs.Stream.{Stream, Rose}
+use Rattle.rev_io.specs.Stream.{Stream, Gave, Rose}
 use Rattle.rev_words.specs.declared.Mode.{Mode}
 use Rattle.rev_words.specs.declared.Mode.TheVariants as modes
 use Rattle.rev_words.specs.declared.Words.{Words}
-use Rattle.rev_prints.proofs.Exact.{prints_once}
+use Rattle.rev_syntax.specs.Trees.{Whole}
 use Rattle.rev_report.specs.Lines.{lines}
 use Rattle.rev_report.specs.Report.{Output, done}
-use Rattle.rev_report.specs.Messages.{shown}
+use Rattle.rev_report.specs.Messages.{shown, status_of}
 use Rattle.rev_report.specs.declared.refusal.Refusal.{Refusal}
-use Rattle.rev_top.specs.Answer.{Answer, Answers, AnswersAs, FromSource, Given, Onward, Runs, source_limit}
-use Rattle.rev_top.specs.Promises.{AnswerAs, AnswerTo, FromBytes}
+use Rattle.rev_report.specs.declared.refusal.Refusal.TheVariants as refusals
+use Rattle.rev_top.specs.Stages.{Onward}
+use Rattle.rev_top.specs.Texts.{Checks}
+use Rattle.rev_top.specs.Answer.{Answer, Answers, AnswersAs, FromSource, Given, Runs, RunsProgram, source_limit}
+use Rattle.rev_top.specs.Promises.{AnswerAs, AnswerTo, Cause, FromBytes}
+use Rattle.rev_top.proofs.Stages.{One, one_then, refusal_of}
+use Rattle.rev_top.proofs.Faults.{IsOfText, check_of_text, one_check, status_of_text}
+use Rattle.rev_top.proofs.Prints.{prints_once}
 
 -- ---- why an answer has its status
 
@@ -26,8 +32,13 @@ pub data IsPlain (a : Answer) : Type 0 where
   is_refusal : (shown a).out ≡ [] → (shown a).status ≡ 2 → IsPlain a
 
 pub runs_plain : (text : List ℕ) (a : Answer) → Runs text a → IsPlain a
-runs_plain text (Ok o) h = is_done (rw h.2 refl)
-runs_plain text (Err f) h = is_refusal refl (rw h.0 refl)
+runs_plain text (Ok o) h = go h.0 h.2
+  where
+    go : (found : Result Whole Refusal) → Onward RunsProgram found (Ok o) → IsPlain (Ok o)
+    go (Ok p) on = is_done (rw on.2 refl)
+    go (Err f) on = cc
+runs_plain text (Err f) h =
+    is_refusal refl (refusal_of (Checks text) RunsProgram (λ (r : Refusal). status_of r ≡ 2) (λ r k. status_of_text r (check_of_text text r k)) (λ p r on. rw on.0 refl) f h)
 
 at_most_3 : (a : Answer) → IsPlain a → (shown a).status ≤ 3
 at_most_3 a (is_done is) = omega arith
@@ -90,6 +101,50 @@ pub answer_to : (w : Option Words) (old new : Stream) (a : Answer) → Answers w
 answer_to None old new a h calm all is = h.0
 answer_to (Some w) old new a h calm all is = answer_as w.mode old new a h calm all is
 
+-- ---- why a text is refused
+
+-- a fault of a text that the source gave
+of_text : (old new : Stream) (text : List ℕ) (g : Refusal) → Gave old text new → Checks text (Err g) → Cause old new g
+of_text old new text (refusals.Text place f) gave h = (text, gave, h)
+of_text old new text (refusals.OverLimit place limit w) gave h = (text, gave, h)
+of_text old new text refusals.Usage gave h = absurd (check_of_text text refusals.Usage h)
+of_text old new text refusals.ReadFault gave h = absurd (check_of_text text refusals.ReadFault h)
+of_text old new text refusals.TooLong gave h = absurd (check_of_text text refusals.TooLong h)
+of_text old new text refusals.NotBuilt gave h = absurd (check_of_text text refusals.NotBuilt h)
+
+Caused : Stream → Stream → Answer → Type 0
+Caused old new a = (f : Refusal) × (a ≡ Err f) × Cause old new f
+
+of_program : (old new : Stream) (text : List ℕ) (p : Whole) (a : Answer) → Gave old text new → Checks text (Ok p) → RunsProgram p a → (shown a).status ≡ 2 → Caused old new a
+unfolding Caused
+of_program old new text p (Ok o) gave h on is = absurd (omega (arith, is, ap (λ (x : Output). x.status) on.2))
+of_program old new text p (Err f) gave h on is =
+    (refusals.NotBuilt, ap (λ (x : Refusal). Err x) on.0, (text, gave, p, h, on.1))
+
+of_run : (old new : Stream) (text : List ℕ) (a : Answer) → Gave old text new → Runs text a → (shown a).status ≡ 2 → Caused old new a
+unfolding Caused
+of_run old new text a gave h is = go h.0 h.1 h.2
+  where
+    go : (found : Result Whole Refusal) → Checks text found → Onward RunsProgram found a → Caused old new a
+    go (Ok p) s on = of_program old new text p a gave s on is
+    go (Err g) s on = (g, on, of_text old new text g gave s)
+
+-- one line for each mode
+caused_as : (m : Mode) (old new : Stream) (a : Answer) → AnswersAs m old new a → (shown a).status ≡ 2 → Caused old new a
+unfolding Caused
+caused_as modes.Run old new a h is = go h.0 h.1 h.2
+  where
+    go : (given : Result (List ℕ) Refusal) → Given source_limit old new given → Onward Runs given a → Caused old new a
+    go (Ok text) g on = of_run old new text a g.0 on is
+    go (Err f) (inl g) on = (refusals.TooLong, on ∙ ap (λ (x : Refusal). Err x) g.0, (g.1, g.2))
+    go (Err f) (inr g) on = absurd (omega (arith, is, ap (λ (x : Answer). (shown x).status) (on ∙ ap (λ (x : Refusal). Err x) g.0)))
+
+pub caused : (w : Option Words) (old new : Stream) (a : Answer) → Answers w old new a → (shown a).status ≡ 2
+    → (f : Refusal) × (a ≡ Err f) × Cause old new f
+unfolding Caused
+caused None old new a h is = absurd (omega (arith, is, ap (λ (x : Answer). (shown x).status) h.0))
+caused (Some w) old new a h is = caused_as w.mode old new a h is
+
 pub at_most_5 : (w : Option Words) (old new : Stream) (n : ℕ) → Why w old new n → n ≤ 5
 at_most_5 w old new n (unread a is) = omega arith
 at_most_5 w old new n (failed a b is) = omega arith
@@ -97,12 +152,15 @@ at_most_5 w old new n (plain a b most) = omega arith
 
 -- ---- there is one answer
 
-one_run : (text : List ℕ) (a b : Answer) → Runs text a → Runs text b → a ≡ b
-one_run text (Ok o) (Ok p) h k =
-    ap (λ (x : Output). Ok x) (h.2 ∙ ap (λ ls. done (lines ls)) (prints_once text h.0 k.0 h.1 k.1) ∙ sym k.2)
-one_run text (Ok o) (Err f) h k = absurd (k.1 h.0 h.1)
-one_run text (Err f) (Ok p) h k = absurd (h.1 k.0 k.1)
-one_run text (Err f) (Err g) h k = ap (λ (x : Refusal). Err x) (h.0 ∙ sym k.0)
+one_program : (p : Whole) (a b : Answer) → RunsProgram p a → RunsProgram p b → a ≡ b
+one_program p (Ok o) (Ok q) h k =
+    ap (λ (x : Output). Ok x) (h.2 ∙ ap (λ ls. done (lines ls)) (prints_once p h.0 k.0 h.1 k.1) ∙ sym k.2)
+one_program p (Ok o) (Err f) h k = absurd (k.1 h.0 h.1)
+one_program p (Err f) (Ok q) h k = absurd (h.1 k.0 k.1)
+one_program p (Err f) (Err g) h k = ap (λ (x : Refusal). Err x) (h.0 ∙ sym k.0)
+
+one_run : (text : List ℕ) → One (Runs text)
+one_run text = one_then (Checks text) RunsProgram (one_check text) one_program
 
 module _ (limit : ℕ) (Says : List ℕ → Answer → Type 0) (all : List ℕ) (a b : Answer) where
   one_from_bytes : (Says all a → Says all b → a ≡ b) → FromBytes limit Says all a → FromBytes limit Says all b → a ≡ b

@@ -3,11 +3,12 @@ use Rattle.std.proofs.Common.{◌≡◌, ◌∙◌, sym, subst, List, [], ℕ, �
 use Rattle.std.specs.Prelude.{Option, Some, None, is_some}
 use Rattle.rev_io.specs.Stream.{Stream, Rose, Took}
 use Rattle.rev_words.specs.declared.Words.{Words}
-use Rattle.rev_report.specs.Messages.{shown}
+use Rattle.rev_report.specs.Messages.{refused, shown}
+use Rattle.rev_report.specs.declared.refusal.Refusal.{Refusal}
 use Rattle.rev_top.specs.Answer.{Answer, Answers, Touches}
 use Rattle.rev_top.specs.Delivery.{ErrFailed, Happened, NoReport, NoRoomAtErr, NoRoomAtOut, OutFailed, Wrote, all_written, answered, err_failed, no_report, no_room_at_err, no_room_at_out, out_failed}
-use Rattle.rev_top.specs.Promises.{AnswerTo, Calm, Cut, Keeps}
-use Rattle.rev_top.proofs.Causes.{Why, answer_to, at_most_5, failed, one_answer_to, out_of, plain, unread, why}
+use Rattle.rev_top.specs.Promises.{AnswerTo, Calm, Cause, Cut, Keeps}
+use Rattle.rev_top.proofs.Causes.{Why, answer_to, at_most_5, caused, failed, one_answer_to, out_of, plain, unread, why}
 
 has_none : (w : Option Words) → is_some w ≡ true → w ≡ None → ⊥
 has_none None some none = cc
@@ -69,6 +70,17 @@ module _ (w : Option Words) (source source' out out' err err' : Stream) (status 
   written_of (answered a h (no_room_at_err is d)) whole = absurd (whole (inr is))
   written_of (no_report is d) whole = absurd (whole (inr is))
 
+  uncut : (n : ℕ) → status ≡ n → n < 6 → Cut status → ⊥
+  uncut n is below (inl six) = absurd (omega arith)
+  uncut n is below (inr seven) = absurd (omega arith)
+
+  cause_of : Happened w source source' out out' err err' status → status ≡ 2
+      → (f : Refusal) × Cause source source' f × Took err (refused f).err err'
+  cause_of h is =
+      let one = written_of h (uncut 2 is (omega arith)) in
+      let why_refused = caused w source source' one.0 one.1 (sym one.2.ends ∙ is) in
+      (why_refused.0, why_refused.2, subst (λ (x : Answer). Took err (shown x).err err') why_refused.1 one.2.on_err)
+
   -- where nothing failed, no sink cut the answer short
   not_cut : Happened w source source' out out' err err' status → Calm source source' out out' err err' status → Cut status → ⊥
   not_cut h calm (inl is) = go (write_fault_of w source source' (Rose out out' ⊎ Rose err err') status (causes h) is)
@@ -111,10 +123,6 @@ module _ (w : Option Words) (source source' out out' err err' : Stream) (status 
       let one = written_of h whole in
       subst (λ (bytes : List ℕ). Took out bytes out') (out_of w source source' one.0 one.1 (λ is. other (one.2.ends ∙ is))) one.2.on_out
 
-  uncut : (n : ℕ) → status ≡ n → n < 6 → Cut status → ⊥
-  uncut n is below (inl six) = absurd (omega arith)
-  uncut n is below (inr seven) = absurd (omega arith)
-
   refusal_of : Happened w source source' out out' err err' status → (status ≡ 2) ⊎ ((status ≡ 4) ⊎ (status ≡ 5)) → Took out [] out'
   refusal_of h (inl is) = nothing_on_out h (uncut 2 is (omega arith)) (λ none. absurd (omega arith))
   refusal_of h (inr (inl is)) = nothing_on_out h (uncut 4 is (omega arith)) (λ none. absurd (omega arith))
@@ -146,6 +154,7 @@ keeps w source source' out out' err err' status h touches =
       headline = headline_of w source source' out out' err err' status h;
       has_answer = has_answer_of w source source' out out' err err' status h;
       written = written_of w source source' out out' err err' status h;
+      cause = cause_of w source source' out out' err err' status h;
       usage = usage_of w source source' (Rose out out' ⊎ Rose err err') status cause;
       no_reading = no_reading_of w source source' (Rose out out' ⊎ Rose err err') status cause;
       unread = touches.unread;

@@ -4,12 +4,15 @@ use Rattle.rev_io.specs.Stream.{Stream, Gave, GaveAtMost, Rose}
 use Rattle.rev_words.specs.declared.Mode.{Mode}
 use Rattle.rev_words.specs.declared.Mode.TheVariants as modes
 use Rattle.rev_words.specs.declared.Words.{Words}
-use Rattle.rev_prints.specs.Grammar.{Prints}
 use Rattle.rev_report.specs.Lines.{lines}
 use Rattle.rev_report.specs.Report.{Output, done}
 use Rattle.rev_report.specs.Messages.{shown}
 use Rattle.rev_report.specs.declared.refusal.Refusal.{Refusal}
 use Rattle.rev_report.specs.declared.refusal.Refusal.TheVariants as refusals
+use Rattle.rev_syntax.specs.Trees.{Whole}
+use Rattle.rev_top.specs.Stages.{Then}
+use Rattle.rev_top.specs.Texts.{Checks}
+use Rattle.rev_top.specs.Prints.{Prints}
 
 abbrev pub Answer : Type 0
 Answer = Result Output Refusal
@@ -20,10 +23,13 @@ source_limit = 1048576
 
 -- ---- one relation for each mode: this answer belongs to this text
 
--- the lines that the text prints; a text that is none of the language is not built yet
+-- the lines that the program prints; a program that does more is not built yet
+abbrev pub RunsProgram : Whole → Answer → Type 0
+RunsProgram p (Ok o) = (lists : List (List ℤ)) × Prints p lists × (o ≡ done (lines lists))
+RunsProgram p (Err f) = (f ≡ refusals.NotBuilt) × ((lists : List (List ℤ)) → Prints p lists → ⊥)
+
 abbrev pub Runs : List ℕ → Answer → Type 0
-Runs text (Ok o) = (lists : List (List ℤ)) × Prints text lists × (o ≡ done (lines lists))
-Runs text (Err f) = (f ≡ refusals.NotBuilt) × ((lists : List (List ℤ)) → Prints text lists → ⊥)
+Runs text = Then (Checks text) RunsProgram
 
 -- ---- the order of the refusals: words, read fault, length, text
 
@@ -35,14 +41,9 @@ Given limit old new (Err f) = ((f ≡ refusals.TooLong) × (new.faults ≡ old.f
     × ((all : List ℕ) → old.told ≡ Some all → limit < length all))
     ⊎ ((f ≡ refusals.ReadFault) × Rose old new)
 
-abbrev pub Onward : (List ℕ → Answer → Type 0) → Result (List ℕ) Refusal → Answer → Type 0
-Onward Says (Ok text) a = Says text a
-Onward Says (Err f) a = a ≡ Err f
-
 -- the source was read to its end, and the answer belongs to what it gave
 abbrev pub FromSource : ℕ → (List ℕ → Answer → Type 0) → Stream → Stream → Answer → Type 0
-FromSource limit Says old new a =
-    (given : Result (List ℕ) Refusal) × Given limit old new given × Onward Says given a
+FromSource limit Says old new = Then (Given limit old new) Says
 
 abbrev pub AnswersAs : Mode → Stream → Stream → Answer → Type 0
 AnswersAs modes.Run old new a = FromSource source_limit Runs old new a

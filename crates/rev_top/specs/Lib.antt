@@ -1,3 +1,6 @@
+pub mod Stages
+pub mod Texts
+pub mod Prints
 pub mod Answer
 pub mod Stops
 pub mod Delivery

@@ -1,12 +1,16 @@
 -- What the top call promises.
-use Rattle.std.specs.Prelude.{ℕ, List, [], ◌≡◌, ◌<◌, ◌≤◌, ◌⊎◌, ◌+◌, length, Option, Some, None, Err}
-use Rattle.rev_io.specs.Stream.{Stream, GaveAtMost, Rose, Took}
+use Rattle.std.specs.Prelude.{ℕ, ℤ, List, [], ◌≡◌, ◌<◌, ◌≤◌, ◌⊎◌, ◌+◌, length, Option, Some, None, Ok, Err}
+use Rattle.rev_io.specs.Stream.{Stream, Gave, GaveAtMost, Rose, Took}
 use Rattle.rev_words.specs.declared.Mode.{Mode}
 use Rattle.rev_words.specs.declared.Mode.TheVariants as modes
 use Rattle.rev_words.specs.declared.Words.{Words}
-use Rattle.rev_report.specs.Messages.{shown}
+use Rattle.rev_report.specs.Messages.{refused, shown}
 use Rattle.rev_report.specs.Status.{no_memory_status, read_fault_status, refused_status, usage_status, write_fault_status}
+use Rattle.rev_report.specs.declared.refusal.Refusal.{Refusal}
 use Rattle.rev_report.specs.declared.refusal.Refusal.TheVariants as refusals
+use Rattle.rev_syntax.specs.Trees.{Whole}
+use Rattle.rev_top.specs.Texts.{Checks}
+use Rattle.rev_top.specs.Prints.{Prints}
 use Rattle.rev_top.specs.Answer.{Answer, Answers, Runs, source_limit}
 use Rattle.rev_top.specs.Delivery.{ErrFailed, NoReport, NoRoomAtErr, NoRoomAtOut, OutFailed, Wrote}
 
@@ -31,6 +35,20 @@ OneAnswer = (words : Option Words) (all : List ℕ) (a b : Answer) → AnswerTo 
     → AnswerTo words all b → a ≡ b
 
 -- ---- the promises
+
+-- why the source's text is refused: it is too long; it has this fault, or goes over this limit, and
+-- none before it; or it is a program that keeps all rules and does more than print numbers
+abbrev pub Cause : Stream → Stream → Refusal → Type 0
+Cause old new refusals.TooLong = (new.faults ≡ old.faults)
+    × ((all : List ℕ) → old.told ≡ Some all → source_limit < length all)
+Cause old new (refusals.Text place fault) =
+    (text : List ℕ) × Gave old text new × Checks text (Err (refusals.Text place fault))
+Cause old new (refusals.OverLimit place limit which) =
+    (text : List ℕ) × Gave old text new × Checks text (Err (refusals.OverLimit place limit which))
+Cause old new refusals.NotBuilt = (text : List ℕ) × Gave old text new
+    × (p : Whole) × Checks text (Ok p) × ((lists : List (List ℤ)) → Prints p lists → ⊥)
+Cause old new refusals.Usage = ⊥
+Cause old new refusals.ReadFault = ⊥
 
 -- nothing failed: no count rose, and memory was there
 pub record Calm (source source' out out' err err' : Stream) (status : ℕ) : Type 0 where
@@ -63,6 +81,8 @@ pub record Keeps (words : Option Words) (source source' out out' err err' : Stre
   -- gave, and both sinks took all of its bytes
   pub written : (Cut status → ⊥) → (a : Answer) × Answers words source source' a
       × Wrote (shown a) out out' err err' status
+  -- 2 comes only where the text has a cause to be refused, and `err` took the message of that
+  pub cause : status ≡ refused_status → (f : Refusal) × Cause source source' f × Took err (refused f).err err'
   -- usage comes exactly where the words have no reading, and then the source is not touched
   pub usage : status ≡ usage_status → words ≡ None
   pub no_reading : words ≡ None → (status ≡ usage_status) ⊎ Cut status

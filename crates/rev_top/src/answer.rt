@@ -1,30 +1,41 @@
 //! The report that belongs to the words and to what the source gives.
-ghost use Rattle.std.specs.Prelude.{◌<◌, ◌^◌, ◌+◌, ◌≡◌, IfOk, map};
+ghost use Rattle.std.specs.Prelude.{◌<◌, ◌≤◌, ◌^◌, ◌+◌, ◌≡◌, IfOk, length, map};
 ghost use Rattle.std.specs.String.{string_bytes};
 ghost use Rattle.rev_io.specs.Stream.{GaveAtMost};
+ghost use Rattle.rev_syntax.specs.View.{program as whole};
 ghost use Rattle.rev_words.specs.Reading.{reading};
 ghost use Rattle.rev_report.specs.Report.{output};
-ghost use Rattle.rev_top.specs.Answer.{Answers, AnswersAs, FromSource, Given, IsReport, Runs, Touches, source_limit};
+ghost use Rattle.rev_top.specs.Answer.{Answers, AnswersAs, FromSource, Given, IsReport, Runs, RunsProgram, Touches, source_limit};
 ghost use Rattle.rev_top.specs.Stops.{Meets};
 
+use crate::print::printed_lists;
 use crate::stop::Stop;
+use crate::text::checked;
 use rev_io::{Source, read_text};
-use rev_prints::read_prints;
 use rev_report::{Refusal, Report, printed_report, refusal_bytes};
+use rev_syntax::Program;
 use rev_words::{Mode, read_words};
 use std::alloc::{AllocError, Global};
 
 /// The most bytes that the text of a program may have.
 const SOURCE_LIMIT: usize = 1_048_576;
 
-/// The report of a text that only prints.
-fn run_text(alloc: Global, text: &[u8]) -> Result<Report, Stop>
-    ensures { Meets output result (Runs text.now) }
+/// The report of a program that only prints numbers.
+fn run_program(alloc: Global, program: &Program) -> Result<Report, Stop>
+    ensures { Meets output result (RunsProgram (whole program.now)) }
 {
-    match read_prints(alloc, text)? {
+    match printed_lists(alloc, program)? {
         Some(lists) => Ok(printed_report(alloc, lists.as_slice())?),
         None => Err(Stop::Refused(Refusal::NotBuilt)),
     }
+}
+
+fn run_text(alloc: Global, text: &[u8]) -> Result<Report, Stop>
+    requires { length text.now ≤ source_limit }
+    ensures { Meets output result (Runs text.now) }
+{
+    let typed = checked(alloc, text)?;
+    run_program(alloc, &typed.expanded.program)
 }
 
 /// All bytes up to the end of the source.

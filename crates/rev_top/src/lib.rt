@@ -9,9 +9,11 @@ ghost use Rattle.rev_top.specs.Promises.{Keeps};
 mod answer;
 mod deliver;
 mod law;
+mod print;
 mod stop;
 #[cfg(test)]
 mod tests;
+mod text;
 
 use deliver::happen;
 pub use law::one_answer;
@@ -23,13 +25,15 @@ use rev_io::{Sink, Source};
 /// | Status | Meaning |
 /// |---|---|
 /// | 0 | done |
-/// | 2 | the text is too long, or is not one that runs yet |
+/// | 2 | the text is too long, is no program that keeps all rules, or is one that does not run yet |
 /// | 4 | the words have no reading |
 /// | 5 | the source failed |
 /// | 6 | a sink failed |
 /// | 7 | memory ran out |
 ///
-/// Words come before the source, a read fault before the length, and the length before the text.
+/// Words come before the source, a read fault before the length, and the length before the text. Of
+/// the faults of a text those of its tokens come first, then those of its syntax, of its funs, and
+/// of the other static rules, each at its least place.
 /// A sink that fails, and want of memory, can come in place of each of them.
 pub fn rev_main<R: AllocGlobal, S: Source, O: Sink, E: Sink>(
     rt: &R,

@@ -1,4 +1,6 @@
 // Whole calls: the words and the source, and then both outputs and the status.
+mod texts;
+
 use super::*;
 use rev_io::{CalmSink, CalmSource, MemSink, MemSource};
 use std::alloc::AllocError;
@@ -42,29 +44,20 @@ fn source_over(rt: &HostRuntime, text: &str, spaces: usize) -> Result<CalmSource
 }
 
 #[test]
-fn texts(rt: HostRuntime) -> Result<(), Fail> {
+fn lengths_and_words(rt: HostRuntime) -> Result<(), Fail> {
     let too_long = ("", "error: source too long\n", 2);
-    let not_built = ("", "error: not built yet\n", 2);
+    let seven = ("7\n", "", 0);
     let wants = [
-        ("run", SEVEN, 0, ("7\n", "", 0)),
-        ("run", SEVEN, 1_048_559, ("7\n", "", 0)),
-        ("run", SEVEN, 1_048_560, too_long),
-        ("run", "main { print 1 + 1; }", 0, not_built),
-        ("run", "", 0, not_built),
-        (
-            "run",
-            "main { print 1, 2; print 3; }\n",
-            0,
-            ("1 2\n3\n", "", 0),
-        ),
-        ("run --fuel=7 3 --values -- -4", SEVEN, 0, ("7\n", "", 0)),
-        ("run --schedule 0,1 --workers 64", SEVEN, 0, ("7\n", "", 0)),
+        ("run", 1_048_559, seven),
+        ("run", 1_048_560, too_long),
+        ("run --fuel=7 3 --values -- -4", 0, seven),
+        ("run --schedule 0,1 --workers 64", 0, seven),
     ];
-    for (line, text, spaces, want) in wants {
-        let mut source = source_over(&rt, text, spaces)?;
+    for (line, spaces, want) in wants {
+        let mut source = source_over(&rt, SEVEN, spaces)?;
         assert!(rt;
             answers(&rt, line, &mut source, want)?,
-            "{line}: {text}, {spaces} spaces"
+            "{line}: {spaces} spaces"
         );
     }
     Ok(())

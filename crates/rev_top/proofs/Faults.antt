@@ -1,0 +1,238 @@
+-- A text has one reading at most: one tree that keeps all rules, or one first fault.
+use Rattle.std.proofs.Common.{◌≡◌, ◌≢◌, ◌∙◌, ℕ, ◌<◌, ◌≤◌, ◌⊎◌, inl, inr, refl, sym, subst, ap, arith, List, [], nat_eq, if◌then◌else◌}
+use Rattle.std.specs.Prelude.{Option, Some, None, Result, Ok, Err}
+use Rattle.rev_syntax.specs.Trees.{Whole}
+use Rattle.rev_syntax.specs.Tokens.{IsTokens, IsFirstFault}
+use Rattle.rev_syntax.specs.declared.token.Token.{Token}
+use Rattle.rev_syntax.specs.declared.scan.LexFault.{LexFault}
+use Rattle.rev_syntax.specs.declared.scan.LexFault.TheVariants as lex
+use Rattle.rev_syntax.proofs.Unique.{one-list, one-fault, no-fault}
+use Rattle.rev_parse.specs.Verdicts.{Verdict, tree, unexpected, too_deep, IsVerdict, Parses}
+use Rattle.rev_parse.specs.declared.whole.SyntaxFault.{SyntaxFault}
+use Rattle.rev_parse.specs.declared.whole.SyntaxFault.TheVariants as syntax
+use Rattle.rev_parse.proofs.OneVerdict.{one_verdict}
+use Rattle.rev_syntax.specs.declared.tree.Program.{Program}
+use Rattle.rev_syntax.specs.View.{program as whole}
+use Rattle.merge_decl.specs.Least.{Among, IsBefore, IsFirst}
+use Rattle.merge_decl.specs.FunRules as funs
+use Rattle.merge_decl.specs.Expands as expands
+use Rattle.merge_decl.specs.declared.expand.MergeFault.{MergeFault}
+use Rattle.merge_decl.specs.declared.expand.MergeFault.TheVariants as fun
+use Rattle.rev_types.specs.Faults as types
+use Rattle.rev_types.specs.Program as program
+use Rattle.rev_types.specs.Tables as tables
+use Rattle.rev_types.specs.declared.fault.TypeFault.{TypeFault}
+use Rattle.rev_types.specs.declared.fault.TypeFault.TheVariants as type
+use Rattle.rev_types.specs.declared.fault.Which.{Which}
+use Rattle.rev_types.specs.declared.fault.Which.TheVariants as which
+use Rattle.rev_report.specs.declared.fault.TextFault.TheVariants as fault
+use Rattle.rev_report.specs.declared.refusal.Refusal.{Refusal}
+use Rattle.rev_report.specs.declared.refusal.Refusal.TheVariants as refusals
+use Rattle.rev_report.specs.Messages.{status_of}
+use Rattle.rev_top.specs.Stops.{Meets, report_of_syntax, stop_of}
+use Rattle.rev_top.specs.Texts.{Checks, ChecksTokens, ChecksTree, Cuts, KeepsFuns, KeepsTypes, Reads, Reports, fault_at, limit_of, limited_of, place_in, reading, report_of_funs, report_of_lexical, report_of_types, unexpected_at}
+use Rattle.rev_top.specs.declared.stop.Stop.{Stop}
+use Rattle.rev_top.proofs.Stages.{One, one_then, refusal_of, reported}
+
+-- ---- the first of some faults is reported in one way
+
+module _ {F : Type 0} (place rank : F → ℕ) where
+  -- two first faults stand at one place and have one rank
+  alike : (a b : F) → IsBefore place rank a b → IsBefore place rank b a → (place a ≡ place b) × (rank a ≡ rank b)
+  alike a b (inl h) (inl k) = absurd (omega arith)
+  alike a b (inl h) (inr k) = absurd (omega (arith, h, k.0))
+  alike a b (inr h) (inl k) = absurd (omega (arith, k, h.0))
+  alike a b (inr h) (inr k) = (h.0, omega (arith, h.1, k.1))
+
+  pub firsts_alike : (fs : List F) (a b : F) → IsFirst place rank fs a → IsFirst place rank fs b → (place a ≡ place b) × (rank a ≡ rank b)
+  firsts_alike fs a b h k = alike a b (h.first b k.among) (k.first a h.among)
+
+  pub no_first : (fs : List F) (a : F) → fs ≡ [] → IsFirst place rank fs a → ⊥
+  no_first fs a none h = subst (λ (gs : List F). Among gs a) none h.among
+
+  module _ (report : F → Option Refusal) (by : ℕ → ℕ → Option Refusal) (by_rank : (f : F) → report f ≡ by (place f) (rank f)) where
+    pub one_report : (fs : List F) (r s : Refusal) → Reports (IsFirst place rank fs) report r → Reports (IsFirst place rank fs) report s → r ≡ s
+    one_report fs r s h k =
+        let both = firsts_alike fs h.fault k.fault h.comes k.comes in
+        let same : by (place h.fault) (rank h.fault) ≡ by (place k.fault) (rank k.fault) = ap (λ n. by n (rank h.fault)) both.0 ∙ ap (λ n. by (place k.fault) n) both.1 in
+        let some : Some r ≡ Some s = sym h.reported ∙ by_rank h.fault ∙ same ∙ sym (by_rank k.fault) ∙ k.reported in
+        cc
+
+-- the report of a fault by its place and its rank
+funs_by : List ℕ → ℕ → ℕ → Option Refusal
+funs_by text at n =
+    if nat_eq n 1 then Some (fault_at text at fault.UnknownFun) else
+    (if nat_eq n 2 then Some (fault_at text at fault.LaterFun) else
+    (if nat_eq n 3 then Some (fault_at text at fault.ArgumentCount) else None))
+
+funs_by_rank : (text : List ℕ) (f : MergeFault) → report_of_funs text f ≡ funs_by text (funs.place f) (funs.rank f)
+unfolding funs_by
+funs_by_rank text (fun.UnknownFun at) = refl
+funs_by_rank text (fun.LaterFun at) = refl
+funs_by_rank text (fun.Arity at) = refl
+funs_by_rank text fun.OutOfMemory = refl
+
+over : List ℕ → ℕ → Which → Option Refusal
+over text at w = Some (refusals.OverLimit (place_in text at) (limit_of w) (limited_of w))
+
+limits_by : List ℕ → ℕ → ℕ → Option Refusal
+limits_by text at n =
+    if nat_eq n 6 then over text at which.Locations else
+    (if nat_eq n 7 then over text at which.Procedures else
+    (if nat_eq n 8 then over text at which.Funs else
+    (if nat_eq n 9 then over text at which.Parameters else
+    (if nat_eq n 10 then over text at which.Locals else
+    (if nat_eq n 11 then over text at which.Items else
+    (if nat_eq n 12 then over text at which.Weight else None))))))
+
+types_by : List ℕ → ℕ → ℕ → Option Refusal
+types_by text at n =
+    if nat_eq n 1 then Some (fault_at text at fault.UnknownName) else
+    (if nat_eq n 2 then Some (fault_at text at fault.Redeclared) else
+    (if nat_eq n 3 then Some (fault_at text at fault.WrongType) else
+    (if nat_eq n 4 then Some (fault_at text at fault.WrongCount) else
+    (if nat_eq n 5 then Some (fault_at text at fault.NoReturn) else limits_by text at n))))
+
+limits_by_rank : (text : List ℕ) (at : ℕ) (w : Which) → over text at w ≡ types_by text at (types.order w)
+unfolding limits_by types_by
+limits_by_rank text at which.Locations = refl
+limits_by_rank text at which.Procedures = refl
+limits_by_rank text at which.Funs = refl
+limits_by_rank text at which.Parameters = refl
+limits_by_rank text at which.Locals = refl
+limits_by_rank text at which.Items = refl
+limits_by_rank text at which.Weight = refl
+
+types_by_rank : (text : List ℕ) (f : TypeFault) → report_of_types text f ≡ types_by text (types.place f) (types.rank f)
+unfolding over limits_by types_by
+types_by_rank text (type.UnknownName at) = refl
+types_by_rank text (type.Redeclared at) = refl
+types_by_rank text (type.WrongType at) = refl
+types_by_rank text (type.WrongCount at) = refl
+types_by_rank text (type.NoReturn at) = refl
+types_by_rank text (type.LimitOf at w n) = limits_by_rank text at w
+types_by_rank text type.OutOfMemory = refl
+
+-- ---- each stage has one value or refusal at most
+
+one_cuts : (text : List ℕ) → One (Cuts text)
+one_cuts text (Ok ts) (Ok us) h k = ap (λ (x : List Token). Ok x) (one-list text ts us h k)
+one_cuts text (Ok ts) (Err s) h k = absurd (no-fault text ts k.fault h k.comes)
+one_cuts text (Err r) (Ok us) h k = absurd (no-fault text us h.fault k h.comes)
+one_cuts text (Err r) (Err s) h k =
+    let same = one-fault text h.fault k.fault h.comes k.comes in
+    let some : Some r ≡ Some s = sym h.reported ∙ ap (report_of_lexical text) same ∙ k.reported in
+    cc
+
+one_reads : (text : List ℕ) (ts : List Token) → One (Reads text ts)
+one_reads text ts a b h k = h.2 ∙ ap (reading text) (one_verdict text ts h.0 k.0 h.1 k.1) ∙ sym k.2
+
+one_funs : (text : List ℕ) (p : Whole) → One (KeepsFuns text p)
+one_funs text p (Ok q) (Ok r) h k = ap (λ (x : Whole). Ok x) (h.0 ∙ sym k.0)
+one_funs text p (Ok q) (Err s) h k = absurd (no_first funs.place funs.rank (funs.fun_faults p) k.fault h.1 k.comes)
+one_funs text p (Err r) (Ok q) h k = absurd (no_first funs.place funs.rank (funs.fun_faults p) h.fault k.1 h.comes)
+one_funs text p (Err r) (Err s) h k =
+    ap (λ (x : Refusal). Err x) (one_report funs.place funs.rank (report_of_funs text) (funs_by text) (funs_by_rank text) (funs.fun_faults p) r s h k)
+
+one_types : (text : List ℕ) (p : Whole) → One (KeepsTypes text p)
+one_types text p (Ok q) (Ok r) h k = ap (λ (x : Whole). Ok x) (h.0 ∙ sym k.0)
+one_types text p (Ok q) (Err s) h k = absurd (no_first types.place types.rank (program.faults p) k.fault h.1 k.comes)
+one_types text p (Err r) (Ok q) h k = absurd (no_first types.place types.rank (program.faults p) h.fault k.1 h.comes)
+one_types text p (Err r) (Err s) h k =
+    ap (λ (x : Refusal). Err x) (one_report types.place types.rank (report_of_types text) (types_by text) (types_by_rank text) (program.faults p) r s h k)
+
+pub one_check : (text : List ℕ) → One (Checks text)
+one_check text =
+    one_then (Cuts text) (ChecksTokens text) (one_cuts text)
+    (λ ts. one_then (Reads text ts) (ChecksTree text) (one_reads text ts)
+    (λ p. one_then (KeepsFuns text p) (KeepsTypes text) (one_funs text p) (one_types text)))
+
+-- ---- a text is refused for a fault at a place of it
+
+abbrev pub IsOfText : Refusal → Type 0
+IsOfText (refusals.Text place f) = Unit {0}
+IsOfText (refusals.OverLimit place limit w) = Unit {0}
+IsOfText refusals.Usage = ⊥
+IsOfText refusals.ReadFault = ⊥
+IsOfText refusals.TooLong = ⊥
+IsOfText refusals.NotBuilt = ⊥
+
+pub status_of_text : (r : Refusal) → IsOfText r → status_of r ≡ 2
+status_of_text (refusals.Text place f) is = refl
+status_of_text (refusals.OverLimit place limit w) is = refl
+status_of_text refusals.Usage is = absurd is
+status_of_text refusals.ReadFault is = absurd is
+status_of_text refusals.TooLong is = absurd is
+status_of_text refusals.NotBuilt is = absurd is
+
+same_refusal : (r s : Refusal) → IsOfText r → Some r ≡ Some s → IsOfText s
+same_refusal r s is same = let e : r ≡ s = cc in subst (λ (x : Refusal). IsOfText x) e is
+
+lexical_of_text : (text : List ℕ) (f : LexFault) (r : Refusal) → report_of_lexical text f ≡ Some r → IsOfText r
+lexical_of_text text (lex.BadByte at) r is = same_refusal _ r tt is
+lexical_of_text text (lex.BadNumber at) r is = same_refusal _ r tt is
+lexical_of_text text (lex.OpenText at) r is = same_refusal _ r tt is
+lexical_of_text text lex.OutOfMemory r is = cc
+
+syntax_of_text : (text : List ℕ) (v : Verdict) (r : Refusal) → Err r ≡ reading text v → IsOfText r
+syntax_of_text text (tree p) r is = cc
+syntax_of_text text (unexpected at) r is = let e : Some (fault_at text at (unexpected_at text at)) ≡ Some r = cc in same_refusal _ r tt e
+syntax_of_text text (too_deep at) r is = let e : Some (fault_at text at fault.TooDeep) ≡ Some r = cc in same_refusal _ r tt e
+
+funs_of_text : (text : List ℕ) (f : MergeFault) (r : Refusal) → report_of_funs text f ≡ Some r → IsOfText r
+funs_of_text text (fun.UnknownFun at) r is = same_refusal _ r tt is
+funs_of_text text (fun.LaterFun at) r is = same_refusal _ r tt is
+funs_of_text text (fun.Arity at) r is = same_refusal _ r tt is
+funs_of_text text fun.OutOfMemory r is = cc
+
+types_of_text : (text : List ℕ) (f : TypeFault) (r : Refusal) → report_of_types text f ≡ Some r → IsOfText r
+types_of_text text (type.UnknownName at) r is = same_refusal _ r tt is
+types_of_text text (type.Redeclared at) r is = same_refusal _ r tt is
+types_of_text text (type.WrongType at) r is = same_refusal _ r tt is
+types_of_text text (type.WrongCount at) r is = same_refusal _ r tt is
+types_of_text text (type.NoReturn at) r is = same_refusal _ r tt is
+types_of_text text (type.LimitOf at w n) r is = same_refusal _ r tt is
+types_of_text text type.OutOfMemory r is = cc
+
+pub check_of_text : (text : List ℕ) (r : Refusal) → Checks text (Err r) → IsOfText r
+check_of_text text =
+    let P : Refusal → Type 0 = λ r. IsOfText r in
+    refusal_of (Cuts text) (ChecksTokens text) P (λ r h. lexical_of_text text h.fault r h.reported)
+    (λ ts. refusal_of (Reads text ts) (ChecksTree text) P (λ r h. syntax_of_text text h.0 r h.2)
+    (λ p. refusal_of (KeepsFuns text p) (KeepsTypes text) P (λ r h. funs_of_text text h.fault r h.reported)
+    (λ q r h. types_of_text text h.fault r h.reported)))
+
+-- ---- what the code makes of the answers of the calls
+
+none_some : (r : Refusal) (o : Option Refusal) → o ≡ Some r → o ≡ None → ⊥
+none_some r o some none = let e : Some r ≡ None = sym some ∙ none in cc
+
+module _ {F X Y : Type 0} (report : F → Option Refusal) (out : F) (silent : report out ≡ None) (Comes : F → Type 0) (Stage : Result Y Refusal → Type 0)
+    (stage : (r : Refusal) → Reports Comes report r → Stage (Err r)) where
+  refuses : (view : X → Y) (f : F) (e : Stop) → e ≡ stop_of (report f) → (f ≢ out → Comes f) → Meets view (Err e) Stage
+  refuses view f e is h =
+      subst (λ (x : Stop). Meets view (Err x) Stage) (sym is)
+      (reported view Stage (report f) (λ r some. stage r (record { fault = f; comes = h (λ same. none_some r (report f) some (ap report same ∙ silent)); reported = some })))
+
+module _ {X : Type 0} (text : List ℕ) where
+  pub no_tokens : (view : X → List Token) (f : LexFault) (e : Stop) → e ≡ stop_of (report_of_lexical text f)
+      → (f ≢ lex.OutOfMemory → IsFirstFault text f) → Meets view (Err e) (Cuts text)
+  no_tokens view f e is h = refuses (report_of_lexical text) lex.OutOfMemory refl (IsFirstFault text) (Cuts text) (λ r x. x) view f e is h
+
+  module _ (view : X → Whole) where
+    pub no_tree : (ts : List Token) (f : SyntaxFault) (e : Stop) → e ≡ stop_of (report_of_syntax text f)
+        → Parses text ts (Err f) → Meets view (Err e) (Reads text ts)
+    no_tree ts f e is h = subst (λ (x : Stop). Meets view (Err x) (Reads text ts)) (sym is) (go f h)
+      where
+        go : (g : SyntaxFault) → Parses text ts (Err g) → Meets view (Err (stop_of (report_of_syntax text g))) (Reads text ts)
+        go (syntax.Unexpected at) k = (unexpected at, k, refl)
+        go (syntax.TooDeep at) k = (too_deep at, k, refl)
+        go syntax.OutOfMemory k = tt
+
+    pub no_funs : (p : Whole) (f : MergeFault) (e : Stop) → e ≡ stop_of (report_of_funs text f)
+        → expands.Refuses p f → Meets view (Err e) (KeepsFuns text p)
+    no_funs p f e is h = refuses (report_of_funs text) fun.OutOfMemory refl (IsFirst funs.place funs.rank (funs.fun_faults p)) (KeepsFuns text p) (λ r x. x) view f e is h
+
+    pub no_types : (p : Whole) (f : TypeFault) (e : Stop) → e ≡ stop_of (report_of_types text f)
+        → tables.Refuses p f → Meets view (Err e) (KeepsTypes text p)
+    no_types p f e is h = refuses (report_of_types text) type.OutOfMemory refl (IsFirst types.place types.rank (program.faults p)) (KeepsTypes text p) (λ r x. x) view f e is h

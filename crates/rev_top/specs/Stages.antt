@@ -1,0 +1,12 @@
+-- Stages: each has a value or a refusal, and the next goes on with the value.
+use Rattle.std.specs.Prelude.{◌≡◌, Result, Ok, Err}
+use Rattle.rev_report.specs.declared.refusal.Refusal.{Refusal}
+
+-- a value goes on, and a refusal is the answer
+abbrev pub Onward : {X Y : Type 0} → (X → Result Y Refusal → Type 0) → Result X Refusal → Result Y Refusal → Type 0
+Onward Says (Ok x) a = Says x a
+Onward Says (Err f) a = a ≡ Err f
+
+-- one stage, and the next with its value
+abbrev pub Then : {X Y : Type 0} → (Result X Refusal → Type 0) → (X → Result Y Refusal → Type 0) → Result Y Refusal → Type 0
+Then {X = X} Stage Says a = (found : Result X Refusal) × Stage found × Onward Says found a
