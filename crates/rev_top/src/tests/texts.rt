@@ -391,7 +391,8 @@ fn a_megabyte(rt: HostRuntime) -> Result<(), Fail> {
     let lines = many(&rt, "1\n", 131_070)?;
     let text = format!(in rt.alloc(); "main {{{prints}}}")?;
     assert!(rt; gives(&rt, text.as_str(), (lines.as_str(), "", 0))?);
-    let text = format!(in rt.alloc(); "main {{{prints}@}}}}")?;
-    assert!(rt; is_refused(&rt, text.as_str(), "unexpected token")?);
+    let text = format!(in rt.alloc(); "main {{{prints}}}}}")?;
+    let message = "error: line 1 column 1048568: unexpected token\n";
+    assert!(rt; gives(&rt, text.as_str(), ("", message, 2))?);
     Ok(())
 }
