@@ -1,16 +1,18 @@
 -- Which fun a name means among the first declarations of a program.
-use Rattle.std.proofs.Common.{◌≡◌, ◌∙◌, ℕ, zero, suc, ◌+◌, ◌<◌, ◌≤◌, Bool, true, false, if◌then◌else◌, List, [], ◌∷◌, take, length, Option, Some, None, slice_get, get_or, option_and_then, option_map, refl, sym, ap, arith}
+use Rattle.std.proofs.Common.{◌≡◌, ◌∙◌, ℕ, zero, suc, ◌+◌, ◌<◌, ◌≤◌, Bool, true, false, if◌then◌else◌, List, [], ◌∷◌, take, length, Option, Some, None, slice_get, get_or, option_and_then, option_map, Vec, Global, refl, sym, ap, arith}
 use Rattle.rev_num.specs.declared.value.Value.{Value}
 use Rattle.rev_syntax.specs.Trees.{Word, Term, Entry, fun, merge, shared, proc, Whole}
 use Rattle.merge_decl.specs.Names.{Name, same}
 use Rattle.merge_decl.specs.FunRules.{first_fun, merge_decls}
 use Rattle.merge_decl.specs.Value.{Fun, FunDef, funs_of, fun_value, earlier_of, called, bind_all, nothing, some_value}
 use Rattle.merge_decl.specs.Definitions.{funs_after, fun_def, merge_def, merges_after, merged_by, merge_value_of}
-use Rattle.merge_decl.specs.Evaluation.{funs_before, value_within, fun_body, params_in, params_at, body_within, body_at, value_of_body, IsMeant, entry_value}
+use Rattle.merge_decl.specs.Evaluation.{funs_before, value_within, fun_params, fun_body, params_in, params_at, body_within, body_at, value_of_body, IsMeant, entry_value}
 use Rattle.merge_decl.specs.Expands.{decls_of_merges}
 use Rattle.merge_decl.specs.declared.expand.FunHead.{FunHead}
 use Rattle.merge_decl.specs.declared.expand.MergeRef.{MergeRef}
 use Rattle.rev_syntax.specs.View.{entry}
+use Rattle.rev_num.specs.declared.value.ValueKind.{ValueKind}
+use Rattle.rev_syntax.specs.declared.tree.Param.{Param}
 use Rattle.rev_syntax.specs.declared.tree.Name.{Name as RName}
 use Rattle.rev_syntax.specs.declared.tree.Expr.{Expr}
 use Rattle.rev_syntax.specs.declared.tree.Decl.{Decl}
@@ -212,6 +214,20 @@ declared_value p k x o a b c h e =
       ap (λ y. merged_by (Some (merge_def (funs_after [] (take y p.entries)) g.2 g.3 g.4 g.5 g.6)) a b c) (sym q)
           ∙ ap (λ m. merged_by m a b c) (sym g.8),
     )
+
+-- a declaration that is no fun
+
+pub no_params : (d : Decl) → ((x : RName) (ps : Vec Param Global) (r : ValueKind) (body : Expr) → d ≡ decl.Fun x ps r body → ⊥) → [] ≡ fun_params (entry d)
+no_params (decl.Fun x ps r body) h = absurd (h x ps r body refl)
+no_params (decl.Merge x m j r body) h = refl
+no_params (decl.Shared x by at holds size first) h = refl
+no_params (decl.Proc x ps r body) h = refl
+
+pub no_body : (d : Decl) → ((x : RName) (ps : Vec Param Global) (r : ValueKind) (body : Expr) → d ≡ decl.Fun x ps r body → ⊥) → None ≡ fun_body (entry d)
+no_body (decl.Fun x ps r body) h = absurd (h x ps r body refl)
+no_body (decl.Merge x m j r body) h = refl
+no_body (decl.Shared x by at holds size first) h = refl
+no_body (decl.Proc x ps r body) h = refl
 
 -- a declaration that is no merge
 pub no_merge : (es : List Entry) (n : ℕ) (d : Decl) (a b c : Value)

@@ -213,6 +213,7 @@ fn declared(expanded: &Expanded, number: usize) -> Option<&Decl>
     expanded.program.decls.get(number)
 }
 
+/// The parameters of a declared fun.
 fn fun_params(decl: &Decl) -> &[Param]
     ensures { names_of (map binder result.now) ≡ meant.fun_params (entry decl.now) }
 {
@@ -223,30 +224,11 @@ fn fun_params(decl: &Decl) -> &[Param]
             result: _,
             body: _,
         } => params,
-        Decl::Merge {
-            name: _,
-            main: _,
-            join: _,
-            root: _,
-            body: _,
-        } => &[],
-        Decl::Shared {
-            name: _,
-            by: _,
-            kind_at: _,
-            holds: _,
-            size: _,
-            first: _,
-        } => &[],
-        Decl::Proc {
-            name: _,
-            params: _,
-            result: _,
-            body: _,
-        } => &[],
+        _ => &[],
     }
 }
 
+/// The body of a declared fun.
 fn fun_body(decl: &Decl) -> Option<&Expr>
     ensures { option_map term (option_copied result) ≡ meant.fun_body (entry decl.now) }
 {
@@ -257,27 +239,7 @@ fn fun_body(decl: &Decl) -> Option<&Expr>
             result: _,
             body,
         } => Some(body),
-        Decl::Merge {
-            name: _,
-            main: _,
-            join: _,
-            root: _,
-            body: _,
-        } => None,
-        Decl::Shared {
-            name: _,
-            by: _,
-            kind_at: _,
-            holds: _,
-            size: _,
-            first: _,
-        } => None,
-        Decl::Proc {
-            name: _,
-            params: _,
-            result: _,
-            body: _,
-        } => None,
+        _ => None,
     }
 }
 
