@@ -2,6 +2,7 @@ pub mod Appends
 pub mod Counts
 pub mod Declared
 pub mod Evaluations
+pub mod Few
 pub mod FunSteps
 pub mod Leasts
 pub mod Meanings

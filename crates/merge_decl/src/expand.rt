@@ -2,6 +2,7 @@
 
 ghost use Rattle.std.specs.Prelude.{◌≡◌, ◌<◌, ◌^◌, ℕ, List, [], IfErr, IfOk, OnOk, length, map};
 ghost use Rattle.std.specs.declared.alloc.AllocError.{AllocError};
+ghost use Rattle.rev_syntax.specs.Small.{IsSmall};
 ghost use Rattle.rev_syntax.specs.View.{entry, program as whole};
 ghost use Rattle.merge_decl.specs.FunRules as rule;
 ghost use Rattle.merge_decl.specs.Least.{first_of, is_less, least};
@@ -57,8 +58,8 @@ pub struct FunHead {
     pub params: usize,
 }
 
-/// A program that keeps the rules on funs: the declarations of its funs and of its merges in order,
-/// and for each application, in the order of places, the number of its fun.
+/// A small program that keeps the rules on funs: the declarations of its funs and of its merges in
+/// order, and for each application, in the order of places, the number of its fun.
 #[derive(Drop)]
 pub struct Expanded {
     pub program: Program,
@@ -67,6 +68,7 @@ pub struct Expanded {
     pub uses: Items<u32>,
     /// The first fun of each name.
     pub table: NameTable<FunHead>,
+    ghost small: { IsSmall (whole program) },
     ghost few: { length program.decls.items < 2 ^ 32 },
     ghost keeps_rules: { rule.fun_faults (whole program) ≡ [] },
     ghost funs_listed: { decls_of_funs funs ≡ rule.fun_decls 0 (map entry program.decls.items) },
@@ -260,6 +262,7 @@ fn assembled(
     uses: Vec<u32>,
     table: NameTable<FunHead>,
 ) -> Expanded
+    requires small { IsSmall (whole program) }
     requires few { length program.decls.items < 2 ^ 32 }
     requires found { (name : Name) → find name table ≡ rule.fun_named (whole program) name }
     requires keeps { rule.broken_in (λ name. find name table) (rule.uses_in (whole program)) ≡ [] }
@@ -283,8 +286,9 @@ fn assembled(
 ///
 /// A name means the first fun of that name. A fun or a merge may apply the funs that are declared
 /// before it, and everything else may apply all.
+#[tactic(auto, using(crate::proofs::Few::few_declarations))]
 pub fn expand_funs(alloc: Global, program: Program) -> Result<Expanded, MergeFault>
-    requires { length program.decls.items < 2 ^ 32 }
+    requires { IsSmall (whole program) }
     ensures same { IfOk result (λ e. whole e.program ≡ whole program) }
     ensures keeps { OnOk result (rule.fun_faults (whole program) ≡ []) }
     ensures first { IfErr result (Refuses (whole program)) }

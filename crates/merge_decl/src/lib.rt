@@ -3,7 +3,5 @@
 
 pub mod expand;
 pub mod table;
-#[cfg(test)]
-mod tests;
 pub mod uses;
 pub mod value;

@@ -1,7 +1,9 @@
 //! From a text to the program that it is, or to the report of its first fault.
 ghost use Rattle.std.specs.Prelude.{◌≡◌, ◌<◌, ◌≤◌, ◌^◌, ◌-◌, All, IfOk, length};
-ghost use Rattle.rev_syntax.specs.Tokens.{IsToken};
+ghost use Rattle.rev_syntax.specs.Small.{IsSmall};
+ghost use Rattle.rev_syntax.specs.Tokens.{IsToken, IsTokens};
 ghost use Rattle.rev_syntax.specs.View.{program as whole};
+ghost use Rattle.rev_top.specs.Answer.{source_limit};
 ghost use Rattle.rev_top.specs.Stops.{Meets, report_of_syntax, stop_of};
 ghost use Rattle.rev_top.specs.Texts.{Checks, ChecksTokens, ChecksTree, Cuts, KeepsFuns, KeepsTypes, Reads, fault_at, limit_of, limited_of, place_in, report_of_funs, report_of_lexical, report_of_types, unexpected_at};
 ghost use Rattle.rev_top.specs.declared.stop.Stop.TheVariants as stops;
@@ -150,9 +152,11 @@ fn tokens_of(alloc: Global, text: &[u8]) -> Result<Vec<Token>, Stop>
 }
 
 fn program_of(alloc: Global, text: &[u8], tokens: &[Token]) -> Result<Program, Stop>
-    requires small { length text.now < 2 ^ 32 - 1 }
-    requires tokens { All (IsToken text.now) tokens.now }
-    ensures { Meets whole result (Reads text.now tokens.now) }
+    requires short { length text.now ≤ source_limit }
+    requires slices { All (IsToken text.now) tokens.now }
+    requires tokens { IsTokens text.now tokens.now }
+    ensures meets { Meets whole result (Reads text.now tokens.now) }
+    ensures small { IfOk result (λ p. IsSmall (whole p)) }
 {
     match parse(alloc, text, tokens) {
         Ok(program) => Ok(program),
@@ -162,13 +166,10 @@ fn program_of(alloc: Global, text: &[u8], tokens: &[Token]) -> Result<Program, S
 
 /// The program with its funs, if it keeps the rules on these.
 fn expanded_of(alloc: Global, text: &[u8], program: Program) -> Result<Expanded, Stop>
-    requires { length text.now < 2 ^ 32 - 1 }
+    requires short { length text.now < 2 ^ 32 - 1 }
+    requires small { IsSmall (whole program) }
     ensures { Meets (λ e. whole e.program) result (KeepsFuns text.now (whole program)) }
 {
-    // No text has so many declarations.
-    if program.decls.len() >= 4_294_967_296 {
-        return Err(Stop::OutOfMemory);
-    }
     match expand_funs(alloc, program) {
         Ok(expanded) => Ok(expanded),
         Err(fault) => Err(of_funs(text, fault)),
@@ -188,7 +189,8 @@ fn typed_of(alloc: Global, text: &[u8], expanded: Expanded) -> Result<Typed, Sto
 
 /// The program with its tables, if it keeps all rules.
 fn checked_tree(alloc: Global, text: &[u8], program: Program) -> Result<Typed, Stop>
-    requires { length text.now < 2 ^ 32 - 1 }
+    requires short { length text.now < 2 ^ 32 - 1 }
+    requires small { IsSmall (whole program) }
     ensures { Meets (λ t. whole t.expanded.program) result (ChecksTree text.now (whole program)) }
 {
     let expanded = expanded_of(alloc, text, program)?;
@@ -197,8 +199,9 @@ fn checked_tree(alloc: Global, text: &[u8], program: Program) -> Result<Typed, S
 
 /// The program that tokens are, if it keeps all rules.
 fn checked_tokens(alloc: Global, text: &[u8], tokens: &[Token]) -> Result<Typed, Stop>
-    requires small { length text.now < 2 ^ 32 - 1 }
-    requires tokens { All (IsToken text.now) tokens.now }
+    requires short { length text.now ≤ source_limit }
+    requires slices { All (IsToken text.now) tokens.now }
+    requires tokens { IsTokens text.now tokens.now }
     ensures { Meets (λ t. whole t.expanded.program) result (ChecksTokens text.now tokens.now) }
 {
     let program = program_of(alloc, text, tokens)?;
@@ -207,7 +210,7 @@ fn checked_tokens(alloc: Global, text: &[u8], tokens: &[Token]) -> Result<Typed,
 
 /// The program that a text is, if it keeps all rules.
 pub fn checked(alloc: Global, text: &[u8]) -> Result<Typed, Stop>
-    requires { length text.now < 2 ^ 32 - 1 }
+    requires { length text.now ≤ source_limit }
     ensures { Meets (λ t. whole t.expanded.program) result (Checks text.now) }
 {
     let tokens = tokens_of(alloc, text)?;

@@ -1,0 +1,104 @@
+// Merges of programs that keep all rules, on three numbers.
+use super::*;
+use crate::stop::Stop;
+use crate::text::checked;
+use merge_decl::value::merge_value;
+use rev_num::NumFault;
+
+const GREATEST: i64 = 9223372036854775807;
+
+const LEAST: i64 = -9223372036854775808;
+
+/// What the last merge of the text, which is at most a megabyte, gives for the joiner's value, the joinee's and the
+/// root's.
+fn merged(
+    rt: &HostRuntime,
+    text: &str,
+    numbers: (i64, i64, i64),
+) -> Result<Option<Result<i64, NumFault>>, Stop> {
+    if text.len() > 1_048_576 {
+        return Ok(None);
+    }
+    let typed = checked(rt.alloc(), text.as_bytes())?;
+    let count = typed.expanded.merges.as_slice().len();
+    if count == 0 || count > 1000 {
+        return Ok(None);
+    }
+    let last = (count - 1) as u32;
+    let (main, join, root) = numbers;
+    Ok(Some(merge_value(&typed.expanded, last, main, join, root)))
+}
+
+/// Whether the last merge of the text gives this.
+fn gives(
+    rt: &HostRuntime,
+    text: &str,
+    numbers: (i64, i64, i64),
+    want: Result<i64, NumFault>,
+) -> bool {
+    match merged(rt, text, numbers) {
+        Ok(found) => found == Some(want),
+        Err(_) => false,
+    }
+}
+
+#[test]
+fn of_three_numbers(rt: HostRuntime) -> Result<(), Fail> {
+    let overflow = Err(NumFault::Overflow);
+    let divisor = Err(NumFault::ZeroDivisor);
+    let wants = [
+        ("merge s(m, j, r) = m + j - r;", (15, 6, 5), Ok(16)),
+        ("merge s(m, j, r) = m + j - r;", (GREATEST, 1, 1), overflow),
+        ("merge s(m, j, r) = m / j;", (LEAST, -1, 0), overflow),
+        ("merge s(m, j, r) = m / j;", (1, 0, 0), divisor),
+        (
+            "merge s(m, j, r) = m + j - r; merge d(m, j, r) = m / j;",
+            (7, 2, 5),
+            Ok(3),
+        ),
+        ("merge most(m, j, r) = pick(j > m, j, m);", (3, 9, 0), Ok(9)),
+        (
+            "fun less(a: int, b: int): int = a - b; merge s(m, j, r) = less(m, j);",
+            (10, 3, 0),
+            Ok(7),
+        ),
+        (
+            "fun twice(a: int): int = a * 2; fun last(a: int): int = twice(a) - 1; merge s(m, j, r) = last(r) + r;",
+            (0, 0, 10),
+            Ok(29),
+        ),
+    ];
+    for (decls, numbers, want) in wants {
+        let text = format!(in rt.alloc(); "{decls} main {{ }}")?;
+        assert!(rt; gives(&rt, text.as_str(), numbers, want), "{text}");
+    }
+    Ok(())
+}
+
+#[test]
+fn from_left_to_right(rt: HostRuntime) -> Result<(), Fail> {
+    let wants = [
+        ("9223372036854775807 + 1 + 1 / 0", Err(NumFault::Overflow)),
+        (
+            "1 / 0 + (9223372036854775807 + 1)",
+            Err(NumFault::ZeroDivisor),
+        ),
+        ("f(9223372036854775807 + 1, 1 / 0)", Err(NumFault::Overflow)),
+        (
+            "f(1 / 0, 9223372036854775807 + 1)",
+            Err(NumFault::ZeroDivisor),
+        ),
+        ("pick(true, 7, 1 / 0)", Ok(7)),
+        ("pick(false, 1 / 0, 8)", Ok(8)),
+        ("pick(false && 1 / 0 == 1, 1, 2)", Ok(2)),
+        ("pick(true || 1 / 0 == 1, 1, 2)", Ok(1)),
+        ("pick(true && 1 / 0 == 1, 1, 2)", Err(NumFault::ZeroDivisor)),
+    ];
+    for (expression, want) in wants {
+        let text = format!(in rt.alloc();
+            "fun f(a: int, b: int): int = 0; merge s(m, j, r) = {expression}; main {{ }}"
+        )?;
+        assert!(rt; gives(&rt, text.as_str(), (0, 0, 0), want), "{text}");
+    }
+    Ok(())
+}
