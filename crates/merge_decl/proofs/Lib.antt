@@ -3,6 +3,7 @@ pub mod Counts
 pub mod Declared
 pub mod Evaluations
 pub mod Few
+pub mod Firsts
 pub mod FunSteps
 pub mod Leasts
 pub mod Meanings

@@ -13,7 +13,8 @@ use Rattle.rev_parse.specs.declared.whole.SyntaxFault.TheVariants as syntax
 use Rattle.rev_parse.proofs.OneVerdict.{one_verdict}
 use Rattle.rev_syntax.specs.declared.tree.Program.{Program}
 use Rattle.rev_syntax.specs.View.{program as whole}
-use Rattle.merge_decl.specs.Least.{Among, IsBefore, IsFirst}
+use Rattle.merge_decl.specs.Least.{IsFirst}
+use Rattle.merge_decl.proofs.Firsts.{no_first, one_first}
 use Rattle.merge_decl.specs.FunRules as funs
 use Rattle.merge_decl.specs.Expands as expands
 use Rattle.merge_decl.specs.declared.expand.MergeFault.{MergeFault}
@@ -36,27 +37,13 @@ use Rattle.rev_top.proofs.Stages.{One, one_then, refusal_of, reported}
 
 -- ---- the first of some faults is reported in one way
 
-module _ {F : Type 0} (place rank : F → ℕ) where
-  -- two first faults stand at one place and have one rank
-  alike : (a b : F) → IsBefore place rank a b → IsBefore place rank b a → (place a ≡ place b) × (rank a ≡ rank b)
-  alike a b (inl h) (inl k) = absurd (omega arith)
-  alike a b (inl h) (inr k) = absurd (omega (arith, h, k.0))
-  alike a b (inr h) (inl k) = absurd (omega (arith, k, h.0))
-  alike a b (inr h) (inr k) = (h.0, omega (arith, h.1, k.1))
-
-  pub firsts_alike : (fs : List F) (a b : F) → IsFirst place rank fs a → IsFirst place rank fs b → (place a ≡ place b) × (rank a ≡ rank b)
-  firsts_alike fs a b h k = alike a b (h.first b k.among) (k.first a h.among)
-
-  pub no_first : (fs : List F) (a : F) → fs ≡ [] → IsFirst place rank fs a → ⊥
-  no_first fs a none h = subst (λ (gs : List F). Among gs a) none h.among
-
-  module _ (report : F → Option Refusal) (by : ℕ → ℕ → Option Refusal) (by_rank : (f : F) → report f ≡ by (place f) (rank f)) where
-    pub one_report : (fs : List F) (r s : Refusal) → Reports (IsFirst place rank fs) report r → Reports (IsFirst place rank fs) report s → r ≡ s
-    one_report fs r s h k =
-        let both = firsts_alike fs h.fault k.fault h.comes k.comes in
-        let same : by (place h.fault) (rank h.fault) ≡ by (place k.fault) (rank k.fault) = ap (λ n. by n (rank h.fault)) both.0 ∙ ap (λ n. by (place k.fault) n) both.1 in
-        let some : Some r ≡ Some s = sym h.reported ∙ by_rank h.fault ∙ same ∙ sym (by_rank k.fault) ∙ k.reported in
-        cc
+module _ {F : Type 0} (place rank : F → ℕ) (report : F → Option Refusal) (by : ℕ → ℕ → Option Refusal) (by_rank : (f : F) → report f ≡ by (place f) (rank f)) where
+  one_report : (fs : List F) (r s : Refusal) → Reports (IsFirst place rank fs) report r → Reports (IsFirst place rank fs) report s → r ≡ s
+  one_report fs r s h k =
+      let both = one_first place rank fs h.fault k.fault h.comes k.comes in
+      let same : by (place h.fault) (rank h.fault) ≡ by (place k.fault) (rank k.fault) = ap (λ n. by n (rank h.fault)) both.0 ∙ ap (λ n. by (place k.fault) n) both.1 in
+      let some : Some r ≡ Some s = sym h.reported ∙ by_rank h.fault ∙ same ∙ sym (by_rank k.fault) ∙ k.reported in
+      cc
 
 -- the report of a fault by its place and its rank
 funs_by : List ℕ → ℕ → ℕ → Option Refusal

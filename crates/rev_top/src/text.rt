@@ -1,5 +1,5 @@
 //! From a text to the program that it is, or to the report of its first fault.
-ghost use Rattle.std.specs.Prelude.{◌≡◌, ◌<◌, ◌≤◌, ◌^◌, ◌-◌, All, IfOk, length};
+ghost use Rattle.std.specs.Prelude.{◌≡◌, ◌≤◌, All, IfOk, length};
 ghost use Rattle.rev_syntax.specs.Small.{IsSmall};
 ghost use Rattle.rev_syntax.specs.Tokens.{IsToken, IsTokens};
 ghost use Rattle.rev_syntax.specs.View.{program as whole};
@@ -20,7 +20,7 @@ use std::alloc::Global;
 
 /// Line and column of an offset; what is past the end stands at the end.
 fn place_in(text: &[u8], at: u32) -> Place
-    requires { length text.now < 2 ^ 32 - 1 }
+    requires { length text.now ≤ source_limit }
     ensures { result ≡ place_in text.now at }
 {
     let end = text.len() as u32;
@@ -29,7 +29,7 @@ fn place_in(text: &[u8], at: u32) -> Place
 }
 
 fn fault_at(text: &[u8], at: u32, fault: TextFault) -> Stop
-    requires { length text.now < 2 ^ 32 - 1 }
+    requires { length text.now ≤ source_limit }
     ensures { result ≡ stops.Refused (fault_at text.now at fault) }
 {
     Stop::Refused(Refusal::Text {
@@ -40,7 +40,7 @@ fn fault_at(text: &[u8], at: u32, fault: TextFault) -> Stop
 
 /// Why a text has no tokens.
 fn lexical(text: &[u8], fault: LexFault) -> Stop
-    requires { length text.now < 2 ^ 32 - 1 }
+    requires { length text.now ≤ source_limit }
     ensures { result ≡ stop_of (report_of_lexical text.now fault) }
 {
     match fault {
@@ -64,7 +64,7 @@ fn unexpected_at(text: &[u8], at: u32) -> TextFault
 
 /// Why tokens are no program.
 fn syntactic(text: &[u8], fault: SyntaxFault) -> Stop
-    requires { length text.now < 2 ^ 32 - 1 }
+    requires { length text.now ≤ source_limit }
     ensures { result ≡ stop_of (report_of_syntax text.now fault) }
 {
     match fault {
@@ -76,7 +76,7 @@ fn syntactic(text: &[u8], fault: SyntaxFault) -> Stop
 
 /// Why the funs of a program cannot be applied as they are.
 fn of_funs(text: &[u8], fault: MergeFault) -> Stop
-    requires { length text.now < 2 ^ 32 - 1 }
+    requires { length text.now ≤ source_limit }
     ensures { result ≡ stop_of (report_of_funs text.now fault) }
 {
     match fault {
@@ -118,7 +118,7 @@ fn limit_of(which: Which) -> u32
 
 /// Which static rule or limit a program breaks.
 fn of_types(text: &[u8], fault: TypeFault) -> Stop
-    requires { length text.now < 2 ^ 32 - 1 }
+    requires { length text.now ≤ source_limit }
     ensures { result ≡ stop_of (report_of_types text.now fault) }
 {
     match fault {
@@ -141,7 +141,7 @@ fn of_types(text: &[u8], fault: TypeFault) -> Stop
 }
 
 fn tokens_of(alloc: Global, text: &[u8]) -> Result<Vec<Token>, Stop>
-    requires { length text.now < 2 ^ 32 - 1 }
+    requires { length text.now ≤ source_limit }
     ensures meets { Meets (λ v. v.items) result (Cuts text.now) }
     ensures slices { IfOk result (λ v. All (IsToken text.now) v.items) }
 {
@@ -152,9 +152,9 @@ fn tokens_of(alloc: Global, text: &[u8]) -> Result<Vec<Token>, Stop>
 }
 
 fn program_of(alloc: Global, text: &[u8], tokens: &[Token]) -> Result<Program, Stop>
-    requires short { length text.now ≤ source_limit }
+    requires limit { length text.now ≤ source_limit }
+    requires whole { IsTokens text.now tokens.now }
     requires slices { All (IsToken text.now) tokens.now }
-    requires tokens { IsTokens text.now tokens.now }
     ensures meets { Meets whole result (Reads text.now tokens.now) }
     ensures small { IfOk result (λ p. IsSmall (whole p)) }
 {
@@ -166,7 +166,7 @@ fn program_of(alloc: Global, text: &[u8], tokens: &[Token]) -> Result<Program, S
 
 /// The program with its funs, if it keeps the rules on these.
 fn expanded_of(alloc: Global, text: &[u8], program: Program) -> Result<Expanded, Stop>
-    requires short { length text.now < 2 ^ 32 - 1 }
+    requires limit { length text.now ≤ source_limit }
     requires small { IsSmall (whole program) }
     ensures { Meets (λ e. whole e.program) result (KeepsFuns text.now (whole program)) }
 {
@@ -178,7 +178,7 @@ fn expanded_of(alloc: Global, text: &[u8], program: Program) -> Result<Expanded,
 
 /// The program with its tables, if it keeps all static rules.
 fn typed_of(alloc: Global, text: &[u8], expanded: Expanded) -> Result<Typed, Stop>
-    requires { length text.now < 2 ^ 32 - 1 }
+    requires { length text.now ≤ source_limit }
     ensures { Meets (λ t. whole t.expanded.program) result (KeepsTypes text.now (whole expanded.program)) }
 {
     match check(alloc, expanded) {
@@ -189,7 +189,7 @@ fn typed_of(alloc: Global, text: &[u8], expanded: Expanded) -> Result<Typed, Sto
 
 /// The program with its tables, if it keeps all rules.
 fn checked_tree(alloc: Global, text: &[u8], program: Program) -> Result<Typed, Stop>
-    requires short { length text.now < 2 ^ 32 - 1 }
+    requires limit { length text.now ≤ source_limit }
     requires small { IsSmall (whole program) }
     ensures { Meets (λ t. whole t.expanded.program) result (ChecksTree text.now (whole program)) }
 {
@@ -199,9 +199,9 @@ fn checked_tree(alloc: Global, text: &[u8], program: Program) -> Result<Typed, S
 
 /// The program that tokens are, if it keeps all rules.
 fn checked_tokens(alloc: Global, text: &[u8], tokens: &[Token]) -> Result<Typed, Stop>
-    requires short { length text.now ≤ source_limit }
+    requires limit { length text.now ≤ source_limit }
+    requires whole { IsTokens text.now tokens.now }
     requires slices { All (IsToken text.now) tokens.now }
-    requires tokens { IsTokens text.now tokens.now }
     ensures { Meets (λ t. whole t.expanded.program) result (ChecksTokens text.now tokens.now) }
 {
     let program = program_of(alloc, text, tokens)?;

@@ -12,4 +12,4 @@ returns-in-Err-clause-meets c =
     no_tree c.args.text.now whole c.args.tokens.now c.in-Err.fault c.syntactic.result c.syntactic.ensures c.in-Err.ensures
 
 pub returns-in-Ok-clause-small : goal.returns-in-Ok-clause-small
-returns-in-Ok-clause-small c = c.in-Ok.ensures.1 c.requires.tokens c.requires.short
+returns-in-Ok-clause-small c = c.in-Ok.ensures.1 c.requires.whole c.requires.limit
