@@ -2,15 +2,15 @@
 use Rattle.std.proofs.Common.{◌≡◌, ◌∙◌, ◌≢◌, inl, ℕ, ◌+◌, ◌-◌, ◌≤◌, ◌<◌, min, Bool, true, false, cond, nat_le, nat_lt, Some, None, List, [], ◌∷◌, ◌++◌, refl, ap, length, arith}
 use Rattle.std.proofs.lemmas.Bool.Decides.{nat_tests}
 use Rattle.rev_num.specs.declared.value.ValueKind.TheVariants as k
-use Rattle.rev_syntax.specs.Trees.{Word, Binder, Term, Entry, fun, merge, shared, proc}
+use Rattle.rev_syntax.specs.Trees.{Word, Binder, Term, Entry, fun, merge, shared, proc, Whole}
 use Rattle.merge_decl.specs.Table.{Table, find, added}
 use Rattle.rev_types.specs.declared.fault.Which.TheVariants as which
-use Rattle.rev_types.specs.Accepted.{Within, Accepts, Located}
+use Rattle.rev_types.specs.Accepted.{Within, Accepts}
 use Rattle.rev_types.specs.Kinds.{Names, Locals}
 use Rattle.rev_types.specs.Rules as r
 use Rattle.rev_types.specs.Steps as s
 use Rattle.rev_types.specs.Program as p
-use Rattle.rev_types.specs.Limits.{steps_lets, term_weight, weights_with, cells, procs, funs, EntryWithin, EntriesWithin}
+use Rattle.rev_types.specs.Limits.{steps_lets, term_weight, weights_with, cells, procs, funs, EntryWithin, EntriesWithin, IsWithinLimits}
 use Rattle.rev_types.proofs.DeclsFaults.{ParamsHold, LocalsHold, EntriesHold, program_faults}
 use Rattle.rev_types.proofs.Lists.{parts, failed}
 use Rattle.rev_types.proofs.StepsFaults.{AllAre}
@@ -260,7 +260,7 @@ program_accepts x t h =
     (program_faults Never x t (entries_never p.nothing_passed [] 0 x.entries none_caps room h.entries) (steps_never 65 x.main (omega arith) h.main.1))
 
 -- the locations of a program within the limits are its cells
-pub program_located : Located
+pub program_located : (x : Whole) → IsWithinLimits x → p.locations x ≡ cells x.entries
 program_located x h =
     let all = located_all p.nothing_passed 0 x.entries refl in
     let few = h.locations in

@@ -3,6 +3,7 @@ pub mod DeclsFaults
 pub mod DeclsSound
 pub mod DeclsWithin
 pub mod Gather
+pub mod Layouts
 pub mod Lists
 pub mod Named
 pub mod Namings

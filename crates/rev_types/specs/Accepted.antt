@@ -6,9 +6,9 @@ use Rattle.merge_decl.specs.FunRules.{fun_faults}
 use Rattle.merge_decl.specs.Least.{Among}
 use Rattle.rev_types.specs.declared.fault.TypeFault.{TypeFault}
 use Rattle.rev_types.specs.Faults.{IsLimit}
-use Rattle.rev_types.specs.Program.{faults, locations}
+use Rattle.rev_types.specs.Program.{faults}
 use Rattle.rev_types.specs.Judgement.{ProgramTyped}
-use Rattle.rev_types.specs.Limits.{IsWithinLimits, cells}
+use Rattle.rev_types.specs.Limits.{IsWithinLimits}
 
 -- a program that breaks no rule on funs and none of the others is typed
 abbrev pub Typed : Type 0
@@ -25,7 +25,3 @@ Accepts = (p : Whole) → ProgramTyped p → IsWithinLimits p → faults p ≡ [
 -- all that a typed program breaks is limits
 abbrev pub LimitsAlone : Type 0
 LimitsAlone = (p : Whole) → ProgramTyped p → (f : TypeFault) → Among (faults p) f → IsLimit f
-
--- the locations of a program within the limits are the cells that it declares
-abbrev pub Located : Type 0
-Located = (p : Whole) → IsWithinLimits p → locations p ≡ cells p.entries

@@ -2,6 +2,7 @@ pub mod Accepted
 pub mod Faults
 pub mod Judgement
 pub mod Kinds
+pub mod Layout
 pub mod Limits
 pub mod Naming
 pub mod Passing

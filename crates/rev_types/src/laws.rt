@@ -1,6 +1,7 @@
 //! What the rules on kinds say of expressions.
 
-ghost use Rattle.rev_types.specs.Accepted.{Typed, Within, Accepts, LimitsAlone, Located};
+ghost use Rattle.rev_types.specs.Accepted.{Typed, Within, Accepts, LimitsAlone};
+ghost use Rattle.rev_types.specs.Layout.{LaidOut};
 ghost use Rattle.rev_types.specs.Naming.{FirstCounts};
 ghost use Rattle.rev_types.specs.Typing.{Sound, Complete, Only};
 
@@ -14,14 +15,14 @@ pub fn typing_laws()
 {}
 
 /// A program that breaks no rule is typed and within the limits, and a program that is both breaks
-/// none; all that a typed program breaks is limits; and the locations of a program within the limits
-/// are the cells that it declares.
+/// none; all that a typed program breaks is limits; and within the limits each shared variable lies
+/// behind the cells of those before it.
 pub fn program_laws()
     ensures typed { Typed }
     ensures within { Within }
     ensures accepts { Accepts }
     ensures limits_alone { LimitsAlone }
-    ensures located { Located }
+    ensures laid_out { LaidOut }
 {}
 
 /// A name means the first declaration of it.

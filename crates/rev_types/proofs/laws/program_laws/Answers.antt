@@ -1,6 +1,7 @@
 use Rattle.rev_types.proofs.DeclsFaults.{limits_alone}
 use Rattle.rev_types.proofs.DeclsSound.{program_typed}
-use Rattle.rev_types.proofs.DeclsWithin.{program_within, program_accepts, program_located}
+use Rattle.rev_types.proofs.DeclsWithin.{program_within, program_accepts}
+use Rattle.rev_types.proofs.Layouts.{laid_out}
 use Rattle.rev_types.proofs.laws.program_laws.Goals as goal
 
 pub returns : goal.returns
@@ -9,5 +10,5 @@ returns c = record {
   within = program_within;
   accepts = program_accepts;
   limits_alone = limits_alone;
-  located = program_located;
+  laid_out = laid_out;
 }
