@@ -436,8 +436,9 @@ fn merged(
 /// the joinee's and the root's value; or the fault of the first part that faults, from left to
 /// right.
 ///
-/// It takes no memory. The depth of its recursion is bounded by the weight of the merge. In a
-/// program that keeps the rules on kinds the value is a number, and a fault is one of arithmetic.
+/// It takes no memory but the stack; the depth of its recursion is bounded by the weight of the
+/// merge. In a program that keeps the rules on kinds the value is a number, and a fault is one of
+/// arithmetic.
 pub fn merge_value(
     expanded: &Expanded,
     merge: u32,
