@@ -47,7 +47,7 @@ fn each_form_parses(rt: HostRuntime) -> Result<(), Fail> {
         b"main { }",
         b"fun f() : int = 1; fun g(a : int, b : bool) : bool = b; main { }",
         b"merge m(a, b, c) = a + b - c; cumulative x : int by m = -3; cumulative y : int[4] by m; main { }",
-        b"versioned x : rev = none; versioned y : bool[2] = true; versioned z : int; main { }",
+        b"versioned x : rev = none; versioned y : bool[2] = true; versioned z : bool = false; versioned w : int; main { }",
         b"proc p() { } proc q(a : int) : int { return a; } main { }",
         b"main { let a = 1; a = 2; a[1] = 3; let b = call p(); b = rfork p(1, a); b = tryjoin b; }",
         b"main { if true { } if true { } else { } if a { } else if b { } else if c { } else { } }",
