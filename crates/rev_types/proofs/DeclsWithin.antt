@@ -5,7 +5,7 @@ use Rattle.rev_num.specs.declared.value.ValueKind.TheVariants as k
 use Rattle.rev_syntax.specs.Trees.{Word, Binder, Term, Entry, fun, merge, shared, proc, Whole}
 use Rattle.merge_decl.specs.Table.{Table, find, added}
 use Rattle.rev_types.specs.declared.fault.Which.TheVariants as which
-use Rattle.rev_types.specs.Accepted.{Within, Accepts}
+use Rattle.rev_types.specs.Judgement.{ProgramTyped}
 use Rattle.rev_types.specs.Kinds.{Names, Locals}
 use Rattle.rev_types.specs.Rules as r
 use Rattle.rev_types.specs.Steps as s
@@ -161,7 +161,7 @@ entries_within outer inner q ws found (e ∷ es) c h =
 cells_within : (n m : ℕ) → m ≡ min n 4097 → m ≤ 4096 → n ≤ 4096
 cells_within n m e h = omega arith
 
-pub program_within : Within
+pub program_within : (x : Whole) → p.faults x ≡ [] → IsWithinLimits x
 program_within x h =
     let both = parts (p.entries_by [] one app (p.outside x.entries) (p.within x.entries) p.nothing_passed [] x.entries) _ h in
     let all = entries_within (p.outside x.entries) (p.within x.entries) p.nothing_passed [] [] x.entries none_caps both.0 in
@@ -246,7 +246,7 @@ none_among : (fs : All) → AllAre Never fs → fs ≡ []
 none_among [] h = refl
 none_among (f ∷ fs) h = absurd (h f (inl refl))
 
-pub program_accepts : Accepts
+pub program_accepts : (x : Whole) → ProgramTyped x → IsWithinLimits x → p.faults x ≡ []
 program_accepts x t h =
     let room : Room p.nothing_passed 0 x.entries =
     record {

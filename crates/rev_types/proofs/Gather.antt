@@ -1,15 +1,14 @@
 -- The first of all the rules that are broken is what is found by the first of two.
-use Rattle.std.proofs.Common.{◌≡◌, ◌∙◌, ℕ, ◌+◌, ◌-◌, Bool, true, false, if◌then◌else◌, nat_eq, nat_le, nat_lt, Option, Some, None, is_some, List, [], ◌∷◌, ◌++◌, refl, sym, ap, slice_get, length}
+use Rattle.std.proofs.Common.{◌≡◌, ◌∙◌, ℕ, ◌+◌, ◌-◌, Bool, true, false, if◌then◌else◌, nat_eq, nat_le, nat_lt, Option, Some, None, is_some, List, [], ◌∷◌, ◌++◌, refl, slice_get, length}
 use Rattle.rev_num.specs.declared.value.ValueKind.{ValueKind}
 use Rattle.rev_num.specs.declared.value.ValueKind.TheVariants as k
 use Rattle.rev_num.specs.Value.{kind_of}
 use Rattle.rev_syntax.specs.Trees.{Word, Binder, Extent, Constant, Term, placed, Shape, Terms, Links, int, bool, no_rev, var, cell, apply, input, inputs, pick, unary, chain, no_terms, term, no_links, link, Right, plain, called, forked, tried, Shown, text, shown, Step, step, Act, bind, assign, assign_cell, choose, choose_or, repeat, call, return, fork, join, print, assert, Steps, no_steps, steps, Arms, no_arms, arm, Entry, fun, merge, shared, proc, Whole}
 use Rattle.rev_syntax.specs.declared.tree.BinaryOp.{BinaryOp}
 use Rattle.rev_syntax.specs.declared.tree.BinaryOp.TheVariants as b
-use Rattle.merge_decl.specs.Names.{Name}
 use Rattle.merge_decl.specs.FunRules.{count}
 use Rattle.merge_decl.specs.Table.{Table, find, added}
-use Rattle.merge_decl.specs.Least.{first_of, least}
+use Rattle.merge_decl.specs.Least.{least}
 use Rattle.merge_decl.proofs.Leasts.{least-append}
 use Rattle.rev_types.specs.declared.fault.TypeFault.{TypeFault}
 use Rattle.rev_types.specs.declared.fault.Which.{Which}

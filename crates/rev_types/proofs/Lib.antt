@@ -1,3 +1,4 @@
+pub mod Accepting
 pub mod Applying
 pub mod DeclsFaults
 pub mod DeclsSound

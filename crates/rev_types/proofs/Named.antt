@@ -1,5 +1,5 @@
 -- Tables of names find the first declaration of each name.
-use Rattle.std.proofs.Common.{◌≡◌, ◌∙◌, Bool, true, false, cond, if◌then◌else◌, Option, Some, None, option_map, is_some, List, [], ◌∷◌, ◌++◌, map, refl, sym, ap}
+use Rattle.std.proofs.Common.{◌≡◌, ◌∙◌, Bool, true, false, cond, if◌then◌else◌, Option, Some, None, option_map, is_some, List, [], ◌∷◌, ◌++◌, refl, sym, ap}
 use Rattle.rev_syntax.specs.Trees.{Entry, fun, merge, shared, proc, Whole}
 use Rattle.merge_decl.specs.Names.{Name, same}
 use Rattle.merge_decl.specs.Table.{Table, find, added}
@@ -7,7 +7,7 @@ use Rattle.merge_decl.proofs.Tables.{or_else, or_else-step, find-added, or_else-
 use Rattle.rev_types.specs.declared.names.Holder.{Holder}
 use Rattle.rev_types.specs.declared.names.Callee as held
 use Rattle.rev_types.specs.declared.names.Checker as held_checker
-use Rattle.rev_types.specs.Kinds.{Callee, Locals, Names}
+use Rattle.rev_types.specs.Kinds.{Callee, Locals}
 use Rattle.rev_types.specs.Program as p
 use Rattle.rev_types.specs.Tables.{shared_table, proc_table, fun_table, callees}
 use Rattle.rev_types.specs.Walk.{Fault, both, callee, entries_by, names_of, program_by, steps_by}

@@ -1,26 +1,31 @@
 -- What the checker accepts: the programs that are typed and within the limits.
-use Rattle.std.specs.Prelude.{◌≡◌, []}
+use Rattle.std.specs.Prelude.{◌≡◌, ◌≢◌, []}
 use Rattle.rev_syntax.specs.Trees.{Whole}
 use Rattle.rev_syntax.specs.Small.{IsSmall}
 use Rattle.merge_decl.specs.FunRules.{fun_faults}
 use Rattle.merge_decl.specs.Least.{Among}
 use Rattle.rev_types.specs.declared.fault.TypeFault.{TypeFault}
+use Rattle.rev_types.specs.declared.fault.TypeFault.TheVariants.{OutOfMemory}
 use Rattle.rev_types.specs.Faults.{IsLimit}
 use Rattle.rev_types.specs.Program.{faults}
 use Rattle.rev_types.specs.Judgement.{ProgramTyped}
 use Rattle.rev_types.specs.Limits.{IsWithinLimits}
 
--- a program that breaks no rule on funs and none of the others is typed
+pub record IsWellTyped (p : Whole) : Type 0 where
+  pub typed : ProgramTyped p
+  pub within : IsWithinLimits p
+
+-- a refused program is not well typed. Want of memory says nothing.
+abbrev pub IsNotTyped : Whole → TypeFault → Type 0
+IsNotTyped p f = f ≢ OutOfMemory → IsWellTyped p → ⊥
+
+-- a small program that breaks no rule on funs and none of the others is well typed
 abbrev pub Typed : Type 0
-Typed = (p : Whole) → IsSmall p → fun_faults p ≡ [] → faults p ≡ [] → ProgramTyped p
+Typed = (p : Whole) → IsSmall p → fun_faults p ≡ [] → faults p ≡ [] → IsWellTyped p
 
--- and within the limits
-abbrev pub Within : Type 0
-Within = (p : Whole) → faults p ≡ [] → IsWithinLimits p
-
--- what is typed and within the limits breaks no rule
+-- a well-typed program breaks no rule
 abbrev pub Accepts : Type 0
-Accepts = (p : Whole) → ProgramTyped p → IsWithinLimits p → faults p ≡ []
+Accepts = (p : Whole) → IsWellTyped p → faults p ≡ []
 
 -- all that a typed program breaks is limits
 abbrev pub LimitsAlone : Type 0

@@ -1,9 +1,8 @@
 -- The names of a program as tables.
-use Rattle.std.specs.Prelude.{◌≡◌, ◌≢◌, Option, Some, None, option_map, List, [], ◌∷◌, map, is_some}
+use Rattle.std.specs.Prelude.{◌≢◌, Some, List, [], ◌∷◌, map}
 use Rattle.rev_syntax.specs.Trees.{Entry, fun, merge, shared, proc, Whole}
-use Rattle.merge_decl.specs.Names.{Name}
 use Rattle.merge_decl.specs.Least.{IsFirst}
-use Rattle.merge_decl.specs.Table.{Table, find, added}
+use Rattle.merge_decl.specs.Table.{Table, added}
 use Rattle.rev_types.specs.declared.fault.TypeFault.{TypeFault}
 use Rattle.rev_types.specs.declared.fault.TypeFault.TheVariants.{OutOfMemory}
 use Rattle.rev_types.specs.declared.names.Holder.{Holder}

@@ -1,5 +1,5 @@
 -- The rules gathered by the first of two faults, and what a contract sees of the checker.
-use Rattle.std.specs.Prelude.{ℕ, Bool, true, false, if◌then◌else◌, Option, Some, None, option_map, List, map}
+use Rattle.std.specs.Prelude.{ℕ, Bool, if◌then◌else◌, Option, Some, None, option_map, List, map}
 use Rattle.rev_num.specs.declared.value.ValueKind.{ValueKind}
 use Rattle.rev_syntax.specs.Trees.{Word, Binder, Extent, Constant, Term, Shape, Terms, Links, Right, Shown, Step, Act, Steps, Arms, Entry, Whole}
 use Rattle.rev_syntax.specs.View.{binder}

@@ -1,7 +1,9 @@
 //! The checker of static rules.
 
 ghost use Rattle.std.specs.Prelude.{◌≡◌, ◌<◌, ◌^◌, [], ◌++◌, None, length, map, IfErr, IfOk, OnOk, option_map};
+ghost use Rattle.rev_syntax.specs.Small.{IsSmall};
 ghost use Rattle.rev_syntax.specs.View.{entry, program as whole, word};
+ghost use Rattle.rev_types.specs.Accepted.{IsWellTyped, IsNotTyped};
 ghost use Rattle.rev_types.specs.declared.fault.TypeFault.TheVariants.{OutOfMemory};
 ghost use Rattle.rev_types.specs.Passing.{passed_of};
 ghost use Rattle.rev_types.specs.Program as program;
@@ -193,6 +195,7 @@ fn examined(alloc: Global, p: &Program) -> Result<Tables, TypeFault>
     ensures procs { IfOk result (λ t. t.procs.items ≡ program.proc_decls 0 (map entry p.now.decls.items)) }
     ensures locations { IfOk result (λ t. t.locations ≡ program.locations (whole p.now)) }
     ensures err { IfErr result (Refuses (whole p.now)) }
+    ensures untyped { IfErr result (IsNotTyped (whole p.now)) }
 {
     if let Some(fault) = first_fault(alloc, p)? {
         return Err(fault);
@@ -201,11 +204,14 @@ fn examined(alloc: Global, p: &Program) -> Result<Tables, TypeFault>
 }
 
 /// The program with the tables of what it declares, or the first rule or limit that it breaks: the
-/// one at the least place, and there the one of the least number.
+/// one at the least place, and there the one of the least number. A small program is accepted exactly
+/// where it is well typed.
 pub fn check(alloc: Global, expanded: Expanded) -> Result<Typed, TypeFault>
     ensures same { IfOk result (λ t. whole t.expanded.program ≡ whole expanded.program) }
     ensures keeps { OnOk result (program.faults (whole expanded.program) ≡ []) }
+    ensures typed { OnOk result (IsSmall (whole expanded.program) → IsWellTyped (whole expanded.program)) }
     ensures first { IfErr result (Refuses (whole expanded.program)) }
+    ensures untyped { IfErr result (IsNotTyped (whole expanded.program)) }
 {
     let tables = examined(alloc, &expanded.program)?;
     Ok(make_typed(expanded, tables))

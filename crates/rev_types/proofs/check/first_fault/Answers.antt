@@ -1,4 +1,4 @@
-use Rattle.std.proofs.Common.{ap, map, refl, Bool, true, false}
+use Rattle.std.proofs.Common.{ap, map, refl, true, false}
 use Rattle.rev_syntax.specs.View.{entry, program as whole}
 use Rattle.rev_types.specs.declared.names.Checker.{Checker}
 use Rattle.rev_types.proofs.Named.{program_found}

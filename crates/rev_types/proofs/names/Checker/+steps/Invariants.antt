@@ -1,4 +1,4 @@
-use Rattle.std.proofs.Common.{◌≡◌, ◌≤◌, drop, map, None, take, length}
+use Rattle.std.proofs.Common.{◌≡◌, ◌≤◌, drop, None, take, length}
 use Rattle.rev_syntax.specs.View.{stmts, arms}
 use Rattle.rev_types.specs.Steps as steps
 use Rattle.rev_types.specs.Walk as rule

@@ -1,4 +1,4 @@
-use Rattle.std.proofs.Common.{◌≡◌, ◌+◌, ◌*◌, drop, map, None}
+use Rattle.std.proofs.Common.{◌≡◌, drop, map, None}
 use Rattle.rev_syntax.specs.View.{terms, links, binder}
 use Rattle.rev_types.specs.Walk as rule
 use Rattle.rev_types.proofs.names.Checker.+term.Given as goal
