@@ -1,10 +1,10 @@
 -- The tokens of a text have one verdict at most.
-use Rattle.std.proofs.Common.{◌≡◌, ℕ, List, drop, sym, ap, ◌∙◌, subst}
+use Rattle.std.proofs.Common.{◌≡◌, ℕ, List, drop, sym, ap, ◌∙◌}
 use Rattle.rev_syntax.specs.declared.token.Token.{Token}
 use Rattle.token_grammar.proofs.OneVerdict.{one_value, value_not_unexpected, value_not_too_deep, unexpected_not_too_deep, one_unexpected, one_too_deep}
 use Rattle.rev_parse.specs.Grammar.{alphabet}
 use Rattle.rev_parse.specs.Declarations.{inner, program}
-use Rattle.rev_parse.specs.Verdicts.{most_levels, At, place_of, Verdict, tree, unexpected, too_deep, IsVerdict, OneVerdict}
+use Rattle.rev_parse.specs.Verdicts.{most_levels, At, place_of, tree, unexpected, too_deep, OneVerdict}
 
 -- faults of one token stand at one place
 one_place : (IsFault IsOther : ℕ → Type 0) (bytes : List ℕ) (ts : List Token) (a b : ℕ) → ((n m : ℕ) → IsFault n → IsOther m → n ≡ m) → At IsFault bytes ts a → At IsOther bytes ts b → a ≡ b
