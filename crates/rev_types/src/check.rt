@@ -1,7 +1,6 @@
 //! The checker of static rules.
 
 ghost use Rattle.std.specs.Prelude.{◌≡◌, ◌<◌, ◌^◌, [], ◌++◌, None, length, map, IfErr, IfOk, OnOk, option_map};
-ghost use Rattle.rev_syntax.specs.Small.{IsSmall};
 ghost use Rattle.rev_syntax.specs.View.{entry, program as whole, word};
 ghost use Rattle.rev_types.specs.Accepted.{IsWellTyped, IsNotTyped};
 ghost use Rattle.rev_types.specs.declared.fault.TypeFault.TheVariants.{OutOfMemory};
@@ -204,12 +203,12 @@ fn examined(alloc: Global, p: &Program) -> Result<Tables, TypeFault>
 }
 
 /// The program with the tables of what it declares, or the first rule or limit that it breaks: the
-/// one at the least place, and there the one of the least number. A small program is accepted exactly
-/// where it is well typed.
+/// one at the least place, and there the one of the least number. A program is accepted exactly where
+/// it is well typed.
 pub fn check(alloc: Global, expanded: Expanded) -> Result<Typed, TypeFault>
     ensures same { IfOk result (λ t. whole t.expanded.program ≡ whole expanded.program) }
     ensures keeps { OnOk result (program.faults (whole expanded.program) ≡ []) }
-    ensures typed { OnOk result (IsSmall (whole expanded.program) → IsWellTyped (whole expanded.program)) }
+    ensures typed { OnOk result (IsWellTyped (whole expanded.program)) }
     ensures first { IfErr result (Refuses (whole expanded.program)) }
     ensures untyped { IfErr result (IsNotTyped (whole expanded.program)) }
 {

@@ -24,7 +24,7 @@ use Rattle.rev_types.specs.Judgement.{ParamsNew, EntriesTyped, ProgramTyped}
 use Rattle.rev_types.proofs.Lists.{parts, failed, and_parts, added_unknown}
 use Rattle.rev_types.proofs.Applying.{broken_parts}
 use Rattle.rev_types.proofs.DeclsSound.{program_typed}
-use Rattle.revision_calculus.specs.Kinded.{IsWellTyped, IsOf, IsSomeOf}
+use Rattle.revision_calculus.specs.Kinded.{IsAccepted, IsOf, IsSomeOf}
 use Rattle.revision_calculus.proofs.Values.{OfOk}
 use Rattle.revision_calculus.proofs.ValueKinds.{EnvIs, ArgsAre, FunIs, small_formed, OfUses, uses_all, CanApply, value_is}
 
@@ -233,7 +233,7 @@ merge_at [] n m j r are km kj kr = refl
 merge_at (d ∷ ds) zero m j r are km kj kr = are.0 m j r km kj kr
 merge_at (d ∷ ds) (suc n) m j r are km kj kr = merge_at ds n m j r are.1 km kj kr
 
-module _ (p : Whole) (well : IsWellTyped p) where
+module _ (p : Whole) (well : IsAccepted p) where
   pub rules_kept : ProgramTyped p
   rules_kept = program_typed p well.small well.funs well.rules
 

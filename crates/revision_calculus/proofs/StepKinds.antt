@@ -35,7 +35,7 @@ use Rattle.revision_calculus.specs.Step.{traps, with_answer, enter, followed, ta
 use Rattle.revision_calculus.specs.Join as joining_spec
 use Rattle.revision_calculus.specs.Join.{merges_of, Composed, merged, faults, compose, composed, dropped, joined_in, waiting, listed}
 use Rattle.revision_calculus.specs.Calculus.{main, calculus}
-use Rattle.revision_calculus.specs.Kinded.{IsWellTyped, MergeLaw, IsOf, IsSomeOf, slot_kinds, SlotsAre, LocalsAre, RestTyped, FrameIs, Takes, FramesAre, FramesTrapped, FramesAt, names, IsKinded, ValueLaw}
+use Rattle.revision_calculus.specs.Kinded.{IsAccepted, MergeLaw, IsOf, IsSomeOf, slot_kinds, SlotsAre, LocalsAre, RestTyped, FrameIs, Takes, FramesAre, FramesTrapped, FramesAt, names, IsKinded, ValueLaw}
 use Rattle.revision_calculus.proofs.Values.{OfOk, then_ok}
 use Rattle.revision_calculus.proofs.Events.{Any, any_ok, joins_phase}
 use Rattle.revision_calculus.proofs.ValueKinds.{either, and_both, small_formed, terms_small_formed, SharedIs, EnvIs, ArgsAre, value_is, values_is}
@@ -47,7 +47,7 @@ if_ok : (P : Value → Type 0) (a : Answer) → OfOk P a → IfOk a P
 if_ok P (Ok x) h = h
 if_ok P (Err c) h = tt
 
-pub merge_law : (p : Whole) → IsWellTyped p → MergeLaw p
+pub merge_law : (p : Whole) → IsAccepted p → MergeLaw p
 merge_law p well n m j r km kj kr = if_ok (IsOf k.Int) (merge_value_of p n m j r) (merges_give p well n m j r km kj kr)
 
 -- ---- what is read and assigned
@@ -66,7 +66,7 @@ shared_is kinds slots (Some y) (Some g) h are at e = subst (λ x. SharedIs x (re
         let here : y.base + 0 ≡ y.base = omega arith in
         (plain, seen_at_is kinds slots y.base g.kind are (subst (λ n. IsAt kinds n g.kind) here first))
 
-module _ (s : Setting) (well : IsWellTyped s.program) where
+module _ (s : Setting) (well : IsAccepted s.program) where
   program : ProgramTyped s.program
   program = rules_kept s.program well
 

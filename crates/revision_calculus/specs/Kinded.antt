@@ -21,7 +21,7 @@ use Rattle.revision_calculus.specs.State.{Slot, Frame, Phase, running, joining, 
 use Rattle.revision_calculus.specs.Evaluation.{eval}
 
 -- a small tree that breaks no rule on funs and no other static rule or limit
-pub record IsWellTyped (p : Whole) : Type 0 where
+pub record IsAccepted (p : Whole) : Type 0 where
   pub small : IsSmall p
   pub funs : fun_faults p ≡ []
   pub rules : faults p ≡ []

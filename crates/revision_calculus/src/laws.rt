@@ -21,7 +21,7 @@ ghost use Rattle.revision_calculus.specs.Calculus.{calculus, main};
 ghost use Rattle.revision_calculus.specs.Complete.{OneOutcome};
 ghost use Rattle.revision_calculus.specs.Held.{Holds};
 ghost use Rattle.revision_calculus.specs.Kept.{IsShaped};
-ghost use Rattle.revision_calculus.specs.Kinded.{IsKinded, IsWellTyped, MergeLaw, ValueLaw};
+ghost use Rattle.revision_calculus.specs.Kinded.{IsKinded, IsAccepted, MergeLaw, ValueLaw};
 
 /// Runs are determinate: two steps of different revisions can be made in either order, any two complete runs from
 /// one state end in equal states, and the error state of a second join is reached in every complete run or in none.
@@ -63,7 +63,7 @@ pub fn shape_laws()
 /// where a left side waits. What remains of each frame is typed, so that what is returned is of the procedure's kind.
 /// An expression has a value of its kind, and a merge of three ints is an int, where they have a value.
 pub fn kind_laws()
-    ensures kinded { (s : Setting) (fuel : ℕ) → IsWellTyped s.program → KeptLaw (calculus s) (main s fuel) (IsKinded s) }
-    ensures values { (s : Setting) → IsWellTyped s.program → ValueLaw s }
-    ensures merges { (p : Whole) → IsWellTyped p → MergeLaw p }
+    ensures kinded { (s : Setting) (fuel : ℕ) → IsAccepted s.program → KeptLaw (calculus s) (main s fuel) (IsKinded s) }
+    ensures values { (s : Setting) → IsAccepted s.program → ValueLaw s }
+    ensures merges { (p : Whole) → IsAccepted p → MergeLaw p }
 {}

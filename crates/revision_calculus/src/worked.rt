@@ -5,7 +5,7 @@ ghost use Rattle.std.specs.Prelude.{◌≡◌, [], ◌∷◌, Some, false, negsu
 ghost use Rattle.rev_num.specs.declared.value.Value.TheVariants as v;
 ghost use Rattle.revision_calculus.specs.Complete.{Reports, Tells, runs_to};
 ghost use Rattle.revision_calculus.specs.State.{forked, joined, written_at};
-ghost use Rattle.revision_calculus.specs.Kinded.{IsWellTyped};
+ghost use Rattle.revision_calculus.specs.Kinded.{IsAccepted};
 ghost use Rattle.revision_calculus.specs.Examples as x;
 ghost use Rattle.revision_calculus.specs.Examples.{given, joins_twice, prints, sharing, traps, usual, usual_fuel};
 
@@ -74,8 +74,8 @@ pub fn accounts()
 
 /// Programs that the laws on kinds speak of.
 pub fn typed_programs()
-    ensures handle_travels { IsWellTyped x.handle_travels }
-    ensures merges_fault { IsWellTyped x.merges_fault }
-    ensures tries { IsWellTyped x.tries }
-    ensures adds_inputs { IsWellTyped x.adds_inputs }
+    ensures handle_travels { IsAccepted x.handle_travels }
+    ensures merges_fault { IsAccepted x.merges_fault }
+    ensures tries { IsAccepted x.tries }
+    ensures adds_inputs { IsAccepted x.adds_inputs }
 {}
