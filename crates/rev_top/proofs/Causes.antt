@@ -32,6 +32,7 @@ pub data IsPlain (a : Answer) : Type 0 where
   is_refusal : (shown a).out ≡ [] → (shown a).status ≡ 2 → IsPlain a
 
 pub runs_plain : (text : List ℕ) (a : Answer) → Runs text a → IsPlain a
+unfolding Runs
 runs_plain text (Ok o) h = go h.0 h.2
   where
     go : (found : Result Whole Refusal) → Onward RunsProgram found (Ok o) → IsPlain (Ok o)
@@ -122,7 +123,7 @@ of_program old new text p (Err f) gave h on is =
     (refusals.NotBuilt, ap (λ (x : Refusal). Err x) on.0, (text, gave, p, h, on.1))
 
 of_run : (old new : Stream) (text : List ℕ) (a : Answer) → Gave old text new → Runs text a → (shown a).status ≡ 2 → Caused old new a
-unfolding Caused
+unfolding Caused Runs
 of_run old new text a gave h is = go h.0 h.1 h.2
   where
     go : (found : Result Whole Refusal) → Checks text found → Onward RunsProgram found a → Caused old new a
@@ -160,6 +161,7 @@ one_program p (Err f) (Ok q) h k = absurd (h.1 k.0 k.1)
 one_program p (Err f) (Err g) h k = ap (λ (x : Refusal). Err x) (h.0 ∙ sym k.0)
 
 one_run : (text : List ℕ) → One (Runs text)
+unfolding Runs
 one_run text = one_then (Checks text) RunsProgram (one_check text) one_program
 
 module _ (limit : ℕ) (Says : List ℕ → Answer → Type 0) (all : List ℕ) (a b : Answer) where

@@ -129,6 +129,7 @@ one_types text p (Err r) (Err s) h k =
     ap (λ (x : Refusal). Err x) (one_report types.place types.rank (report_of_types text) (types_by text) (types_by_rank text) (program.faults p) r s h k)
 
 pub one_check : (text : List ℕ) → One (Checks text)
+unfolding Checks
 one_check text =
     one_then (Cuts text) (ChecksTokens text) (one_cuts text)
     (λ ts. one_then (Reads text ts) (ChecksTree text) (one_reads text ts)
@@ -182,6 +183,7 @@ types_of_text text (type.LimitOf at w n) r is = same_refusal _ r tt is
 types_of_text text type.OutOfMemory r is = cc
 
 pub check_of_text : (text : List ℕ) (r : Refusal) → Checks text (Err r) → IsOfText r
+unfolding Checks
 check_of_text text =
     let P : Refusal → Type 0 = λ r. IsOfText r in
     refusal_of (Cuts text) (ChecksTokens text) P (λ r h. lexical_of_text text h.fault r h.reported)

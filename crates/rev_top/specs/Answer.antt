@@ -28,7 +28,7 @@ abbrev pub RunsProgram : Whole → Answer → Type 0
 RunsProgram p (Ok o) = (lists : List (List ℤ)) × Prints p lists × (o ≡ done (lines lists))
 RunsProgram p (Err f) = (f ≡ refusals.NotBuilt) × ((lists : List (List ℤ)) → Prints p lists → ⊥)
 
-abbrev pub Runs : List ℕ → Answer → Type 0
+unfoldable pub Runs : List ℕ → Answer → Type 0
 Runs text = Then (Checks text) RunsProgram
 
 -- ---- the order of the refusals: words, read fault, length, text

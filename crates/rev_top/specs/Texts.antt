@@ -122,5 +122,5 @@ abbrev pub ChecksTokens : List ℕ → List Token → Result Whole Refusal → T
 ChecksTokens text ts = Then (Reads text ts) (ChecksTree text)
 
 -- the program that the text is, where it keeps all rules, or its first fault
-abbrev pub Checks : List ℕ → Result Whole Refusal → Type 0
+unfoldable pub Checks : List ℕ → Result Whole Refusal → Type 0
 Checks text = Then (Cuts text) (ChecksTokens text)

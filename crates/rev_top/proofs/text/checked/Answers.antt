@@ -3,16 +3,18 @@ use Rattle.rev_syntax.specs.View.{program as whole}
 use Rattle.rev_syntax.specs.declared.token.Token.{Token}
 use Rattle.rev_types.specs.declared.typed.Typed.{Typed}
 use Rattle.rev_top.specs.Stops.{Meets}
-use Rattle.rev_top.specs.Texts.{ChecksTokens, Cuts}
+use Rattle.rev_top.specs.Texts.{Checks, ChecksTokens, Cuts}
 use Rattle.rev_top.proofs.Stages.{goes_on, leaves}
 use Rattle.rev_top.proofs.text.checked.Goals as goal
 
 pub returns-in_err-tokens : goal.returns-in_err-tokens
+unfolding Checks
 returns-in_err-tokens c =
     leaves (Cuts c.args.text.now) (ChecksTokens c.args.text.now) (λ (v : Vec Token Global). v.items) (λ (t : Typed). whole t.expanded.program)
     _ c.in_err-tokens.field-0.0 c.from_residual.ensures.1 c.in_err-tokens.ensures.meets
 
 pub returns : goal.returns
+unfolding Checks
 returns c =
     goes_on (Cuts c.args.text.now) (ChecksTokens c.args.text.now)
     (λ (t : Typed). whole t.expanded.program) c.in_ok-tokens.tokens.items c.checked_tokens.result c.in_ok-tokens.ensures.meets
