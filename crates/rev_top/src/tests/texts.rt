@@ -386,6 +386,11 @@ fn limit_of_weight(rt: HostRuntime) -> Result<(), Fail> {
         "fun f(): int = -(1{links}); fun @g(): int = f(); main {{ }}"
     )?;
     assert!(rt; is_refused(&rt, text.as_str(), "more than 65536 weight")?);
+
+    // Two limits at one name.
+    let funs = numbered(&rt, "fun f", "(): int = 1; ", 256)?;
+    let text = format!(in rt.alloc(); "{funs}fun @g(): int = --(1{links}); main {{ }}")?;
+    assert!(rt; is_refused(&rt, text.as_str(), "more than 256 funs")?);
     Ok(())
 }
 
