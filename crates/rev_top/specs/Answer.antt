@@ -10,6 +10,7 @@ use Rattle.rev_report.specs.Messages.{shown}
 use Rattle.rev_report.specs.declared.refusal.Refusal.{Refusal}
 use Rattle.rev_report.specs.declared.refusal.Refusal.TheVariants as refusals
 use Rattle.rev_syntax.specs.Trees.{Whole}
+use Rattle.rev_parse.specs.SmallTree.{most_bytes}
 use Rattle.rev_top.specs.Stages.{Then}
 use Rattle.rev_top.specs.Texts.{Checks}
 use Rattle.rev_top.specs.Prints.{Prints}
@@ -19,7 +20,7 @@ Answer = Result Output Refusal
 
 -- the most bytes that a text may have
 abbrev pub source_limit : ℕ
-source_limit = 1048576
+source_limit = most_bytes
 
 -- ---- one relation for each mode: this answer belongs to this text
 
