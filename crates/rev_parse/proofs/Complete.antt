@@ -1,9 +1,9 @@
 -- The list of kinds has them all.
 use Rattle.std.proofs.Common.{◌≡◌, ℕ, zero, suc, Bool, true, false, ◌&&◌, List, [], ◌∷◌, Option, Some, None, refl, sym, ap, ◌∙◌}
 use Rattle.token_grammar.specs.Exact.{all_of}
-use Rattle.rev_parse.specs.declared.sort.Sort.{Sort}
-use Rattle.rev_parse.specs.declared.sort.Sort.TheVariants as s
-use Rattle.rev_parse.specs.Sorts.{number_of, sorts}
+use Rattle.rev_expressions.specs.declared.sort.Sort.{Sort}
+use Rattle.rev_expressions.specs.declared.sort.Sort.TheVariants as s
+use Rattle.rev_expressions.specs.Sorts.{number_of, sorts}
 
 abbrev at : {A : Type 0} → List A → ℕ → Option A
 at [] n = None

@@ -3,9 +3,9 @@ use Rattle.std.proofs.Common.{◌≡◌, ℕ, zero, suc, ◌+◌, ◌-◌, ◌�
 use Rattle.rev_syntax.specs.declared.token.Token.{Token}
 use Rattle.token_grammar.specs.Outcome.{left}
 use Rattle.token_grammar.specs.Form.{nothing, token, level, both, either, many, Lang, Opened, Many, Derives}
-use Rattle.rev_parse.specs.declared.sort.Sort.{Sort}
-use Rattle.rev_parse.specs.Sorts.{sort_of, is_same}
-use Rattle.rev_parse.specs.Grammar.{alphabet, Rule, Inner, Value, behind, before, all, listing}
+use Rattle.rev_expressions.specs.declared.sort.Sort.{Sort}
+use Rattle.rev_expressions.specs.Sorts.{sort_of, is_same}
+use Rattle.rev_expressions.specs.Grammar.{alphabet, Rule, Inner, Value, behind, before, all, listing}
 use Rattle.rev_parse.specs.Verdicts.{most_levels}
 use Rattle.rev_parse.proofs.TextTokens.{IsProper, AreProper, span, spans, proper_front, proper_back, spans-append}
 

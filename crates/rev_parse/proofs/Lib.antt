@@ -1,11 +1,7 @@
 pub mod Complete
 pub mod Samples
 pub mod Decides
-pub mod Turns
-pub mod Lists
-pub mod Expressions
 pub mod StatementRules
-pub mod Feeds
 pub mod Naturals
 pub mod DeclarationRules
 pub mod OfAnswer

@@ -13,12 +13,12 @@ use Rattle.rev_syntax.specs.declared.token.TokenKind.TheVariants as k
 use Rattle.token_grammar.specs.Form.{nothing, token, level, both, either, many}
 use Rattle.token_grammar.specs.Outcome.{Outcome, Read, Failed, Parser, and_then, after, next, Unexpected}
 use Rattle.token_grammar.specs.Reader.{Inside, begins, inside_of, read, repeat, below, taken}
-use Rattle.rev_parse.specs.declared.sort.Sort.{Sort}
-use Rattle.rev_parse.specs.Sorts.{sort_of, is_same}
-use Rattle.rev_parse.specs.Source.{int_of}
-use Rattle.rev_parse.specs.Grammar.{alphabet, Rule, Inner, Value}
-use Rattle.rev_parse.specs.Declarations.{inner}
-use Rattle.rev_parse.specs.Parse.{parse}
+use Rattle.rev_expressions.specs.declared.sort.Sort.{Sort}
+use Rattle.rev_expressions.specs.Sorts.{sort_of, is_same}
+use Rattle.rev_expressions.specs.Source.{int_of}
+use Rattle.rev_expressions.specs.Grammar.{alphabet, Rule, Inner, Value}
+use Rattle.rev_expressions.specs.Declarations.{inner}
+use Rattle.rev_expressions.specs.Parse.{parse}
 use Rattle.rev_parse.specs.Pieces.{AreNatural}
 
 -- ---- the tokens of a text

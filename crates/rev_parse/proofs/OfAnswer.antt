@@ -6,13 +6,13 @@ use Rattle.token_grammar.specs.Outcome.{Outcome, Read, Failed, Unexpected, TooDe
 use Rattle.token_grammar.proofs.Whole as whole
 use Rattle.rev_syntax.specs.View.{program as view}
 use Rattle.rev_syntax.specs.declared.tree.Program.{Program}
-use Rattle.rev_parse.specs.declared.cursor.Fault.{Fault}
-use Rattle.rev_parse.specs.declared.cursor.Fault.TheVariants as f
-use Rattle.rev_parse.specs.Reads.{Reads, stop_of}
-use Rattle.rev_parse.specs.Sorts.{sorts}
-use Rattle.rev_parse.specs.Grammar.{alphabet}
-use Rattle.rev_parse.specs.Declarations.{inner, program}
-use Rattle.rev_parse.specs.Parse.{parse}
+use Rattle.rev_expressions.specs.declared.cursor.Fault.{Fault}
+use Rattle.rev_expressions.specs.declared.cursor.Fault.TheVariants as f
+use Rattle.rev_expressions.specs.Reads.{Reads, stop_of}
+use Rattle.rev_expressions.specs.Sorts.{sorts}
+use Rattle.rev_expressions.specs.Grammar.{alphabet}
+use Rattle.rev_expressions.specs.Declarations.{inner, program}
+use Rattle.rev_expressions.specs.Parse.{parse}
 use Rattle.rev_parse.specs.SmallTree.{IsSmallTree}
 use Rattle.rev_parse.specs.Verdicts.{most_levels, IsProgram, IsUnexpected, IsTooDeep, At, place_of}
 use Rattle.rev_parse.proofs.Decides.{going_on, grammar_decided, program_decided}

@@ -4,9 +4,9 @@ use Rattle.std.specs.Prelude.{pos}
 use Rattle.rev_syntax.specs.declared.token.Token.{Token}
 use Rattle.rev_syntax.specs.declared.token.TokenKind.{TokenKind}
 use Rattle.rev_syntax.specs.declared.token.TokenKind.TheVariants as k
-use Rattle.rev_parse.specs.declared.sort.Sort.{Sort}
-use Rattle.rev_parse.specs.declared.sort.Sort.TheVariants as s
-use Rattle.rev_parse.specs.Sorts.{sort_of, is_same}
+use Rattle.rev_expressions.specs.declared.sort.Sort.{Sort}
+use Rattle.rev_expressions.specs.declared.sort.Sort.TheVariants as s
+use Rattle.rev_expressions.specs.Sorts.{sort_of, is_same}
 
 abbrev kind_of : Sort → TokenKind
 kind_of s.Name = k.Name

@@ -7,7 +7,7 @@ use Rattle.std.specs.List.{list_all}
 use Rattle.rev_syntax.specs.Trees.{Word, Term, Steps, Binder, Extent}
 use Rattle.rev_syntax.specs.View.{terms_of}
 use Rattle.rev_syntax.specs.Small.{word_count, term_count, terms_count, steps_count, binders_count, nodes_around, nodes_around_args, chains_around, chains_around_args, word_formed, term_formed, terms_formed, terms_small, steps_small, binder_formed, size_formed}
-use Rattle.rev_parse.specs.Grammar.{Inner, Value, Operand, Parens, Index, Arguments, Parts, Body, Params, Names, Cells}
+use Rattle.rev_expressions.specs.Grammar.{Inner, Value, Operand, Parens, Index, Arguments, Parts, Body, Params, Names, Cells}
 use Rattle.rev_parse.proofs.Holds.{Property}
 
 pub record IsSmallWord (n w : ℕ) (x : Word) : Type 0 where

@@ -4,10 +4,10 @@ use Rattle.rev_syntax.specs.Trees.{Whole}
 use Rattle.rev_syntax.specs.declared.token.Token.{Token}
 use Rattle.token_grammar.specs.Outcome.{Outcome, Read, Failed, Unexpected, TooDeep}
 use Rattle.token_grammar.proofs.Whole as whole
-use Rattle.rev_parse.specs.Sorts.{sorts}
-use Rattle.rev_parse.specs.Grammar.{alphabet}
-use Rattle.rev_parse.specs.Declarations.{inner, program}
-use Rattle.rev_parse.specs.Parse.{parse}
+use Rattle.rev_expressions.specs.Sorts.{sorts}
+use Rattle.rev_expressions.specs.Grammar.{alphabet}
+use Rattle.rev_expressions.specs.Declarations.{inner, program}
+use Rattle.rev_expressions.specs.Parse.{parse}
 use Rattle.rev_parse.specs.Verdicts.{most_levels, place_of, Verdict, tree, unexpected, too_deep, IsVerdict, SomeVerdict}
 use Rattle.rev_parse.proofs.Decides.{going_on, grammar_decided, program_decided}
 

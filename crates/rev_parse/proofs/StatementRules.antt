@@ -6,23 +6,23 @@ use Rattle.rev_syntax.specs.declared.token.TokenKind.TheVariants as k
 use Rattle.rev_syntax.specs.Trees as t
 use Rattle.rev_syntax.specs.Trees.{Word, Term, Right, Shown, Steps, Step, Act, step}
 use Rattle.rev_syntax.specs.View.{terms_of, steps_of, arms_of, choice}
-use Rattle.rev_parse.specs.declared.sort.Sort.{Sort}
-use Rattle.rev_parse.specs.declared.sort.Sort.TheVariants as s
-use Rattle.rev_parse.specs.Sorts.{is_same}
-use Rattle.rev_parse.specs.Source.{word_of, text_of}
+use Rattle.rev_expressions.specs.declared.sort.Sort.{Sort}
+use Rattle.rev_expressions.specs.declared.sort.Sort.TheVariants as s
+use Rattle.rev_expressions.specs.Sorts.{is_same}
+use Rattle.rev_expressions.specs.Source.{word_of, text_of}
 use Rattle.rev_syntax.specs.Places.{line_of}
 use Rattle.token_grammar.specs.Outcome.{Outcome, Read, Failed, and_then, after, next, Unexpected}
 use Rattle.token_grammar.specs.Form.{both, nothing}
 use Rattle.token_grammar.specs.Reader.{begins, first, nullable, passes, next_kind, is_next, read}
-use Rattle.rev_parse.specs.Grammar.{alphabet, Arguments, Body, rank_sign, bracketed, choice as choice_form, name, name_tail, primary, unary, product, sum, comparison, conjunction, expr, arguments, listed, listing, sign}
-use Rattle.rev_parse.specs.Statements.{Else, Test, Last, is_last, tests_of, last_of, conditional, block, actual, application, right_side, item, assigned, assignment, arm, else_choice, else_part, else_parts, let_form, if_form, while_form, call_form, return_form, fork_form, join_form, print_form, assert_form, statement, statements, body}
-use Rattle.rev_parse.specs.Declarations.{inner}
-use Rattle.rev_parse.specs.Parse.{parse, inside, expr_begins}
-use Rattle.rev_parse.specs.Lists.{more_of, more_listed}
+use Rattle.rev_expressions.specs.Grammar.{alphabet, Arguments, Body, rank_sign, bracketed, choice as choice_form, name, name_tail, primary, unary, product, sum, comparison, conjunction, expr, arguments, listed, listing, sign}
+use Rattle.rev_expressions.specs.Statements.{Else, Test, Last, is_last, tests_of, last_of, conditional, block, actual, application, right_side, item, assigned, assignment, arm, else_choice, else_part, else_parts, let_form, if_form, while_form, call_form, return_form, fork_form, join_form, print_form, assert_form, statement, statements, body}
+use Rattle.rev_expressions.specs.Declarations.{inner}
+use Rattle.rev_expressions.specs.Parse.{parse, inside, expr_begins}
+use Rattle.rev_expressions.specs.Lists.{more_of, more_listed}
 use Rattle.rev_parse.specs.Parts.{with_last, conditional_of, more_parts, act_of_name, stmt_at, form_of, form_behind, statement_begins, item_begins}
-use Rattle.rev_parse.proofs.Turns.{repeat_end, repeat_stop, repeat_go, found_before}
-use Rattle.rev_parse.proofs.Lists.{listed_is, all_is}
-use Rattle.rev_parse.proofs.Expressions.{K, at_kind, by_kind, by_next, twice, same_outcome, inside_none, inside_go, inside_then, arguments_go, index_only, or_nothing, expr_not_null, begins_any, expr_end}
+use Rattle.rev_expressions.proofs.Turns.{repeat_end, repeat_stop, repeat_go, found_before}
+use Rattle.rev_expressions.proofs.Lists.{listed_is, all_is}
+use Rattle.rev_expressions.proofs.Expressions.{K, at_kind, by_kind, by_next, twice, same_outcome, inside_none, inside_go, inside_then, arguments_go, index_only, or_nothing, expr_not_null, begins_any, expr_end}
 
 module _ (bytes : List ℕ) (n : ℕ) where
   -- ---- blocks

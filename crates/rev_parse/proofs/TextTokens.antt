@@ -18,9 +18,9 @@ use Rattle.rev_syntax.specs.Words.{is_name}
 use Rattle.rev_syntax.specs.Small.{greatest}
 use Rattle.rev_syntax.specs.Tokens.{Spells, IsQuoted, IsSound, Piece, Leads, token_of, tokens_of, IsTokens, Ascend, IsToken}
 use Rattle.rev_syntax.proofs.Spans.{tokens-ascend, tokens-kinds}
-use Rattle.rev_parse.specs.declared.sort.Sort.TheVariants as s
-use Rattle.rev_parse.specs.Sorts.{sort_of, is_same}
-use Rattle.rev_parse.specs.Source.{word_of, text_of, int_of}
+use Rattle.rev_expressions.specs.declared.sort.Sort.TheVariants as s
+use Rattle.rev_expressions.specs.Sorts.{sort_of, is_same}
+use Rattle.rev_expressions.specs.Source.{word_of, text_of, int_of}
 
 -- a number that a token of a text has
 abbrev pub IsNumber : ℤ → Type 0

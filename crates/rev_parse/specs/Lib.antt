@@ -1,11 +1,3 @@
-pub mod Sorts
-pub mod Source
-pub mod Reads
-pub mod Grammar
-pub mod Statements
-pub mod Declarations
-pub mod Parse
-pub mod Lists
 pub mod Parts
 pub mod Pieces
 pub mod SmallTree

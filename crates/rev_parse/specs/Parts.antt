@@ -7,11 +7,11 @@ use Rattle.rev_syntax.specs.declared.token.TokenKind.{TokenKind}
 use Rattle.rev_syntax.specs.declared.token.TokenKind.TheVariants as k
 use Rattle.token_grammar.specs.Outcome.{Outcome, Parser, Read, Failed, Unexpected, and_then, after}
 use Rattle.token_grammar.specs.Reader.{begins, repeat}
-use Rattle.rev_parse.specs.Grammar.{alphabet}
+use Rattle.rev_expressions.specs.Grammar.{alphabet}
 use Rattle.rev_syntax.specs.Places.{line_of}
-use Rattle.rev_parse.specs.Statements.{Else, Test, Last, is_last, tests_of, last_of, else_part, let_form, if_form, while_form, call_form, return_form, fork_form, join_form, print_form, assert_form, assignment, statement, item}
-use Rattle.rev_parse.specs.Source.{word_of}
-use Rattle.rev_parse.specs.Parse.{parse}
+use Rattle.rev_expressions.specs.Statements.{Else, Test, Last, is_last, tests_of, last_of, else_part, let_form, if_form, while_form, call_form, return_form, fork_form, join_form, print_form, assert_form, assignment, statement, item}
+use Rattle.rev_expressions.specs.Source.{word_of}
+use Rattle.rev_expressions.specs.Parse.{parse}
 
 -- the parts behind the first test: further tests, and the last block if there is one
 abbrev pub with_last : List (Term × Steps) → Option Steps → List Else

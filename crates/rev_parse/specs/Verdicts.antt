@@ -5,8 +5,8 @@ use Rattle.rev_syntax.specs.View.{program as view}
 use Rattle.rev_syntax.specs.declared.tree.Program.{Program}
 use Rattle.rev_syntax.specs.declared.token.Token.{Token}
 use Rattle.token_grammar.specs.First as first
-use Rattle.rev_parse.specs.Grammar.{alphabet}
-use Rattle.rev_parse.specs.Declarations.{inner, program}
+use Rattle.rev_expressions.specs.Grammar.{alphabet}
+use Rattle.rev_expressions.specs.Declarations.{inner, program}
 use Rattle.rev_parse.specs.SmallTree.{IsSmallTree}
 use Rattle.rev_parse.specs.declared.whole.SyntaxFault.{SyntaxFault}
 use Rattle.rev_parse.specs.declared.whole.SyntaxFault.TheVariants as f

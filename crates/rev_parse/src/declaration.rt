@@ -1,20 +1,17 @@
 // Declarations and programs.
 ghost use Rattle.std.specs.Prelude.{◌≡◌, ◌≤ℤ◌, ◌++◌, [], ◌∷◌, OnOk, pos, neg_ℤ, map, option_map, length};
-ghost use Rattle.rev_parse.specs.Grammar as g;
-ghost use Rattle.rev_parse.specs.Declarations as spec;
-ghost use Rattle.rev_parse.specs.Lists.{more_listed};
-ghost use Rattle.rev_parse.specs.Parse.{parse};
+ghost use Rattle.rev_expressions.specs.Grammar as g;
+ghost use Rattle.rev_expressions.specs.Declarations as spec;
+ghost use Rattle.rev_expressions.specs.Lists.{more_listed};
+ghost use Rattle.rev_expressions.specs.Parse.{parse};
 ghost use Rattle.rev_parse.specs.Pieces as pieces;
 ghost use Rattle.rev_parse.specs.Pieces.{AreNatural, plain, declaration_begins};
-ghost use Rattle.rev_parse.specs.Reads.{Reads, same};
-ghost use Rattle.rev_parse.specs.declared.sort.Sort.TheVariants as s;
+ghost use Rattle.rev_expressions.specs.Reads.{Reads, same};
+ghost use Rattle.rev_expressions.specs.declared.sort.Sort.TheVariants as s;
 ghost use Rattle.rev_syntax.specs.View as view;
 
-use crate::cursor::{Cursor, Fault, within};
-use crate::expr::expr;
-use crate::sort::Sort;
-use crate::source::Source;
 use crate::statement::{block, name};
+use rev_expressions::{Cursor, Fault, Sort, Source, expr, within};
 use rev_num::{Value, ValueKind};
 use rev_syntax::{Const, Decl, Expr, Name, Param, Program, Size, TokenKind};
 use std::alloc::AllocError;
@@ -50,7 +47,7 @@ struct Versions {
 }
 
 /// Reads a kind.
-#[tactic(auto, unfolding(token_grammar::specs::Reader::read, crate::specs::Declarations::kind))]
+#[tactic(auto, unfolding(token_grammar::specs::Reader::read, rev_expressions::specs::Declarations::kind))]
 fn kind(cursor: &mut Cursor<'_>) -> Result<KindAt, Fault>
     ensures { Reads (plain spec.kind cursor.old.rest.now) pieces.kind_at result cursor.new.rest.now }
 {
@@ -85,7 +82,7 @@ fn kind(cursor: &mut Cursor<'_>) -> Result<KindAt, Fault>
 }
 
 /// A start value.
-#[tactic(auto, unfolding(token_grammar::specs::Reader::read, crate::specs::Declarations::constant))]
+#[tactic(auto, unfolding(token_grammar::specs::Reader::read, rev_expressions::specs::Declarations::constant))]
 fn constant(cursor: &mut Cursor<'_>) -> Result<Const, Fault>
     requires { AreNatural cursor.old.rest.now }
     ensures { Reads (plain spec.constant cursor.old.rest.now) view.constant result cursor.new.rest.now }
@@ -241,7 +238,7 @@ fn push_param(params: &mut Vec<Param>, param: Param) -> Result<(), AllocError>
 }
 
 /// The parameters behind the first, each behind a comma.
-#[tactic(auto, using(crate::proofs::Lists::comma_turns))]
+#[tactic(auto, using(rev_expressions::proofs::Lists::comma_turns))]
 fn more_params(
     source: &Source<'_>,
     cursor: &mut Cursor<'_>,
@@ -497,7 +494,7 @@ pub fn declaration(source: &Source<'_>, cursor: &mut Cursor<'_>, levels: u32) ->
 }
 
 /// Whether a declaration comes.
-#[tactic(auto, unfolding(crate::specs::Declarations::declaration))]
+#[tactic(auto, unfolding(rev_expressions::specs::Declarations::declaration))]
 fn begins_declaration(cursor: &Cursor<'_>) -> bool
     ensures { result ≡ declaration_begins cursor.now.rest.now }
 {

@@ -1,20 +1,19 @@
 // Statements and blocks.
 ghost use Rattle.std.specs.Prelude.{◌≡◌, ◌++◌, [], ◌∷◌, IfOk, OnOk, map, ℕ, List, length, option_map};
 ghost use Rattle.token_grammar.specs.Outcome.{after};
-ghost use Rattle.rev_parse.specs.Grammar as spec;
-ghost use Rattle.rev_parse.specs.Statements as st;
-ghost use Rattle.rev_parse.specs.Lists.{more_of, more_listed};
+ghost use Rattle.rev_expressions.specs.Grammar as spec;
+ghost use Rattle.rev_expressions.specs.Statements as st;
+ghost use Rattle.rev_expressions.specs.Lists.{more_of, more_listed};
 ghost use Rattle.rev_parse.specs.Parts.{act_of_name, flat_form_behind, form_behind, item_begins, more_parts, statement_begins, with_last};
-ghost use Rattle.rev_parse.specs.Parse.{parse, inside};
-ghost use Rattle.rev_parse.specs.Reads.{Reads, same};
+ghost use Rattle.rev_expressions.specs.Parse.{parse, inside};
+ghost use Rattle.rev_expressions.specs.Reads.{Reads, same};
 ghost use Rattle.rev_syntax.specs.Trees as t;
 ghost use Rattle.rev_syntax.specs.View as view;
 
-use crate::cursor::{Cursor, Fault, within};
-use crate::expr::{arguments, begins_expr, bracketed, expr};
 use crate::form;
-use crate::sort::Sort;
-use crate::source::Source;
+use rev_expressions::{
+    Cursor, Fault, Sort, Source, arguments, begins_expr, bracketed, expr, within,
+};
 use rev_syntax::{Arm, Block, Expr, Form, Item, Name, Rhs, Stmt, Token, TokenKind};
 use std::alloc::AllocError;
 
@@ -202,7 +201,7 @@ fn item(source: &Source<'_>, cursor: &mut Cursor<'_>, levels: u32) -> Result<Ite
 }
 
 /// Whether an item comes.
-#[tactic(auto, unfolding(crate::specs::Statements::item, crate::specs::Grammar::rank_sign, crate::specs::Grammar::bracketed, crate::specs::Grammar::choice, crate::specs::Grammar::name, crate::specs::Grammar::name_tail, crate::specs::Grammar::primary, crate::specs::Grammar::unary, crate::specs::Grammar::product, crate::specs::Grammar::sum, crate::specs::Grammar::comparison, crate::specs::Grammar::conjunction, crate::specs::Grammar::expr))]
+#[tactic(auto, unfolding(rev_expressions::specs::Statements::item, rev_expressions::specs::Grammar::rank_sign, rev_expressions::specs::Grammar::bracketed, rev_expressions::specs::Grammar::choice, rev_expressions::specs::Grammar::name, rev_expressions::specs::Grammar::name_tail, rev_expressions::specs::Grammar::primary, rev_expressions::specs::Grammar::unary, rev_expressions::specs::Grammar::product, rev_expressions::specs::Grammar::sum, rev_expressions::specs::Grammar::comparison, rev_expressions::specs::Grammar::conjunction, rev_expressions::specs::Grammar::expr))]
 fn begins_item(cursor: &Cursor<'_>) -> bool
     ensures { result ≡ item_begins cursor.now.rest.now }
 {
@@ -246,7 +245,7 @@ fn items(source: &Source<'_>, cursor: &mut Cursor<'_>, levels: u32) -> Result<Ve
 }
 
 /// The items behind the first, each behind a comma.
-#[tactic(auto, using(crate::proofs::Lists::comma_turns))]
+#[tactic(auto, using(rev_expressions::proofs::Lists::comma_turns))]
 fn more_items(
     source: &Source<'_>,
     cursor: &mut Cursor<'_>,
@@ -277,7 +276,7 @@ fn print_form(source: &Source<'_>, cursor: &mut Cursor<'_>, levels: u32) -> Resu
 }
 
 /// Whether a statement comes.
-#[tactic(auto, unfolding(crate::specs::Statements::statement, crate::specs::Statements::let_form, crate::specs::Statements::if_form, crate::specs::Statements::while_form, crate::specs::Statements::call_form, crate::specs::Statements::return_form, crate::specs::Statements::fork_form, crate::specs::Statements::join_form, crate::specs::Statements::print_form, crate::specs::Statements::assert_form, crate::specs::Statements::assignment))]
+#[tactic(auto, unfolding(rev_expressions::specs::Statements::statement, rev_expressions::specs::Statements::let_form, rev_expressions::specs::Statements::if_form, rev_expressions::specs::Statements::while_form, rev_expressions::specs::Statements::call_form, rev_expressions::specs::Statements::return_form, rev_expressions::specs::Statements::fork_form, rev_expressions::specs::Statements::join_form, rev_expressions::specs::Statements::print_form, rev_expressions::specs::Statements::assert_form, rev_expressions::specs::Statements::assignment))]
 fn begins_statement(cursor: &Cursor<'_>) -> bool
     ensures { result ≡ statement_begins cursor.now.rest.now }
 {

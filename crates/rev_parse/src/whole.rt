@@ -3,9 +3,8 @@ ghost use Rattle.std.specs.Prelude.{◌≡◌, ◌<◌, ◌^◌, ◌-◌, All, l
 ghost use Rattle.rev_parse.specs.Verdicts.{Parses, place_of};
 ghost use Rattle.rev_syntax.specs.Tokens.{IsToken};
 
-use crate::cursor::{Cursor, Fault};
 use crate::declaration::program;
-use crate::source::Source;
+use rev_expressions::{Cursor, Fault, Source};
 use rev_syntax::{Program, Token};
 use std::alloc::{AllocError, Global};
 

@@ -1,7 +1,7 @@
 use Rattle.std.proofs.Common.{◌≡◌, ◌+◌, ◌-◌, true, map, arith, rules}
 use Rattle.std.proofs.lemmas.Grind.{common_steps}
 use Rattle.std.proofs.lemmas.List.{map-append}
-use Rattle.rev_parse.specs.Declarations as spec
+use Rattle.rev_expressions.specs.Declarations as spec
 use Rattle.rev_parse.specs.Pieces.{declaration_begins}
 use Rattle.rev_syntax.specs.View as view
 use Rattle.rev_parse.proofs.DeclarationRules.{declarations_are, declarations_go}

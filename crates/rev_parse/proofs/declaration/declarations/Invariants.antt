@@ -1,6 +1,6 @@
 use Rattle.std.proofs.Common.{◌≡◌, ◌-◌, [], map}
-use Rattle.rev_parse.specs.Declarations as spec
-use Rattle.rev_parse.specs.Lists.{more_of}
+use Rattle.rev_expressions.specs.Declarations as spec
+use Rattle.rev_expressions.specs.Lists.{more_of}
 use Rattle.rev_parse.specs.Pieces.{AreNatural}
 use Rattle.rev_syntax.specs.View as view
 use Rattle.rev_parse.proofs.declaration.declarations.Given as goal

@@ -2,11 +2,11 @@ use Rattle.std.proofs.Common.{◌≡◌, ◌+◌, ◌-◌, true, arith, rules}
 use Rattle.std.proofs.lemmas.Grind.{common_steps}
 use Rattle.std.proofs.lemmas.List.{map-append}
 use Rattle.token_grammar.specs.Reader.{is_next}
-use Rattle.rev_parse.specs.declared.sort.Sort.TheVariants as s
-use Rattle.rev_parse.specs.Declarations as spec
-use Rattle.rev_parse.specs.Grammar.{alphabet}
+use Rattle.rev_expressions.specs.declared.sort.Sort.TheVariants as s
+use Rattle.rev_expressions.specs.Declarations as spec
+use Rattle.rev_expressions.specs.Grammar.{alphabet}
 use Rattle.rev_parse.specs.Pieces as pieces
-use Rattle.rev_parse.proofs.Lists.{comma_go}
+use Rattle.rev_expressions.proofs.Lists.{comma_go}
 use Rattle.rev_parse.proofs.declaration.more_params.Goals as goal
 
 pub loop-turn-preserved : goal.loop-turn-preserved

@@ -1,6 +1,6 @@
 use Rattle.std.proofs.Common.{◌≡◌, ◌-◌}
-use Rattle.rev_parse.specs.Declarations as spec
-use Rattle.rev_parse.specs.Lists.{more_listed}
+use Rattle.rev_expressions.specs.Declarations as spec
+use Rattle.rev_expressions.specs.Lists.{more_listed}
 use Rattle.rev_parse.specs.Pieces as pieces
 use Rattle.rev_parse.proofs.declaration.more_params.Given as goal
 

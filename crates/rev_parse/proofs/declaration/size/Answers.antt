@@ -1,8 +1,8 @@
 use Rattle.std.proofs.Common.{◌≡◌, [], true, arith, rules}
 use Rattle.std.proofs.lemmas.Grind.{common_steps}
 use Rattle.token_grammar.specs.Reader.{is_next}
-use Rattle.rev_parse.specs.declared.sort.Sort.TheVariants as s
-use Rattle.rev_parse.specs.Grammar.{alphabet}
+use Rattle.rev_expressions.specs.declared.sort.Sort.TheVariants as s
+use Rattle.rev_expressions.specs.Grammar.{alphabet}
 use Rattle.rev_parse.proofs.DeclarationRules.{size_go}
 use Rattle.rev_parse.proofs.declaration.size.Goals as goal
 

@@ -1,4 +1,4 @@
-use Rattle.rev_parse.specs.Declarations as spec
+use Rattle.rev_expressions.specs.Declarations as spec
 use Rattle.rev_parse.specs.Pieces as pieces
 use Rattle.rev_parse.proofs.Naturals.{natural_rest}
 use Rattle.rev_parse.proofs.declaration.versioned.Goals as goal

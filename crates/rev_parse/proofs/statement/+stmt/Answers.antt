@@ -4,10 +4,10 @@ use Rattle.std.proofs.lemmas.List.{map-append}
 use Rattle.rev_syntax.specs.View as view
 use Rattle.token_grammar.specs.Outcome.{after, next}
 use Rattle.token_grammar.specs.Reader.{begins, is_next}
-use Rattle.rev_parse.specs.declared.sort.Sort.TheVariants as s
-use Rattle.rev_parse.specs.Grammar as spec
-use Rattle.rev_parse.specs.Statements as st
-use Rattle.rev_parse.proofs.Lists.{all_go, all_stop}
+use Rattle.rev_expressions.specs.declared.sort.Sort.TheVariants as s
+use Rattle.rev_expressions.specs.Grammar as spec
+use Rattle.rev_expressions.specs.Statements as st
+use Rattle.rev_expressions.proofs.Lists.{all_go, all_stop}
 use Rattle.rev_parse.proofs.StatementRules as rule
 use Rattle.rev_parse.proofs.statement.+stmt.Goals as goal
 

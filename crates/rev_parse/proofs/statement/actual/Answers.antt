@@ -1,8 +1,8 @@
 use Rattle.std.proofs.Common.{◌≡◌, ◌∙◌, true, false, arith, rules}
 use Rattle.std.proofs.lemmas.Grind.{common_steps}
 use Rattle.token_grammar.specs.Reader.{is_next}
-use Rattle.rev_parse.specs.declared.sort.Sort.TheVariants as s
-use Rattle.rev_parse.specs.Grammar as spec
+use Rattle.rev_expressions.specs.declared.sort.Sort.TheVariants as s
+use Rattle.rev_expressions.specs.Grammar as spec
 use Rattle.rev_parse.proofs.StatementRules as rule
 use Rattle.rev_parse.proofs.statement.actual.Goals as goal
 

@@ -3,10 +3,10 @@ use Rattle.std.proofs.lemmas.Grind.{common_steps}
 use Rattle.std.proofs.lemmas.List.{map-append}
 use Rattle.rev_syntax.specs.View as view
 use Rattle.token_grammar.specs.Reader.{is_next}
-use Rattle.rev_parse.specs.declared.sort.Sort.TheVariants as s
-use Rattle.rev_parse.specs.Grammar as spec
-use Rattle.rev_parse.specs.Statements as st
-use Rattle.rev_parse.proofs.Lists.{comma_go, comma_stop}
+use Rattle.rev_expressions.specs.declared.sort.Sort.TheVariants as s
+use Rattle.rev_expressions.specs.Grammar as spec
+use Rattle.rev_expressions.specs.Statements as st
+use Rattle.rev_expressions.proofs.Lists.{comma_go, comma_stop}
 use Rattle.rev_parse.proofs.statement.more_items.Goals as goal
 
 pub loop-turn-preserved : goal.loop-turn-preserved

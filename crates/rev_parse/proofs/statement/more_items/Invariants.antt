@@ -1,6 +1,6 @@
 use Rattle.std.proofs.Common.{◌≡◌, ◌-◌, map}
-use Rattle.rev_parse.specs.Lists.{more_listed}
-use Rattle.rev_parse.specs.Statements as st
+use Rattle.rev_expressions.specs.Lists.{more_listed}
+use Rattle.rev_expressions.specs.Statements as st
 use Rattle.rev_syntax.specs.View as view
 use Rattle.rev_parse.proofs.statement.more_items.Given as goal
 

@@ -1,6 +1,6 @@
 use Rattle.std.proofs.Common.{◌≡◌, true, false, arith, rules}
 use Rattle.std.proofs.lemmas.Grind.{common_steps}
-use Rattle.rev_parse.specs.Parse.{expr_begins}
+use Rattle.rev_expressions.specs.Parse.{expr_begins}
 use Rattle.rev_parse.proofs.StatementRules as rule
 use Rattle.rev_parse.proofs.statement.return_form.Goals as goal
 

@@ -1,5 +1,5 @@
 use Rattle.std.proofs.Common.{◌≡◌, Err, arith, rules}
-use Rattle.rev_parse.specs.declared.cursor.Fault.TheVariants as f
+use Rattle.rev_expressions.specs.declared.cursor.Fault.TheVariants as f
 use Rattle.rev_parse.proofs.Naturals.{natural_tokens}
 use Rattle.rev_parse.proofs.OfAnswer.{ok_only, ok_more, err_unexpected, err_too_deep}
 use Rattle.rev_parse.proofs.whole.parse.Goals as goal

@@ -1,0 +1,49 @@
+-- The parser of the grammar, as functions over tokens.
+use Rattle.std.specs.Prelude.{◌≡◌, ℕ, Bool, true, false, List, [], Option, Some, None}
+use Rattle.rev_syntax.specs.declared.token.Token.{Token}
+use Rattle.rev_syntax.specs.declared.tree.BinaryOp.{BinaryOp}
+use Rattle.rev_syntax.specs.Trees.{Word, Term, placed, cell, apply, pick}
+use Rattle.rev_syntax.specs.View.{terms_of}
+use Rattle.token_grammar.specs.Outcome.{Outcome, Read, and_then, after}
+use Rattle.token_grammar.specs.Reader.{begins, below, inside_of, parser, read}
+use Rattle.rev_expressions.specs.declared.expression.Rank.{Rank}
+use Rattle.rev_expressions.specs.Grammar.{alphabet, Rule, Inner, Value, rank_sign, operand, links_by, expr}
+use Rattle.rev_expressions.specs.Declarations.{inner}
+
+-- what a rule reads, where so many levels may be opened
+abbrev pub parse : List ℕ → ℕ → {A : Type 0} → Rule A → List Token → Outcome Token A
+parse bytes n F ts = parser alphabet (inner bytes) n F ts
+
+-- what the next token, which opens a level, begins
+abbrev pub inside : List ℕ → ℕ → {A : Type 0} → (i : Inner) → (Value i → A) → List Token → Outcome Token A
+inside bytes n i val ts = inside_of alphabet (below alphabet (inner bytes) n) i val ts
+
+-- an operator of the rank, of which no part stands further in
+abbrev pub sign_at : Rank → List Token → Outcome Token BinaryOp
+sign_at rank ts = read alphabet None (rank_sign rank) ts
+
+-- whether an operator of the rank comes, and which
+abbrev pub IsSign : Rank → List Token → Option BinaryOp → Type 0
+IsSign rank ts None = begins alphabet (rank_sign rank) ts ≡ false
+IsSign rank ts (Some op) = (begins alphabet (rank_sign rank) ts ≡ true) × (sign_at rank ts ≡ Read op (after ts))
+
+-- whether an expression comes, which no bytes of the text decide
+abbrev pub expr_begins : List Token → Bool
+expr_begins ts = begins alphabet (expr []) ts
+
+-- the links of a chain of this rank
+abbrev pub links : List ℕ → Rank → Rule (List (BinaryOp × Term))
+links bytes rank = links_by rank (rank_sign rank) (operand bytes rank)
+
+-- what follows a name, at that name
+abbrev pub of_name : Word → Outcome Token (Word → Term) → Outcome Token Term
+of_name w o = and_then o (λ f rest. Read (f w) rest)
+
+abbrev pub of_parts : ℕ → Outcome Token (Term × Term × Term) → Outcome Token Term
+of_parts at o = and_then o (λ p rest. Read (placed at (pick p.0 p.1 p.2)) rest)
+
+abbrev pub cell_of : Word → Term → Term
+cell_of w i = placed w.at (cell w i)
+
+abbrev pub apply_of : Word → List Term → Term
+apply_of w args = placed w.at (apply w (terms_of args))

@@ -1,0 +1,106 @@
+// The tokens that are left.
+ghost use Rattle.std.specs.Prelude.{◌≡◌, length};
+ghost use Rattle.token_grammar.specs.Outcome as spec;
+ghost use Rattle.token_grammar.specs.Reader as reader;
+ghost use Rattle.rev_expressions.specs.Grammar.{alphabet};
+ghost use Rattle.rev_expressions.specs.Reads.{Reads, IsWithin, same};
+
+use crate::sort::Sort;
+use rev_syntax::Token;
+use std::alloc::{AllocError, AllocFailed};
+
+/// Why a text has no tree. The cursor stands at the place.
+#[derive(Clone, Copy, Drop, Debug)]
+pub enum Fault {
+    Unexpected,
+    TooDeep,
+    OutOfMemory,
+}
+
+impl From<AllocError> for Fault {
+    ghost use Rattle.std.specs.Prelude.{◌≡◌};
+    ghost use Rattle.rev_expressions.specs.declared.cursor.Fault.{Fault};
+
+    ghost from_gives = { λ _ f. f ≡ Fault.OutOfMemory };
+
+    fn from(_: AllocError) -> Fault {
+        Fault::OutOfMemory
+    }
+}
+
+impl<T: Drop> From<AllocFailed<T>> for Fault {
+    ghost use Rattle.std.specs.Prelude.{◌≡◌};
+    ghost use Rattle.rev_expressions.specs.declared.cursor.Fault.{Fault};
+
+    ghost from_gives = { λ _ f. f ≡ Fault.OutOfMemory };
+
+    fn from(_: AllocFailed<T>) -> Fault {
+        Fault::OutOfMemory
+    }
+}
+
+/// The tokens of a text that are not read yet.
+#[derive(Drop)]
+pub struct Cursor<'a> {
+    pub rest: &'a [Token],
+}
+
+impl<'a> Cursor<'a> {
+    /// How many tokens are left.
+    pub fn left(&self) -> usize
+        ensures { result ≡ length self.now.rest.now }
+    {
+        self.rest.len()
+    }
+
+    /// The next token, if one is left.
+    pub fn peek(&self) -> Option<Token>
+        ensures { result ≡ spec.next self.now.rest.now }
+    {
+        match self.rest {
+            [token, ..] => Some(*token),
+            [] => None,
+        }
+    }
+
+    /// Goes behind the next token; at the end it stays there.
+    pub fn advance(&mut self)
+        ensures { self.new.rest.now ≡ spec.after self.old.rest.now }
+    {
+        if let [_, rest @ ..] = self.rest {
+            self.rest = rest;
+        }
+    }
+
+    /// Whether the next token is this word or sign.
+    pub fn is_at(&self, sort: Sort) -> bool
+        ensures { result ≡ reader.is_next alphabet sort self.now.rest.now }
+    {
+        match self.peek() {
+            Some(token) => sort.is_same(Sort::of(token.kind)),
+            None => false,
+        }
+    }
+
+    /// Reads this word or sign.
+    pub fn expect(&mut self, sort: Sort) -> Result<(), Fault>
+        ensures { Reads (reader.taken alphabet sort (λ t. tt) (spec.next self.old.rest.now) self.old.rest.now) same result self.new.rest.now }
+    {
+        if !self.is_at(sort) {
+            return Err(Fault::Unexpected);
+        }
+        self.advance();
+        Ok(())
+    }
+}
+
+/// The levels that are left after one more, if one may be opened.
+pub fn within(levels: u32) -> Result<u32, Fault>
+    ensures { IsWithin levels result }
+{
+    if levels == 0 {
+        Err(Fault::TooDeep)
+    } else {
+        Ok(levels - 1)
+    }
+}

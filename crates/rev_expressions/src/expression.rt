@@ -1,0 +1,502 @@
+// Expressions.
+ghost use Rattle.std.specs.Prelude.{◌≡◌, ◌++◌, [], ◌∷◌, IfOk, OnOk, map, ℕ, List, length};
+ghost use Rattle.rev_expressions.specs.Grammar as spec;
+ghost use Rattle.rev_expressions.specs.Parse.{parse, inside, IsSign, links, of_name, of_parts, cell_of, apply_of, expr_begins};
+ghost use Rattle.rev_expressions.specs.Lists.{more_listed};
+ghost use Rattle.rev_expressions.specs.Reads.{Reads, same};
+ghost use Rattle.rev_expressions.specs.Source.{word_of};
+ghost use Rattle.rev_syntax.specs.Trees as t;
+ghost use Rattle.rev_syntax.specs.View as view;
+
+use crate::cursor::{Cursor, Fault, within};
+use crate::sort::Sort;
+use crate::source::Source;
+use rev_syntax::{BinaryOp, Expr, Link, Name, Node, Token, TokenKind, UnaryOp};
+use std::alloc::{AllocError, Global};
+
+/// How loosely the operators of a chain bind.
+#[derive(Clone, Copy, Drop)]
+pub enum Rank {
+    Or,
+    And,
+    Compare,
+    Sum,
+    Product,
+}
+
+/// The operator of this rank that comes next, if one does.
+#[tactic(auto, unfolding(token_grammar::specs::Reader::read, crate::specs::Grammar::rank_sign))]
+fn sign(cursor: &Cursor<'_>, rank: Rank) -> Option<BinaryOp>
+    ensures { IsSign rank cursor.now.rest.now result }
+{
+    match (rank, cursor.peek()?.kind) {
+        (Rank::Or, TokenKind::Or) => Some(BinaryOp::Or),
+        (Rank::And, TokenKind::And) => Some(BinaryOp::And),
+        (Rank::Compare, TokenKind::Equal) => Some(BinaryOp::Eq),
+        (Rank::Compare, TokenKind::NotEqual) => Some(BinaryOp::Ne),
+        (Rank::Compare, TokenKind::Less) => Some(BinaryOp::Lt),
+        (Rank::Compare, TokenKind::LessEqual) => Some(BinaryOp::Le),
+        (Rank::Compare, TokenKind::Greater) => Some(BinaryOp::Gt),
+        (Rank::Compare, TokenKind::GreaterEqual) => Some(BinaryOp::Ge),
+        (Rank::Sum, TokenKind::Plus) => Some(BinaryOp::Add),
+        (Rank::Sum, TokenKind::Minus) => Some(BinaryOp::Sub),
+        (Rank::Product, TokenKind::Star) => Some(BinaryOp::Mul),
+        (Rank::Product, TokenKind::Slash) => Some(BinaryOp::Div),
+        (Rank::Product, TokenKind::Percent) => Some(BinaryOp::Rem),
+        _ => None,
+    }
+}
+
+/// A part alone, or a chain that begins with it.
+fn joined(alloc: Global, first: Expr, rest: Vec<Link>) -> Result<Expr, AllocError>
+    ensures { IfOk result (λ e. view.term e ≡ spec.joined (view.term first) (map view.link rest.items)) }
+{
+    if rest.is_empty() {
+        return Ok(first);
+    }
+    let at = first.at;
+    let first = Box::new(alloc, first)?;
+    Ok(Expr {
+        at,
+        node: Node::Chain { first, rest },
+    })
+}
+
+fn push_link(found: &mut Vec<Link>, op: BinaryOp, part: Expr) -> Result<(), AllocError>
+    ensures { OnOk result (map view.link found.new.items ≡ map view.link found.old.items ++ (op, view.term part) ∷ []) }
+{
+    found.push(Link { op, part })?;
+    Ok(())
+}
+
+fn signed(alloc: Global, at: u32, op: UnaryOp, part: Expr) -> Result<Expr, AllocError>
+    ensures { IfOk result (λ e. view.term e ≡ t.placed at (t.unary op (view.term part))) }
+{
+    let part = Box::new(alloc, part)?;
+    Ok(Expr {
+        at,
+        node: Node::Unary { op, part },
+    })
+}
+
+fn cell(alloc: Global, name: Name, index: Expr) -> Result<Expr, AllocError>
+    ensures { IfOk result (λ e. view.term e ≡ t.placed name.at (t.cell (view.word name) (view.term index))) }
+{
+    let at = name.at;
+    let index = Box::new(alloc, index)?;
+    Ok(Expr {
+        at,
+        node: Node::Cell { name, index },
+    })
+}
+
+fn variable(name: Name) -> Expr
+    ensures { view.term result ≡ t.placed name.at (t.var (view.word name)) }
+{
+    Expr {
+        at: name.at,
+        node: Node::Var(name),
+    }
+}
+
+fn input(alloc: Global, at: u32, index: Expr) -> Result<Expr, AllocError>
+    ensures { IfOk result (λ e. view.term e ≡ t.placed at (t.input at (view.term index))) }
+{
+    let index = Box::new(alloc, index)?;
+    Ok(Expr {
+        at,
+        node: Node::Input { word_at: at, index },
+    })
+}
+
+fn picked(alloc: Global, at: u32, test: Expr, yes: Expr, no: Expr) -> Result<Expr, AllocError>
+    ensures { IfOk result (λ e. view.term e ≡ t.placed at (t.pick (view.term test) (view.term yes) (view.term no))) }
+{
+    let test = Box::new(alloc, test)?;
+    let yes = Box::new(alloc, yes)?;
+    let no = Box::new(alloc, no)?;
+    Ok(Expr {
+        at,
+        node: Node::Pick { test, yes, no },
+    })
+}
+
+fn applied(name: Name, args: Vec<Expr>) -> Expr
+    ensures { view.term result ≡ t.placed name.at (t.apply (view.word name) (view.terms_of (map view.term args.items))) }
+{
+    Expr {
+        at: name.at,
+        node: Node::Apply { name, args },
+    }
+}
+
+/// The same expression, which begins at an earlier token.
+fn moved(at: u32, e: Expr) -> Expr
+    ensures { view.term result ≡ spec.moved at (view.term e) }
+{
+    Expr { at, node: e.node }
+}
+
+/// A node at a place.
+fn placed(at: u32, node: Node) -> Expr
+    ensures { view.term result ≡ t.placed at (view.shape node) }
+{
+    Expr { at, node }
+}
+
+/// An expression, where so many levels may be opened.
+pub fn expr(source: &Source<'_>, cursor: &mut Cursor<'_>, levels: u32) -> Result<Expr, Fault>
+    ensures { Reads (parse source.now.bytes.now levels (spec.expr source.now.bytes.now) cursor.old.rest.now) view.term result cursor.new.rest.now }
+{
+    ranked(source, cursor, levels, Rank::Or)
+}
+
+/// An expression whose chains are of this rank or bind tighter.
+#[cycle(expr)]
+#[tactic(auto, using(crate::proofs::Turns::ranked_is))]
+fn ranked(
+    source: &Source<'_>,
+    cursor: &mut Cursor<'_>,
+    levels: u32,
+    rank: Rank,
+) -> Result<Expr, Fault>
+    ensures { Reads (parse source.now.bytes.now levels (spec.ranked source.now.bytes.now rank) cursor.old.rest.now) view.term result cursor.new.rest.now }
+{
+    let first = operand(source, cursor, levels, rank)?;
+    let rest = links(source, cursor, levels, rank)?;
+    Ok(joined(source.alloc, first, rest)?)
+}
+
+fn is_single(rank: Rank) -> bool
+    ensures { result ≡ spec.is_single rank }
+{
+    matches!(rank, Rank::Compare)
+}
+
+#[cycle(expr)]
+#[tactic(auto, using(crate::proofs::Turns::link_turns))]
+fn links(
+    source: &Source<'_>,
+    cursor: &mut Cursor<'_>,
+    levels: u32,
+    rank: Rank,
+) -> Result<Vec<Link>, Fault>
+    ensures { Reads (parse source.now.bytes.now levels (links source.now.bytes.now rank) cursor.old.rest.now) (λ ls. map view.link ls.items) result cursor.new.rest.now }
+{
+    let mut found = Vec::new(source.alloc);
+    for _turn in 0..cursor.left() {
+        let Some(op) = sign(cursor, rank) else {
+            return Ok(found);
+        };
+        cursor.advance();
+        let part = operand(source, cursor, levels, rank)?;
+        push_link(&mut found, op, part)?;
+        if is_single(rank) {
+            return Ok(found);
+        }
+    }
+    Ok(found)
+}
+
+/// An operand of a chain of this rank.
+#[cycle(expr)]
+fn operand(
+    source: &Source<'_>,
+    cursor: &mut Cursor<'_>,
+    levels: u32,
+    rank: Rank,
+) -> Result<Expr, Fault>
+    ensures { Reads (parse source.now.bytes.now levels (spec.operand source.now.bytes.now rank) cursor.old.rest.now) view.term result cursor.new.rest.now }
+{
+    match rank {
+        Rank::Or => ranked(source, cursor, levels, Rank::And),
+        Rank::And => ranked(source, cursor, levels, Rank::Compare),
+        Rank::Compare => ranked(source, cursor, levels, Rank::Sum),
+        Rank::Sum => ranked(source, cursor, levels, Rank::Product),
+        Rank::Product => unary(source, cursor, levels),
+    }
+}
+
+#[cycle(expr)]
+fn unary(source: &Source<'_>, cursor: &mut Cursor<'_>, levels: u32) -> Result<Expr, Fault>
+    ensures { Reads (parse source.now.bytes.now levels (spec.unary source.now.bytes.now) cursor.old.rest.now) view.term result cursor.new.rest.now }
+{
+    let Some(token) = cursor.peek() else {
+        return Err(Fault::Unexpected);
+    };
+    match token.kind {
+        TokenKind::Minus => prefixed(source, cursor, levels, token.start, UnaryOp::Neg),
+        TokenKind::Bang => prefixed(source, cursor, levels, token.start, UnaryOp::Not),
+        _ => primary(source, cursor, levels),
+    }
+}
+
+/// The operand of a unary operator, which is the next token and stands at this place.
+#[cycle(expr)]
+#[tactic(auto, using(crate::proofs::Expressions::inside_none))]
+fn prefixed(
+    source: &Source<'_>,
+    cursor: &mut Cursor<'_>,
+    levels: u32,
+    at: u32,
+    op: UnaryOp,
+) -> Result<Expr, Fault>
+    ensures { Reads (inside source.now.bytes.now levels spec.Operand (λ e. t.placed at (t.unary op e)) cursor.old.rest.now) view.term result cursor.new.rest.now }
+{
+    let inner = within(levels)?;
+    cursor.advance();
+    let part = unary(source, cursor, inner)?;
+    Ok(signed(source.alloc, at, op, part)?)
+}
+
+#[cycle(expr)]
+#[tactic(auto, unfolding(token_grammar::specs::Reader::read, crate::specs::Grammar::primary, crate::specs::Grammar::name))]
+fn primary(source: &Source<'_>, cursor: &mut Cursor<'_>, levels: u32) -> Result<Expr, Fault>
+    ensures { Reads (parse source.now.bytes.now levels (spec.primary source.now.bytes.now) cursor.old.rest.now) view.term result cursor.new.rest.now }
+{
+    let Some(token) = cursor.peek() else {
+        return Err(Fault::Unexpected);
+    };
+    let at = token.start;
+    match token.kind {
+        TokenKind::Int(n) => {
+            cursor.advance();
+            Ok(placed(at, Node::Int(n)))
+        }
+        TokenKind::True => {
+            cursor.advance();
+            Ok(placed(at, Node::Bool(true)))
+        }
+        TokenKind::False => {
+            cursor.advance();
+            Ok(placed(at, Node::Bool(false)))
+        }
+        TokenKind::NoRev => {
+            cursor.advance();
+            Ok(placed(at, Node::NoRev))
+        }
+        TokenKind::Inputs => {
+            cursor.advance();
+            Ok(placed(at, Node::Inputs { word_at: at }))
+        }
+        TokenKind::Name => {
+            cursor.advance();
+            let name = source.name(token)?;
+            named(source, cursor, levels, name)
+        }
+        TokenKind::Input => {
+            cursor.advance();
+            let index = bracketed(source, cursor, levels)?;
+            Ok(input(source.alloc, at, index)?)
+        }
+        TokenKind::Pick => {
+            cursor.advance();
+            pick(source, cursor, levels, at)
+        }
+        TokenKind::OpenParen => parenthesized(source, cursor, levels, at),
+        _ => Err(Fault::Unexpected),
+    }
+}
+
+/// An expression behind its opening parenthesis, which is the next token and stands at this place.
+#[cycle(expr)]
+#[tactic(auto, using(crate::proofs::Expressions::inside_none))]
+fn parenthesized(
+    source: &Source<'_>,
+    cursor: &mut Cursor<'_>,
+    levels: u32,
+    at: u32,
+) -> Result<Expr, Fault>
+    ensures { Reads (inside source.now.bytes.now levels spec.Parens (spec.moved at) cursor.old.rest.now) view.term result cursor.new.rest.now }
+{
+    let inner = within(levels)?;
+    cursor.advance();
+    let e = ranked(source, cursor, inner, Rank::Or)?;
+    cursor.expect(Sort::CloseParen)?;
+    Ok(moved(at, e))
+}
+
+/// What follows a name.
+#[cycle(expr)]
+fn named(
+    source: &Source<'_>,
+    cursor: &mut Cursor<'_>,
+    levels: u32,
+    name: Name,
+) -> Result<Expr, Fault>
+    ensures { Reads (of_name (view.word name) (parse source.now.bytes.now levels (spec.name_tail source.now.bytes.now) cursor.old.rest.now)) view.term result cursor.new.rest.now }
+{
+    let Some(token) = cursor.peek() else {
+        return Ok(variable(name));
+    };
+    match token.kind {
+        TokenKind::OpenBracket => indexed(source, cursor, levels, name),
+        TokenKind::OpenParen => called(source, cursor, levels, name),
+        _ => Ok(variable(name)),
+    }
+}
+
+/// The cell of an array, whose name was read and whose opening bracket is the next token.
+#[cycle(expr)]
+#[tactic(auto, using(crate::proofs::Expressions::inside_none))]
+fn indexed(
+    source: &Source<'_>,
+    cursor: &mut Cursor<'_>,
+    levels: u32,
+    name: Name,
+) -> Result<Expr, Fault>
+    ensures { Reads (inside source.now.bytes.now levels spec.Index (cell_of (view.word name)) cursor.old.rest.now) view.term result cursor.new.rest.now }
+{
+    let inner = within(levels)?;
+    cursor.advance();
+    let index = index(source, cursor, inner)?;
+    Ok(cell(source.alloc, name, index)?)
+}
+
+/// The application of a fun, whose name was read and whose opening parenthesis is the next token.
+#[cycle(expr)]
+#[tactic(auto, using(crate::proofs::Expressions::inside_none))]
+fn called(
+    source: &Source<'_>,
+    cursor: &mut Cursor<'_>,
+    levels: u32,
+    name: Name,
+) -> Result<Expr, Fault>
+    ensures { Reads (inside source.now.bytes.now levels spec.Arguments (apply_of (view.word name)) cursor.old.rest.now) view.term result cursor.new.rest.now }
+{
+    let inner = within(levels)?;
+    cursor.advance();
+    let args = arguments(source, cursor, inner)?;
+    Ok(applied(name, args))
+}
+
+/// An index in its brackets.
+#[cycle(expr)]
+#[tactic(auto, using(crate::proofs::Expressions::bracketed_cases))]
+pub fn bracketed(source: &Source<'_>, cursor: &mut Cursor<'_>, levels: u32) -> Result<Expr, Fault>
+    ensures { Reads (parse source.now.bytes.now levels spec.bracketed cursor.old.rest.now) view.term result cursor.new.rest.now }
+{
+    if !cursor.is_at(Sort::OpenBracket) {
+        return Err(Fault::Unexpected);
+    }
+    let inner = within(levels)?;
+    cursor.advance();
+    index(source, cursor, inner)
+}
+
+/// An index behind its opening bracket.
+#[cycle(expr)]
+#[tactic(auto, using(crate::proofs::Expressions::index_is))]
+fn index(source: &Source<'_>, cursor: &mut Cursor<'_>, levels: u32) -> Result<Expr, Fault>
+    ensures { Reads (parse source.now.bytes.now levels (spec.index source.now.bytes.now) cursor.old.rest.now) view.term result cursor.new.rest.now }
+{
+    let e = ranked(source, cursor, levels, Rank::Or)?;
+    cursor.expect(Sort::CloseBracket)?;
+    Ok(e)
+}
+
+/// The three parts of a `pick`, in their parentheses.
+#[cycle(expr)]
+#[tactic(auto, using(crate::proofs::Expressions::pick_cases))]
+fn pick(source: &Source<'_>, cursor: &mut Cursor<'_>, levels: u32, at: u32) -> Result<Expr, Fault>
+    ensures { Reads (of_parts at (parse source.now.bytes.now levels spec.choice cursor.old.rest.now)) view.term result cursor.new.rest.now }
+{
+    if !cursor.is_at(Sort::OpenParen) {
+        return Err(Fault::Unexpected);
+    }
+    let inner = within(levels)?;
+    cursor.advance();
+    let test = ranked(source, cursor, inner, Rank::Or)?;
+    cursor.expect(Sort::Comma)?;
+    let yes = ranked(source, cursor, inner, Rank::Or)?;
+    cursor.expect(Sort::Comma)?;
+    let no = ranked(source, cursor, inner, Rank::Or)?;
+    cursor.expect(Sort::CloseParen)?;
+    Ok(picked(source.alloc, at, test, yes, no)?)
+}
+
+/// Whether an expression comes.
+#[tactic(auto, unfolding(crate::specs::Grammar::rank_sign, crate::specs::Grammar::bracketed, crate::specs::Grammar::choice, crate::specs::Grammar::name, crate::specs::Grammar::name_tail, crate::specs::Grammar::primary, crate::specs::Grammar::unary, crate::specs::Grammar::product, crate::specs::Grammar::sum, crate::specs::Grammar::comparison, crate::specs::Grammar::conjunction, crate::specs::Grammar::expr))]
+pub fn begins_expr(cursor: &Cursor<'_>) -> bool
+    ensures { result ≡ expr_begins cursor.now.rest.now }
+{
+    let Some(token) = cursor.peek() else {
+        return false;
+    };
+    matches!(
+        token.kind,
+        TokenKind::Minus
+            | TokenKind::Bang
+            | TokenKind::Int(_)
+            | TokenKind::True
+            | TokenKind::False
+            | TokenKind::NoRev
+            | TokenKind::Name
+            | TokenKind::Input
+            | TokenKind::Inputs
+            | TokenKind::Pick
+            | TokenKind::OpenParen
+    )
+}
+
+/// Arguments behind their opening parenthesis.
+#[cycle(expr)]
+#[tactic(auto, using(crate::proofs::Expressions::arguments_are))]
+pub fn arguments(
+    source: &Source<'_>,
+    cursor: &mut Cursor<'_>,
+    levels: u32,
+) -> Result<Vec<Expr>, Fault>
+    ensures { Reads (parse source.now.bytes.now levels (spec.arguments source.now.bytes.now) cursor.old.rest.now) (λ es. map view.term es.items) result cursor.new.rest.now }
+{
+    let args = some_arguments(source, cursor, levels)?;
+    cursor.expect(Sort::CloseParen)?;
+    Ok(args)
+}
+
+#[cycle(expr)]
+fn some_arguments(
+    source: &Source<'_>,
+    cursor: &mut Cursor<'_>,
+    levels: u32,
+) -> Result<Vec<Expr>, Fault>
+    ensures { Reads (parse source.now.bytes.now levels (spec.listing (spec.expr source.now.bytes.now)) cursor.old.rest.now) (λ es. map view.term es.items) result cursor.new.rest.now }
+{
+    let mut args = Vec::new(source.alloc);
+    if !begins_expr(cursor) {
+        return Ok(args);
+    }
+    let first = ranked(source, cursor, levels, Rank::Or)?;
+    push(&mut args, first)?;
+    more_arguments(source, cursor, levels, args)
+}
+
+/// The arguments behind the first, each behind a comma.
+#[cycle(expr)]
+#[tactic(auto, using(crate::proofs::Lists::comma_turns))]
+fn more_arguments(
+    source: &Source<'_>,
+    cursor: &mut Cursor<'_>,
+    levels: u32,
+    args: Vec<Expr>,
+) -> Result<Vec<Expr>, Fault>
+    ensures { Reads (more_listed source.now.bytes.now levels (spec.expr source.now.bytes.now) (length cursor.old.rest.now) (map view.term args.items) cursor.old.rest.now) (λ es. map view.term es.items) result cursor.new.rest.now }
+{
+    let mut args = args;
+    for _turn in 0..cursor.left() {
+        if !cursor.is_at(Sort::Comma) {
+            return Ok(args);
+        }
+        cursor.advance();
+        let arg = ranked(source, cursor, levels, Rank::Or)?;
+        push(&mut args, arg)?;
+    }
+    Ok(args)
+}
+
+fn push(args: &mut Vec<Expr>, arg: Expr) -> Result<(), AllocError>
+    ensures { OnOk result (map view.term args.new.items ≡ map view.term args.old.items ++ view.term arg ∷ []) }
+{
+    args.push(arg)?;
+    Ok(())
+}

@@ -1,0 +1,85 @@
+// The text that is parsed.
+ghost use Rattle.std.specs.Prelude.{◌≡◌, ◌<◌, ◌^◌, ◌-◌, ◌++◌, [], IfOk, OnOk, length, take};
+ghost use Rattle.rev_expressions.specs.Source.{feeds_from, text_of, word_of};
+ghost use Rattle.rev_syntax.specs.Places.{line_of};
+ghost use Rattle.rev_syntax.specs.Trees.{text};
+ghost use Rattle.rev_syntax.specs.View.{shown, word};
+
+use rev_syntax::{Item, Name, Token};
+use std::alloc::{AllocError, Global};
+
+/// A text, with where its memory comes from and the places of its line feeds.
+#[derive(Drop)]
+pub struct Source<'a> {
+    pub alloc: Global,
+    pub bytes: &'a [u8],
+    feeds: Vec<u32>,
+    ghost fed: { feeds.items ≡ feeds_from 0 bytes.now },
+    ghost small: { length bytes.now < 2 ^ 32 - 1 },
+}
+
+/// The places of the line feeds.
+fn feeds_of(alloc: Global, bytes: &[u8]) -> Result<Vec<u32>, AllocError>
+    requires { length bytes.now < 2 ^ 32 - 1 }
+    ensures { IfOk result (λ v. v.items ≡ feeds_from 0 bytes.now) }
+{
+    let mut feeds = Vec::new(alloc);
+    for at in 0..bytes.len() {
+        if bytes[at] == b'\n' {
+            feeds.push(at as u32)?;
+        }
+    }
+    Ok(feeds)
+}
+
+impl<'a> Source<'a> {
+    /// A text, whose line feeds are counted once here.
+    pub fn new(alloc: Global, bytes: &'a [u8]) -> Result<Source<'a>, AllocError>
+        requires { length bytes.now < 2 ^ 32 - 1 }
+        ensures { IfOk result (λ s. s.bytes.now ≡ bytes.now) }
+    {
+        let feeds = feeds_of(alloc, bytes)?;
+        Ok(Source {
+            alloc,
+            bytes,
+            feeds,
+        })
+    }
+
+    /// The line of a place, counted from 1.
+    pub fn line(&self, at: u32) -> u32
+        ensures { result ≡ line_of self.now.bytes.now at }
+    {
+        let before = self.feeds.partition_point(|feed| *feed < at);
+        1 + before as u32
+    }
+
+    /// The name that a token is.
+    pub fn name(&self, token: Token) -> Result<Name, AllocError>
+        ensures { IfOk result (λ n. word n ≡ word_of self.now.bytes.now token) }
+    {
+        let from = (token.start as usize).min(self.bytes.len());
+        let to = (token.end as usize).min(self.bytes.len()).max(from);
+        let text = Vec::from_slice(self.alloc, &self.bytes[from..to])?;
+        Ok(Name {
+            at: token.start,
+            text,
+        })
+    }
+
+    /// The item that a text in quotes is.
+    pub fn text(&self, token: Token) -> Result<Item, AllocError>
+        ensures { IfOk result (λ i. shown i ≡ text token.start (text_of self.now.bytes.now token)) }
+    {
+        let from = (token.start as usize + 1).min(self.bytes.len());
+        let to = (token.end as usize)
+            .saturating_sub(1)
+            .min(self.bytes.len())
+            .max(from);
+        let bytes = Vec::from_slice(self.alloc, &self.bytes[from..to])?;
+        Ok(Item::Text {
+            at: token.start,
+            bytes,
+        })
+    }
+}
