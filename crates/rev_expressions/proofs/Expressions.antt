@@ -129,6 +129,26 @@ module _ (bytes : List ℕ) (n : ℕ) where
       by_first (Read c rest) = by_comma c (K s.Comma rest)
       by_first (Failed x rest) = refl
 
+  -- ---- names
+
+  pub name_end : (ts : List Token) → next ts ≡ None → parse bytes n (name bytes) ts ≡ Failed Unexpected ts
+  unfolding read name
+  name_end [] e = refl
+  name_end (x ∷ ts) e = absurd cc
+
+  module _ (t : Token) (ts : List Token) (is : next ts ≡ Some t) where
+    pub name_yes : t.kind ≡ k.Name → parse bytes n (name bytes) ts ≡ Read (word_of bytes t) (after ts)
+    unfolding read name
+    name_yes h = by_next (λ ts. parse bytes n (name bytes) ts ≡ Read (word_of bytes t) (after ts)) t ts is (λ rest. by_kind (λ x. parse bytes n (name bytes) (x ∷ rest) ≡ Read (word_of bytes x) rest) t k.Name h refl)
+
+    name_at : (rest : List Token) (kd : TokenKind) → kd ≢ k.Name → parse bytes n (name bytes) (at_kind kd t ∷ rest) ≡ Failed Unexpected (at_kind kd t ∷ rest)
+    unfolding read name
+    name_at rest k.Name a = absurd (a refl)
+    name_at rest _ a = refl
+
+    pub name_no : t.kind ≢ k.Name → parse bytes n (name bytes) ts ≡ Failed Unexpected ts
+    name_no a = by_next (λ ts. parse bytes n (name bytes) ts ≡ Failed Unexpected ts) t ts is (λ rest. name_at rest t.kind a)
+
   -- ---- by the next token
 
   pub bracketed_no : (ts : List Token) → is_next alphabet s.OpenBracket ts ≡ false → parse bytes n bracketed ts ≡ Failed Unexpected ts
@@ -273,6 +293,8 @@ sign_is bytes n r.And ts = refl
 sign_is bytes n r.Compare ts = refl
 sign_is bytes n r.Sum ts = refl
 sign_is bytes n r.Product ts = refl
+
+pub ruleset name_cases = (name_end, name_yes, name_no)
 
 pub ruleset bracketed_cases = (bracketed_yes, inside_none)
 

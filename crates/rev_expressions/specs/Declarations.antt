@@ -5,7 +5,7 @@ use Rattle.rev_num.specs.declared.value.ValueKind.TheVariants as kinds
 use Rattle.rev_num.specs.declared.value.Value.{Value}
 use Rattle.rev_num.specs.declared.value.Value.TheVariants as v
 use Rattle.rev_syntax.specs.Trees as t
-use Rattle.rev_syntax.specs.Trees.{Word, Term, Steps, Binder, Extent, Constant, Variable, Entry, Whole}
+use Rattle.rev_syntax.specs.Trees.{Word, Term, Steps, Binder, Extent, Constant, Entry, Whole}
 use Rattle.token_grammar.specs.Form.{Rules, nothing, token, level, both, either}
 use Rattle.rev_expressions.specs.declared.sort.Sort.TheVariants as s
 use Rattle.rev_expressions.specs.declared.sort.Sort.{Sort}

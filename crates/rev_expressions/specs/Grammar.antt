@@ -1,7 +1,7 @@
 -- The grammar of expressions. Each rule is a form; what a form derives is said in `token_grammar`.
 use Rattle.std.specs.Prelude.{ℕ, Bool, true, false, List, [], ◌∷◌}
 use Rattle.rev_syntax.specs.Trees as t
-use Rattle.rev_syntax.specs.Trees.{Word, Term, Terms, Links, Binder, Extent, Steps}
+use Rattle.rev_syntax.specs.Trees.{Word, Term, Binder, Extent, Steps}
 use Rattle.rev_syntax.specs.View.{terms_of, links_of}
 use Rattle.rev_syntax.specs.declared.tree.UnaryOp.TheVariants as u
 use Rattle.rev_syntax.specs.declared.tree.BinaryOp.{BinaryOp}

@@ -1,7 +1,7 @@
 -- The grammar of statements.
 use Rattle.std.specs.Prelude.{ℕ, Bool, true, false, List, [], ◌∷◌, Option, Some, None}
 use Rattle.rev_syntax.specs.Trees as t
-use Rattle.rev_syntax.specs.Trees.{Word, Term, Right, Shown, Step, Steps, Act, Arms}
+use Rattle.rev_syntax.specs.Trees.{Word, Term, Right, Shown, Step, Steps, Act}
 use Rattle.rev_syntax.specs.View.{terms_of, steps_of, arms_of, choice}
 use Rattle.token_grammar.specs.Form.{nothing, token, level, both, either, many}
 use Rattle.rev_expressions.specs.declared.sort.Sort.TheVariants as s

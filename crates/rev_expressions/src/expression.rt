@@ -144,6 +144,22 @@ fn placed(at: u32, node: Node) -> Expr
     Expr { at, node }
 }
 
+/// A name.
+#[tactic(auto, using(crate::proofs::Expressions::name_cases))]
+pub fn name(source: &Source<'_>, cursor: &mut Cursor<'_>, levels: u32) -> Result<Name, Fault>
+    ensures { Reads (parse source.now.bytes.now levels (spec.name source.now.bytes.now) cursor.old.rest.now) view.word result cursor.new.rest.now }
+{
+    let Some(token) = cursor.peek() else {
+        return Err(Fault::Unexpected);
+    };
+    if !matches!(token.kind, TokenKind::Name) {
+        return Err(Fault::Unexpected);
+    }
+    let name = source.name(token)?;
+    cursor.advance();
+    Ok(name)
+}
+
 /// An expression, where so many levels may be opened.
 pub fn expr(source: &Source<'_>, cursor: &mut Cursor<'_>, levels: u32) -> Result<Expr, Fault>
     ensures { Reads (parse source.now.bytes.now levels (spec.expr source.now.bytes.now) cursor.old.rest.now) view.term result cursor.new.rest.now }

@@ -11,6 +11,6 @@ mod sort;
 mod source;
 
 pub use cursor::{Cursor, Fault, within};
-pub use expression::{arguments, begins_expr, bracketed, expr};
+pub use expression::{arguments, begins_expr, bracketed, expr, name};
 pub use sort::Sort;
 pub use source::Source;

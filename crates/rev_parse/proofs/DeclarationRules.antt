@@ -5,7 +5,7 @@ use Rattle.rev_syntax.specs.declared.token.Token.{Token}
 use Rattle.rev_syntax.specs.declared.token.TokenKind.{TokenKind}
 use Rattle.rev_syntax.specs.declared.token.TokenKind.TheVariants as k
 use Rattle.rev_syntax.specs.Trees as t
-use Rattle.rev_syntax.specs.Trees.{Word, Term, Steps, Binder, Extent, Constant, Entry, Whole}
+use Rattle.rev_syntax.specs.Trees.{Word, Steps, Binder, Extent, Entry, Whole}
 use Rattle.token_grammar.specs.Form.{nothing, level, both}
 use Rattle.token_grammar.specs.Outcome.{Outcome, Read, Failed, Parser, and_then, after, next, Unexpected, TooDeep}
 use Rattle.token_grammar.specs.Reader.{begins, first, nullable, passes, next_kind, is_next, read}
@@ -17,9 +17,9 @@ use Rattle.rev_expressions.specs.Statements.{block}
 use Rattle.rev_expressions.specs.Declarations.{KindAt, optional, kind, constant, cells, size, first_value, param, params, names, formal, head, meaning, fun_form, merge_form, variable, shared_of, versioned_form, cumulative_form, proc_form, declaration, declarations, program, inner}
 use Rattle.rev_expressions.specs.Parse.{parse, inside}
 use Rattle.rev_expressions.specs.Lists.{more_of, more_listed}
-use Rattle.rev_parse.specs.Pieces.{plain, declaration_begins, number, count, negative_of, three_names, result_kind}
 use Rattle.rev_expressions.proofs.Lists.{listed_is, all_is, all_end, all_stop, all_go}
 use Rattle.rev_expressions.proofs.Expressions.{K, by_kind, by_next, at_kind, same_outcome, inside_none, inside_go}
+use Rattle.rev_parse.specs.Pieces.{plain, declaration_begins, number, count, negative_of, three_names, result_kind}
 
 -- ---- parts behind each other
 

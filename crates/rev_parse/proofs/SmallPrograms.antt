@@ -6,17 +6,17 @@ use Rattle.std.specs.List.{list_all}
 use Rattle.rev_num.specs.declared.value.Value.{Value as Number}
 use Rattle.rev_num.specs.declared.value.Value.TheVariants as v
 use Rattle.rev_syntax.specs.Trees as t
-use Rattle.rev_syntax.specs.Trees.{Word, Term, Steps, Binder, Extent, Constant, Entry, Whole}
+use Rattle.rev_syntax.specs.Trees.{Word, Term, Binder, Extent, Constant, Entry, Whole}
 use Rattle.rev_syntax.specs.Small.{word_count, term_count, binders_count, by_count, entry_count, entries_count, count, word_formed, term_small, steps_small, binder_formed, by_formed, size_formed, value_formed, first_formed, entry_small, greatest}
 use Rattle.rev_syntax.specs.declared.token.Token.{Token}
 use Rattle.token_grammar.specs.Form.{level, Lang, Nested, AnyNested}
 use Rattle.rev_expressions.specs.declared.sort.Sort.{Sort}
 use Rattle.rev_expressions.specs.declared.sort.Sort.TheVariants as s
 use Rattle.rev_expressions.specs.Source.{int_of}
-use Rattle.rev_parse.specs.SmallTree.{IsSmallTree}
-use Rattle.rev_parse.specs.Verdicts.{most_levels, IsProgram}
 use Rattle.rev_expressions.specs.Grammar.{alphabet, Rule, Inner, Value, Operand, Parens, Index, Arguments, Parts, Body, Params, Names, Cells}
 use Rattle.rev_expressions.specs.Declarations.{KindAt, constant_word, constant, optional, cells, size, first_value, param, params, names, formal, head, meaning, fun_form, merge_form, variable, shared_of, versioned_form, cumulative_form, proc_form, declaration, declarations, program, inner}
+use Rattle.rev_parse.specs.SmallTree.{IsSmallTree}
+use Rattle.rev_parse.specs.Verdicts.{most_levels, IsProgram}
 use Rattle.rev_parse.proofs.TextTokens.{IsNumber, text_tokens, text_spans, proper_number, spans}
 use Rattle.rev_parse.proofs.Holds.{Property, Grows, Weighs, Holds, Inside, holds_nothing, holds_token, holds_both, holds_either, holds_as, holds_any, holds_behind, holds_before, holds_all, holds_listing, holds_within}
 use Rattle.rev_parse.proofs.SmallValues.{IsSmallWord, IsSmallBlock, AreSmallBinders, AreSmallNames, IsSmallExtent, Has}

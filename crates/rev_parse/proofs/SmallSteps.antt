@@ -11,9 +11,9 @@ use Rattle.token_grammar.specs.Form.{Lang}
 use Rattle.rev_expressions.specs.declared.sort.Sort.{Sort}
 use Rattle.rev_expressions.specs.declared.sort.Sort.TheVariants as s
 use Rattle.rev_expressions.specs.Source.{word_of}
-use Rattle.rev_parse.specs.Verdicts.{most_levels}
 use Rattle.rev_expressions.specs.Grammar.{alphabet, Rule, Inner, Value, Arguments, Body, bracketed, expr}
 use Rattle.rev_expressions.specs.Statements.{Else, Test, Last, is_last, tests_of, last_of, conditional, block, actual, application, right_side, item, assigned, assignment, arm, else_part, else_parts, stmt, let_form, if_form, while_form, call_form, return_form, fork_form, join_form, print_form, assert_form, statement, statements, body}
+use Rattle.rev_parse.specs.Verdicts.{most_levels}
 use Rattle.rev_parse.proofs.TextTokens.{proper_name, proper_text, text_length}
 use Rattle.rev_parse.proofs.Holds.{Property, Grows, GrowsTo, Within, Holds, Inside, holds_nothing, holds_token, holds_both, holds_either, holds_many, holds_as, holds_any, holds_behind, holds_before, holds_all, holds_listing, holds_within}
 use Rattle.rev_parse.proofs.SmallValues.{IsSmallWord, IsSmallTerm, IsSmallBlock, Has}

@@ -3,7 +3,7 @@ use Rattle.std.proofs.Common.{◌≡◌, ℕ, suc, ◌+◌, ◌*◌, ◌≤◌, 
 use Rattle.std.proofs.lemmas.Bool.{and_from, and_parts, le-leb, eq-eqb, eqb-true}
 use Rattle.std.specs.Prelude.{nat_lt, ◌==◌, max}
 use Rattle.rev_syntax.specs.Trees as t
-use Rattle.rev_syntax.specs.Trees.{Word, Term, Shape, Terms, Links}
+use Rattle.rev_syntax.specs.Trees.{Word, Term, Shape}
 use Rattle.rev_syntax.specs.View.{terms_of, links_of}
 use Rattle.rev_syntax.specs.declared.tree.UnaryOp.{UnaryOp}
 use Rattle.rev_syntax.specs.declared.tree.UnaryOp.TheVariants as u
@@ -16,8 +16,8 @@ use Rattle.rev_expressions.specs.declared.expression.Rank.TheVariants as r
 use Rattle.rev_expressions.specs.declared.sort.Sort.{Sort}
 use Rattle.rev_expressions.specs.declared.sort.Sort.TheVariants as s
 use Rattle.rev_expressions.specs.Source.{word_of}
-use Rattle.rev_parse.specs.Verdicts.{most_levels}
 use Rattle.rev_expressions.specs.Grammar.{alphabet, Rule, Inner, Value, Operand, Index, Parts, place, moved, joined, operator, linked, rank_sign, is_single, links_by, bracketed, choice, name, name_tail, primary, unary, product, sum, comparison, conjunction, expr, parens, index, arguments, parts}
+use Rattle.rev_parse.specs.Verdicts.{most_levels}
 use Rattle.rev_parse.proofs.TextTokens.{IsProper, span, proper_name, word_length}
 use Rattle.rev_parse.proofs.SmallValues.{IsSmallWord, IsSmallTerm, AreSmallArguments, AreSmallParts, IsSome, Has}
 use Rattle.rev_parse.proofs.Holds.{Within, Grows, GrowsTo, holds_within, holds_before, holds_listing, Holds, Inside, holds_nothing, holds_token, holds_both, holds_either, holds_many, holds_level}

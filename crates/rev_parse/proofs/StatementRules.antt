@@ -4,7 +4,7 @@ use Rattle.rev_syntax.specs.declared.token.Token.{Token}
 use Rattle.rev_syntax.specs.declared.token.TokenKind.{TokenKind}
 use Rattle.rev_syntax.specs.declared.token.TokenKind.TheVariants as k
 use Rattle.rev_syntax.specs.Trees as t
-use Rattle.rev_syntax.specs.Trees.{Word, Term, Right, Shown, Steps, Step, Act, step}
+use Rattle.rev_syntax.specs.Trees.{Word, Term, Right, Steps, Act, step}
 use Rattle.rev_syntax.specs.View.{terms_of, steps_of, arms_of, choice}
 use Rattle.rev_expressions.specs.declared.sort.Sort.{Sort}
 use Rattle.rev_expressions.specs.declared.sort.Sort.TheVariants as s
@@ -19,10 +19,10 @@ use Rattle.rev_expressions.specs.Statements.{Else, Test, Last, is_last, tests_of
 use Rattle.rev_expressions.specs.Declarations.{inner}
 use Rattle.rev_expressions.specs.Parse.{parse, inside, expr_begins}
 use Rattle.rev_expressions.specs.Lists.{more_of, more_listed}
-use Rattle.rev_parse.specs.Parts.{with_last, conditional_of, more_parts, act_of_name, stmt_at, form_of, form_behind, statement_begins, item_begins}
 use Rattle.rev_expressions.proofs.Turns.{repeat_end, repeat_stop, repeat_go, found_before}
 use Rattle.rev_expressions.proofs.Lists.{listed_is, all_is}
-use Rattle.rev_expressions.proofs.Expressions.{K, at_kind, by_kind, by_next, twice, same_outcome, inside_none, inside_go, inside_then, arguments_go, index_only, or_nothing, expr_not_null, begins_any, expr_end}
+use Rattle.rev_expressions.proofs.Expressions.{K, at_kind, by_kind, by_next, same_outcome, inside_none, inside_go, arguments_go, or_nothing, expr_not_null, begins_any, expr_end}
+use Rattle.rev_parse.specs.Parts.{with_last, conditional_of, more_parts, act_of_name, stmt_at, form_of, form_behind, statement_begins, item_begins}
 
 module _ (bytes : List ℕ) (n : ℕ) where
   -- ---- blocks
@@ -44,26 +44,6 @@ module _ (bytes : List ℕ) (n : ℕ) where
   pub body_is : (ts : List Token) → parse bytes n (body bytes) ts ≡ and_then (more_of bytes n (statement bytes) (length ts) [] ts) (λ xs rest. and_then (K s.CloseBrace rest) (λ x rest2. Read (steps_of xs) rest2))
   unfolding read body statements
   body_is ts = ap (λ o. and_then o (λ xs rest. and_then (K s.CloseBrace rest) (λ x rest2. Read (steps_of xs) rest2))) (all_is bytes n (statement bytes) ts)
-
-  -- ---- names
-
-  pub name_end : (ts : List Token) → next ts ≡ None → parse bytes n (name bytes) ts ≡ Failed Unexpected ts
-  unfolding read name
-  name_end [] e = refl
-  name_end (x ∷ ts) e = absurd cc
-
-  module _ (t1 : Token) (ts : List Token) (is : next ts ≡ Some t1) where
-    pub name_yes : t1.kind ≡ k.Name → parse bytes n (name bytes) ts ≡ Read (word_of bytes t1) (after ts)
-    unfolding read name
-    name_yes h = by_next (λ ts. parse bytes n (name bytes) ts ≡ Read (word_of bytes t1) (after ts)) t1 ts is (λ rest. by_kind (λ x. parse bytes n (name bytes) (x ∷ rest) ≡ Read (word_of bytes x) rest) t1 k.Name h refl)
-
-    name_at : (rest : List Token) (kd : TokenKind) → kd ≢ k.Name → parse bytes n (name bytes) (at_kind kd t1 ∷ rest) ≡ Failed Unexpected (at_kind kd t1 ∷ rest)
-    unfolding read name
-    name_at rest k.Name a = absurd (a refl)
-    name_at rest _ a = refl
-
-    pub name_no : t1.kind ≢ k.Name → parse bytes n (name bytes) ts ≡ Failed Unexpected ts
-    name_no a = by_next (λ ts. parse bytes n (name bytes) ts ≡ Failed Unexpected ts) t1 ts is (λ rest. name_at rest t1.kind a)
 
   -- ---- arguments
 
@@ -378,8 +358,6 @@ module _ (bytes : List ℕ) (n : ℕ) where
 
     pub statement_is : parse bytes n (statement bytes) ts ≡ stmt_at bytes t1.start (form_behind bytes n t1 ts)
     statement_is = by_next (λ ts. parse bytes n (statement bytes) ts ≡ stmt_at bytes t1.start (form_behind bytes n t1 ts)) t1 ts is (λ rest. statement_at rest t1.kind)
-
-pub ruleset name_cases = (name_end, name_yes, name_no)
 
 pub ruleset actual_cases = (actual_yes, inside_none)
 

@@ -10,16 +10,16 @@ use Rattle.rev_syntax.specs.View as view
 use Rattle.token_grammar.specs.Form.{token, level, both}
 use Rattle.token_grammar.specs.Outcome.{Outcome, Parser, Read, and_then}
 use Rattle.token_grammar.specs.Reader.{begins}
-use Rattle.rev_parse.specs.declared.declaration.KindAt.{KindAt}
-use Rattle.rev_parse.specs.declared.declaration.Heading.{Heading}
-use Rattle.rev_parse.specs.declared.declaration.Typed.{Typed}
-use Rattle.rev_parse.specs.declared.declaration.Versions.{Versions}
 use Rattle.rev_expressions.specs.declared.sort.Sort.TheVariants as s
 use Rattle.rev_expressions.specs.Source.{int_of}
 use Rattle.rev_expressions.specs.Grammar.{alphabet, Rule, Names, sign}
 use Rattle.rev_expressions.specs.Declarations as d
 use Rattle.rev_expressions.specs.Declarations.{optional}
 use Rattle.rev_expressions.specs.Parse.{parse}
+use Rattle.rev_parse.specs.declared.declaration.KindAt.{KindAt}
+use Rattle.rev_parse.specs.declared.declaration.Heading.{Heading}
+use Rattle.rev_parse.specs.declared.declaration.Typed.{Typed}
+use Rattle.rev_parse.specs.declared.declaration.Versions.{Versions}
 
 -- No number of the tokens is negative: a text has none, since a sign is a token of its own.
 unfoldable pub AreNatural : List Token → Type 0

@@ -4,14 +4,14 @@ ghost use Rattle.rev_expressions.specs.Grammar as g;
 ghost use Rattle.rev_expressions.specs.Declarations as spec;
 ghost use Rattle.rev_expressions.specs.Lists.{more_listed};
 ghost use Rattle.rev_expressions.specs.Parse.{parse};
-ghost use Rattle.rev_parse.specs.Pieces as pieces;
-ghost use Rattle.rev_parse.specs.Pieces.{AreNatural, plain, declaration_begins};
 ghost use Rattle.rev_expressions.specs.Reads.{Reads, same};
 ghost use Rattle.rev_expressions.specs.declared.sort.Sort.TheVariants as s;
+ghost use Rattle.rev_parse.specs.Pieces as pieces;
+ghost use Rattle.rev_parse.specs.Pieces.{AreNatural, plain, declaration_begins};
 ghost use Rattle.rev_syntax.specs.View as view;
 
-use crate::statement::{block, name};
-use rev_expressions::{Cursor, Fault, Sort, Source, expr, within};
+use crate::statement::block;
+use rev_expressions::{Cursor, Fault, Sort, Source, expr, name, within};
 use rev_num::{Value, ValueKind};
 use rev_syntax::{Const, Decl, Expr, Name, Param, Program, Size, TokenKind};
 use std::alloc::AllocError;

@@ -4,34 +4,18 @@ ghost use Rattle.token_grammar.specs.Outcome.{after};
 ghost use Rattle.rev_expressions.specs.Grammar as spec;
 ghost use Rattle.rev_expressions.specs.Statements as st;
 ghost use Rattle.rev_expressions.specs.Lists.{more_of, more_listed};
-ghost use Rattle.rev_parse.specs.Parts.{act_of_name, flat_form_behind, form_behind, item_begins, more_parts, statement_begins, with_last};
 ghost use Rattle.rev_expressions.specs.Parse.{parse, inside};
 ghost use Rattle.rev_expressions.specs.Reads.{Reads, same};
+ghost use Rattle.rev_parse.specs.Parts.{act_of_name, flat_form_behind, form_behind, item_begins, more_parts, statement_begins, with_last};
 ghost use Rattle.rev_syntax.specs.Trees as t;
 ghost use Rattle.rev_syntax.specs.View as view;
 
 use crate::form;
 use rev_expressions::{
-    Cursor, Fault, Sort, Source, arguments, begins_expr, bracketed, expr, within,
+    Cursor, Fault, Sort, Source, arguments, begins_expr, bracketed, expr, name, within,
 };
 use rev_syntax::{Arm, Block, Expr, Form, Item, Name, Rhs, Stmt, Token, TokenKind};
 use std::alloc::AllocError;
-
-/// A name.
-#[tactic(auto, using(crate::proofs::StatementRules::name_cases))]
-pub fn name(source: &Source<'_>, cursor: &mut Cursor<'_>, levels: u32) -> Result<Name, Fault>
-    ensures { Reads (parse source.now.bytes.now levels (spec.name source.now.bytes.now) cursor.old.rest.now) view.word result cursor.new.rest.now }
-{
-    let Some(token) = cursor.peek() else {
-        return Err(Fault::Unexpected);
-    };
-    if !matches!(token.kind, TokenKind::Name) {
-        return Err(Fault::Unexpected);
-    }
-    let name = source.name(token)?;
-    cursor.advance();
-    Ok(name)
-}
 
 /// Arguments in their parentheses.
 #[tactic(auto, using(crate::proofs::StatementRules::actual_cases))]

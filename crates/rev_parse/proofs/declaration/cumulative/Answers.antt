@@ -2,7 +2,6 @@ use Rattle.rev_expressions.specs.declared.sort.Sort.TheVariants as s
 use Rattle.rev_expressions.specs.Declarations as spec
 use Rattle.rev_expressions.specs.Grammar as g
 use Rattle.rev_parse.specs.Pieces as pieces
-use Rattle.rev_parse.specs.Pieces.{AreNatural}
 use Rattle.rev_syntax.specs.View as view
 use Rattle.rev_parse.proofs.Naturals.{natural_rest, natural_taken}
 use Rattle.rev_parse.proofs.declaration.cumulative.Goals as goal

@@ -5,8 +5,8 @@ use Rattle.token_grammar.specs.Reader.{is_next}
 use Rattle.rev_expressions.specs.declared.sort.Sort.TheVariants as s
 use Rattle.rev_expressions.specs.Declarations as spec
 use Rattle.rev_expressions.specs.Grammar.{alphabet}
-use Rattle.rev_parse.specs.Pieces as pieces
 use Rattle.rev_expressions.proofs.Lists.{comma_go}
+use Rattle.rev_parse.specs.Pieces as pieces
 use Rattle.rev_parse.proofs.declaration.more_params.Goals as goal
 
 pub loop-turn-preserved : goal.loop-turn-preserved

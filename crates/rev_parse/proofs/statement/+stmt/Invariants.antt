@@ -1,7 +1,7 @@
 use Rattle.std.proofs.Common.{◌≡◌, [], map, ◌+◌, ◌-◌, ◌*◌}
 use Rattle.rev_expressions.specs.Lists.{more_of}
-use Rattle.rev_parse.specs.Parts.{more_parts}
 use Rattle.rev_expressions.specs.Statements as st
+use Rattle.rev_parse.specs.Parts.{more_parts}
 use Rattle.rev_syntax.specs.View as view
 use Rattle.rev_parse.proofs.statement.+stmt.Given as goal
 
