@@ -1,10 +1,9 @@
 // Expressions.
-ghost use Rattle.std.specs.Prelude.{◌≡◌, ◌++◌, [], ◌∷◌, IfOk, OnOk, map, ℕ, List, length};
+ghost use Rattle.std.specs.Prelude.{◌≡◌, ◌++◌, [], ◌∷◌, IfOk, OnOk, map, length};
 ghost use Rattle.rev_expressions.specs.Grammar as spec;
 ghost use Rattle.rev_expressions.specs.Parse.{parse, inside, IsSign, links, of_name, of_parts, cell_of, apply_of, expr_begins};
 ghost use Rattle.rev_expressions.specs.Lists.{more_listed};
-ghost use Rattle.rev_expressions.specs.Reads.{Reads, same};
-ghost use Rattle.rev_expressions.specs.Source.{word_of};
+ghost use Rattle.rev_expressions.specs.Reads.{Reads};
 ghost use Rattle.rev_syntax.specs.Trees as t;
 ghost use Rattle.rev_syntax.specs.View as view;
 

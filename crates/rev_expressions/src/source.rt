@@ -1,5 +1,5 @@
 // The text that is parsed.
-ghost use Rattle.std.specs.Prelude.{◌≡◌, ◌<◌, ◌^◌, ◌-◌, ◌++◌, [], IfOk, OnOk, length, take};
+ghost use Rattle.std.specs.Prelude.{◌≡◌, ◌<◌, ◌^◌, ◌-◌, IfOk, length};
 ghost use Rattle.rev_expressions.specs.Source.{feeds_from, text_of, word_of};
 ghost use Rattle.rev_syntax.specs.Places.{line_of};
 ghost use Rattle.rev_syntax.specs.Trees.{text};

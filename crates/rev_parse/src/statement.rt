@@ -1,13 +1,11 @@
 // Statements and blocks.
-ghost use Rattle.std.specs.Prelude.{◌≡◌, ◌++◌, [], ◌∷◌, IfOk, OnOk, map, ℕ, List, length, option_map};
-ghost use Rattle.token_grammar.specs.Outcome.{after};
+ghost use Rattle.std.specs.Prelude.{◌≡◌, ◌++◌, [], ◌∷◌, OnOk, map, length, option_map};
 ghost use Rattle.rev_expressions.specs.Grammar as spec;
 ghost use Rattle.rev_expressions.specs.Statements as st;
 ghost use Rattle.rev_expressions.specs.Lists.{more_of, more_listed};
-ghost use Rattle.rev_expressions.specs.Parse.{parse, inside};
-ghost use Rattle.rev_expressions.specs.Reads.{Reads, same};
+ghost use Rattle.rev_expressions.specs.Parse.{parse};
+ghost use Rattle.rev_expressions.specs.Reads.{Reads};
 ghost use Rattle.rev_parse.specs.Parts.{act_of_name, flat_form_behind, form_behind, item_begins, more_parts, statement_begins, with_last};
-ghost use Rattle.rev_syntax.specs.Trees as t;
 ghost use Rattle.rev_syntax.specs.View as view;
 
 use crate::form;
