@@ -19,13 +19,13 @@ use Rattle.merge_decl.specs.FunRules as funs
 use Rattle.merge_decl.specs.Expands as expands
 use Rattle.merge_decl.specs.declared.expand.MergeFault.{MergeFault}
 use Rattle.merge_decl.specs.declared.expand.MergeFault.TheVariants as fun
-use Rattle.rev_types.specs.Faults as types
+use Rattle.rev_kinds.specs.Faults as types
+use Rattle.rev_kinds.specs.declared.fault.TypeFault.{TypeFault}
+use Rattle.rev_kinds.specs.declared.fault.TypeFault.TheVariants as type
+use Rattle.rev_kinds.specs.declared.fault.Which.{Which}
+use Rattle.rev_kinds.specs.declared.fault.Which.TheVariants as which
 use Rattle.rev_types.specs.Program as program
 use Rattle.rev_types.specs.Tables as tables
-use Rattle.rev_types.specs.declared.fault.TypeFault.{TypeFault}
-use Rattle.rev_types.specs.declared.fault.TypeFault.TheVariants as type
-use Rattle.rev_types.specs.declared.fault.Which.{Which}
-use Rattle.rev_types.specs.declared.fault.Which.TheVariants as which
 use Rattle.rev_report.specs.declared.fault.TextFault.TheVariants as fault
 use Rattle.rev_report.specs.declared.refusal.Refusal.{Refusal}
 use Rattle.rev_report.specs.declared.refusal.Refusal.TheVariants as refusals

@@ -10,11 +10,11 @@ ghost use Rattle.rev_top.specs.declared.stop.Stop.TheVariants as stops;
 
 use crate::stop::Stop;
 use merge_decl::expand::{Expanded, MergeFault, expand_funs};
+use rev_kinds::fault::{TypeFault, Which};
 use rev_parse::{SyntaxFault, parse};
 use rev_report::{Limited, Place, Refusal, TextFault};
 use rev_syntax::{LexFault, Program, Token, line_column, tokens};
 use rev_types::check::check;
-use rev_types::fault::{TypeFault, Which};
 use rev_types::typed::Typed;
 use std::alloc::Global;
 

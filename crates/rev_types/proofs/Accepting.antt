@@ -4,7 +4,7 @@ use Rattle.rev_syntax.specs.Trees.{Whole}
 use Rattle.rev_syntax.specs.Small.{IsSmall}
 use Rattle.merge_decl.specs.FunRules.{fun_faults}
 use Rattle.merge_decl.specs.Least.{Among}
-use Rattle.rev_types.specs.declared.fault.TypeFault.{TypeFault}
+use Rattle.rev_kinds.specs.declared.fault.TypeFault.{TypeFault}
 use Rattle.rev_types.specs.Accepted.{IsWellTyped, IsNotTyped, Typed, Accepts}
 use Rattle.rev_types.specs.Program.{faults}
 use Rattle.rev_types.specs.Tables.{Refuses}

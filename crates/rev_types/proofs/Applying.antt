@@ -6,10 +6,10 @@ use Rattle.rev_syntax.specs.Small.{word_formed, term_formed, shape_formed, terms
 use Rattle.merge_decl.specs.FunRules.{Use, count, head, later_here, broken_by, broken_in, first_fun, term_uses, shape_uses, terms_uses, links_uses}
 use Rattle.merge_decl.specs.Names.{Name, same}
 use Rattle.merge_decl.specs.declared.expand.FunHead.{FunHead}
-use Rattle.rev_types.specs.Kinds.{Callee, Names}
+use Rattle.rev_kinds.specs.Kinds.{Callee, Names}
+use Rattle.rev_kinds.specs.Typing.{IsKnown, Applies, ShapeApplies, TermsApply, LinksApply, HasLink}
+use Rattle.rev_kinds.proofs.Lists.{parts, whole, held, and_parts, equal}
 use Rattle.rev_types.specs.Program.{fun_named}
-use Rattle.rev_types.specs.Typing.{IsKnown, Applies, ShapeApplies, TermsApply, LinksApply, HasLink}
-use Rattle.rev_types.proofs.Lists.{parts, whole, held, and_parts, equal}
 
 -- ---- the funs of a program
 
@@ -43,6 +43,10 @@ broken_parts named (u ∷ us) vs h =
     let here = parts (broken_by u (named u.name.text)) (broken_in named (us ++ vs)) h in
     let rest = broken_parts named us vs here.1 in
     (whole _ _ here.0 rest.0, rest.1)
+
+-- the expressions of a small tree have their forms
+pub small_formed : (e : Term) → IsTrue (term_small e) → IsTrue (term_formed e)
+small_formed e f = (and_parts (term_formed e) (nat_le (nodes_around e) 200) (and_parts (term_formed e && nat_le (nodes_around e) 200) (nat_le (chains_around e) 1005) f).0).0
 
 chain_linked : (ls : Links) → IsTrue (is_chain ls) → HasLink ls
 chain_linked no_links h = absurd (true≢false (sym h))
@@ -93,9 +97,6 @@ module _ (named : Name → Option FunHead) (c : Names) (known : (name : Name) (h
         let both = broken_parts named (term_uses n x) (links_uses n rest) h in
         let fx = and_parts (term_formed x) (links_formed rest) f in
         (term_applies n x both.0 fx.0, links_apply n rest both.1 fx.1)
-
-  small_formed : (e : Term) → IsTrue (term_small e) → IsTrue (term_formed e)
-  small_formed e f = (and_parts (term_formed e) (nat_le (nodes_around e) 200) (and_parts (term_formed e && nat_le (nodes_around e) 200) (nat_le (chains_around e) 1005) f).0).0
 
   -- an expression of a small tree
   pub small_applies : (n : ℕ) (e : Term) → broken_in named (term_uses n e) ≡ [] → IsTrue (term_small e) → Applies c e

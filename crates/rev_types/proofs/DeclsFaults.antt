@@ -8,20 +8,20 @@ use Rattle.rev_syntax.specs.Trees.{Word, Binder, Extent, Constant, Variable, Ter
 use Rattle.merge_decl.specs.Least.{Among}
 use Rattle.merge_decl.specs.Names.{Name}
 use Rattle.merge_decl.specs.Table.{Table, find, added}
-use Rattle.rev_types.specs.declared.fault.Which.{Which}
-use Rattle.rev_types.specs.declared.fault.Which.TheVariants as which
-use Rattle.rev_types.specs.declared.fault.TypeFault.{TypeFault}
-use Rattle.rev_types.specs.declared.fault.TypeFault.TheVariants.{LimitOf}
-use Rattle.rev_types.specs.Faults.{IsLimit}
+use Rattle.rev_kinds.specs.declared.fault.Which.{Which}
+use Rattle.rev_kinds.specs.declared.fault.Which.TheVariants as which
+use Rattle.rev_kinds.specs.declared.fault.TypeFault.{TypeFault}
+use Rattle.rev_kinds.specs.declared.fault.TypeFault.TheVariants.{LimitOf}
+use Rattle.rev_kinds.specs.Faults.{IsLimit}
+use Rattle.rev_kinds.specs.Kinds.{Names, Locals, same_kind, term_place}
+use Rattle.rev_kinds.specs.Rules as r
+use Rattle.rev_kinds.proofs.Lists.{whole, passes, stops, not_found, is_unequal, added_unknown, known_more}
+use Rattle.rev_kinds.proofs.Typings.{All, one, app, wants_of, handle_not, complete}
 use Rattle.rev_types.specs.Accepted.{LimitsAlone}
-use Rattle.rev_types.specs.Kinds.{Names, Locals, same_kind, term_place}
-use Rattle.rev_types.specs.Rules as r
 use Rattle.rev_types.specs.Steps as s
 use Rattle.rev_types.specs.Program as p
 use Rattle.rev_types.specs.Judgement.{name_of, IsNewName, ParamsNew, FunTyped, MergeTyped, SharedTyped, ProcTyped, IsMergeOf, ByTyped, SizeTyped, FirstTyped, Returns, EntryTyped, EntriesTyped, ProgramTyped}
-use Rattle.rev_types.proofs.Lists.{whole, passes, stops, not_found, is_unequal, added_unknown, known_more}
 use Rattle.rev_types.proofs.StepsFaults.{AllAre, all_none, all_both, all_of, all_when, all_at, part_nothing, new_nothing, StepsHold, steps_faults, steps_hold}
-use Rattle.rev_types.proofs.Typings.{All, one, app, wants_of, handle_not, complete}
 
 -- ---- what the tables of earlier declarations do not know
 

@@ -11,17 +11,17 @@ use Rattle.merge_decl.specs.Least.{Among}
 use Rattle.merge_decl.specs.Names.{Name}
 use Rattle.merge_decl.specs.Table.{Table, find, added}
 use Rattle.merge_decl.specs.declared.expand.FunHead.{FunHead}
-use Rattle.rev_types.specs.declared.fault.Which.TheVariants as which
-use Rattle.rev_types.specs.Kinds.{Names, Locals, same_kind}
-use Rattle.rev_types.specs.Rules as r
+use Rattle.rev_kinds.specs.declared.fault.Which.TheVariants as which
+use Rattle.rev_kinds.specs.Kinds.{Names, Locals, same_kind}
+use Rattle.rev_kinds.specs.Rules as r
+use Rattle.rev_kinds.specs.Typing.{AllKinded, IsKnown}
+use Rattle.rev_kinds.proofs.Lists.{parts, held, failed, and_parts, unequal, unknown_added, known_added}
+use Rattle.rev_kinds.proofs.Typings.{All, one, app, same_true, wanted_is}
 use Rattle.rev_types.specs.Steps as s
 use Rattle.rev_types.specs.Program as p
-use Rattle.rev_types.specs.Typing.{AllKinded, IsKnown}
 use Rattle.rev_types.specs.Judgement.{name_of, IsNewName, ParamsNew, FunTyped, MergeTyped, SharedTyped, ProcTyped, IsMergeOf, ByTyped, SizeTyped, FirstTyped, Returns, EntryTyped, EntriesTyped, ProgramTyped}
 use Rattle.rev_types.proofs.Applying.{broken_parts, known_fun}
-use Rattle.rev_types.proofs.Lists.{parts, held, failed, and_parts, unequal, unknown_added, known_added}
 use Rattle.rev_types.proofs.StepsSound.{kinded_added, none_kinded, new_is, part_typed, steps_typed}
-use Rattle.rev_types.proofs.Typings.{All, one, app, same_true, wanted_is}
 
 -- ---- what the tables of earlier declarations know
 

@@ -4,18 +4,18 @@ use Rattle.std.proofs.lemmas.Bool.Decides.{nat_tests}
 use Rattle.rev_num.specs.declared.value.ValueKind.TheVariants as k
 use Rattle.rev_syntax.specs.Trees.{Word, Binder, Term, Entry, fun, merge, shared, proc, Whole}
 use Rattle.merge_decl.specs.Table.{Table, find, added}
-use Rattle.rev_types.specs.declared.fault.Which.TheVariants as which
+use Rattle.rev_kinds.specs.declared.fault.Which.TheVariants as which
+use Rattle.rev_kinds.specs.Kinds.{Names, Locals}
+use Rattle.rev_kinds.specs.Rules as r
+use Rattle.rev_kinds.proofs.Lists.{parts, failed}
+use Rattle.rev_kinds.proofs.Typings.{All, one, app}
 use Rattle.rev_types.specs.Judgement.{ProgramTyped}
-use Rattle.rev_types.specs.Kinds.{Names, Locals}
-use Rattle.rev_types.specs.Rules as r
 use Rattle.rev_types.specs.Steps as s
 use Rattle.rev_types.specs.Program as p
 use Rattle.rev_types.specs.Limits.{steps_lets, term_weight, weights_with, cells, procs, funs, EntryWithin, EntriesWithin, IsWithinLimits}
 use Rattle.rev_types.proofs.DeclsFaults.{ParamsHold, LocalsHold, EntriesHold, program_faults}
-use Rattle.rev_types.proofs.Lists.{parts, failed}
 use Rattle.rev_types.proofs.StepsFaults.{AllAre}
 use Rattle.rev_types.proofs.StepsWithin.{Never, more_left, steps_never, steps_within, not_last, one_less, one_more}
-use Rattle.rev_types.proofs.Typings.{All, one, app}
 use Rattle.rev_types.proofs.Weights.{Caps, none_caps, added_caps, term_caps}
 
 -- ---- parameters

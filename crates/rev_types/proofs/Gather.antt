@@ -10,16 +10,17 @@ use Rattle.merge_decl.specs.FunRules.{count}
 use Rattle.merge_decl.specs.Table.{Table, find, added}
 use Rattle.merge_decl.specs.Least.{least}
 use Rattle.merge_decl.proofs.Leasts.{least-append}
-use Rattle.rev_types.specs.declared.fault.TypeFault.{TypeFault}
-use Rattle.rev_types.specs.declared.fault.Which.{Which}
-use Rattle.rev_types.specs.declared.fault.Which.TheVariants as which
-use Rattle.rev_types.specs.declared.names.Holder.{Holder}
-use Rattle.rev_types.specs.Faults.{place, rank}
-use Rattle.rev_types.specs.Kinds.{Callee, Names, Locals, same_kind, name_kind, operand_kind, kind_in, right_kind, right_place, term_place}
-use Rattle.rev_types.specs.Rules as r
+use Rattle.rev_kinds.specs.declared.fault.TypeFault.{TypeFault}
+use Rattle.rev_kinds.specs.declared.fault.Which.{Which}
+use Rattle.rev_kinds.specs.declared.fault.Which.TheVariants as which
+use Rattle.rev_kinds.specs.declared.names.Holder.{Holder}
+use Rattle.rev_kinds.specs.Faults.{place, rank}
+use Rattle.rev_kinds.specs.Kinds.{Callee, Names, Locals, same_kind, name_kind, operand_kind, kind_in, right_kind, right_place, term_place}
+use Rattle.rev_kinds.specs.Rules as r
+use Rattle.rev_kinds.specs.Walk.{both}
 use Rattle.rev_types.specs.Steps as s
 use Rattle.rev_types.specs.Program as p
-use Rattle.rev_types.specs.Walk as w
+use Rattle.rev_types.specs.Walk.{program_by}
 
 -- Two ways to gather faults, the second of which is the first seen by h.
 module _ {M N : Type 0} (none : M) (one : TypeFault → M) (both : M → M → M) (none' : N) (one' : TypeFault → N) (both' : N → N → N)
@@ -323,6 +324,6 @@ module _ {M N : Type 0} (none : M) (one : TypeFault → M) (both : M → M → M
       (steps_first (p.outside x.entries) None [] 65 none none' x.main h-none)
 
 -- the first fault of a program is the first of all its faults
-pub first_of_faults : (x : Whole) → least place rank (p.faults x) ≡ w.program_by x
+pub first_of_faults : (x : Whole) → least place rank (p.faults x) ≡ program_by x
 first_of_faults x =
-    program_first [] (λ f. f ∷ []) (λ xs ys. xs ++ ys) None Some w.both (λ fs. least place rank fs) refl (λ f. refl) (λ xs ys. least-append place rank xs ys) x
+    program_first [] (λ f. f ∷ []) (λ xs ys. xs ++ ys) None Some both (λ fs. least place rank fs) refl (λ f. refl) (λ xs ys. least-append place rank xs ys) x

@@ -5,11 +5,9 @@ pub mod DeclsSound
 pub mod DeclsWithin
 pub mod Gather
 pub mod Layouts
-pub mod Lists
 pub mod Named
 pub mod Namings
 pub mod StepsFaults
 pub mod StepsSound
 pub mod StepsWithin
-pub mod Typings
 pub mod Weights

@@ -4,13 +4,14 @@ use Rattle.rev_syntax.specs.Trees.{Entry, fun, merge, shared, proc, Whole}
 use Rattle.merge_decl.specs.Names.{Name, same}
 use Rattle.merge_decl.specs.Table.{Table, find, added}
 use Rattle.merge_decl.proofs.Tables.{or_else, or_else-step, find-added, or_else-none}
-use Rattle.rev_types.specs.declared.names.Holder.{Holder}
-use Rattle.rev_types.specs.declared.names.Callee as held
-use Rattle.rev_types.specs.declared.names.Checker as held_checker
-use Rattle.rev_types.specs.Kinds.{Callee, Locals}
+use Rattle.rev_kinds.specs.declared.names.Holder.{Holder}
+use Rattle.rev_kinds.specs.declared.names.Callee as held
+use Rattle.rev_kinds.specs.declared.names.Checker as held_checker
+use Rattle.rev_kinds.specs.Kinds.{Callee, Locals}
+use Rattle.rev_kinds.specs.Walk.{Fault, both, callee, names_of}
 use Rattle.rev_types.specs.Program as p
 use Rattle.rev_types.specs.Tables.{shared_table, proc_table, fun_table, callees}
-use Rattle.rev_types.specs.Walk.{Fault, both, callee, entries_by, names_of, program_by, steps_by}
+use Rattle.rev_types.specs.Walk.{entries_by, program_by, steps_by}
 
 module _ {V : Type 0} where
   -- a further entry, and then what is behind it

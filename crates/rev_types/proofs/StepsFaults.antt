@@ -6,18 +6,18 @@ use Rattle.rev_syntax.specs.Trees.{Word, Term, Terms, Right, plain, called, fork
 use Rattle.merge_decl.specs.FunRules.{count}
 use Rattle.merge_decl.specs.Least.{Among}
 use Rattle.merge_decl.specs.Table.{find, added}
-use Rattle.rev_types.specs.declared.fault.Which.{Which}
-use Rattle.rev_types.specs.declared.fault.Which.TheVariants as which
-use Rattle.rev_types.specs.declared.fault.TypeFault.{TypeFault}
-use Rattle.rev_types.specs.declared.fault.TypeFault.TheVariants.{LimitOf}
-use Rattle.rev_types.specs.declared.names.Holder.{Holder}
-use Rattle.rev_types.specs.Kinds.{Callee, Names, Locals, name_kind, result_of, kind_in, right_kind, right_place, term_place}
-use Rattle.rev_types.specs.Rules as r
+use Rattle.rev_kinds.specs.declared.fault.Which.{Which}
+use Rattle.rev_kinds.specs.declared.fault.Which.TheVariants as which
+use Rattle.rev_kinds.specs.declared.fault.TypeFault.{TypeFault}
+use Rattle.rev_kinds.specs.declared.fault.TypeFault.TheVariants.{LimitOf}
+use Rattle.rev_kinds.specs.declared.names.Holder.{Holder}
+use Rattle.rev_kinds.specs.Kinds.{Callee, Names, Locals, name_kind, result_of, kind_in, right_kind, right_place, term_place}
+use Rattle.rev_kinds.specs.Rules as r
+use Rattle.rev_kinds.specs.Typing.{HasKind}
+use Rattle.rev_kinds.proofs.Lists.{whole, passes, equal, is_equal}
+use Rattle.rev_kinds.proofs.Typings.{All, one, app, wants_nothing, handle_not, alike_nothing, scalar_complete, array_complete, args_complete, complete}
 use Rattle.rev_types.specs.Steps as s
-use Rattle.rev_types.specs.Typing.{HasKind}
 use Rattle.rev_types.specs.Judgement.{CallTyped, RightHas, ItemTyped, ItemsTyped, ReturnTyped, StepTyped, ActTyped, StepsTyped, ArmsTyped}
-use Rattle.rev_types.proofs.Lists.{whole, passes, equal, is_equal}
-use Rattle.rev_types.proofs.Typings.{All, one, app, wants_nothing, handle_not, alike_nothing, scalar_complete, array_complete, args_complete, complete}
 
 -- ---- expressions and right sides
 

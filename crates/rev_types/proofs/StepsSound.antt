@@ -10,15 +10,15 @@ use Rattle.merge_decl.specs.Names.{Name, same}
 use Rattle.merge_decl.specs.Table.{find, added}
 use Rattle.merge_decl.specs.declared.expand.FunHead.{FunHead}
 use Rattle.merge_decl.proofs.Tables.{or_else, find-added}
-use Rattle.rev_types.specs.declared.names.Holder.{Holder}
-use Rattle.rev_types.specs.Kinds.{Callee, Names, Locals, name_kind, result_of, kind_in, right_kind, right_place, term_place}
-use Rattle.rev_types.specs.Rules as r
+use Rattle.rev_kinds.specs.declared.names.Holder.{Holder}
+use Rattle.rev_kinds.specs.Kinds.{Callee, Names, Locals, name_kind, result_of, kind_in, right_kind, right_place, term_place}
+use Rattle.rev_kinds.specs.Rules as r
+use Rattle.rev_kinds.specs.Typing.{HasKind, AllKinded, IsKnown}
+use Rattle.rev_kinds.proofs.Lists.{parts, held, and_parts, equal}
+use Rattle.rev_kinds.proofs.Typings.{All, one, app, no_handle, alike_is, scalar_sound, array_sound, args_sound, has_wanted, sound, Kinded}
 use Rattle.rev_types.specs.Steps as s
-use Rattle.rev_types.specs.Typing.{HasKind, AllKinded, IsKnown}
 use Rattle.rev_types.specs.Judgement.{CallTyped, RightHas, ItemTyped, ItemsTyped, ReturnTyped, StepTyped, ActTyped, StepsTyped, ArmsTyped}
 use Rattle.rev_types.proofs.Applying.{broken_parts, small_applies, small_apply}
-use Rattle.rev_types.proofs.Lists.{parts, held, and_parts, equal}
-use Rattle.rev_types.proofs.Typings.{All, one, app, no_handle, alike_is, scalar_sound, array_sound, args_sound, has_wanted, sound, Kinded}
 
 -- ---- scopes in which each local has a kind
 

@@ -4,14 +4,14 @@ use Rattle.rev_num.specs.declared.value.ValueKind.{ValueKind}
 use Rattle.rev_num.specs.declared.value.ValueKind.TheVariants as k
 use Rattle.rev_syntax.specs.Trees.{Shown, text, shown, Step, step, Act, bind, assign, assign_cell, choose, choose_or, repeat, call, return, fork, join, print, assert, Steps, no_steps, steps, Arms, no_arms, arm}
 use Rattle.merge_decl.specs.Table.{find}
-use Rattle.rev_types.specs.declared.fault.TypeFault.{TypeFault}
-use Rattle.rev_types.specs.Kinds.{Names, Locals, kind_in, term_place}
-use Rattle.rev_types.specs.Rules as r
+use Rattle.rev_kinds.specs.declared.fault.TypeFault.{TypeFault}
+use Rattle.rev_kinds.specs.Kinds.{Names, Locals, kind_in, term_place}
+use Rattle.rev_kinds.specs.Rules as r
+use Rattle.rev_kinds.proofs.Lists.{parts, failed, unequal}
+use Rattle.rev_kinds.proofs.Typings.{All, one, app}
 use Rattle.rev_types.specs.Steps as s
 use Rattle.rev_types.specs.Limits.{step_lets, act_lets, steps_lets, arms_lets, StepPrints, ActPrints, StepsPrint, ArmsPrint}
-use Rattle.rev_types.proofs.Lists.{parts, failed, unequal}
 use Rattle.rev_types.proofs.StepsFaults.{ItemsHold, StepHolds, ActHolds, StepsHold, ArmsHold}
-use Rattle.rev_types.proofs.Typings.{All, one, app}
 
 -- ---- how many locals are left
 

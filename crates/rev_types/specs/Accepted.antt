@@ -4,9 +4,9 @@ use Rattle.rev_syntax.specs.Trees.{Whole}
 use Rattle.rev_syntax.specs.Small.{IsSmall}
 use Rattle.merge_decl.specs.FunRules.{fun_faults}
 use Rattle.merge_decl.specs.Least.{Among}
-use Rattle.rev_types.specs.declared.fault.TypeFault.{TypeFault}
-use Rattle.rev_types.specs.declared.fault.TypeFault.TheVariants.{OutOfMemory}
-use Rattle.rev_types.specs.Faults.{IsLimit}
+use Rattle.rev_kinds.specs.declared.fault.TypeFault.{TypeFault}
+use Rattle.rev_kinds.specs.declared.fault.TypeFault.TheVariants.{OutOfMemory}
+use Rattle.rev_kinds.specs.Faults.{IsLimit}
 use Rattle.rev_types.specs.Program.{faults}
 use Rattle.rev_types.specs.Judgement.{ProgramTyped}
 use Rattle.rev_types.specs.Limits.{IsWithinLimits}

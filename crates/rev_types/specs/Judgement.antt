@@ -11,8 +11,8 @@ use Rattle.merge_decl.specs.FunRules.{count}
 use Rattle.merge_decl.specs.Least.{Among}
 use Rattle.merge_decl.specs.Names.{Name}
 use Rattle.merge_decl.specs.Table.{find, added}
-use Rattle.rev_types.specs.Kinds.{Callee, Names, Locals}
-use Rattle.rev_types.specs.Typing.{ScalarHas, ArrayHas, HasKind, ArgsHave}
+use Rattle.rev_kinds.specs.Kinds.{Callee, Names, Locals}
+use Rattle.rev_kinds.specs.Typing.{ScalarHas, ArrayHas, HasKind, ArgsHave}
 use Rattle.rev_types.specs.Steps.{returns}
 use Rattle.rev_types.specs.Program.{outside, within, with_params, merge_locals, size_cells}
 

@@ -1,14 +1,10 @@
 pub mod Accepted
-pub mod Faults
 pub mod Judgement
-pub mod Kinds
 pub mod Layout
 pub mod Limits
 pub mod Naming
 pub mod Passing
 pub mod Program
-pub mod Rules
 pub mod Steps
 pub mod Tables
-pub mod Typing
 pub mod Walk

@@ -3,8 +3,8 @@ use Rattle.std.specs.Prelude.{◌≡◌, Option, Some, None, List, ◌∷◌, �
 use Rattle.rev_syntax.specs.Trees.{Entry, fun, merge, shared, proc}
 use Rattle.merge_decl.specs.Least.{Among}
 use Rattle.merge_decl.specs.Names.{Name}
-use Rattle.rev_types.specs.declared.names.Holder.{Holder}
-use Rattle.rev_types.specs.Kinds.{Callee}
+use Rattle.rev_kinds.specs.declared.names.Holder.{Holder}
+use Rattle.rev_kinds.specs.Kinds.{Callee}
 use Rattle.rev_types.specs.Program.{holder, shared_named, proc_named, fun_named}
 
 -- a declaration declares this name as this shared variable, as this procedure, as this fun

@@ -6,14 +6,14 @@ use Rattle.rev_num.specs.Value.{kind_of}
 use Rattle.rev_syntax.specs.Trees.{Word, Binder, Extent, Constant, Variable, Term, placed, Shape, Terms, Links, int, bool, no_rev, var, cell, apply, input, inputs, pick, unary, chain, no_terms, term, no_links, link, Steps, Entry, fun, merge, shared, proc, Whole}
 use Rattle.merge_decl.specs.Names.{Name, same}
 use Rattle.merge_decl.specs.Table.{Table, find, added}
-use Rattle.rev_types.specs.declared.names.Holder.{Holder}
+use Rattle.rev_kinds.specs.declared.names.Holder.{Holder}
+use Rattle.rev_kinds.specs.declared.fault.Which.{Which}
+use Rattle.rev_kinds.specs.declared.fault.Which.TheVariants as which
+use Rattle.rev_kinds.specs.declared.fault.TypeFault.{TypeFault}
+use Rattle.rev_kinds.specs.declared.fault.TypeFault.TheVariants.{UnknownName, Redeclared, WrongType, WrongCount, NoReturn, LimitOf}
+use Rattle.rev_kinds.specs.Kinds.{Callee, Names, Locals, same_kind, kind_in, term_place}
+use Rattle.rev_kinds.specs.Rules.{wants, not_rev, part_by}
 use Rattle.rev_types.specs.declared.tables.SharedInfo.{SharedInfo}
-use Rattle.rev_types.specs.declared.fault.Which.{Which}
-use Rattle.rev_types.specs.declared.fault.Which.TheVariants as which
-use Rattle.rev_types.specs.declared.fault.TypeFault.{TypeFault}
-use Rattle.rev_types.specs.declared.fault.TypeFault.TheVariants.{UnknownName, Redeclared, WrongType, WrongCount, NoReturn, LimitOf}
-use Rattle.rev_types.specs.Kinds.{Callee, Names, Locals, same_kind, kind_in, term_place}
-use Rattle.rev_types.specs.Rules.{wants, not_rev, part_by}
 use Rattle.rev_types.specs.Steps.{new_local, one_more_local, steps_by, returns}
 
 -- ---- what names mean

@@ -4,12 +4,12 @@ use Rattle.rev_num.specs.declared.value.ValueKind.{ValueKind}
 use Rattle.rev_num.specs.declared.value.ValueKind.TheVariants as k
 use Rattle.rev_syntax.specs.Trees.{Word, Term, Right, Shown, text, shown, Step, step, Act, bind, assign, assign_cell, choose, choose_or, repeat, call, return, fork, join, print, assert, Steps, no_steps, steps, Arms, no_arms, arm}
 use Rattle.merge_decl.specs.Table.{find, added}
-use Rattle.rev_types.specs.declared.names.Holder.{Holder}
-use Rattle.rev_types.specs.declared.fault.Which.TheVariants as which
-use Rattle.rev_types.specs.declared.fault.TypeFault.{TypeFault}
-use Rattle.rev_types.specs.declared.fault.TypeFault.TheVariants.{Redeclared, WrongType, LimitOf}
-use Rattle.rev_types.specs.Kinds.{Names, Locals, name_kind, kind_in, right_kind, right_place, term_place}
-use Rattle.rev_types.specs.Rules.{not_rev, alike, scalar_use, array_use, part_by, term_by, right_by, call_by}
+use Rattle.rev_kinds.specs.declared.names.Holder.{Holder}
+use Rattle.rev_kinds.specs.declared.fault.Which.TheVariants as which
+use Rattle.rev_kinds.specs.declared.fault.TypeFault.{TypeFault}
+use Rattle.rev_kinds.specs.declared.fault.TypeFault.TheVariants.{Redeclared, WrongType, LimitOf}
+use Rattle.rev_kinds.specs.Kinds.{Names, Locals, name_kind, kind_in, right_kind, right_place, term_place}
+use Rattle.rev_kinds.specs.Rules.{not_rev, alike, scalar_use, array_use, part_by, term_by, right_by, call_by}
 
 -- the locals after a `let`
 abbrev pub bound : Names → Locals → Word → Right → Locals

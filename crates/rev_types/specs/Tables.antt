@@ -3,14 +3,14 @@ use Rattle.std.specs.Prelude.{◌≢◌, Some, List, [], ◌∷◌, map}
 use Rattle.rev_syntax.specs.Trees.{Entry, fun, merge, shared, proc, Whole}
 use Rattle.merge_decl.specs.Least.{IsFirst}
 use Rattle.merge_decl.specs.Table.{Table, added}
-use Rattle.rev_types.specs.declared.fault.TypeFault.{TypeFault}
-use Rattle.rev_types.specs.declared.fault.TypeFault.TheVariants.{OutOfMemory}
-use Rattle.rev_types.specs.declared.names.Holder.{Holder}
-use Rattle.rev_types.specs.declared.names.Callee as held
-use Rattle.rev_types.specs.Faults.{place, rank}
-use Rattle.rev_types.specs.Kinds.{Callee}
+use Rattle.rev_kinds.specs.declared.fault.TypeFault.{TypeFault}
+use Rattle.rev_kinds.specs.declared.fault.TypeFault.TheVariants.{OutOfMemory}
+use Rattle.rev_kinds.specs.declared.names.Holder.{Holder}
+use Rattle.rev_kinds.specs.declared.names.Callee as held
+use Rattle.rev_kinds.specs.Faults.{place, rank}
+use Rattle.rev_kinds.specs.Kinds.{Callee}
+use Rattle.rev_kinds.specs.Walk.{callee}
 use Rattle.rev_types.specs.Program.{holder, faults}
-use Rattle.rev_types.specs.Walk.{callee}
 
 -- the first shared variable of each name, after those of a table
 abbrev pub shared_table : Table Holder → List Entry → Table Holder

@@ -1,106 +1,16 @@
--- The rules gathered by the first of two faults, and what a contract sees of the checker.
-use Rattle.std.specs.Prelude.{ℕ, Bool, if◌then◌else◌, Option, Some, None, option_map, List, map}
+-- The rules on statements and declarations gathered by the first of two faults.
+use Rattle.std.specs.Prelude.{ℕ, Bool, Option, Some, None, List}
 use Rattle.rev_num.specs.declared.value.ValueKind.{ValueKind}
-use Rattle.rev_syntax.specs.Trees.{Word, Binder, Extent, Constant, Term, Shape, Terms, Links, Right, Shown, Step, Act, Steps, Arms, Entry, Whole}
-use Rattle.rev_syntax.specs.View.{binder}
-use Rattle.rev_syntax.specs.declared.tree.BinaryOp.{BinaryOp}
-use Rattle.merge_decl.specs.Least.{first_of}
-use Rattle.merge_decl.specs.Table.{Table, find}
-use Rattle.rev_types.specs.declared.fault.TypeFault.{TypeFault}
-use Rattle.rev_types.specs.declared.fault.Which.{Which}
-use Rattle.rev_types.specs.declared.names.Holder.{Holder}
-use Rattle.rev_types.specs.declared.names.Callee as held
-use Rattle.rev_types.specs.declared.names.Checker as held_checker
-use Rattle.rev_types.specs.Faults.{place, rank}
-use Rattle.rev_types.specs.Kinds.{Callee, Names, Locals}
-use Rattle.rev_types.specs.Rules as r
+use Rattle.rev_syntax.specs.Trees.{Word, Binder, Extent, Constant, Term, Right, Shown, Step, Act, Steps, Arms, Entry, Whole}
+use Rattle.merge_decl.specs.Table.{Table}
+use Rattle.rev_kinds.specs.declared.fault.Which.{Which}
+use Rattle.rev_kinds.specs.declared.names.Holder.{Holder}
+use Rattle.rev_kinds.specs.Kinds.{Names, Locals}
+use Rattle.rev_kinds.specs.Walk.{Fault, both}
 use Rattle.rev_types.specs.Steps as s
 use Rattle.rev_types.specs.Program as p
 
--- ---- views
-
-abbrev pub callee : held.Callee → Callee
-callee f = record { params = map binder f.params.now; result = f.result }
-
--- what names mean to a checker
-abbrev pub names_of : held_checker.Checker → Names
-names_of c = record {
-  shared = λ name. if c.inside then None else find name c.shared.now;
-  procs = λ name. option_map callee (find name c.procs.now);
-  funs = λ name. option_map callee (find name c.funs.now);
-  inside = c.inside;
-}
-
--- ---- the first fault
-
-abbrev pub Fault : Type 0
-Fault = Option TypeFault
-
-abbrev pub both : Fault → Fault → Fault
-both = first_of place rank
-
-abbrev pub wants : ℕ → Option ValueKind → ValueKind → Fault
-wants = r.wants None Some both
-
-abbrev pub not_rev : ℕ → Option ValueKind → Fault
-not_rev = r.not_rev None Some both
-
-abbrev pub alike : ℕ → Option ValueKind → Option ValueKind → Fault
-alike = r.alike None Some both
-
-abbrev pub fits : ℕ → Option ValueKind → Option Binder → Fault
-fits = r.fits None Some both
-
-abbrev pub scalar_use : Word → Option (Option ValueKind) → Option Holder → Fault
-scalar_use = r.scalar_use None Some both
-
-abbrev pub array_use : Word → Option (Option ValueKind) → Option Holder → Fault
-array_use = r.array_use None Some both
-
-abbrev pub input_use : Bool → ℕ → Fault
-input_use = r.input_use None Some both
-
-abbrev pub left_operand : BinaryOp → ℕ → Option ValueKind → Fault
-left_operand = r.left_operand None Some both
-
-abbrev pub right_operand : BinaryOp → Option ValueKind → ℕ → Option ValueKind → Fault
-right_operand = r.right_operand None Some both
-
-abbrev pub first_operand : Links → ℕ → Option ValueKind → Fault
-first_operand = r.first_operand None Some both
-
-abbrev pub params_of : Option Callee → List Binder
-params_of = r.params_of None Some both
-
-abbrev pub term_by : Names → Locals → Term → Fault
-term_by = r.term_by None Some both
-
-abbrev pub shape_by : Names → Locals → Shape → Fault
-shape_by = r.shape_by None Some both
-
-abbrev pub args_by : Names → Locals → List Binder → ℕ → Fault → Terms → Fault
-args_by = r.args_by None Some both
-
-abbrev pub arg_by : Names → Locals → List Binder → ℕ → Term → Fault
-arg_by = r.arg_by None Some both
-
-abbrev pub links_by : Names → Locals → Option ValueKind → Fault → Links → Fault
-links_by = r.links_by None Some both
-
-abbrev pub part_by : Names → Locals → Term → ValueKind → Fault
-part_by = r.part_by None Some both
-
-abbrev pub callee_use : Word → ℕ → Option Callee → Fault
-callee_use = r.callee_use None Some both
-
-abbrev pub call_by : Names → Locals → Word → Terms → Fault
-call_by = r.call_by None Some both
-
-abbrev pub result_use : ℕ → Option Callee → Fault
-result_use = r.result_use None Some both
-
-abbrev pub right_by : Names → Locals → Right → Fault
-right_by = r.right_by None Some both
+-- ---- statements
 
 abbrev pub new_local : Word → Option (Option ValueKind) → Option Holder → Fault
 new_local = s.new_local None Some both

@@ -2,23 +2,24 @@
 
 ghost use Rattle.std.specs.Prelude.{◌≡◌, ◌<◌, ◌^◌, [], ◌++◌, None, length, map, IfErr, IfOk, OnOk, option_map};
 ghost use Rattle.rev_syntax.specs.View.{entry, program as whole, word};
+ghost use Rattle.rev_kinds.specs.declared.fault.TypeFault.TheVariants.{OutOfMemory};
+ghost use Rattle.rev_kinds.specs.Walk.{names_of};
 ghost use Rattle.rev_types.specs.Accepted.{IsWellTyped, IsNotTyped};
-ghost use Rattle.rev_types.specs.declared.fault.TypeFault.TheVariants.{OutOfMemory};
 ghost use Rattle.rev_types.specs.Passing.{passed_of};
 ghost use Rattle.rev_types.specs.Program as program;
 ghost use Rattle.rev_types.specs.Tables.{Refuses};
 ghost use Rattle.rev_types.specs.Walk as rule;
 
 use crate::decls::decl;
-use crate::fault::{TypeFault, first};
 use crate::lookup::{fun_table, proc_table, shared_table};
-use crate::names::Checker;
 use crate::passed::{Passed, cells_in};
-use crate::steps::Body;
+use crate::steps::{Body, block};
 use crate::tables::{SharedInfo, Tables};
 use crate::typed::{Typed, make_typed};
 use merge_decl::expand::Expanded;
 use merge_decl::table::NameTable;
+use rev_kinds::fault::{TypeFault, first};
+use rev_kinds::names::Checker;
 use rev_syntax::{Decl, Name, Program};
 use std::alloc::{AllocError, Global};
 
@@ -30,7 +31,7 @@ fn declarations(
     decls: &[Decl],
 ) -> Result<Option<TypeFault>, AllocError>
     requires { length decls.now < 2 ^ 32 }
-    ensures { IfOk result (λ f. f ≡ rule.entries_by (rule.names_of outer.now) (rule.names_of inner.now) program.nothing_passed None (map entry decls.now)) }
+    ensures { IfOk result (λ f. f ≡ rule.entries_by (names_of outer.now) (names_of inner.now) program.nothing_passed None (map entry decls.now)) }
 {
     let mut passed = Passed::new(alloc);
     let mut found = None;
@@ -66,7 +67,7 @@ fn first_fault(alloc: Global, p: &Program) -> Result<Option<TypeFault>, AllocErr
         locals: NameTable::new(alloc),
         left: 65,
     };
-    let main = outer.block(alloc, None, &mut body, &p.main)?;
+    let main = block(alloc, &outer, None, &mut body, &p.main)?;
     Ok(first(declared, main))
 }
 

@@ -5,17 +5,18 @@ ghost use Rattle.std.specs.declared.option.Option.{Option};
 ghost use Rattle.rev_num.specs.declared.value.ValueKind.TheVariants as k;
 ghost use Rattle.rev_syntax.specs.View.{act, arms, binder, block, constant, entry, extent, stmt, stmts, term, word};
 ghost use Rattle.merge_decl.specs.Table.{added, find};
+ghost use Rattle.rev_kinds.specs.Walk.{both, names_of};
 ghost use Rattle.rev_types.specs.Passing.{passed_of};
 ghost use Rattle.rev_types.specs.Program as program;
 ghost use Rattle.rev_types.specs.Steps as steps;
 ghost use Rattle.rev_types.specs.Walk as rule;
 
-use crate::fault::{TypeFault, Which, first};
-use crate::kinds::{not_rev, same_kind, wants};
-use crate::names::{Checker, Locals};
 use crate::passed::{Passed, cells_in, located_after, weight};
-use crate::steps::{Body, new_local, one_more_local};
+use crate::steps::{Body, block, new_local, one_more_local};
 use merge_decl::table::NameTable;
+use rev_kinds::fault::{TypeFault, Which, first};
+use rev_kinds::kinds::{not_rev, same_kind, wants};
+use rev_kinds::names::{Checker, Locals};
 use rev_num::ValueKind;
 use rev_syntax::{Arm, Block, Const, Decl, Expr, Form, Name, Param, Size, Stmt};
 use std::alloc::{AllocError, Global};
@@ -131,7 +132,7 @@ fn weight_of(name: &Name, weight: u32) -> Option<TypeFault>
 
 /// A fun's parameter, which is no handle.
 fn no_rev_param(param: &Param) -> Option<TypeFault>
-    ensures { result ≡ program.no_rev_param None Some rule.both (binder param.now) }
+    ensures { result ≡ program.no_rev_param None Some both (binder param.now) }
 {
     if same_kind(param.kind, ValueKind::Rev) {
         Some(TypeFault::WrongType { at: param.kind_at })
@@ -155,7 +156,7 @@ fn fun_result(name: &Name, result_kind: ValueKind) -> Option<TypeFault>
 
 /// One parameter of a fun.
 fn fun_param(locals: &Locals, left: usize, param: &Param) -> Option<TypeFault>
-    ensures { result ≡ program.fun_param None Some rule.both locals.now left (binder param.now) }
+    ensures { result ≡ program.fun_param None Some both locals.now left (binder param.now) }
 {
     let limit = limit_at(param.name.at, Which::Parameters, 8, left);
     first(
@@ -185,7 +186,7 @@ fn fun_params(
 
 /// One parameter of a procedure.
 fn proc_param(outer: &Checker, body: &Body, left: usize, param: &Param) -> Option<TypeFault>
-    ensures { result ≡ program.proc_param None Some rule.both (rule.names_of outer.now) body.now.locals left body.now.left (binder param.now) }
+    ensures { result ≡ program.proc_param None Some both (names_of outer.now) body.now.locals left body.now.left (binder param.now) }
 {
     let name = &param.name;
     let taken = new_local(name, body.locals.find(&name.text), outer.holder(name));
@@ -200,7 +201,7 @@ fn proc_params(
     body: &mut Body,
     params: &[Param],
 ) -> Result<Option<TypeFault>, AllocError>
-    ensures fault { IfOk result (λ f. f ≡ rule.proc_params (rule.names_of outer.now) body.old.locals 9 body.old.left None (map binder params.now)) }
+    ensures fault { IfOk result (λ f. f ≡ rule.proc_params (names_of outer.now) body.old.locals 9 body.old.left None (map binder params.now)) }
     ensures locals { OnOk result (body.new.locals ≡ program.with_params body.old.locals (map binder params.now)) }
     ensures left { OnOk result (body.new.left ≡ program.left_params body.old.left (map binder params.now)) }
 {
@@ -224,7 +225,7 @@ fn fun_body(
     result_kind: ValueKind,
     body: &Expr,
 ) -> Option<TypeFault>
-    ensures { result ≡ rule.fun_body (rule.names_of inner.now) locals.now result_kind (term body.now) }
+    ensures { result ≡ rule.fun_body (names_of inner.now) locals.now result_kind (term body.now) }
 {
     let seen = inner.term(locals, body);
     let wanted = wants(body.at, seen.kind, result_kind);
@@ -241,7 +242,7 @@ fn fun_decl(
     result_kind: ValueKind,
     body: &Expr,
 ) -> Result<Option<TypeFault>, AllocError>
-    ensures { IfOk result (λ f. f ≡ program.fun_by None Some rule.both (rule.names_of inner.now) (passed_of passed.now) (word name.now) (map binder params.now) result_kind (term body.now)) }
+    ensures { IfOk result (λ f. f ≡ program.fun_by None Some both (names_of inner.now) (passed_of passed.now) (word name.now) (map binder params.now) result_kind (term body.now)) }
 {
     let mut locals = NameTable::new(alloc);
     let named = first(
@@ -283,7 +284,7 @@ fn merge_decl(
     params: (&Name, &Name, &Name),
     body: &Expr,
 ) -> Result<Option<TypeFault>, AllocError>
-    ensures { IfOk result (λ f. f ≡ program.merge_by None Some rule.both (rule.names_of inner.now) (passed_of passed.now) (word name.now) (word params.entry.0.now) (word params.entry.1.now) (word params.entry.2.now) (term body.now)) }
+    ensures { IfOk result (λ f. f ≡ program.merge_by None Some both (names_of inner.now) (passed_of passed.now) (word name.now) (word params.entry.0.now) (word params.entry.1.now) (word params.entry.2.now) (term body.now)) }
 {
     let named = first(
         new_name(name, &passed.names),
@@ -396,7 +397,7 @@ fn proc_decl(
     result_kind: Option<ValueKind>,
     body: &Block,
 ) -> Result<Option<TypeFault>, AllocError>
-    ensures { IfOk result (λ f. f ≡ program.proc_by None Some rule.both (rule.names_of outer.now) (passed_of passed.now) (word name.now) (map binder params.now) result_kind (block body.now)) }
+    ensures { IfOk result (λ f. f ≡ program.proc_by None Some both (names_of outer.now) (passed_of passed.now) (word name.now) (map binder params.now) result_kind (block body.now)) }
 {
     let mut inside = Body {
         locals: NameTable::new(alloc),
@@ -408,7 +409,7 @@ fn proc_decl(
     );
     let params = proc_params(alloc, outer, &mut inside, params)?;
     let head = first(params, return_use(name, result_kind, returns(body)));
-    let rest = outer.block(alloc, result_kind, &mut inside, body)?;
+    let rest = block(alloc, outer, result_kind, &mut inside, body)?;
     Ok(first(named, first(head, rest)))
 }
 
@@ -421,7 +422,7 @@ fn shared_decl(
     size: Option<Size>,
     start: &Option<Const>,
 ) -> Option<TypeFault>
-    ensures { result ≡ program.shared_by None Some rule.both (passed_of passed.now) (record { name = word name.now; by = option_map word by.now; kind_at = kind.0; holds = kind.1; size = option_map extent size; first = option_map constant start.now }) }
+    ensures { result ≡ program.shared_by None Some both (passed_of passed.now) (record { name = word name.now; by = option_map word by.now; kind_at = kind.0; holds = kind.1; size = option_map extent size; first = option_map constant start.now }) }
 {
     let after = located_after(passed.located, cells_in(size));
     let named = first(
@@ -444,7 +445,7 @@ pub fn decl(
     passed: &Passed,
     d: &Decl,
 ) -> Result<Option<TypeFault>, AllocError>
-    ensures { IfOk result (λ f. f ≡ rule.entry_by (rule.names_of outer.now) (rule.names_of inner.now) (passed_of passed.now) (entry d.now)) }
+    ensures { IfOk result (λ f. f ≡ rule.entry_by (names_of outer.now) (names_of inner.now) (passed_of passed.now) (entry d.now)) }
 {
     match d {
         Decl::Fun {

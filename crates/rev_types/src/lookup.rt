@@ -4,8 +4,8 @@ ghost use Rattle.std.specs.Prelude.{◌≡◌, Some, [], map, IfOk, OnOk};
 ghost use Rattle.rev_syntax.specs.View.{entry};
 ghost use Rattle.rev_types.specs.Tables as spec;
 
-use crate::names::{Callee, Holder};
 use merge_decl::table::NameTable;
+use rev_kinds::names::{Callee, Holder};
 use rev_syntax::Decl;
 use std::alloc::{AllocError, Global};
 

@@ -2,14 +2,15 @@
 
 ghost use Rattle.std.specs.Prelude.{◌≡◌, ◌-◌, false, length, map, option_map, IfOk, OnOk};
 ghost use Rattle.rev_syntax.specs.View.{act, arm as pair, arms, block, right, shown, stmt, term, word};
-ghost use Rattle.rev_types.specs.Kinds as kind;
+ghost use Rattle.rev_kinds.specs.Kinds as kind;
+ghost use Rattle.rev_kinds.specs.Walk.{both, names_of};
 ghost use Rattle.rev_types.specs.Steps as steps;
 ghost use Rattle.rev_types.specs.Walk as rule;
 
-use crate::fault::{TypeFault, Which, first};
-use crate::kinds::{alike, array_use, name_kind, not_rev, scalar_use};
-use crate::names::{Checker, Holder, Locals};
-use crate::terms::right_place;
+use rev_kinds::fault::{TypeFault, Which, first};
+use rev_kinds::kinds::{alike, array_use, name_kind, not_rev, scalar_use};
+use rev_kinds::names::{Checker, Holder, Locals};
+use rev_kinds::terms::right_place;
 use rev_num::ValueKind;
 use rev_syntax::{Arm, Block, Expr, Form, Item, Name, Rhs, Stmt};
 use std::alloc::{AllocError, Global};
@@ -70,228 +71,231 @@ fn one_more_item(at: u32, left: usize) -> Option<TypeFault>
     }
 }
 
-impl<'a> Checker<'_, 'a> {
-    fn item(&self, locals: &Locals, left: usize, item: &Item) -> Option<TypeFault>
-        ensures { result ≡ steps.item_by None Some rule.both (rule.names_of self.now) locals.now left (shown item.now) }
-    {
-        match item {
-            Item::Text { at, bytes: _ } => one_more_item(*at, left),
-            Item::Value(e) => {
-                let seen = self.term(locals, e);
-                first(
-                    first(seen.fault, not_rev(e.at, seen.kind)),
-                    one_more_item(e.at, left),
-                )
+fn item(checker: &Checker, locals: &Locals, left: usize, item: &Item) -> Option<TypeFault>
+    ensures { result ≡ steps.item_by None Some both (names_of checker.now) locals.now left (shown item.now) }
+{
+    match item {
+        Item::Text { at, bytes: _ } => one_more_item(*at, left),
+        Item::Value(e) => {
+            let seen = checker.term(locals, e);
+            first(
+                first(seen.fault, not_rev(e.at, seen.kind)),
+                one_more_item(e.at, left),
+            )
+        }
+    }
+}
+
+/// The items of a print.
+fn items(checker: &Checker, locals: &Locals, all: &[Item]) -> Option<TypeFault>
+    ensures { result ≡ rule.items_by (names_of checker.now) locals.now 65 None (map shown all.now) }
+{
+    let mut left = 65usize;
+    let mut found = None;
+    for it in all {
+        found = first(found, item(checker, locals, left, it));
+        left = left.saturating_sub(1);
+    }
+    found
+}
+
+/// A `return` at this place, in a procedure with this result, or in `main` or one without.
+fn returned(
+    checker: &Checker,
+    locals: &Locals,
+    result_kind: Option<ValueKind>,
+    at: u32,
+    value: &Option<Expr>,
+) -> Option<TypeFault>
+    ensures { result ≡ rule.return_by (names_of checker.now) locals.now result_kind at (option_map term value.now) }
+{
+    match (result_kind, value) {
+        (None, None) => None,
+        (None, Some(e)) => first(
+            checker.term(locals, e).fault,
+            Some(TypeFault::WrongType { at: e.at }),
+        ),
+        (Some(_), None) => Some(TypeFault::WrongType { at }),
+        (Some(wanted), Some(e)) => checker.part(locals, e, wanted),
+    }
+}
+
+/// The right side of an assignment to what has this kind.
+fn assigned(
+    checker: &Checker,
+    locals: &Locals,
+    wanted: Option<ValueKind>,
+    rhs: &Rhs,
+) -> Option<TypeFault>
+    ensures { result ≡ rule.assigned (names_of checker.now) locals.now wanted (right rhs.now) }
+{
+    let seen = checker.right(locals, rhs);
+    first(seen.fault, alike(right_place(rhs), wanted, seen.kind))
+}
+
+/// An assignment to a scalar.
+fn assign(checker: &Checker, locals: &Locals, name: &Name, rhs: &Rhs) -> Option<TypeFault>
+    ensures { result ≡ steps.assign_by None Some both (names_of checker.now) locals.now (word name.now) (right rhs.now) }
+{
+    let local = locals.find(&name.text);
+    let shared = checker.holder(name);
+    first(
+        scalar_use(name, local, shared),
+        assigned(checker, locals, name_kind(local, shared), rhs),
+    )
+}
+
+/// An assignment to a cell.
+fn assign_cell(
+    checker: &Checker,
+    locals: &Locals,
+    name: &Name,
+    index: &Expr,
+    value: &Expr,
+) -> Option<TypeFault>
+    ensures { result ≡ steps.cell_by None Some both (names_of checker.now) locals.now (word name.now) (term index.now) (term value.now) }
+{
+    let local = locals.find(&name.text);
+    let shared = checker.holder(name);
+    let target = array_use(name, local, shared);
+    let index = checker.part(locals, index, ValueKind::Int);
+    let seen = checker.term(locals, value);
+    let value = first(
+        seen.fault,
+        alike(value.at, name_kind(local, shared), seen.kind),
+    );
+    first(target, first(index, value))
+}
+
+/// A `let`, which binds its name from then on.
+fn bind(
+    alloc: Global,
+    checker: &Checker,
+    body: &mut Body,
+    name: &Name,
+    rhs: &Rhs,
+) -> Result<Option<TypeFault>, AllocError>
+    ensures fault { IfOk result (λ f. f ≡ steps.bind_by None Some both (names_of checker.now) body.old.locals body.old.left (word name.now) (right rhs.now)) }
+    ensures locals { OnOk result (body.new.locals ≡ steps.bound (names_of checker.now) body.old.locals (word name.now) (right rhs.now)) }
+    ensures left { OnOk result (body.new.left ≡ body.old.left - 1) }
+{
+    let seen = checker.right(&body.locals, rhs);
+    let taken = new_local(name, body.locals.find(&name.text), checker.holder(name));
+    let limit = one_more_local(name, body.left);
+    body.locals.add(alloc, &name.text, seen.kind)?;
+    body.left = body.left.saturating_sub(1);
+    Ok(first(seen.fault, first(taken, limit)))
+}
+
+/// A statement of a body, in a procedure with this result.
+#[cycle(steps)]
+fn stmt(
+    alloc: Global,
+    checker: &Checker,
+    result_kind: Option<ValueKind>,
+    body: &mut Body,
+    s: &Stmt,
+) -> Result<Option<TypeFault>, AllocError>
+    ensures fault { IfOk result (λ f. f ≡ rule.step_by (names_of checker.now) result_kind body.old.locals body.old.left (stmt s.now)) }
+    ensures locals { OnOk result (body.new.locals ≡ steps.locals_after (names_of checker.now) body.old.locals (stmt s.now)) }
+    ensures left { OnOk result (body.new.left ≡ steps.left_after body.old.left (stmt s.now)) }
+{
+    form(alloc, checker, result_kind, body, s.at, &s.form)
+}
+
+#[cycle(steps)]
+fn form(
+    alloc: Global,
+    checker: &Checker,
+    result_kind: Option<ValueKind>,
+    body: &mut Body,
+    at: u32,
+    form: &Form,
+) -> Result<Option<TypeFault>, AllocError>
+    ensures fault { IfOk result (λ f. f ≡ rule.act_by (names_of checker.now) result_kind body.old.locals body.old.left at (act form.now)) }
+    ensures locals { OnOk result (body.new.locals ≡ steps.act_locals (names_of checker.now) body.old.locals (act form.now)) }
+    ensures left { OnOk result (body.new.left ≡ steps.left_act body.old.left (act form.now)) }
+{
+    match form {
+        Form::Let { name, rhs } => bind(alloc, checker, body, name, rhs),
+        Form::Assign { name, rhs } => Ok(assign(checker, &body.locals, name, rhs)),
+        Form::AssignCell { name, index, value } => {
+            Ok(assign_cell(checker, &body.locals, name, index, value))
+        }
+        Form::If { arms: all, last } => {
+            let tested = arms(alloc, checker, result_kind, body, all)?;
+            match last {
+                None => Ok(tested),
+                Some(last) => Ok(first(tested, block(alloc, checker, result_kind, body, last)?)),
             }
         }
-    }
-
-    /// The items of a print.
-    fn items(&self, locals: &Locals, all: &[Item]) -> Option<TypeFault>
-        ensures { result ≡ rule.items_by (rule.names_of self.now) locals.now 65 None (map shown all.now) }
-    {
-        let mut left = 65usize;
-        let mut found = None;
-        for it in all {
-            found = first(found, self.item(locals, left, it));
-            left = left.saturating_sub(1);
+        Form::While { test, body: inner } => {
+            let test = checker.part(&body.locals, test, ValueKind::Bool);
+            Ok(first(test, block(alloc, checker, result_kind, body, inner)?))
         }
-        found
+        Form::Call { name, args } => Ok(checker.call(&body.locals, name, args)),
+        Form::Return { value } => Ok(returned(checker, &body.locals, result_kind, at, value)),
+        Form::Fork { name, args } => Ok(checker.call(&body.locals, name, args)),
+        Form::Join { handle } => Ok(checker.part(&body.locals, handle, ValueKind::Rev)),
+        Form::Print { items: all } => Ok(items(checker, &body.locals, all)),
+        Form::Assert { test } => Ok(checker.part(&body.locals, test, ValueKind::Bool)),
     }
+}
 
-    /// A `return` at this place, in a procedure with this result, or in `main` or one without.
-    fn returned(
-        &self,
-        locals: &Locals,
-        result_kind: Option<ValueKind>,
-        at: u32,
-        value: &Option<Expr>,
-    ) -> Option<TypeFault>
-        ensures { result ≡ rule.return_by (rule.names_of self.now) locals.now result_kind at (option_map term value.now) }
-    {
-        match (result_kind, value) {
-            (None, None) => None,
-            (None, Some(e)) => first(
-                self.term(locals, e).fault,
-                Some(TypeFault::WrongType { at: e.at }),
-            ),
-            (Some(_), None) => Some(TypeFault::WrongType { at }),
-            (Some(wanted), Some(e)) => self.part(locals, e, wanted),
-        }
+/// A block. The locals that it binds are not in scope behind it.
+#[cycle(steps)]
+pub fn block(
+    alloc: Global,
+    checker: &Checker,
+    result_kind: Option<ValueKind>,
+    body: &mut Body,
+    b: &Block,
+) -> Result<Option<TypeFault>, AllocError>
+    ensures fault { IfOk result (λ f. f ≡ rule.steps_by (names_of checker.now) result_kind body.old.locals body.old.left None (block b.now)) }
+    ensures locals { OnOk result (body.new.locals ≡ body.old.locals) }
+    ensures left { OnOk result (body.new.left ≡ steps.left_steps body.old.left (block b.now)) }
+{
+    let depth = body.locals.len();
+    let mut found = None;
+    for s in &b.stmts {
+        found = first(found, stmt(alloc, checker, result_kind, body, s)?);
     }
+    body.locals.truncate(depth);
+    Ok(found)
+}
 
-    /// The right side of an assignment to what has this kind.
-    fn assigned(&self, locals: &Locals, wanted: Option<ValueKind>, rhs: &Rhs) -> Option<TypeFault>
-        ensures { result ≡ rule.assigned (rule.names_of self.now) locals.now wanted (right rhs.now) }
-    {
-        let seen = self.right(locals, rhs);
-        first(seen.fault, alike(right_place(rhs), wanted, seen.kind))
+/// The tests and blocks of an `if`.
+#[cycle(steps)]
+fn arms(
+    alloc: Global,
+    checker: &Checker,
+    result_kind: Option<ValueKind>,
+    body: &mut Body,
+    all: &[Arm],
+) -> Result<Option<TypeFault>, AllocError>
+    ensures fault { IfOk result (λ f. f ≡ rule.arms_by (names_of checker.now) result_kind body.old.locals body.old.left None (arms all.now)) }
+    ensures locals { OnOk result (body.new.locals ≡ body.old.locals) }
+    ensures left { OnOk result (body.new.left ≡ steps.left_arms body.old.left (arms all.now)) }
+{
+    let mut found = None;
+    for a in all {
+        found = first(found, arm(alloc, checker, result_kind, body, a)?);
     }
+    Ok(found)
+}
 
-    /// An assignment to a scalar.
-    fn assign(&self, locals: &Locals, name: &Name, rhs: &Rhs) -> Option<TypeFault>
-        ensures { result ≡ steps.assign_by None Some rule.both (rule.names_of self.now) locals.now (word name.now) (right rhs.now) }
-    {
-        let local = locals.find(&name.text);
-        let shared = self.holder(name);
-        first(
-            scalar_use(name, local, shared),
-            self.assigned(locals, name_kind(local, shared), rhs),
-        )
-    }
-
-    /// An assignment to a cell.
-    fn assign_cell(
-        &self,
-        locals: &Locals,
-        name: &Name,
-        index: &Expr,
-        value: &Expr,
-    ) -> Option<TypeFault>
-        ensures { result ≡ steps.cell_by None Some rule.both (rule.names_of self.now) locals.now (word name.now) (term index.now) (term value.now) }
-    {
-        let local = locals.find(&name.text);
-        let shared = self.holder(name);
-        let target = array_use(name, local, shared);
-        let index = self.part(locals, index, ValueKind::Int);
-        let seen = self.term(locals, value);
-        let value = first(
-            seen.fault,
-            alike(value.at, name_kind(local, shared), seen.kind),
-        );
-        first(target, first(index, value))
-    }
-
-    /// A `let`, which binds its name from then on.
-    fn bind(
-        &self,
-        alloc: Global,
-        body: &mut Body,
-        name: &Name,
-        rhs: &Rhs,
-    ) -> Result<Option<TypeFault>, AllocError>
-        ensures fault { IfOk result (λ f. f ≡ steps.bind_by None Some rule.both (rule.names_of self.now) body.old.locals body.old.left (word name.now) (right rhs.now)) }
-        ensures locals { OnOk result (body.new.locals ≡ steps.bound (rule.names_of self.now) body.old.locals (word name.now) (right rhs.now)) }
-        ensures left { OnOk result (body.new.left ≡ body.old.left - 1) }
-    {
-        let seen = self.right(&body.locals, rhs);
-        let taken = new_local(name, body.locals.find(&name.text), self.holder(name));
-        let limit = one_more_local(name, body.left);
-        body.locals.add(alloc, &name.text, seen.kind)?;
-        body.left = body.left.saturating_sub(1);
-        Ok(first(seen.fault, first(taken, limit)))
-    }
-
-    /// A statement of a body, in a procedure with this result.
-    #[cycle(steps)]
-    fn stmt(
-        &self,
-        alloc: Global,
-        result_kind: Option<ValueKind>,
-        body: &mut Body,
-        s: &Stmt,
-    ) -> Result<Option<TypeFault>, AllocError>
-        ensures fault { IfOk result (λ f. f ≡ rule.step_by (rule.names_of self.now) result_kind body.old.locals body.old.left (stmt s.now)) }
-        ensures locals { OnOk result (body.new.locals ≡ steps.locals_after (rule.names_of self.now) body.old.locals (stmt s.now)) }
-        ensures left { OnOk result (body.new.left ≡ steps.left_after body.old.left (stmt s.now)) }
-    {
-        self.form(alloc, result_kind, body, s.at, &s.form)
-    }
-
-    #[cycle(steps)]
-    fn form(
-        &self,
-        alloc: Global,
-        result_kind: Option<ValueKind>,
-        body: &mut Body,
-        at: u32,
-        form: &Form,
-    ) -> Result<Option<TypeFault>, AllocError>
-        ensures fault { IfOk result (λ f. f ≡ rule.act_by (rule.names_of self.now) result_kind body.old.locals body.old.left at (act form.now)) }
-        ensures locals { OnOk result (body.new.locals ≡ steps.act_locals (rule.names_of self.now) body.old.locals (act form.now)) }
-        ensures left { OnOk result (body.new.left ≡ steps.left_act body.old.left (act form.now)) }
-    {
-        match form {
-            Form::Let { name, rhs } => self.bind(alloc, body, name, rhs),
-            Form::Assign { name, rhs } => Ok(self.assign(&body.locals, name, rhs)),
-            Form::AssignCell { name, index, value } => {
-                Ok(self.assign_cell(&body.locals, name, index, value))
-            }
-            Form::If { arms, last } => {
-                let tested = self.arms(alloc, result_kind, body, arms)?;
-                match last {
-                    None => Ok(tested),
-                    Some(last) => Ok(first(tested, self.block(alloc, result_kind, body, last)?)),
-                }
-            }
-            Form::While { test, body: inner } => {
-                let test = self.part(&body.locals, test, ValueKind::Bool);
-                Ok(first(test, self.block(alloc, result_kind, body, inner)?))
-            }
-            Form::Call { name, args } => Ok(self.call(&body.locals, name, args)),
-            Form::Return { value } => Ok(self.returned(&body.locals, result_kind, at, value)),
-            Form::Fork { name, args } => Ok(self.call(&body.locals, name, args)),
-            Form::Join { handle } => Ok(self.part(&body.locals, handle, ValueKind::Rev)),
-            Form::Print { items } => Ok(self.items(&body.locals, items)),
-            Form::Assert { test } => Ok(self.part(&body.locals, test, ValueKind::Bool)),
-        }
-    }
-
-    /// A block. The locals that it binds are not in scope behind it.
-    #[cycle(steps)]
-    pub fn block(
-        &self,
-        alloc: Global,
-        result_kind: Option<ValueKind>,
-        body: &mut Body,
-        b: &Block,
-    ) -> Result<Option<TypeFault>, AllocError>
-        ensures fault { IfOk result (λ f. f ≡ rule.steps_by (rule.names_of self.now) result_kind body.old.locals body.old.left None (block b.now)) }
-        ensures locals { OnOk result (body.new.locals ≡ body.old.locals) }
-        ensures left { OnOk result (body.new.left ≡ steps.left_steps body.old.left (block b.now)) }
-    {
-        let depth = body.locals.len();
-        let mut found = None;
-        for s in &b.stmts {
-            found = first(found, self.stmt(alloc, result_kind, body, s)?);
-        }
-        body.locals.truncate(depth);
-        Ok(found)
-    }
-
-    /// The tests and blocks of an `if`.
-    #[cycle(steps)]
-    fn arms(
-        &self,
-        alloc: Global,
-        result_kind: Option<ValueKind>,
-        body: &mut Body,
-        all: &[Arm],
-    ) -> Result<Option<TypeFault>, AllocError>
-        ensures fault { IfOk result (λ f. f ≡ rule.arms_by (rule.names_of self.now) result_kind body.old.locals body.old.left None (arms all.now)) }
-        ensures locals { OnOk result (body.new.locals ≡ body.old.locals) }
-        ensures left { OnOk result (body.new.left ≡ steps.left_arms body.old.left (arms all.now)) }
-    {
-        let mut found = None;
-        for arm in all {
-            found = first(found, self.arm(alloc, result_kind, body, arm)?);
-        }
-        Ok(found)
-    }
-
-    #[cycle(steps)]
-    fn arm(
-        &self,
-        alloc: Global,
-        result_kind: Option<ValueKind>,
-        body: &mut Body,
-        a: &Arm,
-    ) -> Result<Option<TypeFault>, AllocError>
-        ensures fault { IfOk result (λ f. f ≡ steps.arm_by None Some rule.both (rule.names_of self.now) result_kind body.old.locals body.old.left (pair a.now).0 (pair a.now).1) }
-        ensures locals { OnOk result (body.new.locals ≡ body.old.locals) }
-        ensures left { OnOk result (body.new.left ≡ steps.left_steps body.old.left (pair a.now).1) }
-    {
-        let test = self.part(&body.locals, &a.test, ValueKind::Bool);
-        Ok(first(test, self.block(alloc, result_kind, body, &a.body)?))
-    }
+#[cycle(steps)]
+fn arm(
+    alloc: Global,
+    checker: &Checker,
+    result_kind: Option<ValueKind>,
+    body: &mut Body,
+    a: &Arm,
+) -> Result<Option<TypeFault>, AllocError>
+    ensures fault { IfOk result (λ f. f ≡ steps.arm_by None Some both (names_of checker.now) result_kind body.old.locals body.old.left (pair a.now).0 (pair a.now).1) }
+    ensures locals { OnOk result (body.new.locals ≡ body.old.locals) }
+    ensures left { OnOk result (body.new.left ≡ steps.left_steps body.old.left (pair a.now).1) }
+{
+    let test = checker.part(&body.locals, &a.test, ValueKind::Bool);
+    Ok(first(test, block(alloc, checker, result_kind, body, &a.body)?))
 }

@@ -17,16 +17,16 @@ use Rattle.merge_decl.specs.Value.{Fun, Funs, FunDef, bind, bind_all, nothing, i
 use Rattle.merge_decl.specs.Definitions.{names_of, fun_def, funs_after, funs_in, MergeDef, merge_def, merges_after, merges_in, merged, merge_value_of}
 use Rattle.merge_decl.specs.Definitions as definition
 use Rattle.merge_decl.proofs.Tables.{same_equal, or_else, or_else-none, or_else-step, find-added}
-use Rattle.rev_types.specs.Kinds.{Callee, Names, Locals}
+use Rattle.rev_kinds.specs.Kinds.{Callee, Names, Locals}
+use Rattle.rev_kinds.specs.Typing.{HasKind}
+use Rattle.rev_kinds.proofs.Lists.{parts, failed, and_parts, added_unknown}
 use Rattle.rev_types.specs.Program.{fun_named, outside, within, with_params, merge_locals}
-use Rattle.rev_types.specs.Typing.{HasKind}
 use Rattle.rev_types.specs.Judgement.{ParamsNew, EntriesTyped, ProgramTyped}
-use Rattle.rev_types.proofs.Lists.{parts, failed, and_parts, added_unknown}
-use Rattle.rev_types.proofs.Applying.{broken_parts}
+use Rattle.rev_types.proofs.Applying.{broken_parts, small_formed}
 use Rattle.rev_types.proofs.DeclsSound.{program_typed}
 use Rattle.revision_calculus.specs.Kinded.{IsAccepted, IsOf, IsSomeOf}
 use Rattle.revision_calculus.proofs.Values.{OfOk}
-use Rattle.revision_calculus.proofs.ValueKinds.{EnvIs, ArgsAre, FunIs, small_formed, OfUses, uses_all, CanApply, value_is}
+use Rattle.revision_calculus.proofs.ValueKinds.{EnvIs, ArgsAre, FunIs, OfUses, uses_all, CanApply, value_is}
 
 -- ---- parameters
 

@@ -12,13 +12,13 @@ use Rattle.merge_decl.specs.Names.{Name, same}
 use Rattle.merge_decl.specs.Table.{Table, find, added}
 use Rattle.merge_decl.specs.Definitions.{names_of}
 use Rattle.merge_decl.proofs.Tables.{same_equal, or_else, or_else-none, or_else-step, find-added}
-use Rattle.rev_types.specs.declared.names.Holder.{Holder}
-use Rattle.rev_types.specs.Kinds.{Callee, Names, Locals}
+use Rattle.rev_kinds.specs.declared.names.Holder.{Holder}
+use Rattle.rev_kinds.specs.Kinds.{Callee, Names, Locals}
+use Rattle.rev_kinds.specs.Typing.{ScalarHas}
+use Rattle.rev_kinds.proofs.Lists.{and_parts}
 use Rattle.rev_types.specs.Program.{proc_named, with_params}
-use Rattle.rev_types.specs.Typing.{ScalarHas}
 use Rattle.rev_types.specs.Steps.{step_returns, steps_return}
 use Rattle.rev_types.specs.Judgement.{IsNew, ParamsNew, StepTyped, StepsTyped, Returns, EntriesTyped}
-use Rattle.rev_types.proofs.Lists.{and_parts}
 use Rattle.revision_calculus.specs.Program.{Procedure, procedures_of, procedure_named}
 use Rattle.revision_calculus.specs.State.{Frame}
 use Rattle.revision_calculus.specs.Evaluation.{with_local}

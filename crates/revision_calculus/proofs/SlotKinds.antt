@@ -11,8 +11,8 @@ use Rattle.rev_syntax.specs.Trees.{Word, Extent, Constant, Entry, fun, merge, sh
 use Rattle.merge_decl.specs.Names.{Name, same}
 use Rattle.merge_decl.specs.Definitions.{MergeDef, merge_value_of}
 use Rattle.merge_decl.specs.Value.{Answer}
-use Rattle.rev_types.specs.declared.names.Holder.{Holder}
-use Rattle.rev_types.specs.Kinds.{Names}
+use Rattle.rev_kinds.specs.declared.names.Holder.{Holder}
+use Rattle.rev_kinds.specs.Kinds.{Names}
 use Rattle.rev_types.specs.Program.{cells_of, holder, shared_named}
 use Rattle.rev_types.specs.Judgement.{ByTyped, FirstTyped, EntriesTyped}
 use Rattle.revision_calculus.specs.Program.{SharedVariable, zero_value, written_value, first_value, merge_number, shared_variable, variables_from, variable_named}

@@ -20,13 +20,14 @@ use Rattle.merge_decl.specs.Table.{find, added}
 use Rattle.merge_decl.specs.FunRules.{count, term_uses, terms_uses}
 use Rattle.merge_decl.specs.Value.{Answer, and_then, truth_of, number_of, scalar, array, funs_of}
 use Rattle.merge_decl.specs.Definitions.{merge_value_of, merges_in, funs_in}
-use Rattle.rev_types.specs.declared.names.Holder.{Holder}
-use Rattle.rev_types.specs.Kinds.{Callee, Locals}
+use Rattle.rev_kinds.specs.declared.names.Holder.{Holder}
+use Rattle.rev_kinds.specs.Kinds.{Callee, Locals}
+use Rattle.rev_kinds.specs.Typing.{ScalarHas, ArrayHas, HasKind, ArgsHave}
+use Rattle.rev_kinds.proofs.Lists.{and_parts}
 use Rattle.rev_types.specs.Program.{within, shared_named, proc_named, with_params}
-use Rattle.rev_types.specs.Typing.{ScalarHas, ArrayHas, HasKind, ArgsHave}
 use Rattle.rev_types.specs.Steps.{step_returns, steps_return, arms_return}
 use Rattle.rev_types.specs.Judgement.{CallTyped, RightHas, ReturnTyped, StepTyped, StepsTyped, ArmsTyped, Returns, ProgramTyped}
-use Rattle.rev_types.proofs.Lists.{and_parts}
+use Rattle.rev_types.proofs.Applying.{small_formed}
 use Rattle.revision_calculus.specs.Program.{SharedVariable, variables, variable_named, procedures, Procedure, procedure_named, Setting}
 use Rattle.revision_calculus.specs.State.{Slot, seen_at, write_at, Frame, Phase, running, joining, done, trapped, Local}
 use Rattle.revision_calculus.specs.Evaluation.{top_locals, read_shared, env, eval, evals, on_top, set_local, set_named, set, give, location_of, cell_location}
@@ -38,7 +39,7 @@ use Rattle.revision_calculus.specs.Calculus.{main, calculus}
 use Rattle.revision_calculus.specs.Kinded.{IsAccepted, MergeLaw, IsOf, IsSomeOf, slot_kinds, SlotsAre, LocalsAre, RestTyped, FrameIs, Takes, FramesAre, FramesTrapped, FramesAt, names, IsKinded, ValueLaw}
 use Rattle.revision_calculus.proofs.Values.{OfOk, then_ok}
 use Rattle.revision_calculus.proofs.Events.{Any, any_ok, joins_phase}
-use Rattle.revision_calculus.proofs.ValueKinds.{either, and_both, small_formed, terms_small_formed, SharedIs, EnvIs, ArgsAre, value_is, values_is}
+use Rattle.revision_calculus.proofs.ValueKinds.{either, and_both, terms_small_formed, SharedIs, EnvIs, ArgsAre, value_is, values_is}
 use Rattle.revision_calculus.proofs.FunKinds.{rules_kept, funs_apply, merges_give}
 use Rattle.revision_calculus.proofs.SlotKinds.{IsAt, seen_at_is, write_is, fresh_is, Located, located, start_is, merges_fit, compose_is}
 use Rattle.revision_calculus.proofs.ScopeKinds.{within_self, whole_typed, block_typed, block_small, returns_behind, returns_block, returns_before, shared_new, locals_wait, locals_within, locals_let, let_takes, locals_set, locals_shared, ProcIs, proc_is, call_frame, none_waits, are_trapped}

@@ -11,7 +11,7 @@ use Rattle.rev_num.specs.declared.value.NumFault.TheVariants as fault
 use Rattle.rev_num.specs.declared.outcome.Cause.TheVariants as cause
 use Rattle.rev_num.specs.Arith.{sum_of, difference_of, product_of, quotient_of, remainder_of, negation_of}
 use Rattle.rev_syntax.specs.Trees.{Binder, Term, placed, Shape, Terms, Links, int, bool, no_rev, var, cell, apply, input, inputs, pick, unary, chain, no_terms, term, no_links, link}
-use Rattle.rev_syntax.specs.Small.{word_formed, term_formed, shape_formed, terms_formed, links_formed, term_small, terms_small, nodes_around, chains_around, strength, all_bind, is_chain}
+use Rattle.rev_syntax.specs.Small.{word_formed, term_formed, shape_formed, terms_formed, links_formed, term_small, terms_small, strength, all_bind, is_chain}
 use Rattle.rev_syntax.specs.declared.tree.UnaryOp.{UnaryOp}
 use Rattle.rev_syntax.specs.declared.tree.UnaryOp.TheVariants as u
 use Rattle.rev_syntax.specs.declared.tree.BinaryOp.{BinaryOp}
@@ -20,10 +20,11 @@ use Rattle.merge_decl.specs.Names.{Name}
 use Rattle.merge_decl.specs.Table.{find}
 use Rattle.merge_decl.specs.FunRules.{Use, count, term_uses, shape_uses, terms_uses, links_uses}
 use Rattle.merge_decl.specs.Value.{Answer, and_then, number_of, truth_of, number, operated, short, linked, reversed, Shared, unknown, scalar, array, Env, read_cell, taken, read_input, read, Fun, Funs, called, value_by, shape_value, values_by, chained}
-use Rattle.rev_types.specs.declared.names.Holder.{Holder}
-use Rattle.rev_types.specs.Kinds.{Callee, Names, Locals, operand_kind, given_kind, links_kind}
-use Rattle.rev_types.specs.Typing.{ScalarHas, ArrayHas, TakesRight, HasKind, ShapeHas, ArgsHave, LinksHave}
-use Rattle.rev_types.proofs.Lists.{and_parts}
+use Rattle.rev_kinds.specs.declared.names.Holder.{Holder}
+use Rattle.rev_kinds.specs.Kinds.{Callee, Names, Locals, operand_kind, given_kind, links_kind}
+use Rattle.rev_kinds.specs.Typing.{ScalarHas, ArrayHas, TakesRight, HasKind, ShapeHas, ArgsHave, LinksHave}
+use Rattle.rev_kinds.proofs.Lists.{and_parts}
+use Rattle.rev_types.proofs.Applying.{small_formed}
 use Rattle.revision_calculus.specs.Kinded.{IsOf, IsSomeOf}
 use Rattle.revision_calculus.proofs.Values.{OfOk, then_ok}
 
@@ -36,10 +37,7 @@ pub and_both : (x y : Bool) → IsTrue x → IsTrue y → IsTrue (x && y)
 and_both true y p q = q
 and_both false y p q = absurd (true≢false (sym p))
 
--- the expressions of a small tree have their forms
-pub small_formed : (e : Term) → IsTrue (term_small e) → IsTrue (term_formed e)
-small_formed e h = (and_parts (term_formed e) (nat_le (nodes_around e) 200) (and_parts (term_formed e && nat_le (nodes_around e) 200) (nat_le (chains_around e) 1005) h).0).0
-
+-- the arguments of a small tree have their forms
 pub terms_small_formed : (es : Terms) → IsTrue (terms_small es) → IsTrue (terms_formed es)
 terms_small_formed no_terms h = h
 terms_small_formed (term x xs) h =

@@ -11,10 +11,10 @@ use Rattle.merge_decl.specs.Names.{Name}
 use Rattle.merge_decl.specs.Table.{Table, find}
 use Rattle.merge_decl.specs.FunRules.{fun_faults}
 use Rattle.merge_decl.specs.Definitions.{merge_value_of}
-use Rattle.rev_types.specs.declared.names.Holder.{Holder}
-use Rattle.rev_types.specs.Kinds.{Names, Locals}
+use Rattle.rev_kinds.specs.declared.names.Holder.{Holder}
+use Rattle.rev_kinds.specs.Kinds.{Names, Locals}
+use Rattle.rev_kinds.specs.Typing.{ScalarHas, HasKind}
 use Rattle.rev_types.specs.Program.{cells_of, outside, faults}
-use Rattle.rev_types.specs.Typing.{ScalarHas, HasKind}
 use Rattle.rev_types.specs.Judgement.{StepTyped, Returns}
 use Rattle.revision_calculus.specs.Program.{Setting}
 use Rattle.revision_calculus.specs.State.{Slot, Frame, Phase, running, joining, done, trapped, Local}

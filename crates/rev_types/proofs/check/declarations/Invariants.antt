@@ -1,5 +1,6 @@
 use Rattle.std.proofs.Common.{◌≡◌, ◌≤◌, drop, map, None}
 use Rattle.rev_syntax.specs.View.{entry}
+use Rattle.rev_kinds.specs.Walk.{names_of}
 use Rattle.rev_types.specs.Passing.{passed_of}
 use Rattle.rev_types.specs.Program as program
 use Rattle.rev_types.specs.Walk as rule
@@ -9,6 +10,6 @@ abbrev pub invariant-loop-d : goal.invariant-loop-d
 invariant-loop-d l = record {
   number : l.passed.number ≡ l.d-index;
   counted : l.passed.merge_count ≤ l.passed.number;
-  found : rule.entries_by (rule.names_of l.outer) (rule.names_of l.inner) (passed_of l.passed) l.found (map entry (drop l.d-index l.decls))
-      ≡ rule.entries_by (rule.names_of l.outer) (rule.names_of l.inner) program.nothing_passed None (map entry l.decls);
+  found : rule.entries_by (names_of l.outer) (names_of l.inner) (passed_of l.passed) l.found (map entry (drop l.d-index l.decls))
+      ≡ rule.entries_by (names_of l.outer) (names_of l.inner) program.nothing_passed None (map entry l.decls);
 }

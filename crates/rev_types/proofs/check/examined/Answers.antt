@@ -1,7 +1,7 @@
 use Rattle.std.proofs.Common.{◌∙◌, sym}
 use Rattle.rev_syntax.specs.View.{program as whole}
 use Rattle.merge_decl.proofs.Leasts.{first_is, none_is}
-use Rattle.rev_types.specs.Faults.{place, rank}
+use Rattle.rev_kinds.specs.Faults.{place, rank}
 use Rattle.rev_types.specs.Program.{faults}
 use Rattle.rev_types.proofs.Accepting.{not_typed}
 use Rattle.rev_types.proofs.Gather.{first_of_faults}

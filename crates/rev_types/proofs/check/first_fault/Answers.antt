@@ -1,6 +1,6 @@
 use Rattle.std.proofs.Common.{ap, map, refl, true, false}
 use Rattle.rev_syntax.specs.View.{entry, program as whole}
-use Rattle.rev_types.specs.declared.names.Checker.{Checker}
+use Rattle.rev_kinds.specs.declared.names.Checker.{Checker}
 use Rattle.rev_types.proofs.Named.{program_found}
 use Rattle.rev_types.proofs.check.first_fault.Goals as goal
 

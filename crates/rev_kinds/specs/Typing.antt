@@ -8,10 +8,10 @@ use Rattle.rev_syntax.specs.declared.tree.BinaryOp.TheVariants as b
 use Rattle.merge_decl.specs.FunRules.{count}
 use Rattle.merge_decl.specs.Names.{Name}
 use Rattle.merge_decl.specs.Table.{find}
-use Rattle.rev_types.specs.declared.fault.TypeFault.{TypeFault}
-use Rattle.rev_types.specs.declared.names.Holder.{Holder}
-use Rattle.rev_types.specs.Kinds.{Callee, Names, Locals, kind_in, links_kind, operand_kind}
-use Rattle.rev_types.specs.Rules as r
+use Rattle.rev_kinds.specs.declared.fault.TypeFault.{TypeFault}
+use Rattle.rev_kinds.specs.declared.names.Holder.{Holder}
+use Rattle.rev_kinds.specs.Kinds.{Callee, Names, Locals, kind_in, links_kind, operand_kind}
+use Rattle.rev_kinds.specs.Rules as r
 
 -- a name is that of a scalar of this kind
 abbrev pub ScalarHas : Option (Option ValueKind) → Option Holder → ValueKind → Type 0

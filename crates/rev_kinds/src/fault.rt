@@ -2,8 +2,8 @@
 
 ghost use Rattle.std.specs.Prelude.{◌≡◌};
 ghost use Rattle.merge_decl.specs.Least.{is_less, first_of};
-ghost use Rattle.rev_types.specs.Faults as rule;
-ghost use Rattle.rev_types.specs.declared.fault.TypeFault.TheVariants.{OutOfMemory};
+ghost use Rattle.rev_kinds.specs.Faults as rule;
+ghost use Rattle.rev_kinds.specs.declared.fault.TypeFault.TheVariants.{OutOfMemory};
 
 use std::alloc::AllocError;
 

@@ -1,7 +1,7 @@
 use Rattle.std.proofs.Common.{◌≡◌, drop, map, None}
 use Rattle.rev_syntax.specs.View.{terms, links, binder}
-use Rattle.rev_types.specs.Walk as rule
-use Rattle.rev_types.proofs.names.Checker.+term.Given as goal
+use Rattle.rev_kinds.specs.Walk as rule
+use Rattle.rev_kinds.proofs.names.Checker.+term.Given as goal
 
 abbrev pub invariant-args-loop-i : goal.invariant-args-loop-i
 invariant-args-loop-i l =

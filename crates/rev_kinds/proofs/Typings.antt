@@ -7,13 +7,13 @@ use Rattle.rev_syntax.specs.declared.tree.BinaryOp.{BinaryOp}
 use Rattle.rev_syntax.specs.declared.tree.BinaryOp.TheVariants as b
 use Rattle.merge_decl.specs.FunRules.{count}
 use Rattle.merge_decl.specs.Table.{find}
-use Rattle.rev_types.specs.declared.fault.TypeFault.{TypeFault}
-use Rattle.rev_types.specs.declared.fault.TypeFault.TheVariants.{WrongType}
-use Rattle.rev_types.specs.declared.names.Holder.{Holder}
-use Rattle.rev_types.specs.Kinds.{Callee, Names, Locals, same_kind, name_kind, result_of, kind_in, shape_kind, links_kind, operand_kind, term_place}
-use Rattle.rev_types.specs.Rules as r
-use Rattle.rev_types.proofs.Lists.{parts, whole, held, failed}
-use Rattle.rev_types.specs.Typing.{ScalarHas, ArrayHas, TakesLeft, TakesRight, TakesFirst, IsOfKind, HasKind, ShapeHas, ArgsHave, LinksHave, AllKinded, IsKnown, Applies, ShapeApplies, TermsApply, LinksApply, HasLink, Sound, Complete, Only}
+use Rattle.rev_kinds.specs.declared.fault.TypeFault.{TypeFault}
+use Rattle.rev_kinds.specs.declared.fault.TypeFault.TheVariants.{WrongType}
+use Rattle.rev_kinds.specs.declared.names.Holder.{Holder}
+use Rattle.rev_kinds.specs.Kinds.{Callee, Names, Locals, same_kind, name_kind, result_of, kind_in, shape_kind, links_kind, operand_kind, term_place}
+use Rattle.rev_kinds.specs.Rules as r
+use Rattle.rev_kinds.proofs.Lists.{parts, whole, held, failed}
+use Rattle.rev_kinds.specs.Typing.{ScalarHas, ArrayHas, TakesLeft, TakesRight, TakesFirst, IsOfKind, HasKind, ShapeHas, ArgsHave, LinksHave, AllKinded, IsKnown, Applies, ShapeApplies, TermsApply, LinksApply, HasLink, Sound, Complete, Only}
 
 abbrev pub All : Type 0
 All = List TypeFault

@@ -9,7 +9,7 @@ use Rattle.rev_syntax.specs.declared.tree.BinaryOp.{BinaryOp}
 use Rattle.rev_syntax.specs.declared.tree.BinaryOp.TheVariants as b
 use Rattle.merge_decl.specs.Names.{Name}
 use Rattle.merge_decl.specs.Table.{Table, find}
-use Rattle.rev_types.specs.declared.names.Holder.{Holder}
+use Rattle.rev_kinds.specs.declared.names.Holder.{Holder}
 
 -- a fun's or a procedure's parameters, and the kind of its result, if it has one
 pub record Callee : Type 0 where

@@ -10,10 +10,10 @@ use Rattle.rev_syntax.specs.declared.tree.BinaryOp.{BinaryOp}
 use Rattle.rev_syntax.specs.declared.tree.BinaryOp.TheVariants as b
 use Rattle.merge_decl.specs.FunRules.{count}
 use Rattle.merge_decl.specs.Table.{find}
-use Rattle.rev_types.specs.declared.names.Holder.{Holder}
-use Rattle.rev_types.specs.declared.fault.TypeFault.{TypeFault}
-use Rattle.rev_types.specs.declared.fault.TypeFault.TheVariants.{UnknownName, WrongType, WrongCount}
-use Rattle.rev_types.specs.Kinds.{Callee, Names, Locals, same_kind, operand_kind, kind_in, term_place}
+use Rattle.rev_kinds.specs.declared.names.Holder.{Holder}
+use Rattle.rev_kinds.specs.declared.fault.TypeFault.{TypeFault}
+use Rattle.rev_kinds.specs.declared.fault.TypeFault.TheVariants.{UnknownName, WrongType, WrongCount}
+use Rattle.rev_kinds.specs.Kinds.{Callee, Names, Locals, same_kind, operand_kind, kind_in, term_place}
 
 module _ {M : Type 0} (none : M) (one : TypeFault → M) (both : M → M → M) where
   -- this kind is wanted; what has no kind violates no rule on kinds

@@ -3,8 +3,8 @@
 ghost use Rattle.std.specs.Prelude.{◌≡◌, map, option_map};
 ghost use Rattle.std.specs.Option.{option_copied};
 ghost use Rattle.rev_syntax.specs.View.{binder, links, word};
-ghost use Rattle.rev_types.specs.Kinds as kind;
-ghost use Rattle.rev_types.specs.Walk as rule;
+ghost use Rattle.rev_kinds.specs.Kinds as kind;
+ghost use Rattle.rev_kinds.specs.Walk as rule;
 
 use crate::fault::{TypeFault, first};
 use crate::names::{Callee, Holder};

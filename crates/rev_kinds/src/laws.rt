@@ -1,0 +1,12 @@
+//! What the rules on kinds say of expressions.
+
+ghost use Rattle.rev_kinds.specs.Typing.{Sound, Complete, Only};
+
+/// An expression that breaks no rule has a kind by the typing rules, which is the kind that its
+/// outermost form fixes; an expression that has a kind by the typing rules breaks no rule; and it
+/// has no other kind. Each local has a kind, and each application is that of a known fun.
+pub fn typing_laws()
+    ensures sound { Sound }
+    ensures complete { Complete }
+    ensures only { Only }
+{}

@@ -1,5 +1,0 @@
-use Rattle.rev_types.proofs.Typings.{sound, complete, only}
-use Rattle.rev_types.proofs.laws.typing_laws.Goals as goal
-
-pub returns : goal.returns
-returns c = record { sound = sound; complete = complete; only = only }
