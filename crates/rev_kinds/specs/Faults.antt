@@ -1,9 +1,23 @@
--- The places and the numbers of the static rules and limits.
-use Rattle.std.specs.Prelude.{ℕ}
+-- The limits of the language, and the places and the numbers of the static rules and limits.
+use Rattle.std.specs.Prelude.{ℕ, ◌+◌}
 use Rattle.rev_kinds.specs.declared.fault.Which.{Which}
 use Rattle.rev_kinds.specs.declared.fault.Which.TheVariants.{Locations, Procedures, Funs, Parameters, Locals, Items, Weight}
 use Rattle.rev_kinds.specs.declared.fault.TypeFault.{TypeFault}
 use Rattle.rev_kinds.specs.declared.fault.TypeFault.TheVariants.{UnknownName, Redeclared, WrongType, WrongCount, NoReturn, LimitOf, OutOfMemory}
+
+-- the limits of the language
+abbrev pub limit_of : Which → ℕ
+limit_of Locations = 4096
+limit_of Procedures = 256
+limit_of Funs = 256
+limit_of Parameters = 8
+limit_of Locals = 64
+limit_of Items = 64
+limit_of Weight = 65536
+
+-- how many there are up to and with the first past a limit
+abbrev pub first_past : Which → ℕ
+first_past which = limit_of which + 1
 
 abbrev pub place : TypeFault → ℕ
 place (UnknownName at) = at
@@ -11,7 +25,7 @@ place (Redeclared at) = at
 place (WrongType at) = at
 place (WrongCount at) = at
 place (NoReturn at) = at
-place (LimitOf at which limit) = at
+place (LimitOf at which) = at
 place OutOfMemory = 0
 
 -- limits have the number 6; of two at one place the earlier in the list of limits counts
@@ -31,12 +45,12 @@ rank (Redeclared at) = 2
 rank (WrongType at) = 3
 rank (WrongCount at) = 4
 rank (NoReturn at) = 5
-rank (LimitOf at which limit) = order which
+rank (LimitOf at which) = order which
 rank OutOfMemory = 13
 
 -- a limit that is passed, and no other rule
 abbrev pub IsLimit : TypeFault → Type 0
-IsLimit (LimitOf at which limit) = Unit {0}
+IsLimit (LimitOf at which) = Unit {0}
 IsLimit (UnknownName at) = ⊥
 IsLimit (Redeclared at) = ⊥
 IsLimit (WrongType at) = ⊥

@@ -19,6 +19,30 @@ pub enum Which {
     Weight,
 }
 
+impl Which {
+    /// The limit of the language.
+    pub fn limit(self) -> u32
+        ensures { result ≡ rule.limit_of self }
+    {
+        match self {
+            Which::Locations => 4096,
+            Which::Procedures => 256,
+            Which::Funs => 256,
+            Which::Parameters => 8,
+            Which::Locals => 64,
+            Which::Items => 64,
+            Which::Weight => 65_536,
+        }
+    }
+
+    /// How many there are up to and with the first past the limit.
+    pub fn first_past(self) -> usize
+        ensures { result ≡ rule.first_past self }
+    {
+        self.limit() as usize + 1
+    }
+}
+
 /// A static rule or a limit that a program breaks, with its place.
 #[derive(Clone, Copy, PartialEq, Eq, Debug, Drop)]
 pub enum TypeFault {
@@ -27,7 +51,7 @@ pub enum TypeFault {
     WrongType { at: u32 },
     WrongCount { at: u32 },
     NoReturn { at: u32 },
-    LimitOf { at: u32, which: Which, limit: u32 },
+    LimitOf { at: u32, which: Which },
     OutOfMemory,
 }
 
@@ -48,11 +72,7 @@ fn place(fault: TypeFault) -> u32
         TypeFault::WrongType { at } => at,
         TypeFault::WrongCount { at } => at,
         TypeFault::NoReturn { at } => at,
-        TypeFault::LimitOf {
-            at,
-            which: _,
-            limit: _,
-        } => at,
+        TypeFault::LimitOf { at, which: _ } => at,
         TypeFault::OutOfMemory => 0,
     }
 }
@@ -80,11 +100,7 @@ fn rank(fault: TypeFault) -> u8
         TypeFault::WrongType { at: _ } => 3,
         TypeFault::WrongCount { at: _ } => 4,
         TypeFault::NoReturn { at: _ } => 5,
-        TypeFault::LimitOf {
-            at: _,
-            which,
-            limit: _,
-        } => order(which),
+        TypeFault::LimitOf { at: _, which } => order(which),
         TypeFault::OutOfMemory => 13,
     }
 }

@@ -1,18 +1,16 @@
 -- A text has one reading at most: one tree that keeps all rules, or one first fault.
-use Rattle.std.proofs.Common.{◌≡◌, ◌≢◌, ◌∙◌, ℕ, ◌<◌, ◌≤◌, ◌⊎◌, inl, inr, refl, sym, subst, ap, arith, List, [], nat_eq, if◌then◌else◌}
+use Rattle.std.proofs.Common.{◌≡◌, ◌≢◌, ◌∙◌, ℕ, refl, sym, subst, ap, List, nat_eq, if◌then◌else◌}
 use Rattle.std.specs.Prelude.{Option, Some, None, Result, Ok, Err}
 use Rattle.rev_syntax.specs.Trees.{Whole}
-use Rattle.rev_syntax.specs.Tokens.{IsTokens, IsFirstFault}
+use Rattle.rev_syntax.specs.Tokens.{IsFirstFault}
 use Rattle.rev_syntax.specs.declared.token.Token.{Token}
 use Rattle.rev_syntax.specs.declared.scan.LexFault.{LexFault}
 use Rattle.rev_syntax.specs.declared.scan.LexFault.TheVariants as lex
 use Rattle.rev_syntax.proofs.Unique.{one-list, one-fault, no-fault}
-use Rattle.rev_parse.specs.Verdicts.{Verdict, tree, unexpected, too_deep, IsVerdict, Parses}
+use Rattle.rev_parse.specs.Verdicts.{Verdict, tree, unexpected, too_deep, Parses}
 use Rattle.rev_parse.specs.declared.whole.SyntaxFault.{SyntaxFault}
 use Rattle.rev_parse.specs.declared.whole.SyntaxFault.TheVariants as syntax
 use Rattle.rev_parse.proofs.OneVerdict.{one_verdict}
-use Rattle.rev_syntax.specs.declared.tree.Program.{Program}
-use Rattle.rev_syntax.specs.View.{program as whole}
 use Rattle.merge_decl.specs.Least.{IsFirst}
 use Rattle.merge_decl.proofs.Firsts.{no_first, one_first}
 use Rattle.merge_decl.specs.FunRules as funs
@@ -31,7 +29,7 @@ use Rattle.rev_report.specs.declared.refusal.Refusal.{Refusal}
 use Rattle.rev_report.specs.declared.refusal.Refusal.TheVariants as refusals
 use Rattle.rev_report.specs.Messages.{status_of}
 use Rattle.rev_top.specs.Stops.{Meets, report_of_syntax, stop_of}
-use Rattle.rev_top.specs.Texts.{Checks, ChecksTokens, ChecksTree, Cuts, KeepsFuns, KeepsTypes, Reads, Reports, fault_at, limit_of, limited_of, place_in, reading, report_of_funs, report_of_lexical, report_of_types, unexpected_at}
+use Rattle.rev_top.specs.Texts.{Checks, ChecksTokens, ChecksTree, Cuts, KeepsFuns, KeepsTypes, Reads, Reports, fault_at, limited_of, place_in, reading, report_of_funs, report_of_lexical, report_of_types, unexpected_at}
 use Rattle.rev_top.specs.declared.stop.Stop.{Stop}
 use Rattle.rev_top.proofs.Stages.{One, one_then, refusal_of, reported}
 
@@ -60,7 +58,7 @@ funs_by_rank text (fun.Arity at) = refl
 funs_by_rank text fun.OutOfMemory = refl
 
 over : List ℕ → ℕ → Which → Option Refusal
-over text at w = Some (refusals.OverLimit (place_in text at) (limit_of w) (limited_of w))
+over text at w = Some (refusals.OverLimit (place_in text at) (types.limit_of w) (limited_of w))
 
 limits_by : List ℕ → ℕ → ℕ → Option Refusal
 limits_by text at n =
@@ -97,7 +95,7 @@ types_by_rank text (type.Redeclared at) = refl
 types_by_rank text (type.WrongType at) = refl
 types_by_rank text (type.WrongCount at) = refl
 types_by_rank text (type.NoReturn at) = refl
-types_by_rank text (type.LimitOf at w n) = limits_by_rank text at w
+types_by_rank text (type.LimitOf at w) = limits_by_rank text at w
 types_by_rank text type.OutOfMemory = refl
 
 -- ---- each stage has one value or refusal at most
@@ -179,7 +177,7 @@ types_of_text text (type.Redeclared at) r is = same_refusal _ r tt is
 types_of_text text (type.WrongType at) r is = same_refusal _ r tt is
 types_of_text text (type.WrongCount at) r is = same_refusal _ r tt is
 types_of_text text (type.NoReturn at) r is = same_refusal _ r tt is
-types_of_text text (type.LimitOf at w n) r is = same_refusal _ r tt is
+types_of_text text (type.LimitOf at w) r is = same_refusal _ r tt is
 types_of_text text type.OutOfMemory r is = cc
 
 pub check_of_text : (text : List ℕ) (r : Refusal) → Checks text (Err r) → IsOfText r

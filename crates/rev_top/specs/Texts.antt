@@ -68,24 +68,14 @@ limited_of which.Locals = limited.Locals
 limited_of which.Items = limited.Items
 limited_of which.Weight = limited.Weight
 
--- the limits of the language
-abbrev pub limit_of : Which → ℕ
-limit_of which.Locations = 4096
-limit_of which.Procedures = 256
-limit_of which.Funs = 256
-limit_of which.Parameters = 8
-limit_of which.Locals = 64
-limit_of which.Items = 64
-limit_of which.Weight = 65536
-
 abbrev pub report_of_types : List ℕ → TypeFault → Option Refusal
 report_of_types text (type.UnknownName at) = Some (fault_at text at fault.UnknownName)
 report_of_types text (type.Redeclared at) = Some (fault_at text at fault.Redeclared)
 report_of_types text (type.WrongType at) = Some (fault_at text at fault.WrongType)
 report_of_types text (type.WrongCount at) = Some (fault_at text at fault.WrongCount)
 report_of_types text (type.NoReturn at) = Some (fault_at text at fault.NoReturn)
-report_of_types text (type.LimitOf at w n) =
-    Some (refusals.OverLimit (place_in text at) (limit_of w) (limited_of w))
+report_of_types text (type.LimitOf at w) =
+    Some (refusals.OverLimit (place_in text at) (types.limit_of w) (limited_of w))
 report_of_types text type.OutOfMemory = None
 
 -- ---- the stages

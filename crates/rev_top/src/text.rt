@@ -5,7 +5,7 @@ ghost use Rattle.rev_syntax.specs.Tokens.{IsToken, IsTokens};
 ghost use Rattle.rev_syntax.specs.View.{program as whole};
 ghost use Rattle.rev_top.specs.Answer.{source_limit};
 ghost use Rattle.rev_top.specs.Stops.{Meets, report_of_syntax, stop_of};
-ghost use Rattle.rev_top.specs.Texts.{Checks, ChecksTokens, ChecksTree, Cuts, KeepsFuns, KeepsTypes, Reads, fault_at, limit_of, limited_of, place_in, report_of_funs, report_of_lexical, report_of_types, unexpected_at};
+ghost use Rattle.rev_top.specs.Texts.{Checks, ChecksTokens, ChecksTree, Cuts, KeepsFuns, KeepsTypes, Reads, fault_at, limited_of, place_in, report_of_funs, report_of_lexical, report_of_types, unexpected_at};
 ghost use Rattle.rev_top.specs.declared.stop.Stop.TheVariants as stops;
 
 use crate::stop::Stop;
@@ -101,21 +101,6 @@ fn limited_of(which: Which) -> Limited
     }
 }
 
-/// The limits of the language.
-fn limit_of(which: Which) -> u32
-    ensures { result ≡ limit_of which }
-{
-    match which {
-        Which::Locations => 4096,
-        Which::Procedures => 256,
-        Which::Funs => 256,
-        Which::Parameters => 8,
-        Which::Locals => 64,
-        Which::Items => 64,
-        Which::Weight => 65_536,
-    }
-}
-
 /// Which static rule or limit a program breaks.
 fn of_types(text: &[u8], fault: TypeFault) -> Stop
     requires { length text.now ≤ source_limit }
@@ -127,13 +112,9 @@ fn of_types(text: &[u8], fault: TypeFault) -> Stop
         TypeFault::WrongType { at } => fault_at(text, at, TextFault::WrongType),
         TypeFault::WrongCount { at } => fault_at(text, at, TextFault::WrongCount),
         TypeFault::NoReturn { at } => fault_at(text, at, TextFault::NoReturn),
-        TypeFault::LimitOf {
-            at,
-            which,
-            limit: _,
-        } => Stop::Refused(Refusal::OverLimit {
+        TypeFault::LimitOf { at, which } => Stop::Refused(Refusal::OverLimit {
             place: place_in(text, at),
-            limit: limit_of(which),
+            limit: which.limit(),
             which: limited_of(which),
         }),
         TypeFault::OutOfMemory => Stop::OutOfMemory,

@@ -12,7 +12,7 @@ use Rattle.rev_kinds.specs.declared.fault.Which.{Which}
 use Rattle.rev_kinds.specs.declared.fault.Which.TheVariants as which
 use Rattle.rev_kinds.specs.declared.fault.TypeFault.{TypeFault}
 use Rattle.rev_kinds.specs.declared.fault.TypeFault.TheVariants.{LimitOf}
-use Rattle.rev_kinds.specs.Faults.{IsLimit}
+use Rattle.rev_kinds.specs.Faults.{IsLimit, first_past, limit_of}
 use Rattle.rev_kinds.specs.Kinds.{Names, Locals, same_kind, term_place}
 use Rattle.rev_kinds.specs.Rules as r
 use Rattle.rev_kinds.proofs.Lists.{whole, passes, stops, not_found, is_unequal, added_unknown, known_more}
@@ -120,22 +120,22 @@ module _ (P : TypeFault → Type 0) where
 
   abbrev pub ParamsHold : ℕ → List Binder → Type 0
   ParamsHold left [] = Unit {0}
-  ParamsHold left (b ∷ ps) = (left ≡ 1 → P (LimitOf b.name.at which.Parameters 8)) × ParamsHold (left - 1) ps
+  ParamsHold left (b ∷ ps) = (left ≡ 1 → P (LimitOf b.name.at which.Parameters)) × ParamsHold (left - 1) ps
 
   -- parameters that count as locals
   abbrev pub LocalsHold : ℕ → List Binder → Type 0
   LocalsHold left [] = Unit {0}
-  LocalsHold left (b ∷ ps) = (left ≡ 1 → P (LimitOf b.name.at which.Locals 64)) × LocalsHold (left - 1) ps
+  LocalsHold left (b ∷ ps) = (left ≡ 1 → P (LimitOf b.name.at which.Locals)) × LocalsHold (left - 1) ps
 
   abbrev pub EntryHolds : p.Passed → Entry → Type 0
   EntryHolds q (fun w ps x body) =
-      (q.funs_left ≡ 1 → P (LimitOf w.at which.Funs 256)) × ParamsHold 9 ps × (nat_lt 65536 (p.weight q.weights body) ≡ true → P (LimitOf w.at which.Weight 65536))
+      (q.funs_left ≡ 1 → P (LimitOf w.at which.Funs)) × ParamsHold (first_past which.Parameters) ps × (nat_lt (limit_of which.Weight) (p.weight q.weights body) ≡ true → P (LimitOf w.at which.Weight))
   EntryHolds q (merge w m j x body) =
-      (q.funs_left ≡ 1 → P (LimitOf w.at which.Funs 256)) × (nat_lt 65536 (p.weight q.weights body) ≡ true → P (LimitOf w.at which.Weight 65536))
+      (q.funs_left ≡ 1 → P (LimitOf w.at which.Funs)) × (nat_lt (limit_of which.Weight) (p.weight q.weights body) ≡ true → P (LimitOf w.at which.Weight))
   EntryHolds q (shared x) =
-      nat_le q.located 4096 ≡ true → nat_lt 4096 (p.located_after q.located (p.cells_in x.size)) ≡ true → P (LimitOf x.name.at which.Locations 4096)
+      nat_le q.located (limit_of which.Locations) ≡ true → nat_lt (limit_of which.Locations) (p.located_after q.located (p.cells_in x.size)) ≡ true → P (LimitOf x.name.at which.Locations)
   EntryHolds q (proc w ps x body) =
-      (q.procs_left ≡ 1 → P (LimitOf w.at which.Procedures 256)) × ParamsHold 9 ps × LocalsHold 65 ps × StepsHold P (p.left_params 65 ps) body
+      (q.procs_left ≡ 1 → P (LimitOf w.at which.Procedures)) × ParamsHold (first_past which.Parameters) ps × LocalsHold (first_past which.Locals) ps × StepsHold P (p.left_params (first_past which.Locals) ps) body
 
   abbrev pub EntriesHold : p.Passed → List Entry → Type 0
   EntriesHold q [] = Unit {0}
@@ -148,7 +148,7 @@ module _ (P : TypeFault → Type 0) where
       fun_params c (added l b.name.text (Some b.kind)) (left - 1) _ ps
       (all_both P _ _ a
       (all_both P _ _ (all_of P _ (new_param b.name l h.0.0))
-      (all_both P _ _ (all_of P _ (stops (same_kind b.kind k.Rev) _ (no_handle_kind b.kind (g b (inl refl))))) (all_at P left (LimitOf b.name.at which.Parameters 8) v.0)))) h.1
+      (all_both P _ _ (all_of P _ (stops (same_kind b.kind k.Rev) _ (no_handle_kind b.kind (g b (inl refl))))) (all_at P left (LimitOf b.name.at which.Parameters) v.0)))) h.1
       (λ x m. g x (inr m)) v.1
 
   proc_params : (c : Names) (l : Locals) (left locals : ℕ) (found : All) (ps : List Binder) → AllAre P found → ParamsNew c l ps → ParamsHold left ps → LocalsHold locals ps
@@ -158,13 +158,13 @@ module _ (P : TypeFault → Type 0) where
       proc_params c (added l b.name.text (Some b.kind)) (left - 1) (locals - 1) _ ps
       (all_both P _ _ a
       (all_both P _ _ (all_of P _ (new_nothing b.name (find b.name.text l) (c.shared b.name.text) h.0.0 h.0.1))
-      (all_both P _ _ (all_at P left (LimitOf b.name.at which.Parameters 8) v.0) (all_at P locals (LimitOf b.name.at which.Locals 64) u.0)))) h.1 v.1 u.1
+      (all_both P _ _ (all_at P left (LimitOf b.name.at which.Parameters) v.0) (all_at P locals (LimitOf b.name.at which.Locals) u.0)))) h.1 v.1 u.1
 
-  location_faults : (w : Word) (before after : ℕ) → (nat_le before 4096 ≡ true → nat_lt 4096 after ≡ true → P (LimitOf w.at which.Locations 4096)) → AllAre P (p.location_limit [] one app w before after)
-  location_faults w before after h = by (nat_le before 4096) h
+  location_faults : (w : Word) (before after : ℕ) → (nat_le before (limit_of which.Locations) ≡ true → nat_lt (limit_of which.Locations) after ≡ true → P (LimitOf w.at which.Locations)) → AllAre P (p.location_limit [] one app w before after)
+  location_faults w before after h = by (nat_le before (limit_of which.Locations)) h
     where
-      by : (x : Bool) → (x ≡ true → nat_lt 4096 after ≡ true → P (LimitOf w.at which.Locations 4096)) → AllAre P (cond x (cond (nat_lt 4096 after) (LimitOf w.at which.Locations 4096 ∷ []) []) [])
-      by true g = all_when P (nat_lt 4096 after) (LimitOf w.at which.Locations 4096) (g refl)
+      by : (x : Bool) → (x ≡ true → nat_lt (limit_of which.Locations) after ≡ true → P (LimitOf w.at which.Locations)) → AllAre P (cond x (cond (nat_lt (limit_of which.Locations) after) (LimitOf w.at which.Locations ∷ []) []) [])
+      by true g = all_when P (nat_lt (limit_of which.Locations) after) (LimitOf w.at which.Locations) (g refl)
       by false g = all_none P
 
   shared_faults : (q : p.Passed) (before : List Entry) (x : Variable) → Knows q before → SharedTyped before x → EntryHolds q (shared x) → AllAre P (p.shared_by [] one app q x)
@@ -180,28 +180,28 @@ module _ (P : TypeFault → Type 0) where
       let value = complete inner (p.with_params [] ps) body x h.body in
       let no_rev = ap (λ o. r.not_rev [] one app (term_place body) o) value.1 ∙ handle_not (term_place body) x h.result in
       all_both P _ _
-      (all_both P _ _ (all_of P _ (new_name q before w f h.name)) (all_at P q.funs_left (LimitOf w.at which.Funs 256) v.0))
+      (all_both P _ _ (all_of P _ (new_name q before w f h.name)) (all_at P q.funs_left (LimitOf w.at which.Funs) v.0))
       (all_both P _ _
-      (all_both P _ _ (fun_params inner [] 9 [] ps (all_none P) h.params h.kinds v.1) (all_of P _ (stops (same_kind x k.Rev) _ (no_handle_kind x h.result))))
+      (all_both P _ _ (fun_params inner [] (first_past which.Parameters) [] ps (all_none P) h.params h.kinds v.1) (all_of P _ (stops (same_kind x k.Rev) _ (no_handle_kind x h.result))))
       (all_both P _ _ (all_of P _ (whole _ _ (part_nothing inner (p.with_params [] ps) body x h.body) no_rev))
-      (all_when P (nat_lt 65536 (p.weight q.weights body)) (LimitOf w.at which.Weight 65536) v.2)))
+      (all_when P (nat_lt (limit_of which.Weight) (p.weight q.weights body)) (LimitOf w.at which.Weight) v.2)))
 
   merge_faults : (inner : Names) (q : p.Passed) (before : List Entry) (w m j x : Word) (body : Term) → Knows q before → MergeTyped inner before w m j x body → EntryHolds q (merge w m j x body)
       → AllAre P (p.merge_by [] one app inner q w m j x body)
   merge_faults inner q before w m j x body f h v =
       all_both P _ _
-      (all_both P _ _ (all_of P _ (new_name q before w f h.name)) (all_at P q.funs_left (LimitOf w.at which.Funs 256) v.0))
+      (all_both P _ _ (all_of P _ (new_name q before w f h.name)) (all_at P q.funs_left (LimitOf w.at which.Funs) v.0))
       (all_both P _ _ (all_of P _ (merge_params m j x h.params))
-      (all_both P _ _ (all_of P _ (part_nothing inner (p.merge_locals m j x) body k.Int h.body)) (all_when P (nat_lt 65536 (p.weight q.weights body)) (LimitOf w.at which.Weight 65536) v.1)))
+      (all_both P _ _ (all_of P _ (part_nothing inner (p.merge_locals m j x) body k.Int h.body)) (all_when P (nat_lt (limit_of which.Weight) (p.weight q.weights body)) (LimitOf w.at which.Weight) v.1)))
 
   proc_faults : (outer : Names) (q : p.Passed) (before : List Entry) (w : Word) (ps : List Binder) (x : Option ValueKind) (body : Steps) → Knows q before → ProcTyped outer before w ps x body
       → EntryHolds q (proc w ps x body) → AllAre P (p.proc_by [] one app outer q w ps x body)
   proc_faults outer q before w ps x body f h v =
       all_both P _ _
-      (all_both P _ _ (all_of P _ (new_name q before w f h.name)) (all_at P q.procs_left (LimitOf w.at which.Procedures 256) v.0))
+      (all_both P _ _ (all_of P _ (new_name q before w f h.name)) (all_at P q.procs_left (LimitOf w.at which.Procedures) v.0))
       (all_both P _ _
-      (all_both P _ _ (proc_params outer [] 9 65 [] ps (all_none P) h.params v.1 v.2) (all_of P _ (returns_nothing w x body h.result)))
-      (steps_faults P outer x (p.with_params [] ps) (p.left_params 65 ps) [] body (all_none P) h.body v.3))
+      (all_both P _ _ (proc_params outer [] (first_past which.Parameters) (first_past which.Locals) [] ps (all_none P) h.params v.1 v.2) (all_of P _ (returns_nothing w x body h.result)))
+      (steps_faults P outer x (p.with_params [] ps) (p.left_params (first_past which.Locals) ps) [] body (all_none P) h.body v.3))
 
   entry_faults : (outer inner : Names) (q : p.Passed) (before : List Entry) (e : Entry) → Knows q before → EntryTyped outer inner before e → EntryHolds q e → AllAre P (p.entry_by [] one app outer inner q e)
   entry_faults outer inner q before (fun w ps x body) f h v = fun_faults inner q before w ps x body f h v
@@ -215,27 +215,27 @@ module _ (P : TypeFault → Type 0) where
   entries_faults outer inner q before found (e ∷ es) f a h v =
       entries_faults outer inner (p.passed_with q e) (e ∷ before) _ es (knows q before e f) (all_both P _ _ a (entry_faults outer inner q before e f h.0 v.0)) h.1 v.1
 
-  pub program_faults : (x : Whole) → ProgramTyped x → EntriesHold p.nothing_passed x.entries → StepsHold P 65 x.main → AllAre P (p.faults x)
+  pub program_faults : (x : Whole) → ProgramTyped x → EntriesHold p.nothing_passed x.entries → StepsHold P (first_past which.Locals) x.main → AllAre P (p.faults x)
   program_faults x h v u =
       all_both P _ _
       (entries_faults (p.outside x.entries) (p.within x.entries) p.nothing_passed [] [] x.entries nothing_known (all_none P) h.entries v)
-      (steps_faults P (p.outside x.entries) None [] 65 [] x.main (all_none P) h.main u)
+      (steps_faults P (p.outside x.entries) None [] (first_past which.Locals) [] x.main (all_none P) h.main u)
 
   -- where it holds of every limit
-  module _ (every : (at limit : ℕ) (what : Which) → P (LimitOf at what limit)) where
+  module _ (every : (at : ℕ) (what : Which) → P (LimitOf at what)) where
     params_hold : (left : ℕ) (ps : List Binder) → ParamsHold left ps
     params_hold left [] = tt
-    params_hold left (b ∷ ps) = (λ e. every b.name.at 8 which.Parameters, params_hold (left - 1) ps)
+    params_hold left (b ∷ ps) = (λ e. every b.name.at which.Parameters, params_hold (left - 1) ps)
 
     locals_hold : (left : ℕ) (ps : List Binder) → LocalsHold left ps
     locals_hold left [] = tt
-    locals_hold left (b ∷ ps) = (λ e. every b.name.at 64 which.Locals, locals_hold (left - 1) ps)
+    locals_hold left (b ∷ ps) = (λ e. every b.name.at which.Locals, locals_hold (left - 1) ps)
 
     entry_holds : (q : p.Passed) (e : Entry) → EntryHolds q e
-    entry_holds q (fun w ps x body) = (λ e. every w.at 256 which.Funs, params_hold 9 ps, λ e. every w.at 65536 which.Weight)
-    entry_holds q (merge w m j x body) = (λ e. every w.at 256 which.Funs, λ e. every w.at 65536 which.Weight)
-    entry_holds q (shared x) = λ e g. every x.name.at 4096 which.Locations
-    entry_holds q (proc w ps x body) = (λ e. every w.at 256 which.Procedures, params_hold 9 ps, locals_hold 65 ps, steps_hold P every (p.left_params 65 ps) body)
+    entry_holds q (fun w ps x body) = (λ e. every w.at which.Funs, params_hold (first_past which.Parameters) ps, λ e. every w.at which.Weight)
+    entry_holds q (merge w m j x body) = (λ e. every w.at which.Funs, λ e. every w.at which.Weight)
+    entry_holds q (shared x) = λ e g. every x.name.at which.Locations
+    entry_holds q (proc w ps x body) = (λ e. every w.at which.Procedures, params_hold (first_past which.Parameters) ps, locals_hold (first_past which.Locals) ps, steps_hold P every (p.left_params (first_past which.Locals) ps) body)
 
     entries_hold : (q : p.Passed) (es : List Entry) → EntriesHold q es
     entries_hold q [] = tt
@@ -244,4 +244,4 @@ module _ (P : TypeFault → Type 0) where
 -- all that a typed program breaks is limits
 pub limits_alone : LimitsAlone
 limits_alone x h =
-    program_faults IsLimit x h (entries_hold IsLimit (λ at limit what. tt) p.nothing_passed x.entries) (steps_hold IsLimit (λ at limit what. tt) 65 x.main)
+    program_faults IsLimit x h (entries_hold IsLimit (λ at what. tt) p.nothing_passed x.entries) (steps_hold IsLimit (λ at what. tt) (first_past which.Locals) x.main)

@@ -12,6 +12,7 @@ use Rattle.merge_decl.specs.Names.{Name}
 use Rattle.merge_decl.specs.Table.{Table, find, added}
 use Rattle.merge_decl.specs.declared.expand.FunHead.{FunHead}
 use Rattle.rev_kinds.specs.declared.fault.Which.TheVariants as which
+use Rattle.rev_kinds.specs.Faults.{first_past}
 use Rattle.rev_kinds.specs.Kinds.{Names, Locals, same_kind}
 use Rattle.rev_kinds.specs.Rules as r
 use Rattle.rev_kinds.specs.Typing.{AllKinded, IsKnown}
@@ -163,11 +164,11 @@ module _ (named : Name → Option FunHead) (outer inner : Names) (known : (name 
   fun_typed : (q : p.Passed) (before : List Entry) (n : ℕ) (w : Word) (ps : List Binder) (x : ValueKind) (body : Term) → Follows q before
       → broken_in named (term_uses n body) ≡ [] → IsTrue (term_small body) → p.fun_by [] one app inner q w ps x body ≡ [] → FunTyped inner before w ps x body
   fun_typed q before n w ps x body f u sm h =
-      let both = parts (p.new_name [] one app w q.names ++ p.limit_at [] one app w.at which.Funs 256 q.funs_left) _ h in
+      let both = parts (p.new_name [] one app w q.names ++ p.limit_at [] one app w.at which.Funs q.funs_left) _ h in
       let name = parts (p.new_name [] one app w q.names) _ both.0 in
-      let more = parts (p.fun_params [] one app [] 9 [] ps ++ p.fun_result [] one app w x) _ both.1 in
-      let head = parts (p.fun_params [] one app [] 9 [] ps) _ more.0 in
-      let params = fun_params inner [] 9 [] ps dark head.0 in
+      let more = parts (p.fun_params [] one app [] (first_past which.Parameters) [] ps ++ p.fun_result [] one app w x) _ both.1 in
+      let head = parts (p.fun_params [] one app [] (first_past which.Parameters) [] ps) _ more.0 in
+      let params = fun_params inner [] (first_past which.Parameters) [] ps dark head.0 in
       let last = parts (p.fun_body [] one app inner (p.with_params [] ps) x body) _ more.1 in
       let value = parts (r.part_by [] one app inner (p.with_params [] ps) body x) _ last.0 in record {
         name = new_name q before w f name.0;
@@ -180,7 +181,7 @@ module _ (named : Name → Option FunHead) (outer inner : Names) (known : (name 
   merge_typed : (q : p.Passed) (before : List Entry) (n : ℕ) (w m j x : Word) (body : Term) → Follows q before
       → broken_in named (term_uses n body) ≡ [] → IsTrue (term_small body) → p.merge_by [] one app inner q w m j x body ≡ [] → MergeTyped inner before w m j x body
   merge_typed q before n w m j x body f u sm h =
-      let both = parts (p.new_name [] one app w q.names ++ p.limit_at [] one app w.at which.Funs 256 q.funs_left) _ h in
+      let both = parts (p.new_name [] one app w q.names ++ p.limit_at [] one app w.at which.Funs q.funs_left) _ h in
       let name = parts (p.new_name [] one app w q.names) _ both.0 in
       let more = parts (p.merge_params [] one app m j x) _ both.1 in
       let last = parts (r.part_by [] one app inner (p.merge_locals m j x) body k.Int) _ more.1 in
@@ -193,14 +194,14 @@ module _ (named : Name → Option FunHead) (outer inner : Names) (known : (name 
   proc_typed : (q : p.Passed) (before : List Entry) (n : ℕ) (w : Word) (ps : List Binder) (x : Option ValueKind) (body : Steps) → Follows q before
       → broken_in named (steps_uses n body) ≡ [] → IsTrue (steps_small body) → p.proc_by [] one app outer q w ps x body ≡ [] → ProcTyped outer before w ps x body
   proc_typed q before n w ps x body f u sm h =
-      let both = parts (p.new_name [] one app w q.names ++ p.limit_at [] one app w.at which.Procedures 256 q.procs_left) _ h in
+      let both = parts (p.new_name [] one app w q.names ++ p.limit_at [] one app w.at which.Procedures q.procs_left) _ h in
       let name = parts (p.new_name [] one app w q.names) _ both.0 in
-      let more = parts (p.proc_params [] one app outer [] 9 65 [] ps ++ p.return_use [] one app w x (s.returns body)) _ both.1 in
-      let head = parts (p.proc_params [] one app outer [] 9 65 [] ps) _ more.0 in record {
+      let more = parts (p.proc_params [] one app outer [] (first_past which.Parameters) (first_past which.Locals) [] ps ++ p.return_use [] one app w x (s.returns body)) _ both.1 in
+      let head = parts (p.proc_params [] one app outer [] (first_past which.Parameters) (first_past which.Locals) [] ps) _ more.0 in record {
         name = new_name q before w f name.0;
-        params = (proc_params outer [] 9 65 [] ps head.0).1;
+        params = (proc_params outer [] (first_past which.Parameters) (first_past which.Locals) [] ps head.0).1;
         result = returns_typed w x body head.1;
-        body = steps_typed named outer known n x (p.with_params [] ps) (p.left_params 65 ps) [] body (params_kinded [] ps none_kinded) u sm more.1;
+        body = steps_typed named outer known n x (p.with_params [] ps) (p.left_params (first_past which.Locals) ps) [] body (params_kinded [] ps none_kinded) u sm more.1;
       }
 
   entry_typed : (q : p.Passed) (before : List Entry) (n d : ℕ) (e : Entry) → Follows q before → broken_in named (entry_uses n d e) ≡ [] → IsTrue (entry_small e)
@@ -232,5 +233,5 @@ program_typed x small u h =
     let both = parts (p.entries_by [] one app (p.outside x.entries) (p.within x.entries) p.nothing_passed [] x.entries) _ h in record {
       entries =
           (entries_typed (fun_named x) (p.outside x.entries) (p.within x.entries) known known (λ name. refl) p.nothing_passed [] [] (length x.entries) 0 x.entries nothing_follows us.0 small.entries both.0).1;
-      main = steps_typed (fun_named x) (p.outside x.entries) known (length x.entries) None [] 65 [] x.main none_kinded us.1 small.main both.1;
+      main = steps_typed (fun_named x) (p.outside x.entries) known (length x.entries) None [] (first_past which.Locals) [] x.main none_kinded us.1 small.main both.1;
     }

@@ -5,6 +5,7 @@ use Rattle.rev_num.specs.declared.value.ValueKind.TheVariants as k
 use Rattle.rev_syntax.specs.Trees.{Word, Binder, Term, Entry, fun, merge, shared, proc, Whole}
 use Rattle.merge_decl.specs.Table.{Table, find, added}
 use Rattle.rev_kinds.specs.declared.fault.Which.TheVariants as which
+use Rattle.rev_kinds.specs.Faults.{first_past, limit_of}
 use Rattle.rev_kinds.specs.Kinds.{Names, Locals}
 use Rattle.rev_kinds.specs.Rules as r
 use Rattle.rev_kinds.proofs.Lists.{parts, failed}
@@ -34,7 +35,7 @@ proc_params c l left locals found [] h = (h, λ g. g)
 proc_params c l left locals found (b ∷ ps) h =
     let rest = proc_params c (added l b.name.text (Some b.kind)) (left - 1) (locals - 1) (found ++ p.proc_param [] one app c l left locals b) ps h in
     let here = parts found _ rest.0 in
-    let limit = parts (p.limit_at [] one app b.name.at which.Parameters 8 left) _ (parts (s.new_local [] one app b.name (find b.name.text l) (c.shared b.name.text)) _ here.1).1 in
+    let limit = parts (p.limit_at [] one app b.name.at which.Parameters left) _ (parts (s.new_local [] one app b.name (find b.name.text l) (c.shared b.name.text)) _ here.1).1 in
     let n = not_last left _ limit.0 in
     (here.0, λ g. let e : length ps + 1 < left = one_more (length ps) left g (rest.1 (one_less left n g)) in omega arith)
 
@@ -69,24 +70,24 @@ weight_within w ws vs e c h = weight_is_within (term_weight ws e) (p.weight vs e
 
 -- ---- locations
 
-located_sum : (before c n : ℕ) → before ≡ min c 4097 → min (before + min n 4097) 4097 ≡ min (c + n) 4097
+located_sum : (before c n : ℕ) → before ≡ min c (first_past which.Locations) → min (before + min n (first_past which.Locations)) (first_past which.Locations) ≡ min (c + n) (first_past which.Locations)
 located_sum before c n e = omega arith
 
-located_within : (w : Word) (before after : ℕ) → p.location_limit [] one app w before after ≡ [] → before ≤ 4096 → after ≤ 4096
-located_within w before after h g = let b : nat_le before 4096 ≡ true = grind (arith, nat_tests) in by (nat_le before 4096) b h
+located_within : (w : Word) (before after : ℕ) → p.location_limit [] one app w before after ≡ [] → before ≤ limit_of which.Locations → after ≤ limit_of which.Locations
+located_within w before after h g = let b : nat_le before (limit_of which.Locations) ≡ true = grind (arith, nat_tests) in by (nat_le before (limit_of which.Locations)) b h
   where
-    by : (x : Bool) → x ≡ true → cond x (p.location_limit [] one app w 0 after) [] ≡ [] → after ≤ 4096
-    by true e d = let f : nat_lt 4096 after ≡ false = failed (nat_lt 4096 after) _ d in grind (arith, nat_tests)
+    by : (x : Bool) → x ≡ true → cond x (p.location_limit [] one app w 0 after) [] ≡ [] → after ≤ limit_of which.Locations
+    by true e d = let f : nat_lt (limit_of which.Locations) after ≡ false = failed (nat_lt (limit_of which.Locations) after) _ d in grind (arith, nat_tests)
     by false e d = cc
 
-location_never : (before after c n : ℕ) → after ≡ min (c + n) 4097 → c + n ≤ 4096 → nat_lt 4096 after ≡ true → ⊥
-location_never before after c n e h t = let g : 4096 < after = grind (arith, nat_tests) in omega arith
+location_never : (before after c n : ℕ) → after ≡ min (c + n) (first_past which.Locations) → c + n ≤ limit_of which.Locations → nat_lt (limit_of which.Locations) after ≡ true → ⊥
+location_never before after c n e h t = let g : limit_of which.Locations < after = grind (arith, nat_tests) in omega arith
 
-located_all : (q : p.Passed) (c : ℕ) (es : List Entry) → q.located ≡ min c 4097 → (p.passed_all q es).located ≡ min (c + cells es) 4097
-located_all q c [] e = e ∙ ap (λ n. min n 4097) (let d : c ≡ c + 0 = omega arith in d)
+located_all : (q : p.Passed) (c : ℕ) (es : List Entry) → q.located ≡ min c (first_past which.Locations) → (p.passed_all q es).located ≡ min (c + cells es) (first_past which.Locations)
+located_all q c [] e = e ∙ ap (λ n. min n (first_past which.Locations)) (let d : c ≡ c + 0 = omega arith in d)
 located_all q c (shared x ∷ es) e =
     located_all (p.passed_with q (shared x)) (c + p.cells_of x.size) es (located_sum q.located c (p.cells_of x.size) e)
-    ∙ ap (λ n. min n 4097) (let d : c + p.cells_of x.size + cells es ≡ c + (p.cells_of x.size + cells es) = omega arith in d)
+    ∙ ap (λ n. min n (first_past which.Locations)) (let d : c + p.cells_of x.size + cells es ≡ c + (p.cells_of x.size + cells es) = omega arith in d)
 located_all q c (fun w ps x body ∷ es) e = located_all (p.passed_with q (fun w ps x body)) c es e
 located_all q c (merge w m j x body ∷ es) e = located_all (p.passed_with q (merge w m j x body)) c es e
 located_all q c (proc w ps x body ∷ es) e = located_all (p.passed_with q (proc w ps x body)) c es e
@@ -96,7 +97,7 @@ located_all q c (proc w ps x body ∷ es) e = located_all (p.passed_with q (proc
 pub record Counted (q : p.Passed) (es : List Entry) : Type 0 where
   pub procs_within : 0 < q.procs_left → procs es < q.procs_left
   pub funs_within : 0 < q.funs_left → funs es < q.funs_left
-  pub located : q.located ≤ 4096 → (p.passed_all q es).located ≤ 4096
+  pub located : q.located ≤ limit_of which.Locations → (p.passed_all q es).located ≤ limit_of which.Locations
 
 -- the first past a limit is not here
 one_counted : (n left : ℕ) → left ≢ 1 → (0 < left - 1 → n < left - 1) → 0 < left → 1 + n < left
@@ -104,11 +105,11 @@ one_counted n left h g e = let d : n + 1 < left = one_more n left e (g (one_less
 
 counted : (outer inner : Names) (q : p.Passed) (e : Entry) (es : List Entry) → p.entry_by [] one app outer inner q e ≡ [] → Counted (p.passed_with q e) es → Counted q (e ∷ es)
 counted outer inner q (fun w ps x body) es h g =
-    let head = parts (p.new_name [] one app w q.names ++ p.limit_at [] one app w.at which.Funs 256 q.funs_left) _ h in
+    let head = parts (p.new_name [] one app w q.names ++ p.limit_at [] one app w.at which.Funs q.funs_left) _ h in
     let n = not_last q.funs_left _ (parts (p.new_name [] one app w q.names) _ head.0).1 in
     record { procs_within = g.procs_within; funs_within = one_counted (funs es) q.funs_left n g.funs_within; located = g.located }
 counted outer inner q (merge w m j x body) es h g =
-    let head = parts (p.new_name [] one app w q.names ++ p.limit_at [] one app w.at which.Funs 256 q.funs_left) _ h in
+    let head = parts (p.new_name [] one app w q.names ++ p.limit_at [] one app w.at which.Funs q.funs_left) _ h in
     let n = not_last q.funs_left _ (parts (p.new_name [] one app w q.names) _ head.0).1 in
     record { procs_within = g.procs_within; funs_within = one_counted (funs es) q.funs_left n g.funs_within; located = g.located }
 counted outer inner q (shared x) es h g =
@@ -116,33 +117,33 @@ counted outer inner q (shared x) es h g =
     let limit = (parts (p.new_name [] one app x.name q.names) _ head.0).1 in
     record { procs_within = g.procs_within; funs_within = g.funs_within; located = λ e. g.located (located_within x.name q.located (p.located_after q.located (p.cells_in x.size)) limit e) }
 counted outer inner q (proc w ps x body) es h g =
-    let head = parts (p.new_name [] one app w q.names ++ p.limit_at [] one app w.at which.Procedures 256 q.procs_left) _ h in
+    let head = parts (p.new_name [] one app w q.names ++ p.limit_at [] one app w.at which.Procedures q.procs_left) _ h in
     let n = not_last q.procs_left _ (parts (p.new_name [] one app w q.names) _ head.0).1 in
     record { procs_within = one_counted (procs es) q.procs_left n g.procs_within; funs_within = g.funs_within; located = g.located }
 
-body_within : (n left lets : ℕ) → left ≡ 65 - n → n < 9 → (0 < left → lets < left) → n + lets ≤ 64
+body_within : (n left lets : ℕ) → left ≡ first_past which.Locals - n → n < first_past which.Parameters → (0 < left → lets < left) → n + lets ≤ limit_of which.Locals
 body_within n left lets e h g = let d : lets < left = g (omega arith) in omega arith
 
 entry_within : (outer inner : Names) (q : p.Passed) (ws : Table ℕ) (e : Entry) → Caps ws q.weights → p.entry_by [] one app outer inner q e ≡ [] → EntryWithin ws e
 entry_within outer inner q ws (fun w ps x body) c h =
-    let head = parts (p.new_name [] one app w q.names ++ p.limit_at [] one app w.at which.Funs 256 q.funs_left) _ h in
-    let more = parts (p.fun_params [] one app [] 9 [] ps ++ p.fun_result [] one app w x) _ head.1 in
-    let params = (fun_params [] 9 [] ps (parts (p.fun_params [] one app [] 9 [] ps) _ more.0).0).1 (omega arith) in
+    let head = parts (p.new_name [] one app w q.names ++ p.limit_at [] one app w.at which.Funs q.funs_left) _ h in
+    let more = parts (p.fun_params [] one app [] (first_past which.Parameters) [] ps ++ p.fun_result [] one app w x) _ head.1 in
+    let params = (fun_params [] (first_past which.Parameters) [] ps (parts (p.fun_params [] one app [] (first_past which.Parameters) [] ps) _ more.0).0).1 (omega arith) in
     let weight = (parts (p.fun_body [] one app inner (p.with_params [] ps) x body) _ more.1).1 in
     (omega arith, weight_within w ws q.weights body c weight)
 entry_within outer inner q ws (merge w m j x body) c h =
-    let head = parts (p.new_name [] one app w q.names ++ p.limit_at [] one app w.at which.Funs 256 q.funs_left) _ h in
+    let head = parts (p.new_name [] one app w q.names ++ p.limit_at [] one app w.at which.Funs q.funs_left) _ h in
     let more = parts (p.merge_params [] one app m j x) _ head.1 in
     let weight = (parts (r.part_by [] one app inner (p.merge_locals m j x) body k.Int) _ more.1).1 in
     weight_within w ws q.weights body c weight
 entry_within outer inner q ws (shared x) c h = tt
 entry_within outer inner q ws (proc w ps x body) c h =
-    let head = parts (p.new_name [] one app w q.names ++ p.limit_at [] one app w.at which.Procedures 256 q.procs_left) _ h in
-    let more = parts (p.proc_params [] one app outer [] 9 65 [] ps ++ p.return_use [] one app w x (s.returns body)) _ head.1 in
-    let params = (proc_params outer [] 9 65 [] ps (parts (p.proc_params [] one app outer [] 9 65 [] ps) _ more.0).0).1 (omega arith) in
-    let block = (steps_within outer x (p.with_params [] ps) (p.left_params 65 ps) [] body more.1).1 in
-    let some : 0 < p.left_params 65 ps = (let e = params_left 65 ps in omega arith) in
-    (omega arith, (body_within (length ps) (p.left_params 65 ps) (steps_lets body) (params_left 65 ps) params (λ g. (block g).0), (block some).1))
+    let head = parts (p.new_name [] one app w q.names ++ p.limit_at [] one app w.at which.Procedures q.procs_left) _ h in
+    let more = parts (p.proc_params [] one app outer [] (first_past which.Parameters) (first_past which.Locals) [] ps ++ p.return_use [] one app w x (s.returns body)) _ head.1 in
+    let params = (proc_params outer [] (first_past which.Parameters) (first_past which.Locals) [] ps (parts (p.proc_params [] one app outer [] (first_past which.Parameters) (first_past which.Locals) [] ps) _ more.0).0).1 (omega arith) in
+    let block = (steps_within outer x (p.with_params [] ps) (p.left_params (first_past which.Locals) ps) [] body more.1).1 in
+    let some : 0 < p.left_params (first_past which.Locals) ps = (let e = params_left (first_past which.Locals) ps in omega arith) in
+    (omega arith, (body_within (length ps) (p.left_params (first_past which.Locals) ps) (steps_lets body) (params_left (first_past which.Locals) ps) params (λ g. (block g).0), (block some).1))
 
 weights_cap : (q : p.Passed) (ws : Table ℕ) (e : Entry) → Caps ws q.weights → Caps (weights_with ws e) (p.passed_with q e).weights
 weights_cap q ws (fun w ps x body) c = added_caps ws q.weights w.text (term_weight ws body) (p.weight q.weights body) c (term_caps ws q.weights c body)
@@ -158,18 +159,18 @@ entries_within outer inner q ws found (e ∷ es) c h =
     let here = parts found _ rest.0 in
     (here.0, counted outer inner q e es here.1 rest.1, (entry_within outer inner q ws e c here.1, rest.2))
 
-cells_within : (n m : ℕ) → m ≡ min n 4097 → m ≤ 4096 → n ≤ 4096
+cells_within : (n m : ℕ) → m ≡ min n (first_past which.Locations) → m ≤ limit_of which.Locations → n ≤ limit_of which.Locations
 cells_within n m e h = omega arith
 
 pub program_within : (x : Whole) → p.faults x ≡ [] → IsWithinLimits x
 program_within x h =
     let both = parts (p.entries_by [] one app (p.outside x.entries) (p.within x.entries) p.nothing_passed [] x.entries) _ h in
     let all = entries_within (p.outside x.entries) (p.within x.entries) p.nothing_passed [] [] x.entries none_caps both.0 in
-    let main = (steps_within (p.outside x.entries) None [] 65 [] x.main both.1).1 (omega arith) in
+    let main = (steps_within (p.outside x.entries) None [] (first_past which.Locals) [] x.main both.1).1 (omega arith) in
     let locals = main.0 in
     let some_procs = all.1.procs_within (omega arith) in
     let some_funs = all.1.funs_within (omega arith) in record {
-      locations = cells_within (cells x.entries) (p.locations x) (located_all p.nothing_passed 0 x.entries refl ∙ ap (λ n. min n 4097) (let e : 0 + cells x.entries ≡ cells x.entries = omega arith in e)) (all.1.located (omega arith));
+      locations = cells_within (cells x.entries) (p.locations x) (located_all p.nothing_passed 0 x.entries refl ∙ ap (λ n. min n (first_past which.Locations)) (let e : 0 + cells x.entries ≡ cells x.entries = omega arith in e)) (all.1.located (omega arith));
       procedures = omega arith;
       declared_funs = omega arith;
       entries = all.2;
@@ -179,8 +180,8 @@ program_within x h =
 -- ---- within the limits none is broken
 
 record Room (q : p.Passed) (c : ℕ) (es : List Entry) : Type 0 where
-  located : q.located ≡ min c 4097
-  cells_fit : c + cells es ≤ 4096
+  located : q.located ≡ min c (first_past which.Locations)
+  cells_fit : c + cells es ≤ limit_of which.Locations
   procs_fit : procs es < q.procs_left
   funs_fit : funs es < q.funs_left
 
@@ -195,7 +196,7 @@ entries_never q ws c [] a room h = tt
 entries_never q ws c (fun w ps x body ∷ es) a room h = (
   (
     λ e. last_never (funs es) q.funs_left room.funs_fit e,
-    params_never 9 ps (let g = h.0.0 in omega arith),
+    params_never (first_past which.Parameters) ps (let g = h.0.0 in omega arith),
     λ t. weight_never (term_weight ws body) (p.weight q.weights body) (term_caps ws q.weights a body) h.0.1 t,
   ),
   entries_never (p.passed_with q (fun w ps x body)) (weights_with ws (fun w ps x body)) c es (weights_cap q ws (fun w ps x body) a) (record {
@@ -230,9 +231,9 @@ entries_never q ws c (shared x ∷ es) a room h = (
 entries_never q ws c (proc w ps x body ∷ es) a room h = (
   (
     λ e. last_never (procs es) q.procs_left room.procs_fit e,
-    params_never 9 ps (let g = h.0.0 in omega arith),
-    locals_never 65 ps (let g = h.0.0 in omega arith),
-    steps_never (p.left_params 65 ps) body (let g = h.0.1.0 in let e = params_left 65 ps in omega arith) h.0.1.1,
+    params_never (first_past which.Parameters) ps (let g = h.0.0 in omega arith),
+    locals_never (first_past which.Locals) ps (let g = h.0.0 in omega arith),
+    steps_never (p.left_params (first_past which.Locals) ps) body (let g = h.0.1.0 in let e = params_left (first_past which.Locals) ps in omega arith) h.0.1.1,
   ),
   entries_never (p.passed_with q (proc w ps x body)) ws c es a (record {
     located = room.located;
@@ -257,11 +258,11 @@ program_accepts x t h =
     } in
     let main = h.main.0 in
     none_among (p.faults x)
-    (program_faults Never x t (entries_never p.nothing_passed [] 0 x.entries none_caps room h.entries) (steps_never 65 x.main (omega arith) h.main.1))
+    (program_faults Never x t (entries_never p.nothing_passed [] 0 x.entries none_caps room h.entries) (steps_never (first_past which.Locals) x.main (omega arith) h.main.1))
 
 -- the locations of a program within the limits are its cells
 pub program_located : (x : Whole) → IsWithinLimits x → p.locations x ≡ cells x.entries
 program_located x h =
     let all = located_all p.nothing_passed 0 x.entries refl in
     let few = h.locations in
-    all ∙ (let e : min (0 + cells x.entries) 4097 ≡ cells x.entries = omega arith in e)
+    all ∙ (let e : min (0 + cells x.entries) (first_past which.Locations) ≡ cells x.entries = omega arith in e)

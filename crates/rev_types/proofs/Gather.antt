@@ -14,7 +14,7 @@ use Rattle.rev_kinds.specs.declared.fault.TypeFault.{TypeFault}
 use Rattle.rev_kinds.specs.declared.fault.Which.{Which}
 use Rattle.rev_kinds.specs.declared.fault.Which.TheVariants as which
 use Rattle.rev_kinds.specs.declared.names.Holder.{Holder}
-use Rattle.rev_kinds.specs.Faults.{place, rank}
+use Rattle.rev_kinds.specs.Faults.{first_past, limit_of, place, rank}
 use Rattle.rev_kinds.specs.Kinds.{Callee, Names, Locals, same_kind, name_kind, operand_kind, kind_in, right_kind, right_place, term_place}
 use Rattle.rev_kinds.specs.Rules as r
 use Rattle.rev_kinds.specs.Walk.{both}
@@ -220,7 +220,7 @@ module _ {M N : Type 0} (none : M) (one : TypeFault → M) (both : M → M → M
     act_first c result l left at (return e) = return_first c l result at e
     act_first c result l left at (fork n args) = call_first c l n args
     act_first c result l left at (join e) = part_first c l e k.Rev
-    act_first c result l left at (print is) = items_first c l 65 none none' is h-none
+    act_first c result l left at (print is) = items_first c l (first_past which.Items) none none' is h-none
     act_first c result l left at (assert e) = part_first c l e k.Bool
 
     pub steps_first : (c : Names) (result : Option ValueKind) (l : Locals) (left : ℕ) (x : M) (x' : N) (ss : Steps) → h x ≡ x'
@@ -240,8 +240,8 @@ module _ {M N : Type 0} (none : M) (one : TypeFault → M) (both : M → M → M
   new_name : (n : Word) (names : Table ℕ) → h (p.new_name none one both n names) ≡ p.new_name none' one' both' n names
   new_name n names = test (is_some (find n.text names)) _ _ _ _ (h-one _) h-none
 
-  limit_at : (at : ℕ) (which : Which) (limit left : ℕ) → h (p.limit_at none one both at which limit left) ≡ p.limit_at none' one' both' at which limit left
-  limit_at at which limit left = test (nat_eq left 1) _ _ _ _ (h-one _) h-none
+  limit_at : (at : ℕ) (which : Which) (left : ℕ) → h (p.limit_at none one both at which left) ≡ p.limit_at none' one' both' at which left
+  limit_at at which left = test (nat_eq left 1) _ _ _ _ (h-one _) h-none
 
   new_param : (n : Word) (l : Locals) → h (p.new_param none one both n l) ≡ p.new_param none' one' both' n l
   new_param n l = test (is_some (find n.text l)) _ _ _ _ (h-one _) h-none
@@ -252,21 +252,21 @@ module _ {M N : Type 0} (none : M) (one : TypeFault → M) (both : M → M → M
   fun_params : (l : Locals) (left : ℕ) (x : M) (x' : N) (bs : List Binder) → h x ≡ x' → h (p.fun_params none one both l left x bs) ≡ p.fun_params none' one' both' l left x' bs
   fun_params l left x x' [] q = q
   fun_params l left x x' (b ∷ bs) q =
-      fun_params (added l b.name.text (Some b.kind)) (left - 1) _ _ bs (two _ _ _ _ q (two _ _ _ _ (new_param b.name l) (two _ _ _ _ (no_rev_param b) (limit_at b.name.at which.Parameters 8 left))))
+      fun_params (added l b.name.text (Some b.kind)) (left - 1) _ _ bs (two _ _ _ _ q (two _ _ _ _ (new_param b.name l) (two _ _ _ _ (no_rev_param b) (limit_at b.name.at which.Parameters left))))
 
   proc_params : (c : Names) (l : Locals) (left locals : ℕ) (x : M) (x' : N) (bs : List Binder) → h x ≡ x'
       → h (p.proc_params none one both c l left locals x bs) ≡ p.proc_params none' one' both' c l left locals x' bs
   proc_params c l left locals x x' [] q = q
   proc_params c l left locals x x' (b ∷ bs) q =
       proc_params c (added l b.name.text (Some b.kind)) (left - 1) (locals - 1) _ _ bs
-      (two _ _ _ _ q (two _ _ _ _ (new_local b.name (find b.name.text l) (c.shared b.name.text)) (two _ _ _ _ (limit_at b.name.at which.Parameters 8 left) (one_more_local b.name locals))))
+      (two _ _ _ _ q (two _ _ _ _ (new_local b.name (find b.name.text l) (c.shared b.name.text)) (two _ _ _ _ (limit_at b.name.at which.Parameters left) (one_more_local b.name locals))))
 
   merge_params : (m j x : Word) → h (p.merge_params none one both m j x) ≡ p.merge_params none' one' both' m j x
   merge_params m j x =
       two _ _ _ _ (new_param j (added [] m.text (Some k.Int))) (new_param x (added (added [] m.text (Some k.Int)) j.text (Some k.Int)))
 
   weight_of : (n : Word) (weight : ℕ) → h (p.weight_of none one both n weight) ≡ p.weight_of none' one' both' n weight
-  weight_of n weight = test (nat_lt 65536 weight) _ _ _ _ (h-one _) h-none
+  weight_of n weight = test (nat_lt (limit_of which.Weight) weight) _ _ _ _ (h-one _) h-none
 
   fun_result : (n : Word) (x : ValueKind) → h (p.fun_result none one both n x) ≡ p.fun_result none' one' both' n x
   fun_result n x = test (same_kind x k.Rev) _ _ _ _ (h-one _) h-none
@@ -291,7 +291,7 @@ module _ {M N : Type 0} (none : M) (one : TypeFault → M) (both : M → M → M
   first_value (Some x) wanted = wants x.at (Some (kind_of x.value)) wanted
 
   location_limit : (n : Word) (before after : ℕ) → h (p.location_limit none one both n before after) ≡ p.location_limit none' one' both' n before after
-  location_limit n before after = test (nat_le before 4096) _ _ _ _ (test (nat_lt 4096 after) _ _ _ _ (h-one _) h-none) h-none
+  location_limit n before after = test (nat_le before (limit_of which.Locations)) _ _ _ _ (test (nat_lt (limit_of which.Locations) after) _ _ _ _ (h-one _) h-none) h-none
 
   return_use : (n : Word) (x : Option ValueKind) (b : Bool) → h (p.return_use none one both n x b) ≡ p.return_use none' one' both' n x b
   return_use n None b = h-none
@@ -299,20 +299,20 @@ module _ {M N : Type 0} (none : M) (one : TypeFault → M) (both : M → M → M
 
   entry_first : (outer inner : Names) (q : p.Passed) (e : Entry) → h (p.entry_by none one both outer inner q e) ≡ p.entry_by none' one' both' outer inner q e
   entry_first outer inner q (fun n bs x body) =
-      two _ _ _ _ (two _ _ _ _ (new_name n q.names) (limit_at n.at which.Funs 256 q.funs_left))
-      (two _ _ _ _ (two _ _ _ _ (fun_params [] 9 none none' bs h-none) (fun_result n x))
+      two _ _ _ _ (two _ _ _ _ (new_name n q.names) (limit_at n.at which.Funs q.funs_left))
+      (two _ _ _ _ (two _ _ _ _ (fun_params [] (first_past which.Parameters) none none' bs h-none) (fun_result n x))
       (two _ _ _ _ (fun_body inner (p.with_params [] bs) x body) (weight_of n (p.weight q.weights body))))
   entry_first outer inner q (merge n m j x body) =
-      two _ _ _ _ (two _ _ _ _ (new_name n q.names) (limit_at n.at which.Funs 256 q.funs_left))
+      two _ _ _ _ (two _ _ _ _ (new_name n q.names) (limit_at n.at which.Funs q.funs_left))
       (two _ _ _ _ (merge_params m j x)
       (two _ _ _ _ (part_first inner (p.merge_locals m j x) body k.Int) (weight_of n (p.weight q.weights body))))
   entry_first outer inner q (shared x) =
       two _ _ _ _ (two _ _ _ _ (new_name x.name q.names) (location_limit x.name q.located (p.located_after q.located (p.cells_in x.size))))
       (two _ _ _ _ (two _ _ _ _ (by_use q.merges x.by) (cumulative_kind x.by x.kind_at x.holds)) (two _ _ _ _ (size_use x.size) (first_value x.first x.holds)))
   entry_first outer inner q (proc n bs x body) =
-      two _ _ _ _ (two _ _ _ _ (new_name n q.names) (limit_at n.at which.Procedures 256 q.procs_left))
-      (two _ _ _ _ (two _ _ _ _ (proc_params outer [] 9 65 none none' bs h-none) (return_use n x (s.returns body)))
-      (steps_first outer x (p.with_params [] bs) (p.left_params 65 bs) none none' body h-none))
+      two _ _ _ _ (two _ _ _ _ (new_name n q.names) (limit_at n.at which.Procedures q.procs_left))
+      (two _ _ _ _ (two _ _ _ _ (proc_params outer [] (first_past which.Parameters) (first_past which.Locals) none none' bs h-none) (return_use n x (s.returns body)))
+      (steps_first outer x (p.with_params [] bs) (p.left_params (first_past which.Locals) bs) none none' body h-none))
 
   entries_first : (outer inner : Names) (q : p.Passed) (x : M) (x' : N) (es : List Entry) → h x ≡ x' → h (p.entries_by none one both outer inner q x es) ≡ p.entries_by none' one' both' outer inner q x' es
   entries_first outer inner q x x' [] e = e
@@ -321,7 +321,7 @@ module _ {M N : Type 0} (none : M) (one : TypeFault → M) (both : M → M → M
   program_first : (x : Whole) → h (p.program_by none one both x) ≡ p.program_by none' one' both' x
   program_first x =
       two _ _ _ _ (entries_first (p.outside x.entries) (p.within x.entries) p.nothing_passed none none' x.entries h-none)
-      (steps_first (p.outside x.entries) None [] 65 none none' x.main h-none)
+      (steps_first (p.outside x.entries) None [] (first_past which.Locals) none none' x.main h-none)
 
 -- the first fault of a program is the first of all its faults
 pub first_of_faults : (x : Whole) → least place rank (p.faults x) ≡ program_by x

@@ -4,6 +4,8 @@ use Rattle.rev_syntax.specs.Trees.{Word, Variable, Term, Entry, fun, merge, shar
 use Rattle.merge_decl.specs.Names.{Name, same}
 use Rattle.merge_decl.specs.Table.{find}
 use Rattle.merge_decl.proofs.Tables.{or_else, find-added}
+use Rattle.rev_kinds.specs.declared.fault.Which.TheVariants as which
+use Rattle.rev_kinds.specs.Faults.{limit_of}
 use Rattle.rev_types.specs.Program as p
 use Rattle.rev_types.specs.Limits.{cells}
 use Rattle.rev_types.specs.Layout.{merge_at, merge_of, laid, layout, LaidOut}
@@ -85,11 +87,11 @@ same_count q before e f h = let g = f.count in let d = merges_behind before e in
 same_named : (q : p.Passed) (before : List Entry) (e : Entry) → Lies q before → ((name : Name) → merge_at name (e ∷ []) ≡ None) → (name : Name) → find name q.merges ≡ merge_at name (before ++ e ∷ [])
 same_named q before e f h name = f.named name ∙ sym (none_behind name e (h name) before)
 
-more_cells : (q : p.Passed) (before : List Entry) (x : Variable) → Lies q before → cells before + cells (shared x ∷ []) ≤ 4096
+more_cells : (q : p.Passed) (before : List Entry) (x : Variable) → Lies q before → cells before + cells (shared x ∷ []) ≤ limit_of which.Locations
     → p.located_after q.located (p.cells_in x.size) ≡ cells (before ++ shared x ∷ [])
 more_cells q before x f h = let g = f.located in let d = cells_behind before (shared x) in omega arith
 
-lies : (q : p.Passed) (before : List Entry) (e : Entry) → Lies q before → cells before + cells (e ∷ []) ≤ 4096 → Lies (p.passed_with q e) (before ++ e ∷ [])
+lies : (q : p.Passed) (before : List Entry) (e : Entry) → Lies q before → cells before + cells (e ∷ []) ≤ limit_of which.Locations → Lies (p.passed_with q e) (before ++ e ∷ [])
 lies q before (fun w ps x body) f h = record {
   number = next_number q before (fun w ps x body) f;
   located = same_cells q before (fun w ps x body) f refl;
@@ -122,7 +124,7 @@ row_merge : (q : p.Passed) (before : List Entry) (o : Option Word) → Lies q be
 row_merge q before None f = refl
 row_merge q before (Some w) f = f.named w.text
 
-row : (q : p.Passed) (before : List Entry) (x : Variable) → Lies q before → p.cells_of x.size ≤ 4096 → p.info q x ≡ laid before x
+row : (q : p.Passed) (before : List Entry) (x : Variable) → Lies q before → p.cells_of x.size ≤ limit_of which.Locations → p.info q x ≡ laid before x
 row q before x f h = λ i. record {
   decl = f.number i;
   base = f.located i;
@@ -131,13 +133,13 @@ row q before x f h = λ i. record {
   merge = row_merge q before x.by f i;
 }
 
-here : (a b n : ℕ) → a + (b + n) ≤ 4096 → a + (b + 0) ≤ 4096
+here : (a b n : ℕ) → a + (b + n) ≤ limit_of which.Locations → a + (b + 0) ≤ limit_of which.Locations
 here a b n h = omega arith
 
-behind : (a b n m : ℕ) → m ≡ a + (b + 0) → a + (b + n) ≤ 4096 → m + n ≤ 4096
+behind : (a b n m : ℕ) → m ≡ a + (b + 0) → a + (b + n) ≤ limit_of which.Locations → m + n ≤ limit_of which.Locations
 behind a b n m e h = omega arith
 
-laid_behind : (q : p.Passed) (before es : List Entry) → Lies q before → cells before + cells es ≤ 4096 → p.infos q es ≡ layout before es
+laid_behind : (q : p.Passed) (before es : List Entry) → Lies q before → cells before + cells es ≤ limit_of which.Locations → p.infos q es ≡ layout before es
 laid_behind q before [] f h = refl
 laid_behind q before (shared x ∷ es) f h =
     let n = here (cells before) (p.cells_of x.size) (cells es) h in

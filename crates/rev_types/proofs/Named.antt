@@ -1,12 +1,14 @@
 -- Tables of names find the first declaration of each name.
-use Rattle.std.proofs.Common.{◌≡◌, ◌∙◌, Bool, true, false, cond, if◌then◌else◌, Option, Some, None, option_map, is_some, List, [], ◌∷◌, ◌++◌, refl, sym, ap}
+use Rattle.std.proofs.Common.{◌≡◌, ◌∙◌, ℕ, Bool, true, false, cond, if◌then◌else◌, Option, Some, None, option_map, is_some, List, [], ◌∷◌, ◌++◌, refl, sym, ap}
 use Rattle.rev_syntax.specs.Trees.{Entry, fun, merge, shared, proc, Whole}
 use Rattle.merge_decl.specs.Names.{Name, same}
 use Rattle.merge_decl.specs.Table.{Table, find, added}
 use Rattle.merge_decl.proofs.Tables.{or_else, or_else-step, find-added, or_else-none}
+use Rattle.rev_kinds.specs.declared.fault.Which.TheVariants as which
 use Rattle.rev_kinds.specs.declared.names.Holder.{Holder}
 use Rattle.rev_kinds.specs.declared.names.Callee as held
 use Rattle.rev_kinds.specs.declared.names.Checker as held_checker
+use Rattle.rev_kinds.specs.Faults.{first_past}
 use Rattle.rev_kinds.specs.Kinds.{Callee, Locals}
 use Rattle.rev_kinds.specs.Walk.{Fault, both, callee, names_of}
 use Rattle.rev_types.specs.Program as p
@@ -88,13 +90,13 @@ inner_names c es o q f = λ i. record {
 }
 
 -- the first fault of a program is that of its declarations or of `main`, by checkers with its tables
-pub program_found : (q : Whole) (o i : held_checker.Checker) (e1 e2 e3 e4 : List Entry) (l : Locals) (d m x : Fault)
-    → e1 ≡ q.entries → e2 ≡ q.entries → e3 ≡ q.entries → e4 ≡ q.entries → l ≡ []
+pub program_found : (q : Whole) (o i : held_checker.Checker) (e1 e2 e3 e4 : List Entry) (l : Locals) (left : ℕ) (d m x : Fault)
+    → e1 ≡ q.entries → e2 ≡ q.entries → e3 ≡ q.entries → e4 ≡ q.entries → l ≡ [] → left ≡ first_past which.Locals
     → o.inside ≡ false → o.shared.now ≡ shared_table [] e1 → callees o.procs.now ≡ proc_table [] e2 → callees o.funs.now ≡ fun_table [] e3
     → i.inside ≡ true → callees i.procs.now ≡ proc_table [] e2 → callees i.funs.now ≡ fun_table [] e3
-    → d ≡ entries_by (names_of o) (names_of i) p.nothing_passed None e4 → m ≡ steps_by (names_of o) None l 65 None q.main → x ≡ both d m
+    → d ≡ entries_by (names_of o) (names_of i) p.nothing_passed None e4 → m ≡ steps_by (names_of o) None l left None q.main → x ≡ both d m
     → x ≡ program_by q
-program_found q o i e1 e2 e3 e4 l d m x p1 p2 p3 p4 pl oi os op of ii ip if' hd hm hx =
+program_found q o i e1 e2 e3 e4 l left d m x p1 p2 p3 p4 pl pn oi os op of ii ip if' hd hm hx =
     let outer = outer_names o q.entries oi (os ∙ ap (λ es. shared_table [] es) p1) (op ∙ ap (λ es. proc_table [] es) p2) (of ∙ ap (λ es. fun_table [] es) p3) in
     let inner = inner_names i q.entries ii (ip ∙ ap (λ es. proc_table [] es) p2) (if' ∙ ap (λ es. fun_table [] es) p3) in
-    hx ∙ (λ j. both ((hd ∙ (λ k. entries_by (outer k) (inner k) p.nothing_passed None (p4 k))) j) ((hm ∙ (λ k. steps_by (outer k) None (pl k) 65 None q.main)) j))
+    hx ∙ (λ j. both ((hd ∙ (λ k. entries_by (outer k) (inner k) p.nothing_passed None (p4 k))) j) ((hm ∙ (λ k. steps_by (outer k) None (pl k) (pn k) None q.main)) j))

@@ -10,7 +10,9 @@ use Rattle.merge_decl.specs.Names.{Name, same}
 use Rattle.merge_decl.specs.Table.{find, added}
 use Rattle.merge_decl.specs.declared.expand.FunHead.{FunHead}
 use Rattle.merge_decl.proofs.Tables.{or_else, find-added}
+use Rattle.rev_kinds.specs.declared.fault.Which.TheVariants as which
 use Rattle.rev_kinds.specs.declared.names.Holder.{Holder}
+use Rattle.rev_kinds.specs.Faults.{first_past}
 use Rattle.rev_kinds.specs.Kinds.{Callee, Names, Locals, name_kind, result_of, kind_in, right_kind, right_place, term_place}
 use Rattle.rev_kinds.specs.Rules as r
 use Rattle.rev_kinds.specs.Typing.{HasKind, AllKinded, IsKnown}
@@ -181,7 +183,7 @@ module _ (named : Name → Option FunHead) (c : Names) (known : (name : Name) (h
     act_typed result l left at (return e) a u f h = ((return_typed l result at e a u f h, refl), a)
     act_typed result l left at (fork w args) a u f h = ((call_typed l w args a u (and_parts (word_formed w) (terms_small args) f).1 h, refl), a)
     act_typed result l left at (join e) a u f h = ((part_typed l e k.Rev a u f h, refl), a)
-    act_typed result l left at (print items) a u f h = (((items_typed l 65 [] items a u f h).1, refl), a)
+    act_typed result l left at (print items) a u f h = (((items_typed l (first_past which.Items) [] items a u f h).1, refl), a)
     act_typed result l left at (assert e) a u f h = ((part_typed l e k.Bool a u f h, refl), a)
 
     pub steps_typed : (result : Option ValueKind) (l : Locals) (left : ℕ) (found : All) (ss : Steps) → AllKinded l → Fine (steps_uses n ss) → IsTrue (steps_small ss)

@@ -4,7 +4,9 @@ use Rattle.rev_num.specs.declared.value.ValueKind.{ValueKind}
 use Rattle.rev_num.specs.declared.value.ValueKind.TheVariants as k
 use Rattle.rev_syntax.specs.Trees.{Shown, text, shown, Step, step, Act, bind, assign, assign_cell, choose, choose_or, repeat, call, return, fork, join, print, assert, Steps, no_steps, steps, Arms, no_arms, arm}
 use Rattle.merge_decl.specs.Table.{find}
+use Rattle.rev_kinds.specs.declared.fault.Which.TheVariants as which
 use Rattle.rev_kinds.specs.declared.fault.TypeFault.{TypeFault}
+use Rattle.rev_kinds.specs.Faults.{first_past}
 use Rattle.rev_kinds.specs.Kinds.{Names, Locals, kind_in, term_place}
 use Rattle.rev_kinds.specs.Rules as r
 use Rattle.rev_kinds.proofs.Lists.{parts, failed, unequal}
@@ -87,7 +89,7 @@ mutual
     steps_never (s.left_arms left arms) last (second_part (arms_lets arms) (steps_lets last) left (s.left_arms left arms) (arms_left left arms) h) g.1,
   )
   act_never left (repeat test body) h g = steps_never left body h g
-  act_never left (print items) h g = items_never 65 items (let f : length items < 65 = omega arith in f)
+  act_never left (print items) h g = items_never (first_past which.Items) items (let f : length items < first_past which.Items = omega arith in f)
   act_never left (assign w x) h g = tt
   act_never left (assign_cell w index e) h g = tt
   act_never left (call w args) h g = tt
@@ -150,7 +152,7 @@ mutual
       let rest = (steps_within c result l (s.left_arms left arms) [] last both.1).1 (some_left (arms_lets arms) left (s.left_arms left arms) (arms_left left arms) first.0) in
       (joined (arms_lets arms) (steps_lets last) left (s.left_arms left arms) (arms_left left arms) first.0 rest.0, (first.1, rest.1))
   act_within c result l left at (repeat test body) h g = (steps_within c result l left [] body (parts (r.part_by [] one app c l test k.Bool) _ h).1).1 g
-  act_within c result l left at (print items) h g = (g, (let e : length items < 65 = (items_within c l 65 [] items h).1 (omega arith) in omega arith))
+  act_within c result l left at (print items) h g = (g, (let e : length items < first_past which.Items = (items_within c l (first_past which.Items) [] items h).1 (omega arith) in omega arith))
   act_within c result l left at (assign w x) h g = (g, tt)
   act_within c result l left at (assign_cell w index e) h g = (g, tt)
   act_within c result l left at (call w args) h g = (g, tt)

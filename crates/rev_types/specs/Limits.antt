@@ -2,6 +2,8 @@
 use Rattle.std.specs.Prelude.{ℕ, ◌+◌, ◌≤◌, List, [], ◌∷◌, length}
 use Rattle.rev_syntax.specs.Trees.{Term, placed, Shape, Terms, Links, int, bool, no_rev, var, cell, apply, input, inputs, pick, unary, chain, no_terms, term, no_links, link, Step, step, Act, bind, assign, assign_cell, choose, choose_or, repeat, call, return, fork, join, print, assert, Steps, no_steps, steps, Arms, no_arms, arm, Entry, fun, merge, shared, proc, Whole}
 use Rattle.merge_decl.specs.Table.{Table, find, added}
+use Rattle.rev_kinds.specs.declared.fault.Which.TheVariants as which
+use Rattle.rev_kinds.specs.Faults.{limit_of}
 use Rattle.rev_types.specs.Program.{known_weight, cells_of}
 
 -- ---- locals and items
@@ -34,12 +36,12 @@ abbrev mutual
   arms_lets (arm test body rest) = steps_lets body + arms_lets rest
 
 abbrev mutual
-  -- each `print` has at most 64 items
+  -- no `print` has more items than the limit
   pub StepPrints : Step → Type 0
   StepPrints (step at line act) = ActPrints act
 
   pub ActPrints : Act → Type 0
-  ActPrints (print items) = length items ≤ 64
+  ActPrints (print items) = length items ≤ limit_of which.Items
   ActPrints (choose arms) = ArmsPrint arms
   ActPrints (choose_or arms last) = ArmsPrint arms × StepsPrint last
   ActPrints (repeat test body) = StepsPrint body
@@ -62,7 +64,7 @@ abbrev mutual
 
 -- a body with this many parameters
 abbrev pub BodyWithin : ℕ → Steps → Type 0
-BodyWithin params body = (params + steps_lets body ≤ 64) × StepsPrint body
+BodyWithin params body = (params + steps_lets body ≤ limit_of which.Locals) × StepsPrint body
 
 -- ---- weights
 
@@ -126,18 +128,18 @@ funs (proc w ps r body ∷ es) = funs es
 
 -- a declaration, where the funs before it have these weights
 abbrev pub EntryWithin : Table ℕ → Entry → Type 0
-EntryWithin ws (fun w ps r body) = (length ps ≤ 8) × (term_weight ws body ≤ 65536)
-EntryWithin ws (merge w m j r body) = term_weight ws body ≤ 65536
+EntryWithin ws (fun w ps r body) = (length ps ≤ limit_of which.Parameters) × (term_weight ws body ≤ limit_of which.Weight)
+EntryWithin ws (merge w m j r body) = term_weight ws body ≤ limit_of which.Weight
 EntryWithin ws (shared x) = Unit {0}
-EntryWithin ws (proc w ps r body) = (length ps ≤ 8) × BodyWithin (length ps) body
+EntryWithin ws (proc w ps r body) = (length ps ≤ limit_of which.Parameters) × BodyWithin (length ps) body
 
 abbrev pub EntriesWithin : Table ℕ → List Entry → Type 0
 EntriesWithin ws [] = Unit {0}
 EntriesWithin ws (e ∷ es) = EntryWithin ws e × EntriesWithin (weights_with ws e) es
 
 pub record IsWithinLimits (p : Whole) : Type 0 where
-  pub locations : cells p.entries ≤ 4096
-  pub procedures : procs p.entries ≤ 256
-  pub declared_funs : funs p.entries ≤ 256
+  pub locations : cells p.entries ≤ limit_of which.Locations
+  pub procedures : procs p.entries ≤ limit_of which.Procedures
+  pub declared_funs : funs p.entries ≤ limit_of which.Funs
   pub entries : EntriesWithin [] p.entries
   pub main : BodyWithin 0 p.main

@@ -11,6 +11,7 @@ use Rattle.rev_kinds.specs.declared.fault.Which.{Which}
 use Rattle.rev_kinds.specs.declared.fault.Which.TheVariants as which
 use Rattle.rev_kinds.specs.declared.fault.TypeFault.{TypeFault}
 use Rattle.rev_kinds.specs.declared.fault.TypeFault.TheVariants.{UnknownName, Redeclared, WrongType, WrongCount, NoReturn, LimitOf}
+use Rattle.rev_kinds.specs.Faults.{limit_of, first_past}
 use Rattle.rev_kinds.specs.Kinds.{Callee, Names, Locals, same_kind, kind_in, term_place}
 use Rattle.rev_kinds.specs.Rules.{wants, not_rev, part_by}
 use Rattle.rev_types.specs.declared.tables.SharedInfo.{SharedInfo}
@@ -107,11 +108,11 @@ cells_of (Some x) = size_cells x.cells
 
 -- the locations of a variable; more than the limit count as one more than it
 abbrev pub cells_in : Option Extent → ℕ
-cells_in x = min (cells_of x) 4097
+cells_in x = min (cells_of x) (first_past which.Locations)
 
 -- the locations of cells after others; more than the limit count as one more than it
 abbrev pub located_after : ℕ → ℕ → ℕ
-located_after before cells = min (before + cells) 4097
+located_after before cells = min (before + cells) (first_past which.Locations)
 
 -- What the declarations before a place declare: their names, the numbers of the merges by name, the
 -- weights of the funs by name, the locations, and how many more procedures and how many more funs and
@@ -127,7 +128,7 @@ pub record Passed : Type 0 where
   pub funs_left : ℕ
 
 abbrev pub nothing_passed : Passed
-nothing_passed = record { number = 0; names = []; merges = []; merge_count = 0; weights = []; located = 0; procs_left = 257; funs_left = 257 }
+nothing_passed = record { number = 0; names = []; merges = []; merge_count = 0; weights = []; located = 0; procs_left = first_past which.Procedures; funs_left = first_past which.Funs }
 
 abbrev pub passed_with : Passed → Entry → Passed
 passed_with p (fun w ps r body) = record p { number = p.number + 1; names = added p.names w.text p.number; weights = added p.weights w.text (weight p.weights body); funs_left = p.funs_left - 1 }
@@ -198,8 +199,8 @@ module _ {M : Type 0} (none : M) (one : TypeFault → M) (both : M → M → M) 
   new_name w names = if is_some (find w.text names) then one (Redeclared w.at) else none
 
   -- the first past a limit
-  abbrev pub limit_at : ℕ → Which → ℕ → ℕ → M
-  limit_at at which limit left = if nat_eq left 1 then one (LimitOf at which limit) else none
+  abbrev pub limit_at : ℕ → Which → ℕ → M
+  limit_at at which left = if nat_eq left 1 then one (LimitOf at which) else none
 
   -- a parameter of this name, where these are the earlier ones
   abbrev pub new_param : Word → Locals → M
@@ -209,7 +210,7 @@ module _ {M : Type 0} (none : M) (one : TypeFault → M) (both : M → M → M) 
   no_rev_param p = if same_kind p.kind k.Rev then one (WrongType p.kind_at) else none
 
   abbrev pub fun_param : Locals → ℕ → Binder → M
-  fun_param l left p = both (new_param p.name l) (both (no_rev_param p) (limit_at p.name.at which.Parameters 8 left))
+  fun_param l left p = both (new_param p.name l) (both (no_rev_param p) (limit_at p.name.at which.Parameters left))
 
   -- the parameters of a fun, where these faults were found before
   abbrev pub fun_params : Locals → ℕ → M → List Binder → M
@@ -219,7 +220,7 @@ module _ {M : Type 0} (none : M) (one : TypeFault → M) (both : M → M → M) 
 
   abbrev pub proc_param : Names → Locals → ℕ → ℕ → Binder → M
   proc_param c l left locals_left p =
-      both (new_local none one both p.name (find p.name.text l) (c.shared p.name.text)) (both (limit_at p.name.at which.Parameters 8 left) (one_more_local none one both p.name locals_left))
+      both (new_local none one both p.name (find p.name.text l) (c.shared p.name.text)) (both (limit_at p.name.at which.Parameters left) (one_more_local none one both p.name locals_left))
 
   -- the parameters of a procedure, where these faults were found before
   abbrev pub proc_params : Names → Locals → ℕ → ℕ → M → List Binder → M
@@ -233,7 +234,7 @@ module _ {M : Type 0} (none : M) (one : TypeFault → M) (both : M → M → M) 
 
   -- a fun's or a merge's weight
   abbrev pub weight_of : Word → ℕ → M
-  weight_of w n = if nat_lt 65536 n then one (LimitOf w.at which.Weight 65536) else none
+  weight_of w n = if nat_lt (limit_of which.Weight) n then one (LimitOf w.at which.Weight) else none
 
   -- the result of a fun is no handle
   abbrev pub fun_result : Word → ValueKind → M
@@ -265,7 +266,7 @@ module _ {M : Type 0} (none : M) (one : TypeFault → M) (both : M → M → M) 
   -- the variable with which there are too many locations
   abbrev pub location_limit : Word → ℕ → ℕ → M
   location_limit w before after =
-      if nat_le before 4096 then (if nat_lt 4096 after then one (LimitOf w.at which.Locations 4096) else none) else none
+      if nat_le before (limit_of which.Locations) then (if nat_lt (limit_of which.Locations) after then one (LimitOf w.at which.Locations) else none) else none
 
   -- a procedure with a result returns
   abbrev pub return_use : Word → Option ValueKind → Bool → M
@@ -274,13 +275,13 @@ module _ {M : Type 0} (none : M) (one : TypeFault → M) (both : M → M → M) 
 
   abbrev pub fun_by : Names → Passed → Word → List Binder → ValueKind → Term → M
   fun_by inner p w ps r body =
-      both (both (new_name w p.names) (limit_at w.at which.Funs 256 p.funs_left))
-      (both (both (fun_params [] 9 none ps) (fun_result w r))
+      both (both (new_name w p.names) (limit_at w.at which.Funs p.funs_left))
+      (both (both (fun_params [] (first_past which.Parameters) none ps) (fun_result w r))
       (both (fun_body inner (with_params [] ps) r body) (weight_of w (weight p.weights body))))
 
   abbrev pub merge_by : Names → Passed → Word → Word → Word → Word → Term → M
   merge_by inner p w m j r body =
-      both (both (new_name w p.names) (limit_at w.at which.Funs 256 p.funs_left))
+      both (both (new_name w p.names) (limit_at w.at which.Funs p.funs_left))
       (both (merge_params m j r)
       (both (part_by none one both inner (merge_locals m j r) body k.Int) (weight_of w (weight p.weights body))))
 
@@ -291,9 +292,9 @@ module _ {M : Type 0} (none : M) (one : TypeFault → M) (both : M → M → M) 
 
   abbrev pub proc_by : Names → Passed → Word → List Binder → Option ValueKind → Steps → M
   proc_by outer p w ps r body =
-      both (both (new_name w p.names) (limit_at w.at which.Procedures 256 p.procs_left))
-      (both (both (proc_params outer [] 9 65 none ps) (return_use w r (returns body)))
-      (steps_by none one both outer r (with_params [] ps) (left_params 65 ps) none body))
+      both (both (new_name w p.names) (limit_at w.at which.Procedures p.procs_left))
+      (both (both (proc_params outer [] (first_past which.Parameters) (first_past which.Locals) none ps) (return_use w r (returns body)))
+      (steps_by none one both outer r (with_params [] ps) (left_params (first_past which.Locals) ps) none body))
 
   -- a declaration, where names mean this outside of funs and merges, and this inside, after these
   abbrev pub entry_by : Names → Names → Passed → Entry → M
@@ -310,7 +311,7 @@ module _ {M : Type 0} (none : M) (one : TypeFault → M) (both : M → M → M) 
   abbrev pub program_by : Whole → M
   program_by p =
       both (entries_by (outside p.entries) (within p.entries) nothing_passed none p.entries)
-      (steps_by none one both (outside p.entries) None [] 65 none p.main)
+      (steps_by none one both (outside p.entries) None [] (first_past which.Locals) none p.main)
 
 -- ---- well-typed programs
 

@@ -47,7 +47,7 @@ arms_by = s.arms_by None Some both
 abbrev pub new_name : Word → Table ℕ → Fault
 new_name = p.new_name None Some both
 
-abbrev pub limit_at : ℕ → Which → ℕ → ℕ → Fault
+abbrev pub limit_at : ℕ → Which → ℕ → Fault
 limit_at = p.limit_at None Some both
 
 abbrev pub new_param : Word → Locals → Fault

@@ -63,10 +63,7 @@ fn first_fault(alloc: Global, p: &Program) -> Result<Option<TypeFault>, AllocErr
         inside: true,
     };
     let declared = declarations(alloc, &outer, &inner, &p.decls)?;
-    let mut body = Body {
-        locals: NameTable::new(alloc),
-        left: 65,
-    };
+    let mut body = Body::new(alloc);
     let main = block(alloc, &outer, None, &mut body, &p.main)?;
     Ok(first(declared, main))
 }

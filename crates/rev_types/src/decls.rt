@@ -5,6 +5,8 @@ ghost use Rattle.std.specs.declared.option.Option.{Option};
 ghost use Rattle.rev_num.specs.declared.value.ValueKind.TheVariants as k;
 ghost use Rattle.rev_syntax.specs.View.{act, arms, binder, block, constant, entry, extent, stmt, stmts, term, word};
 ghost use Rattle.merge_decl.specs.Table.{added, find};
+ghost use Rattle.rev_kinds.specs.declared.fault.Which.TheVariants as which;
+ghost use Rattle.rev_kinds.specs.Faults.{first_past};
 ghost use Rattle.rev_kinds.specs.Walk.{both, names_of};
 ghost use Rattle.rev_types.specs.Passing.{passed_of};
 ghost use Rattle.rev_types.specs.Program as program;
@@ -94,11 +96,11 @@ fn new_name(name: &Name, names: &NameTable<u32>) -> Option<TypeFault>
 }
 
 /// The first past a limit, where this many are left up to and with it.
-fn limit_at(at: u32, which: Which, limit: u32, left: usize) -> Option<TypeFault>
-    ensures { result ≡ rule.limit_at at which limit left }
+fn limit_at(at: u32, which: Which, left: usize) -> Option<TypeFault>
+    ensures { result ≡ rule.limit_at at which left }
 {
     if left == 1 {
-        Some(TypeFault::LimitOf { at, which, limit })
+        Some(TypeFault::LimitOf { at, which })
     } else {
         None
     }
@@ -119,11 +121,10 @@ fn new_param(name: &Name, locals: &Locals) -> Option<TypeFault>
 fn weight_of(name: &Name, weight: u32) -> Option<TypeFault>
     ensures { result ≡ rule.weight_of (word name.now) weight }
 {
-    if weight > 65536 {
+    if weight > Which::Weight.limit() {
         Some(TypeFault::LimitOf {
             at: name.at,
             which: Which::Weight,
-            limit: 65536,
         })
     } else {
         None
@@ -158,7 +159,7 @@ fn fun_result(name: &Name, result_kind: ValueKind) -> Option<TypeFault>
 fn fun_param(locals: &Locals, left: usize, param: &Param) -> Option<TypeFault>
     ensures { result ≡ program.fun_param None Some both locals.now left (binder param.now) }
 {
-    let limit = limit_at(param.name.at, Which::Parameters, 8, left);
+    let limit = limit_at(param.name.at, Which::Parameters, left);
     first(
         new_param(&param.name, locals),
         first(no_rev_param(param), limit),
@@ -171,10 +172,10 @@ fn fun_params(
     locals: &mut Locals,
     params: &[Param],
 ) -> Result<Option<TypeFault>, AllocError>
-    ensures fault { IfOk result (λ f. f ≡ rule.fun_params locals.old 9 None (map binder params.now)) }
+    ensures fault { IfOk result (λ f. f ≡ rule.fun_params locals.old (first_past which.Parameters) None (map binder params.now)) }
     ensures locals { OnOk result (locals.new ≡ program.with_params locals.old (map binder params.now)) }
 {
-    let mut left = 9usize;
+    let mut left = Which::Parameters.first_past();
     let mut found = None;
     for param in params {
         found = first(found, fun_param(locals, left, param));
@@ -190,7 +191,7 @@ fn proc_param(outer: &Checker, body: &Body, left: usize, param: &Param) -> Optio
 {
     let name = &param.name;
     let taken = new_local(name, body.locals.find(&name.text), outer.holder(name));
-    let limit = limit_at(name.at, Which::Parameters, 8, left);
+    let limit = limit_at(name.at, Which::Parameters, left);
     first(taken, first(limit, one_more_local(name, body.left)))
 }
 
@@ -201,11 +202,11 @@ fn proc_params(
     body: &mut Body,
     params: &[Param],
 ) -> Result<Option<TypeFault>, AllocError>
-    ensures fault { IfOk result (λ f. f ≡ rule.proc_params (names_of outer.now) body.old.locals 9 body.old.left None (map binder params.now)) }
+    ensures fault { IfOk result (λ f. f ≡ rule.proc_params (names_of outer.now) body.old.locals (first_past which.Parameters) body.old.left None (map binder params.now)) }
     ensures locals { OnOk result (body.new.locals ≡ program.with_params body.old.locals (map binder params.now)) }
     ensures left { OnOk result (body.new.left ≡ program.left_params body.old.left (map binder params.now)) }
 {
-    let mut left = 9usize;
+    let mut left = Which::Parameters.first_past();
     let mut found = None;
     for param in params {
         found = first(found, proc_param(outer, body, left, param));
@@ -247,7 +248,7 @@ fn fun_decl(
     let mut locals = NameTable::new(alloc);
     let named = first(
         new_name(name, &passed.names),
-        limit_at(name.at, Which::Funs, 256, passed.funs_left),
+        limit_at(name.at, Which::Funs, passed.funs_left),
     );
     let params = fun_params(alloc, &mut locals, params)?;
     let head = first(params, fun_result(name, result_kind));
@@ -288,7 +289,7 @@ fn merge_decl(
 {
     let named = first(
         new_name(name, &passed.names),
-        limit_at(name.at, Which::Funs, 256, passed.funs_left),
+        limit_at(name.at, Which::Funs, passed.funs_left),
     );
     let (params, locals) = merge_locals(alloc, params.0, params.1, params.2)?;
     let weight = weight_of(name, weight(&passed.weights, body));
@@ -358,14 +359,14 @@ fn first_value(value: &Option<Const>, wanted: ValueKind) -> Option<TypeFault>
 fn location_limit(name: &Name, before: u32, after: u32) -> Option<TypeFault>
     ensures { result ≡ rule.location_limit (word name.now) before after }
 {
-    if before > 4096 {
+    let limit = Which::Locations.limit();
+    if before > limit {
         return None;
     }
-    if after > 4096 {
+    if after > limit {
         return Some(TypeFault::LimitOf {
             at: name.at,
             which: Which::Locations,
-            limit: 4096,
         });
     }
     None
@@ -399,13 +400,10 @@ fn proc_decl(
 ) -> Result<Option<TypeFault>, AllocError>
     ensures { IfOk result (λ f. f ≡ program.proc_by None Some both (names_of outer.now) (passed_of passed.now) (word name.now) (map binder params.now) result_kind (block body.now)) }
 {
-    let mut inside = Body {
-        locals: NameTable::new(alloc),
-        left: 65,
-    };
+    let mut inside = Body::new(alloc);
     let named = first(
         new_name(name, &passed.names),
-        limit_at(name.at, Which::Procedures, 256, passed.procs_left),
+        limit_at(name.at, Which::Procedures, passed.procs_left),
     );
     let params = proc_params(alloc, outer, &mut inside, params)?;
     let head = first(params, return_use(name, result_kind, returns(body)));

@@ -1,12 +1,15 @@
 //! The rules on statements.
 
-ghost use Rattle.std.specs.Prelude.{◌≡◌, ◌-◌, false, length, map, option_map, IfOk, OnOk};
+ghost use Rattle.std.specs.Prelude.{◌≡◌, ◌-◌, false, [], length, map, option_map, IfOk, OnOk};
 ghost use Rattle.rev_syntax.specs.View.{act, arm as pair, arms, block, right, shown, stmt, term, word};
+ghost use Rattle.rev_kinds.specs.declared.fault.Which.TheVariants as which;
+ghost use Rattle.rev_kinds.specs.Faults.{first_past};
 ghost use Rattle.rev_kinds.specs.Kinds as kind;
 ghost use Rattle.rev_kinds.specs.Walk.{both, names_of};
 ghost use Rattle.rev_types.specs.Steps as steps;
 ghost use Rattle.rev_types.specs.Walk as rule;
 
+use merge_decl::table::NameTable;
 use rev_kinds::fault::{TypeFault, Which, first};
 use rev_kinds::kinds::{alike, array_use, name_kind, not_rev, scalar_use};
 use rev_kinds::names::{Checker, Holder, Locals};
@@ -21,6 +24,19 @@ use std::alloc::{AllocError, Global};
 pub struct Body {
     pub locals: Locals,
     pub left: usize,
+}
+
+impl Body {
+    /// A body before its first local.
+    pub fn new(alloc: Global) -> Body
+        ensures locals { result.locals ≡ [] }
+        ensures left { result.left ≡ first_past which.Locals }
+    {
+        Body {
+            locals: NameTable::new(alloc),
+            left: Which::Locals.first_past(),
+        }
+    }
 }
 
 /// A name that a procedure declares, which no shared variable and no local in scope may have.
@@ -49,7 +65,6 @@ pub fn one_more_local(name: &Name, left: usize) -> Option<TypeFault>
         Some(TypeFault::LimitOf {
             at: name.at,
             which: Which::Locals,
-            limit: 64,
         })
     } else {
         None
@@ -64,7 +79,6 @@ fn one_more_item(at: u32, left: usize) -> Option<TypeFault>
         Some(TypeFault::LimitOf {
             at,
             which: Which::Items,
-            limit: 64,
         })
     } else {
         None
@@ -88,9 +102,9 @@ fn item(checker: &Checker, locals: &Locals, left: usize, item: &Item) -> Option<
 
 /// The items of a print.
 fn items(checker: &Checker, locals: &Locals, all: &[Item]) -> Option<TypeFault>
-    ensures { result ≡ rule.items_by (names_of checker.now) locals.now 65 None (map shown all.now) }
+    ensures { result ≡ rule.items_by (names_of checker.now) locals.now (first_past which.Items) None (map shown all.now) }
 {
-    let mut left = 65usize;
+    let mut left = Which::Items.first_past();
     let mut found = None;
     for it in all {
         found = first(found, item(checker, locals, left, it));

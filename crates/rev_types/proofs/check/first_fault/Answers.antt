@@ -13,8 +13,8 @@ returns c =
       inside = false;
     } in
     let inner : Checker = record outer { inside = true } in
-    program_found (whole c.args.p.now) outer inner _ _ _ _ _ _ _ _
+    program_found (whole c.args.p.now) outer inner _ _ _ _ _ _ _ _ _
     (ap (λ ds. map entry ds) c.deref.ensures.value) (ap (λ ds. map entry ds) c.deref-2.ensures.value)
-    (ap (λ ds. map entry ds) c.deref-3.ensures.value) (ap (λ ds. map entry ds) c.deref-4.ensures.value) c.new.ensures
+    (ap (λ ds. map entry ds) c.deref-3.ensures.value) (ap (λ ds. map entry ds) c.deref-4.ensures.value) c.new-body.ensures.locals c.new-body.ensures.left
     refl c.in_ok-shared.ensures c.in_ok-procs.ensures c.in_ok-funs.ensures refl c.in_ok-procs.ensures c.in_ok-funs.ensures
     c.in_ok-declared.ensures c.in_ok-main.ensures.fault c.first.ensures
