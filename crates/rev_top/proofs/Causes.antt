@@ -16,7 +16,7 @@ use Rattle.rev_top.specs.Texts.{Checks}
 use Rattle.rev_top.specs.Answer.{Answer, Answers, AnswersAs, FromSource, Given, Runs, RunsProgram, source_limit}
 use Rattle.rev_top.specs.Promises.{AnswerAs, AnswerTo, Cause, FromBytes}
 use Rattle.rev_top.proofs.Stages.{One, one_then, refusal_of}
-use Rattle.rev_top.proofs.Faults.{IsOfText, check_of_text, one_check, status_of_text}
+use Rattle.rev_top.proofs.Faults.{check_of_text, one_check, status_of_text}
 use Rattle.rev_top.proofs.Prints.{prints_once}
 
 -- ---- why an answer has its status

@@ -1,5 +1,5 @@
 -- From the facts of a stage to those of the call.
-use Rattle.std.proofs.Common.{◌≡◌, ℕ, subst}
+use Rattle.std.proofs.Common.{ℕ, subst}
 use Rattle.std.specs.Prelude.{Option}
 use Rattle.rev_io.specs.Stream.{Stream}
 use Rattle.rev_words.specs.declared.Words.{Words}
