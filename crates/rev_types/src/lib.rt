@@ -1,4 +1,4 @@
-//! The static rules: scopes, kinds and limits.
+//! The static rules on statements and declarations, and the limits.
 #![tactic(auto)]
 
 pub mod check;
