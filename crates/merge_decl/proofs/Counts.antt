@@ -9,7 +9,7 @@ use Rattle.merge_decl.specs.Evaluation.{fun_body, body_at}
 -- the bodies of the funs among declarations
 abbrev pub bodies : List Entry → ℕ
 bodies [] = 0
-bodies (fun w params result body ∷ es) = 4 * term_count body + bodies es
+bodies (fun w params result body ∷ es) = 8 * term_count body + bodies es
 bodies (merge w m j r body ∷ es) = bodies es
 bodies (shared x ∷ es) = bodies es
 bodies (proc w params result body ∷ es) = bodies es
@@ -40,7 +40,7 @@ unfolding bodies_before
 bodies_before-le es m n h = fewer es m n h
 
 with_body : (es : List Entry) (d : ℕ) (body : Term) → option_and_then fun_body (slice_get es d) ≡ Some body
-    → bodies (take d es) + 4 * term_count body ≤ bodies (take (suc d) es)
+    → bodies (take d es) + 8 * term_count body ≤ bodies (take (suc d) es)
 with_body [] d body h = cc
 with_body (fun w params result b ∷ es) zero body h = let e : b ≡ body = cc in rw e (omega arith)
 with_body (merge w m j r b ∷ es) zero body h = cc
@@ -52,7 +52,7 @@ with_body (shared x ∷ es) (suc d) body h = with_body es d body h
 with_body (proc w params result b ∷ es) (suc d) body h = with_body es d body h
 
 -- a fun's body with those before it
-pub bodies_to-body : (es : List Entry) (d : ℕ) (body : Term) → body_at es d ≡ Some body → bodies_before es d + 4 * term_count body ≤ bodies_to es (Some d)
+pub bodies_to-body : (es : List Entry) (d : ℕ) (body : Term) → body_at es d ≡ Some body → bodies_before es d + 8 * term_count body ≤ bodies_to es (Some d)
 unfolding bodies_before body_at
 bodies_to-body es d body h = with_body es d body h
 

@@ -9,11 +9,11 @@ use Rattle.rev_syntax.specs.declared.tree.UnaryOp.{UnaryOp}
 use Rattle.rev_syntax.specs.declared.tree.BinaryOp.{BinaryOp}
 use Rattle.rev_syntax.specs.declared.tree.Link.{Link}
 use Rattle.std.specs.Result.{IsErrAnd}
-use Rattle.merge_decl.specs.declared.value.Flat.{Flat}
+use Rattle.merge_decl.specs.declared.flat.Flat.{Flat}
 use Rattle.merge_decl.specs.Flat.{answer}
 use Rattle.merge_decl.specs.Names.{Name}
 use Rattle.merge_decl.specs.Value.{Answer, and_then, bind, bind_all, nothing, read, read_cell, read_input, unknown, number_of, truth_of, flag, reversed, linked, operated, short, values_by, value_by, closed}
-use Rattle.merge_decl.specs.Evaluation.{Values, funs_before, value_within, shape_within, chained_within, link_within, params_at, value_of_body, applied_within, IsMeant}
+use Rattle.merge_decl.specs.Evaluation.{Values, funs_before, value_within, shape_within, chained_within, link_within, params_at, value_of_body, applied_within, given_within, IsMeant}
 use Rattle.rev_num.specs.declared.outcome.Cause.{Cause}
 use Rattle.merge_decl.proofs.FunSteps.{drop_at}
 
@@ -137,7 +137,7 @@ module _ (es : List Entry) (n : ℕ) (local : Values) where
   unfolding chained_within
   chained_none x = refl
 
-  chained_step : (x : Value) (op : BinaryOp) (part : Term) (rest : Links) (a : Answer) → a ≡ link_within es n local x (op, part)
+  pub chained_step : (x : Value) (op : BinaryOp) (part : Term) (rest : Links) (a : Answer) → a ≡ link_within es n local x (op, part)
       → and_then a (λ z. chained_within es n local z rest) ≡ chained_within es n local x (t.link op part rest)
   unfolding chained_within link_within value_within
   chained_step x op part rest a h = ap (λ y. and_then y (λ z. chained_within es n local z rest)) h
@@ -151,7 +151,7 @@ module _ (es : List Entry) (n : ℕ) (local : Values) where
 
 -- ---- arguments
 
-prepended : (r : Answer) (rest : Result (List Value) Cause) (f : List Value → Answer)
+pub prepended : (r : Answer) (rest : Result (List Value) Cause) (f : List Value → Answer)
     → and_then r (λ y. and_then rest (λ ys. f (y ∷ ys))) ≡ and_then (and_then r (λ y. and_then rest (λ ys. Ok (y ∷ ys)))) f
 prepended (Ok y) (Ok ys) f = refl
 prepended (Ok y) (Err c) f = refl
@@ -187,6 +187,25 @@ module _ (es : List Entry) (n : ℕ) (local : Values) (x : Term) (args : Terms) 
   applied-fault c params bound h =
       ap (λ r. and_then r (λ z. and_then (values_by (funs_before es n) (closed local) args) (λ zs. value_of_body es f (bind_all bound params (z ∷ zs))))) h
       ∙ prepended (value_by (funs_before es n) (closed local) x) (values_by (funs_before es n) (closed local) args) (λ zs. value_of_body es f (bind_all bound params zs))
+
+module _ (es : List Entry) (n : ℕ) (local : Values) (rest : Terms) (f : Option ℕ) where
+  -- a value that is bound to a parameter, and one that has none
+  pub given-bound : (x : Value) (p : Name) (params : List Name) (earlier : Values)
+      → applied_within es n local rest f params (bind earlier p x) ≡ given_within es n local x rest f (p ∷ params) earlier
+  unfolding applied_within given_within
+  given-bound x p params earlier = refl
+
+  pub given-unbound : (x : Value) (earlier : Values) → applied_within es n local rest f [] earlier ≡ given_within es n local x rest f [] earlier
+  unfolding applied_within given_within
+  given-unbound x earlier = refl
+
+  -- an argument that has a value
+  pub applied-given : (arg : Term) (x : Value) (params : List Name) (earlier : Values) → Ok x ≡ value_within es n local arg
+      → given_within es n local x rest f params earlier ≡ applied_within es n local (t.term arg rest) f params earlier
+  unfolding applied_within given_within value_within
+  applied-given arg x params earlier h =
+      ap (λ r. and_then r (λ z. and_then (values_by (funs_before es n) (closed local) rest) (λ zs. value_of_body es f (bind_all earlier params (z ∷ zs))))) h
+      ∙ prepended (value_by (funs_before es n) (closed local) arg) (values_by (funs_before es n) (closed local) rest) (λ zs. value_of_body es f (bind_all earlier params zs))
 
 -- a fault that is handed on
 pub on_fault : (r : Result Flat Cause) (c : Cause) (a : Answer) → IsErrAnd r (λ f. f ≡ c) → Err c ≡ a → answer r ≡ a

@@ -1,5 +1,5 @@
 -- A small program has few declarations.
-use Rattle.std.proofs.Common.{◌≡◌, ℕ, ◌+◌, ◌<◌, ◌≤◌, ◌^◌, List, [], ◌∷◌, length, map, arith}
+use Rattle.std.proofs.Common.{◌<◌, ◌≤◌, ◌^◌, List, [], ◌∷◌, length, map, arith}
 use Rattle.std.proofs.lemmas.List.{length-map}
 use Rattle.rev_syntax.specs.Trees.{Entry, fun, merge, shared, proc}
 use Rattle.rev_syntax.specs.Small.{entry_count, entries_count, IsSmall}

@@ -10,3 +10,5 @@ pub mod Meanings
 mod Rows
 pub mod Shapes
 pub mod Tables
+mod Locals
+mod Works

@@ -205,7 +205,7 @@ merge_at (merge w m j r body ∷ es) d x (suc k) fs h =
 -- what is declared at the number of a merge's declaration
 pub declared_value : (p : Whole) (k x : ℕ) (o : Option Entry) (a b c : Value) → slice_get (merge_decls 0 p.entries) k ≡ Some x → o ≡ slice_get p.entries x
     → (e : Entry) × (o ≡ Some e) × (entry_value p.entries x e a b c ≡ merge_value_of p k a b c)
-unfolding entry_value value_within funs_before
+unfolding entry_value value_within funs_before merge_value_of
 declared_value p k x o a b c h e =
     let g = merge_at p.entries 0 x k [] h in
     let q : g.0 ≡ x = (let y = g.1 in omega arith) in (

@@ -34,10 +34,13 @@ abbrev text_of : List Entry → Whole
 text_of es = record { entries = es; main_at = 0; main = t.no_steps }
 
 row_six : merge_value_of (text_of (sum ∷ [])) 0 (v.Int (pos 15)) (v.Int (pos 6)) (v.Int (pos 5)) ≡ Ok (v.Int (pos 16))
+unfolding merge_value_of
 row_six = refl
 
 row_overflow : merge_value_of (text_of (sum ∷ [])) 0 (v.Int (pos 9223372036854775807)) (v.Int (pos 1)) (v.Int (pos 1)) ≡ Err cause.Overflow
+unfolding merge_value_of
 row_overflow = refl
 
 first_counts : merge_value_of (text_of twice_named) 0 (v.Int (pos 1)) (v.Int (pos 6)) (v.Int (pos 5)) ≡ Ok (v.Int (pos 7))
+unfolding merge_value_of
 first_counts = refl

@@ -1,5 +1,5 @@
 -- The plain trees of expressions, form by form.
-use Rattle.std.proofs.Common.{◌≡◌, ◌∙◌, ap, sym, ℕ, ℤ, Bool, Option, Vec, Global, Box}
+use Rattle.std.proofs.Common.{◌≡◌, ◌∙◌, ap, sym, ℕ, ℤ, Bool, Option, List, ◌∷◌, map, Vec, Global, Box}
 use Rattle.rev_syntax.specs.Trees as t
 use Rattle.rev_syntax.specs.Trees.{Shape, Term}
 use Rattle.rev_syntax.specs.View.{word, term, shape, terms, link, links, node_step, expr_step, link_step}
@@ -15,14 +15,17 @@ use Rattle.rev_syntax.specs.declared.tree.Node.TheVariants.{rolls-Chain, rolls-A
 use Rattle.std.specs.Borrow.{Bor}
 use Rattle.rev_num.specs.declared.value.Value.{Value}
 use Rattle.merge_decl.specs.Names.{Name as Word}
-use Rattle.merge_decl.specs.Value.{bind, nothing}
+use Rattle.merge_decl.specs.Value.{bind, bind_all, nothing}
+use Rattle.merge_decl.specs.Definitions.{names_of}
+use Rattle.rev_syntax.specs.View.{binder}
+use Rattle.rev_syntax.specs.declared.tree.Param.{Param}
 use Rattle.merge_decl.specs.Flat.{flat, local, locals_step}
-use Rattle.merge_decl.specs.declared.value.Flat.{Flat}
-use Rattle.merge_decl.specs.declared.value.Locals as locals
-use Rattle.merge_decl.specs.declared.value.Locals.{Locals}
-use Rattle.merge_decl.specs.declared.value.Locals.TheOpen.{Locals-F}
-use Rattle.merge_decl.specs.declared.value.Locals.TheFolds.{fold-roll-Locals}
-use Rattle.merge_decl.specs.declared.value.Locals.TheVariants.{rolls-Empty, rolls-Bound}
+use Rattle.merge_decl.specs.declared.flat.Flat.{Flat}
+use Rattle.merge_decl.specs.declared.flat.Locals as locals
+use Rattle.merge_decl.specs.declared.flat.Locals.{Locals}
+use Rattle.merge_decl.specs.declared.flat.Locals.TheOpen.{Locals-F}
+use Rattle.merge_decl.specs.declared.flat.Locals.TheFolds.{fold-roll-Locals}
+use Rattle.merge_decl.specs.declared.flat.Locals.TheVariants.{rolls-Empty, rolls-Bound, rolls-Passed}
 
 pub shape-Chain : (first : Box Expr Global) (rest : Vec Link Global) → shape (node.Chain first rest) ≡ t.chain (term first.value) (links rest.items)
 shape-Chain first rest =
@@ -80,4 +83,14 @@ pub local-Bound : (name : Bor Word) (value : Flat) (rest : Bor Locals) → local
 local-Bound name value rest =
     ap local (sym (rolls-Bound name value rest)) ∙ fold-roll-Locals (Word → Option Value) locals_step (Locals-F.Bound name value rest)
 
-pub ruleset local_values = (local-Empty, local-Bound)
+pub local-Passed : (params : Bor (List Param)) (values : Bor (List Flat)) (rest : Bor Locals)
+    → local (locals.Passed params values rest) ≡ bind_all (local rest.now) (names_of (map binder params.now)) (map flat values.now)
+local-Passed params values rest =
+    ap local (sym (rolls-Passed params values rest)) ∙ fold-roll-Locals (Word → Option Value) locals_step (Locals-F.Passed params values rest)
+
+pub ruleset local_values = (local-Empty, local-Bound, local-Passed)
+
+-- ---- links
+
+pub links-first : (l : Link) (rest : List Link) → links (l ∷ rest) ≡ t.link l.op (term l.part) (links rest)
+links-first l rest = ap (λ p. t.link p.0 p.1 (links rest)) (link-parts l)

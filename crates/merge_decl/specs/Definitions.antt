@@ -55,5 +55,5 @@ merged_by (Some d) m j r = merged d m j r
 merged_by None m j r = some_value
 
 -- the merge of this number, counted from 0 in order of declaration
-abbrev pub merge_value_of : Whole → ℕ → Value → Value → Value → Answer
+unfoldable pub merge_value_of : Whole → ℕ → Value → Value → Value → Answer
 merge_value_of p k m j r = merged_by (slice_get (merges_in p) k) m j r

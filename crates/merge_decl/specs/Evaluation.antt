@@ -1,5 +1,5 @@
 -- The value of an expression inside a fun or a merge, by the numbers of declarations.
-use Rattle.std.specs.Prelude.{◌≡◌, ℕ, ℤ, pos, List, [], take, Option, Some, None, slice_get, option_and_then, Result, Ok, Err}
+use Rattle.std.specs.Prelude.{◌≡◌, ℕ, ℤ, pos, List, [], ◌∷◌, take, Option, Some, None, slice_get, option_and_then, Result, Ok, Err}
 use Rattle.rev_num.specs.declared.value.Value.{Value}
 use Rattle.rev_num.specs.declared.value.NumFault.{NumFault}
 use Rattle.rev_num.specs.declared.value.NumFault.TheVariants as fault
@@ -71,6 +71,11 @@ value_of_body es (Some d) local = body_within es d local (body_at es d)
 unfoldable pub applied_within : List Entry → ℕ → Values → Terms → Option ℕ → List Name → Values → Answer
 applied_within es n local args f params bound =
     and_then (values_by (funs_before es n) (closed local) args) (λ xs. value_of_body es f (bind_all bound params xs))
+
+-- and where this value comes before those of the arguments
+unfoldable pub given_within : List Entry → ℕ → Values → Value → Terms → Option ℕ → List Name → Values → Answer
+given_within es n local x args f params bound =
+    and_then (values_by (funs_before es n) (closed local) args) (λ xs. value_of_body es f (bind_all bound params (x ∷ xs)))
 
 -- among the first n declarations a name means the fun that is declared at this number
 abbrev pub IsMeant : List Entry → ℕ → Name → Option ℕ → Type 0

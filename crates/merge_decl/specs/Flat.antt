@@ -1,14 +1,16 @@
 -- What a contract sees of the values inside a fun or a merge.
-use Rattle.std.specs.Prelude.{Option, Some, None, Result, Ok, Err}
+use Rattle.std.specs.Prelude.{map, Option, Some, None, Result, Ok, Err}
 use Rattle.rev_num.specs.declared.value.Value.{Value}
 use Rattle.rev_num.specs.declared.value.Value.TheVariants as v
 use Rattle.rev_num.specs.declared.outcome.Cause.{Cause}
 use Rattle.merge_decl.specs.Names.{Name}
-use Rattle.merge_decl.specs.Value.{Answer, bind, nothing}
-use Rattle.merge_decl.specs.declared.value.Flat.{Flat}
-use Rattle.merge_decl.specs.declared.value.Flat.TheVariants.{Int, Bool, NoRev}
-use Rattle.merge_decl.specs.declared.value.Locals.{Locals, fold-Locals}
-use Rattle.merge_decl.specs.declared.value.Locals.TheOpen.{Locals-F}
+use Rattle.rev_syntax.specs.View.{binder}
+use Rattle.merge_decl.specs.Definitions.{names_of}
+use Rattle.merge_decl.specs.Value.{Answer, bind, bind_all, nothing}
+use Rattle.merge_decl.specs.declared.flat.Flat.{Flat}
+use Rattle.merge_decl.specs.declared.flat.Flat.TheVariants.{Int, Bool, NoRev}
+use Rattle.merge_decl.specs.declared.flat.Locals.{Locals, fold-Locals}
+use Rattle.merge_decl.specs.declared.flat.Locals.TheOpen.{Locals-F}
 
 abbrev pub flat : Flat → Value
 flat (Int n) = v.Int n
@@ -27,6 +29,8 @@ answer (Err c) = Err c
 abbrev pub locals_step : Locals-F (Name → Option Value) → Name → Option Value
 locals_step Locals-F.Empty = nothing
 locals_step (Locals-F.Bound name value rest) = bind rest.now name.now (flat value)
+locals_step (Locals-F.Passed params values rest) =
+    bind_all rest.now (names_of (map binder params.now)) (map flat values.now)
 
 abbrev pub local : Locals → Name → Option Value
 local = fold-Locals (Name → Option Value) locals_step

@@ -8,3 +8,4 @@ pub mod Names
 pub mod Table
 pub mod Uses
 pub mod Value
+pub mod Work

@@ -2,6 +2,8 @@
 #![tactic(auto)]
 
 pub mod expand;
+pub mod flat;
 pub mod table;
 pub mod uses;
 pub mod value;
+pub mod work;

@@ -20,6 +20,15 @@ fn words_of(rt: &HostRuntime, line: &str) -> Result<Vec<String>, AllocError> {
     Ok(words)
 }
 
+/// So many of these pieces.
+fn many(rt: &HostRuntime, piece: &str, count: usize) -> Result<String, AllocError> {
+    let mut text = String::new(rt.alloc());
+    for _ in 0..count {
+        text.push_str(piece)?;
+    }
+    Ok(text)
+}
+
 /// Whether the call answers this: bytes of both outputs and the status.
 fn answers<S: Source>(
     rt: &HostRuntime,

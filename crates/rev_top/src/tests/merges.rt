@@ -102,3 +102,48 @@ fn from_left_to_right(rt: HostRuntime) -> Result<(), Fail> {
     }
     Ok(())
 }
+
+/// So many funs, each of which applies the one before it inside so many of these brackets, and a merge
+/// that applies the last.
+fn nested(
+    rt: &HostRuntime,
+    brackets: (&str, &str),
+    levels: usize,
+    funs: usize,
+) -> Result<String, AllocError> {
+    let open = many(rt, brackets.0, levels)?;
+    let close = many(rt, brackets.1, levels)?;
+    let mut text = String::new(rt.alloc());
+    text.push_str("fun first(a: int, b: int): int = a; ")?;
+    text.push_str("fun last(a: int, b: int, c: int, d: int, e: int, f: int, g: int, h: int): int = h; ")?;
+    text.push_str("fun f0(a: int): int = a; ")?;
+    let mut inner = 0;
+    for i in 1..funs {
+        let fun = format!(in rt.alloc(); "fun f{i}(a: int): int = {open}f{inner}(a){close}; ")?;
+        text.push_str(fun.as_str())?;
+        inner = i;
+    }
+    text.push_str(format!(in rt.alloc(); "merge s(m, j, r) = f{inner}(m); main {{ }}")?.as_str())?;
+    Ok(text)
+}
+
+#[test]
+fn as_deep_as_the_limits_allow(rt: HostRuntime) -> Result<(), Fail> {
+    let wants = [
+        (("-", ""), 198, 253),
+        (("(", " + 0)"), 198, 163),
+        (("0 + (", ")"), 198, 163),
+        (("pick(a > 0, ", ", 0)"), 198, 66),
+        (("pick(", " > 0, 5, 0)"), 198, 66),
+        (("first(", ", 1)"), 198, 110),
+        (("first(f0(a), ", ") + 0"), 1, 253),
+        (("last(1, 2, 3, 4, 5, 6, 7, ", ")"), 198, 36),
+        (("", " / 1"), 128, 253),
+    ];
+    for (brackets, levels, funs) in wants {
+        let text = nested(&rt, brackets, levels, funs)?;
+        let open = brackets.0;
+        assert!(rt; gives(&rt, text.as_str(), (5, 0, 0), Ok(5)), "{open}");
+    }
+    Ok(())
+}

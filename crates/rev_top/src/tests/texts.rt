@@ -1,15 +1,6 @@
 // Texts and what a run of them answers. In a faulty text `@` stands before the place of the fault.
 use super::*;
 
-/// So many of these pieces.
-fn many(rt: &HostRuntime, piece: &str, count: usize) -> Result<String, AllocError> {
-    let mut text = String::new(rt.alloc());
-    for _ in 0..count {
-        text.push_str(piece)?;
-    }
-    Ok(text)
-}
-
 /// Whether a run of the text answers this: bytes of both outputs and the status.
 fn gives(rt: &HostRuntime, text: &str, want: (&str, &str, u8)) -> Result<bool, AllocError> {
     answers(rt, "run", &mut source_over(rt, text, 0)?, want)

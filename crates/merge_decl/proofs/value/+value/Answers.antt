@@ -1,186 +1,45 @@
-use Rattle.std.proofs.Common.{◌∙◌, map, true, false, Ok, Err, sym, ap, arith, rules}
-use Rattle.std.proofs.lemmas.List.{drop_all}
-use Rattle.rev_syntax.specs.View.{binder, entry, links, shape, term, terms, word}
+use Rattle.std.proofs.Common.{◌∙◌, ◌-◌, ◌++◌, get_or, map, refl, sym, ap, arith}
+use Rattle.rev_syntax.specs.View.{binder, entry, term, terms}
 use Rattle.merge_decl.specs.Definitions.{names_of}
 use Rattle.merge_decl.specs.Evaluation as meant
-use Rattle.merge_decl.specs.Value as spec
 use Rattle.merge_decl.specs.Flat.{flat, local}
-use Rattle.merge_decl.proofs.Counts.{bodies_to, bodies_to-body, bodies_to-before, link-in-links}
+use Rattle.merge_decl.specs.declared.flat.Locals as locals
+use Rattle.merge_decl.specs.Work.{application, comes_to, kept, next_size, passed, remains, waiting}
+use Rattle.merge_decl.specs.declared.work.Next.TheVariants as next
+use Rattle.merge_decl.proofs.Counts.{bodies_to, bodies_to-body, bodies_to-before, term_count-positive}
 use Rattle.merge_decl.proofs.Declared.{no_elements}
-use Rattle.merge_decl.proofs.Evaluations.{at_placed, at_int, at_bool, at_no_rev, at_var, at_cell, at_input, at_inputs, at_unary, at_apply, at_pick_fault, at_pick, at_chain_fault, at_chain, link_decided, link_fault, link_operated, chained_none, links_step, applied-none, applied-bound, applied-unbound, applied-fault, on_fault}
-use Rattle.merge_decl.proofs.Shapes.{shape-Chain, shape-Pick, shape-Apply, shape-Unary, shape-Cell, shape-Input, shape-Int, shape-Bool, shape-NoRev, shape-Var, shape-Inputs, term-placed, link-parts, local-Empty}
+use Rattle.merge_decl.proofs.Evaluations.{applied-none, applied-fault, applied-given, given-bound, given-unbound, on_fault}
+use Rattle.merge_decl.proofs.Works as w
 use Rattle.merge_decl.proofs.value.+value.Goals as goal
 
--- src/value.rt:323:9
 pub applied-body_value-requires : goal.applied-body_value-requires
 applied-body_value-requires t c =
     (let b = bodies_to-before (map entry c.args.expanded.now.program.decls.items) c.args.fun c.args.within c.requires in omega arith, tt)
 
--- src/value.rt:323:9
-pub applied-returns-in_default : goal.applied-returns-in_default
-applied-returns-in_default t c =
-    c.body_value.ensures ∙ applied-none (map entry c.args.expanded.now.program.decls.items) c.args.within (local c.args.locals.now) c.args.fun (names_of (map binder c.args.params.now)) (local c.args.behind.now)
-    ∙ ap (λ es. meant.applied_within (map entry c.args.expanded.now.program.decls.items) c.args.within (local c.args.locals.now) (terms es) c.args.fun (names_of (map binder c.args.params.now)) (local c.args.behind.now)) (sym (no_elements c.args.args.now c.in_default.ensures.cases))
+pub applied-returns-in-None : goal.applied-returns-in-None
+applied-returns-in-None t c =
+    c.body_value.ensures ∙ applied-none (map entry c.args.expanded.now.program.decls.items) c.args.within (local c.args.locals.now) c.args.fun (names_of (map binder c.args.params.now)) (local c.args.earlier.now)
+    ∙ ap (λ es. meant.applied_within (map entry c.args.expanded.now.program.decls.items) c.args.within (local c.args.locals.now) (terms es) c.args.fun (names_of (map binder c.args.params.now)) (local c.args.earlier.now)) (sym (no_elements c.args.args.now c.in-None.ensures.cases))
 
--- src/value.rt:325:17
-pub applied-returns-in_err-value : goal.applied-returns-in_err-value
-applied-returns-in_err-value t c =
+pub applied-returns-in_err-value-in-Some : goal.applied-returns-in_err-value-in-Some
+applied-returns-in_err-value-in-Some t c =
     on_fault _ _ _ c.from_residual.ensures.1
-    (applied-fault (map entry c.args.expanded.now.program.decls.items) c.args.within (local c.args.locals.now) (term c.in-Some.arg.now) (terms c.in-Some.more.now) c.args.fun _ (names_of (map binder c.args.params.now)) (local c.args.behind.now) c.in_err-value.ensures
-    ∙ ap (λ es. meant.applied_within (map entry c.args.expanded.now.program.decls.items) c.args.within (local c.args.locals.now) (terms es) c.args.fun (names_of (map binder c.args.params.now)) (local c.args.behind.now)) (sym c.in-Some.ensures.cases.0))
+    (applied-fault (map entry c.args.expanded.now.program.decls.items) c.args.within (local c.args.locals.now) (term c.in-Some.arg.now) (terms c.in-Some.more.now) c.args.fun _ (names_of (map binder c.args.params.now)) (local c.args.earlier.now) c.in_err-value-in-Some.ensures
+    ∙ ap (λ es. meant.applied_within (map entry c.args.expanded.now.program.decls.items) c.args.within (local c.args.locals.now) (terms es) c.args.fun (names_of (map binder c.args.params.now)) (local c.args.earlier.now)) (sym c.in-Some.ensures.cases.0))
 
--- src/value.rt:327:9
-pub applied-returns-in_default-split_first : goal.applied-returns-in_default-split_first
-applied-returns-in_default-split_first t c =
-    c.applied.ensures
-    ∙ (λ i. meant.applied_within (map entry c.args.expanded.now.program.decls.items) c.args.within (local c.args.locals.now) (terms c.in-Some.more.now) c.args.fun (names_of (map binder (no_elements c.args.params.now c.in_default-split_first.ensures.cases i))) (local c.args.behind.now))
-    ∙ applied-unbound (map entry c.args.expanded.now.program.decls.items) c.args.within (local c.args.locals.now) (term c.in-Some.arg.now) (terms c.in-Some.more.now) c.args.fun _ (local c.args.behind.now) c.in_ok-value.ensures
-    ∙ (λ i. meant.applied_within (map entry c.args.expanded.now.program.decls.items) c.args.within (local c.args.locals.now) (terms (sym c.in-Some.ensures.cases.0 i)) c.args.fun (names_of (map binder (sym (no_elements c.args.params.now c.in_default-split_first.ensures.cases) i))) (local c.args.behind.now))
-
--- src/value.rt:309:1
-pub applied-returns : goal.applied-returns
-applied-returns t c =
-    c.applied-2.ensures
-    ∙ (λ i. meant.applied_within (map entry c.args.expanded.now.program.decls.items) c.args.within (local c.args.locals.now) (terms c.in-Some.more.now) c.args.fun (names_of (map binder c.in-Some-split_first.others.now)) (c.bound-inner.ensures i))
-    ∙ applied-bound (map entry c.args.expanded.now.program.decls.items) c.args.within (local c.args.locals.now) (term c.in-Some.arg.now) (terms c.in-Some.more.now) c.args.fun _ c.in-Some-split_first.param.now.name.text.items
-    (names_of (map binder c.in-Some-split_first.others.now)) (local c.args.behind.now) c.in_ok-value.ensures
-    ∙ (λ i. meant.applied_within (map entry c.args.expanded.now.program.decls.items) c.args.within (local c.args.locals.now) (terms (sym c.in-Some.ensures.cases.0 i)) c.args.fun (names_of (map binder (sym c.in-Some-split_first.ensures.cases.0 i))) (local c.args.behind.now))
-
--- src/value.rt:301:9
-pub link_value-returns-in-Some : goal.link_value-returns-in-Some
-link_value-returns-in-Some t c =
-    link_decided (map entry c.args.expanded.now.program.decls.items) c.args.within (local c.args.locals.now) c.args.next.now.op (term c.args.next.now.part) (flat c.args.left) _ c.in-Some.ensures
-    ∙ ap (meant.link_within (map entry c.args.expanded.now.program.decls.items) c.args.within (local c.args.locals.now) (flat c.args.left)) (sym (link-parts c.args.next.now))
-
--- src/value.rt:303:17
-pub link_value-returns-in_err-right : goal.link_value-returns-in_err-right
-link_value-returns-in_err-right t c =
-    on_fault _ _ _ c.from_residual.ensures.1
-    (link_fault (map entry c.args.expanded.now.program.decls.items) c.args.within (local c.args.locals.now) c.args.next.now.op (term c.args.next.now.part) (flat c.args.left) _ c.in_default.ensures c.in_err-right.ensures
-    ∙ ap (meant.link_within (map entry c.args.expanded.now.program.decls.items) c.args.within (local c.args.locals.now) (flat c.args.left)) (sym (link-parts c.args.next.now)))
-
--- src/value.rt:290:1
-pub link_value-returns : goal.link_value-returns
-link_value-returns t c =
-    c.operated.ensures ∙ link_operated (map entry c.args.expanded.now.program.decls.items) c.args.within (local c.args.locals.now) c.args.next.now.op (term c.args.next.now.part) (flat c.args.left) _ c.in_default.ensures c.in_ok-right.ensures
-    ∙ ap (meant.link_within (map entry c.args.expanded.now.program.decls.items) c.args.within (local c.args.locals.now) (flat c.args.left)) (sym (link-parts c.args.next.now))
-
--- src/value.rt:284:16
-pub links_value-link_value-requires : goal.links_value-link_value-requires
-links_value-link_value-requires t c =
-    (let b = link-in-links c.args.rest.now c.loop-link.link-index c.link-item.result c.loop-link-test.true c.link-item.is in omega arith, tt)
-
--- src/value.rt:284:16
-pub links_value-returns-in_err-left : goal.links_value-returns-in_err-left
-links_value-returns-in_err-left t c =
-    on_fault _ _ _ c.from_residual.ensures.1
-    (links_step (map entry c.args.expanded.now.program.decls.items) c.args.within (local c.args.locals.now) c.args.rest.now c.loop-link.link-index c.link-item.result (flat c.loop-link.left) (Err c.in_err-left.field-0.0) c.loop-link-test.true c.link-item.is c.in_err-left.ensures
-    ∙ c.loop-link.invariant)
-
--- src/value.rt:283:5
-pub links_value-loop-link-preserved : goal.links_value-loop-link-preserved
-links_value-loop-link-preserved t c =
-    links_step (map entry c.args.expanded.now.program.decls.items) c.args.within (local c.args.locals.now) c.args.rest.now c.loop-link.link-index c.link-item.result (flat c.loop-link.left) (Ok (flat c.in_ok-left.left)) c.loop-link-test.true c.link-item.is c.in_ok-left.ensures
-    ∙ c.loop-link.invariant
-
--- src/value.rt:272:1
-pub links_value-returns : goal.links_value-returns
-links_value-returns t c =
-    chained_none (map entry c.args.expanded.now.program.decls.items) c.args.within (local c.args.locals.now) (flat c.loop-link.left) ∙ ap (λ ls. meant.chained_within (map entry c.args.expanded.now.program.decls.items) c.args.within (local c.args.locals.now) (flat c.loop-link.left) (links ls)) (sym (drop_all c.loop-link.link-index c.args.rest.now c.loop-link-test.false))
-    ∙ c.loop-link.invariant
-
--- src/value.rt:256:24
-pub node_value-returns-in_err-test-in-Pick : goal.node_value-returns-in_err-test-in-Pick
-node_value-returns-in_err-test-in-Pick t c =
-    on_fault _ _ _ c.from_residual.ensures.1
-    (at_pick_fault (map entry c.args.expanded.now.program.decls.items) c.args.within (local c.args.locals.now) _ _ _ _ _ _ (ap shape c.in-Pick.is ∙ shape-Pick c.in-Pick.test c.in-Pick.yes c.in-Pick.no) (ap term c.deref-in-Pick.ensures) c.in_err-test-in-Pick.ensures)
-
--- src/value.rt:265:25
-pub node_value-returns-in_err-first-in-Chain : goal.node_value-returns-in_err-first-in-Chain
-node_value-returns-in_err-first-in-Chain t c =
-    on_fault _ _ _ c.from_residual-in_err-first-in-Chain.ensures.1
-    (at_chain_fault (map entry c.args.expanded.now.program.decls.items) c.args.within (local c.args.locals.now) _ _ _ _ _ (ap shape c.in-Chain.is ∙ shape-Chain c.in-Chain.first c.in-Chain.rest) (ap term c.deref-in-Chain.ensures) c.in_err-first-in-Chain.ensures)
-
--- src/value.rt:231:1
-pub node_value-returns-in-Int : goal.node_value-returns-in-Int
-node_value-returns-in-Int t c =
-    let h = at_int (map entry c.args.expanded.now.program.decls.items) c.args.within (local c.args.locals.now) _ c.in-Int.n (ap shape c.in-Int.is ∙ shape-Int c.in-Int.n) in search (rules, h)
-
--- src/value.rt:231:1
-pub node_value-returns-in-Bool : goal.node_value-returns-in-Bool
-node_value-returns-in-Bool t c =
-    at_bool (map entry c.args.expanded.now.program.decls.items) c.args.within (local c.args.locals.now) _ _ _ (ap shape c.in-Bool.is ∙ shape-Bool c.in-Bool.b) c.flag.ensures
-
--- src/value.rt:231:1
-pub node_value-returns-in-NoRev : goal.node_value-returns-in-NoRev
-node_value-returns-in-NoRev t c =
-    at_no_rev (map entry c.args.expanded.now.program.decls.items) c.args.within (local c.args.locals.now) _ (ap shape c.in-NoRev.is ∙ shape-NoRev)
-
--- src/value.rt:231:1
-pub node_value-returns-in-Var : goal.node_value-returns-in-Var
-node_value-returns-in-Var t c =
-    at_var (map entry c.args.expanded.now.program.decls.items) c.args.within (local c.args.locals.now) _ (word c.in-Var.name) _ (ap shape c.in-Var.is ∙ shape-Var c.in-Var.name)
-    (c.local_read.ensures ∙ ap (λ o. spec.read o spec.unknown) (c.find.ensures ∙ ap (local c.args.locals.now) c.deref.ensures.value))
-
--- src/value.rt:231:1
-pub node_value-returns-in-Cell : goal.node_value-returns-in-Cell
-node_value-returns-in-Cell t c =
-    at_cell (map entry c.args.expanded.now.program.decls.items) c.args.within (local c.args.locals.now) _ _ _ _ _ _ (ap shape c.in-Cell.is ∙ shape-Cell c.in-Cell.name c.in-Cell.index)
-    (ap term c.deref-in-Cell.ensures) c.term_value.ensures c.cell_read.ensures
-
--- src/value.rt:231:1
-pub node_value-returns-in-Apply : goal.node_value-returns-in-Apply
-node_value-returns-in-Apply t c =
-    at_apply (map entry c.args.expanded.now.program.decls.items) c.args.within (local c.args.locals.now) _ _ _ _ _ _ _ _ (ap shape c.in-Apply.is ∙ shape-Apply c.in-Apply.name c.in-Apply.args)
-    (ap terms c.deref-in-Apply.ensures.value) c.fun_before-fun.ensures.meaning c.params_at-params.ensures local-Empty c.applied.ensures
-
--- src/value.rt:231:1
-pub node_value-returns-in-Input : goal.node_value-returns-in-Input
-node_value-returns-in-Input t c =
-    at_input (map entry c.args.expanded.now.program.decls.items) c.args.within (local c.args.locals.now) _ _ _ _ _ _ (ap shape c.in-Input.is ∙ shape-Input c.in-Input.word_at c.in-Input.index)
-    (ap term c.deref-in-Input.ensures) c.term_value-in-Input.ensures c.input_read.ensures
-
--- src/value.rt:231:1
-pub node_value-returns-in-Inputs : goal.node_value-returns-in-Inputs
-node_value-returns-in-Inputs t c =
-    at_inputs (map entry c.args.expanded.now.program.decls.items) c.args.within (local c.args.locals.now) _ c.in-Inputs.word_at (ap shape c.in-Inputs.is ∙ shape-Inputs c.in-Inputs.word_at)
-
--- src/value.rt:231:1
-pub node_value-returns-then-truth : goal.node_value-returns-then-truth
-node_value-returns-then-truth t c =
-    at_pick (map entry c.args.expanded.now.program.decls.items) c.args.within (local c.args.locals.now) _ _ _ _ _ _ _ _ true (ap shape c.in-Pick.is ∙ shape-Pick c.in-Pick.test c.in-Pick.yes c.in-Pick.no)
-    (ap term c.deref-in-Pick.ensures) c.in_ok-test-in-Pick.ensures (sym c.truth.ensures ∙ c.if-truth.true) (ap term c.deref-then-truth.ensures) c.term_value-then-truth.ensures
-
--- src/value.rt:231:1
-pub node_value-returns-else-truth : goal.node_value-returns-else-truth
-node_value-returns-else-truth t c =
-    at_pick (map entry c.args.expanded.now.program.decls.items) c.args.within (local c.args.locals.now) _ _ _ _ _ _ _ _ false (ap shape c.in-Pick.is ∙ shape-Pick c.in-Pick.test c.in-Pick.yes c.in-Pick.no)
-    (ap term c.deref-in-Pick.ensures) c.in_ok-test-in-Pick.ensures (sym c.truth.ensures ∙ c.if-truth.false) (ap term c.deref-else-truth.ensures) c.term_value-else-truth.ensures
-
--- src/value.rt:231:1
-pub node_value-returns-in-Unary : goal.node_value-returns-in-Unary
-node_value-returns-in-Unary t c =
-    at_unary (map entry c.args.expanded.now.program.decls.items) c.args.within (local c.args.locals.now) _ _ _ _ _ _ (ap shape c.in-Unary.is ∙ shape-Unary c.in-Unary.op c.in-Unary.part)
-    (ap term c.deref-in-Unary.ensures) c.term_value-in-Unary.ensures c.reversed_part.ensures
-
--- src/value.rt:231:1
-pub node_value-returns-in_ok-first-in-Chain : goal.node_value-returns-in_ok-first-in-Chain
-node_value-returns-in_ok-first-in-Chain t c =
-    at_chain (map entry c.args.expanded.now.program.decls.items) c.args.within (local c.args.locals.now) _ _ _ _ _ _ _ (ap shape c.in-Chain.is ∙ shape-Chain c.in-Chain.first c.in-Chain.rest)
-    (ap term c.deref-in-Chain.ensures) (ap links c.deref-in-Chain-2.ensures.value) c.in_ok-first-in-Chain.ensures c.links_value.ensures
-
--- src/value.rt:219:1
-pub term_value-returns : goal.term_value-returns
-term_value-returns t c =
-    at_placed (map entry c.args.expanded.now.program.decls.items) c.args.within (local c.args.locals.now) (term c.args.e.now) c.args.e.now.at (shape c.args.e.now.node) _ (term-placed c.args.e.now) c.node_value.ensures
+pub applied-returns-in_ok-value-in-Some : goal.applied-returns-in_ok-value-in-Some
+applied-returns-in_ok-value-in-Some t c =
+    c.given.ensures
+    ∙ applied-given (map entry c.args.expanded.now.program.decls.items) c.args.within (local c.args.locals.now) (terms c.in-Some.more.now) c.args.fun (term c.in-Some.arg.now) _ (names_of (map binder c.args.params.now)) (local c.args.earlier.now) c.in_ok-value-in-Some.ensures
+    ∙ ap (λ es. meant.applied_within (map entry c.args.expanded.now.program.decls.items) c.args.within (local c.args.locals.now) (terms es) c.args.fun (names_of (map binder c.args.params.now)) (local c.args.earlier.now)) (sym c.in-Some.ensures.cases.0)
 
 pub body_value-returns-in_default : goal.body_value-returns-in_default
 unfolding meant.value_of_body
 body_value-returns-in_default t c =
     ap (λ f. meant.value_of_body (map entry c.args.expanded.now.program.decls.items) f (local c.args.locals.now)) (sym c.in_default.is)
 
-pub body_value-term_value-requires : goal.body_value-term_value-requires
-body_value-term_value-requires t c = (
+pub body_value-evaluate-requires : goal.body_value-evaluate-requires
+body_value-evaluate-requires t c = (
   let b = bodies_to-body (map entry c.args.expanded.now.program.decls.items) c.in-Some.number (term c.in-Some-body_at.body.now) (sym c.in-Some-body_at.ensures) in
       let e = ap (bodies_to (map entry c.args.expanded.now.program.decls.items)) c.in-Some.is in omega arith,
   tt,
@@ -189,7 +48,7 @@ body_value-term_value-requires t c = (
 pub body_value-returns-in-Some-body_at : goal.body_value-returns-in-Some-body_at
 unfolding meant.value_of_body
 body_value-returns-in-Some-body_at t c =
-    c.term_value.ensures ∙ ap (meant.body_within (map entry c.args.expanded.now.program.decls.items) c.in-Some.number (local c.args.locals.now)) c.in-Some-body_at.ensures
+    c.evaluate.ensures ∙ ap (meant.body_within (map entry c.args.expanded.now.program.decls.items) c.in-Some.number (local c.args.locals.now)) c.in-Some-body_at.ensures
     ∙ ap (λ f. meant.value_of_body (map entry c.args.expanded.now.program.decls.items) f (local c.args.locals.now)) (sym c.in-Some.is)
 
 pub body_value-returns-in-None : goal.body_value-returns-in-None
@@ -197,3 +56,206 @@ unfolding meant.value_of_body
 body_value-returns-in-None t c =
     ap (meant.body_within (map entry c.args.expanded.now.program.decls.items) c.in-Some.number (local c.args.locals.now)) c.in-None.ensures
     ∙ ap (λ f. meant.value_of_body (map entry c.args.expanded.now.program.decls.items) f (local c.args.locals.now)) (sym c.in-Some.is)
+
+-- ---- the values of arguments before an application
+
+pub called-returns-in-Some : goal.called-returns-in-Some
+called-returns-in-Some t c =
+    let es = map entry c.args.expanded.now.program.decls.items in
+    c.given.ensures
+    ∙ (λ i. meant.given_within es c.args.within (local c.args.locals.now) (flat c.in-Some.value) (terms c.args.call.rest.now) c.fun_before-fun.result
+    (w.others c.args.values.now c.params_at-params.result.now c.behind-others.result.now c.behind-others.ensures i) (w.earlier _ (local locals.Empty) (names_of (map binder c.params_at-params.result.now)) (map flat c.args.values.now) refl c.arguments-earlier.ensures i))
+    ∙ w.given-application es c.args.within (local c.args.locals.now) c.args.call.name.now.text.items c.fun_before-fun.result (names_of (map binder c.params_at-params.result.now))
+    c.fun_before-fun.ensures.meaning c.params_at-params.ensures (map flat c.args.values.now) (flat c.in-Some.value) (terms c.args.call.rest.now)
+    ∙ ap (λ o. application es c.args.within (local c.args.locals.now) c.args.call.name.now.text.items (map flat c.args.values.now ++ passed o) (terms c.args.call.rest.now)) (sym c.in-Some.is)
+
+pub called-returns-in-None : goal.called-returns-in-None
+called-returns-in-None t c =
+    let es = map entry c.args.expanded.now.program.decls.items in
+    c.applied.ensures
+    ∙ (λ i. meant.applied_within es c.args.within (local c.args.locals.now) (terms c.args.call.rest.now) c.fun_before-fun.result
+    (w.others c.args.values.now c.params_at-params.result.now c.behind-others.result.now c.behind-others.ensures i) (w.earlier _ (local locals.Empty) (names_of (map binder c.params_at-params.result.now)) (map flat c.args.values.now) refl c.arguments-earlier.ensures i))
+    ∙ w.applied-application es c.args.within (local c.args.locals.now) c.args.call.name.now.text.items c.fun_before-fun.result (names_of (map binder c.params_at-params.result.now))
+    c.fun_before-fun.ensures.meaning c.params_at-params.ensures (map flat c.args.values.now) (terms c.args.call.rest.now)
+    ∙ ap (λ o. application es c.args.within (local c.args.locals.now) c.args.call.name.now.text.items (map flat c.args.values.now ++ passed o) (terms c.args.call.rest.now)) (sym c.in-None.is)
+
+-- ---- the turns
+
+pub evaluate-loop-next-init : goal.evaluate-loop-next-init
+evaluate-loop-next-init t c =
+    let z = w.remains-none in
+    (omega arith, omega arith, w.starts (map entry c.args.expanded.now.program.decls.items) c.args.within (local c.args.locals.now) c.args.e, omega arith, refl)
+
+pub evaluate-evaluate-requires : goal.evaluate-evaluate-requires
+evaluate-evaluate-requires t c = (
+  let e = ap next_size c.in-Part.is in
+      let s = c.loop-next.invariant.3 in
+      let r = w.remains-full c.loop-next.pending c.loop-next.depth (let h = c.loop-next.invariant.4 in let g = c.loop-next.invariant.0 in omega arith) (omega arith) in
+      omega arith,
+  tt,
+)
+
+pub evaluate-returns-in_err-evaluate-in-Part : goal.evaluate-returns-in_err-evaluate-in-Part
+evaluate-returns-in_err-evaluate-in-Part t c =
+    let es = map entry c.args.expanded.now.program.decls.items in
+    let l = local c.args.locals.now in
+    let ps = waiting c.loop-next.pending c.loop-next.depth in
+    let vs = kept c.loop-next.values c.loop-next.held in
+    on_fault _ _ _ c.from_residual.ensures.1
+    (w.part-fault es c.args.within l ps vs c.in-Part.part _ _ c.in_err-evaluate-in-Part.ensures
+    (ap (comes_to es c.args.within l ps vs) (sym c.in-Part.is) ∙ c.loop-next.invariant.2))
+
+pub evaluate-returns-in_err-value-in-Call : goal.evaluate-returns-in_err-value-in-Call
+evaluate-returns-in_err-value-in-Call t c =
+    let es = map entry c.args.expanded.now.program.decls.items in
+    let l = local c.args.locals.now in
+    let ps = waiting c.loop-next.pending c.loop-next.depth in
+    let vs = kept c.loop-next.values c.loop-next.held in
+    let d = c.in-Call.call in
+    on_fault _ _ _ c.from_residual-in_err-value-in-Call.ensures.1
+    (w.call-fault es c.args.within l ps vs d _ _
+    (c.in_err-value-in-Call.ensures ∙ ap (λ xs. application es c.args.within l d.name.now.text.items (xs ++ passed d.value) (terms d.rest.now))
+    (w.values-last c.loop-next.values c.loop-next.held d.before c.saturating_sub-first.result (omega arith) c.saturating_sub-first.ensures))
+    (ap (comes_to es c.args.within l ps vs) (sym c.in-Call.is) ∙ c.loop-next.invariant.2))
+
+pub evaluate-returns-then-depth-eq0 : goal.evaluate-returns-then-depth-eq0
+evaluate-returns-then-depth-eq0 t c =
+    let es = map entry c.args.expanded.now.program.decls.items in
+    let l = local c.args.locals.now in
+    let vs = kept c.loop-next.values c.loop-next.held in
+    w.ends es c.args.within l vs c.in-Value.x _
+    (ap (λ k. comes_to es c.args.within l (waiting c.loop-next.pending k) vs (next.Value c.in-Value.x)) (sym c.if-depth-eq0.true)
+    ∙ ap (comes_to es c.args.within l (waiting c.loop-next.pending c.loop-next.depth) vs) (sym c.in-Value.is) ∙ c.loop-next.invariant.2)
+
+pub evaluate-returns-in_err-turn-in-Value : goal.evaluate-returns-in_err-turn-in-Value
+evaluate-returns-in_err-turn-in-Value t c =
+    let es = map entry c.args.expanded.now.program.decls.items in
+    let l = local c.args.locals.now in
+    let k = c.loop-next.depth - 1 in
+    let ps = waiting c.loop-next.pending k in
+    let vs = kept c.loop-next.values c.loop-next.held in
+    on_fault _ _ _ c.from_residual-in_err-turn-in-Value.ensures.1
+    (w.taken es c.args.within l (waiting c.loop-next.pending c.loop-next.depth) ps vs (get_or c.loop-next.pending k c.index-pending-depth.result) c.in-Value.x _ _
+    (w.waits-last c.loop-next.pending k c.loop-next.depth (get_or c.loop-next.pending k c.index-pending-depth.result) (omega arith) (ap (get_or c.loop-next.pending k) c.index-pending-depth.is) (omega arith))
+    (c.in_err-turn-in-Value.ensures.meaning es c.args.within l ps vs)
+    (ap (comes_to es c.args.within l (waiting c.loop-next.pending c.loop-next.depth) vs) (sym c.in-Value.is) ∙ c.loop-next.invariant.2))
+
+pub evaluate-loop-next-smaller-then-depth-lt-ROOM : goal.evaluate-loop-next-smaller-then-depth-lt-ROOM
+evaluate-loop-next-smaller-then-depth-lt-ROOM t c =
+    let e = ap next_size c.in-Part.is in
+    let b = c.begin-turn.ensures.smaller in
+    let q = ap remains c.wait-depth.ensures.waits in
+    let r = w.remains-waits c.begin-turn.result.wait (waiting c.loop-next.pending c.loop-next.depth) in
+    omega arith
+
+pub evaluate-loop-next-preserved-then-depth-lt-ROOM : goal.evaluate-loop-next-preserved-then-depth-lt-ROOM
+evaluate-loop-next-preserved-then-depth-lt-ROOM t c =
+    let es = map entry c.args.expanded.now.program.decls.items in
+    let l = local c.args.locals.now in
+    let ps = waiting c.loop-next.pending c.loop-next.depth in
+    let vs = kept c.loop-next.values c.loop-next.held in
+    let e = ap next_size c.in-Part.is in
+    let b = c.begin-turn.ensures.smaller in
+    let q = ap remains c.wait-depth.ensures.waits in
+    let r = w.remains-waits c.begin-turn.result.wait ps in
+    let s = c.loop-next.invariant.3 in (
+      c.wait-depth.ensures.room,
+      c.loop-next.invariant.1,
+      w.part-begun es c.args.within l ps _ vs c.in-Part.part c.begin-turn.result _ (c.begin-turn.ensures.meaning es c.args.within ps vs) c.begin-turn.ensures.keeps_nothing c.wait-depth.ensures.waits
+          (ap (comes_to es c.args.within l ps vs) (sym c.in-Part.is) ∙ c.loop-next.invariant.2),
+      omega arith,
+      c.wait-depth.ensures.places,
+    )
+
+pub evaluate-loop-next-preserved-in_ok-evaluate-in-Part : goal.evaluate-loop-next-preserved-in_ok-evaluate-in-Part
+evaluate-loop-next-preserved-in_ok-evaluate-in-Part t c =
+    let es = map entry c.args.expanded.now.program.decls.items in
+    let l = local c.args.locals.now in
+    let ps = waiting c.loop-next.pending c.loop-next.depth in
+    let vs = kept c.loop-next.values c.loop-next.held in
+    let e = ap next_size c.in-Part.is in
+    let p = term_count-positive (term c.in-Part.part.now) in
+    let s = c.loop-next.invariant.3 in (
+      c.loop-next.invariant.0,
+      c.loop-next.invariant.1,
+      w.part-value es c.args.within l ps vs c.in-Part.part c.in_ok-evaluate-in-Part.field-0 _ c.in_ok-evaluate-in-Part.ensures
+          (ap (comes_to es c.args.within l ps vs) (sym c.in-Part.is) ∙ c.loop-next.invariant.2),
+      omega arith,
+      c.loop-next.invariant.4,
+    )
+
+pub evaluate-loop-next-preserved-in_ok-value-in-Call : goal.evaluate-loop-next-preserved-in_ok-value-in-Call
+evaluate-loop-next-preserved-in_ok-value-in-Call t c =
+    let es = map entry c.args.expanded.now.program.decls.items in
+    let l = local c.args.locals.now in
+    let ps = waiting c.loop-next.pending c.loop-next.depth in
+    let vs = kept c.loop-next.values c.loop-next.held in
+    let d = c.in-Call.call in
+    let e = ap next_size c.in-Call.is in
+    let s = c.loop-next.invariant.3 in (
+      c.loop-next.invariant.0,
+      (let f = c.saturating_sub-first.ensures in omega arith),
+      w.call-value es c.args.within l ps vs _ d c.in_ok-value-in-Call.value _
+          (c.in_ok-value-in-Call.ensures ∙ ap (λ xs. application es c.args.within l d.name.now.text.items (xs ++ passed d.value) (terms d.rest.now))
+          (w.values-last c.loop-next.values c.loop-next.held d.before c.saturating_sub-first.result (omega arith) c.saturating_sub-first.ensures))
+          (w.values-left c.loop-next.values c.loop-next.held d.before c.saturating_sub-first.result (omega arith) c.saturating_sub-first.ensures)
+          (ap (comes_to es c.args.within l ps vs) (sym c.in-Call.is) ∙ c.loop-next.invariant.2),
+      omega arith,
+      c.loop-next.invariant.4,
+    )
+
+pub evaluate-loop-next-smaller : goal.evaluate-loop-next-smaller
+evaluate-loop-next-smaller t c =
+    let k = c.loop-next.depth - 1 in
+    let e = ap next_size c.in-Value.is in
+    let p = ap remains (w.waits-last c.loop-next.pending k c.loop-next.depth (get_or c.loop-next.pending k c.index-pending-depth.result) (omega arith) (ap (get_or c.loop-next.pending k) c.index-pending-depth.is) (omega arith)) in
+    let o = w.remains-step (get_or c.loop-next.pending k c.index-pending-depth.result) (waiting c.loop-next.pending k) in
+    let b = c.in_ok-turn-in-Value.ensures.smaller in
+    let q = ap remains c.wait-depth-in-Value.ensures.waits in
+    let r = w.remains-waits c.in_ok-turn-in-Value.turn.wait (waiting c.loop-next.pending k) in
+    omega arith
+
+pub evaluate-loop-next-preserved : goal.evaluate-loop-next-preserved
+evaluate-loop-next-preserved t c =
+    let es = map entry c.args.expanded.now.program.decls.items in
+    let l = local c.args.locals.now in
+    let k = c.loop-next.depth - 1 in
+    let ps = waiting c.loop-next.pending k in
+    let vs = kept c.loop-next.values c.loop-next.held in
+    let last = w.waits-last c.loop-next.pending k c.loop-next.depth (get_or c.loop-next.pending k c.index-pending-depth.result) (omega arith) (ap (get_or c.loop-next.pending k) c.index-pending-depth.is) (omega arith) in
+    let e = ap next_size c.in-Value.is in
+    let p = ap remains last in
+    let o = w.remains-step (get_or c.loop-next.pending k c.index-pending-depth.result) ps in
+    let b = c.in_ok-turn-in-Value.ensures.smaller in
+    let q = ap remains c.wait-depth-in-Value.ensures.waits in
+    let r = w.remains-waits c.in_ok-turn-in-Value.turn.wait ps in
+    let s = c.loop-next.invariant.3 in (
+      c.wait-depth-in-Value.ensures.room,
+      c.keep-held.ensures.room,
+      w.turned es c.args.within l ps _ vs _ c.in_ok-turn-in-Value.turn _
+          (w.taken es c.args.within l (waiting c.loop-next.pending c.loop-next.depth) ps vs (get_or c.loop-next.pending k c.index-pending-depth.result) c.in-Value.x _ _ last
+          (c.in_ok-turn-in-Value.ensures.meaning es c.args.within l ps vs)
+          (ap (comes_to es c.args.within l (waiting c.loop-next.pending c.loop-next.depth) vs) (sym c.in-Value.is) ∙ c.loop-next.invariant.2))
+          c.wait-depth-in-Value.ensures.waits c.keep-held.ensures.keeps,
+      omega arith,
+      c.wait-depth-in-Value.ensures.places,
+    )
+
+-- ---- a value before the arguments that are left
+
+pub given-returns-in-Some : goal.given-returns-in-Some
+given-returns-in-Some t c =
+    let es = map entry c.args.expanded.now.program.decls.items in
+    c.applied.ensures
+    ∙ ap (meant.applied_within es c.args.within (local c.args.locals.now) (terms c.args.more.now) c.args.fun (names_of (map binder c.in-Some.others.now))) c.bound-inner.ensures
+    ∙ given-bound es c.args.within (local c.args.locals.now) (terms c.args.more.now) c.args.fun (flat c.args.value) c.in-Some.param.now.name.text.items (names_of (map binder c.in-Some.others.now)) (local c.args.earlier.now)
+    ∙ ap (λ ps. meant.given_within es c.args.within (local c.args.locals.now) (flat c.args.value) (terms c.args.more.now) c.args.fun (names_of (map binder ps)) (local c.args.earlier.now)) (sym c.in-Some.ensures.cases.0)
+
+pub given-returns-in-None : goal.given-returns-in-None
+given-returns-in-None t c =
+    let es = map entry c.args.expanded.now.program.decls.items in
+    let h = no_elements c.args.params.now c.in-None.ensures.cases in
+    c.applied-in-None.ensures
+    ∙ ap (λ ps. meant.applied_within es c.args.within (local c.args.locals.now) (terms c.args.more.now) c.args.fun (names_of (map binder ps)) (local c.args.earlier.now)) h
+    ∙ given-unbound es c.args.within (local c.args.locals.now) (terms c.args.more.now) c.args.fun (flat c.args.value) (local c.args.earlier.now)
+    ∙ ap (λ ps. meant.given_within es c.args.within (local c.args.locals.now) (flat c.args.value) (terms c.args.more.now) c.args.fun (names_of (map binder ps)) (local c.args.earlier.now)) (sym h)

@@ -1,0 +1,131 @@
+use Rattle.std.proofs.Common.{◌∙◌, pos, ap, sym, refl, arith, rules}
+use Rattle.rev_syntax.specs.Trees as t
+use Rattle.rev_syntax.specs.View.{links, shape, term, terms, word}
+use Rattle.merge_decl.specs.Flat.{local}
+use Rattle.merge_decl.specs.Evaluation.{shape_within}
+use Rattle.merge_decl.specs.Value.{read, unknown}
+use Rattle.merge_decl.specs.Work.{ended, part_turn, turn_size, value_turn}
+use Rattle.merge_decl.specs.declared.flat.Flat.TheVariants as f
+use Rattle.merge_decl.specs.declared.work.Pending.TheVariants as wait
+use Rattle.merge_decl.proofs.Evaluations.{at_int, at_bool, at_no_rev, at_var, at_inputs}
+use Rattle.merge_decl.proofs.Shapes.{shape-Chain, shape-Pick, shape-Apply, shape-Unary, shape-Cell, shape-Input, shape-Int, shape-Bool, shape-NoRev, shape-Var, shape-Inputs}
+use Rattle.merge_decl.proofs.Works.{at-value, awaited, by_turn, count_of, of_form, wait-cell, wait-input, wait-left, wait-pick, wait-unary}
+use Rattle.merge_decl.proofs.work.begin.Goals as goal
+
+pub returns-in-Int-clause-meaning : goal.returns-in-Int-clause-meaning
+returns-in-Int-clause-meaning c es n ps vs =
+    let k = at-value es n (local c.args.locals.now) ps vs (f.Int c.in-Int.n) _ (of_form es n (local c.args.locals.now) c.args.e.now _ (at_int es n (local c.args.locals.now) _ c.in-Int.n (ap shape c.in-Int.is ∙ shape-Int c.in-Int.n))) in
+    by_turn es n (local c.args.locals.now) ps vs _ _ _ c.value.ensures (search (rules, k))
+
+pub returns-in-Int-clause-smaller : goal.returns-in-Int-clause-smaller
+returns-in-Int-clause-smaller c =
+    let k = count_of c.args.e.now _ (ap shape c.in-Int.is ∙ shape-Int c.in-Int.n) in let e = ap turn_size c.value.ensures in omega arith
+
+pub returns-in-Bool-clause-meaning : goal.returns-in-Bool-clause-meaning
+returns-in-Bool-clause-meaning c es n ps vs =
+    by_turn es n (local c.args.locals.now) ps vs _ (value_turn (f.Bool c.in-Bool.b)) _ c.value-in-Bool.ensures
+    (at-value es n (local c.args.locals.now) ps vs (f.Bool c.in-Bool.b) _ (of_form es n (local c.args.locals.now) c.args.e.now _ (at_bool es n (local c.args.locals.now) _ c.in-Bool.b _ (ap shape c.in-Bool.is ∙ shape-Bool c.in-Bool.b) refl)))
+
+pub returns-in-Bool-clause-smaller : goal.returns-in-Bool-clause-smaller
+returns-in-Bool-clause-smaller c =
+    let k = count_of c.args.e.now _ (ap shape c.in-Bool.is ∙ shape-Bool c.in-Bool.b) in let e = ap turn_size c.value-in-Bool.ensures in omega arith
+
+pub returns-in-NoRev-clause-meaning : goal.returns-in-NoRev-clause-meaning
+returns-in-NoRev-clause-meaning c es n ps vs =
+    by_turn es n (local c.args.locals.now) ps vs _ (value_turn f.NoRev) _ c.value-in-NoRev.ensures
+    (at-value es n (local c.args.locals.now) ps vs f.NoRev _ (of_form es n (local c.args.locals.now) c.args.e.now _ (at_no_rev es n (local c.args.locals.now) _ (ap shape c.in-NoRev.is ∙ shape-NoRev))))
+
+pub returns-in-NoRev-clause-smaller : goal.returns-in-NoRev-clause-smaller
+returns-in-NoRev-clause-smaller c =
+    let k = count_of c.args.e.now _ (ap shape c.in-NoRev.is ∙ shape-NoRev) in let e = ap turn_size c.value-in-NoRev.ensures in omega arith
+
+pub returns-in-Var-clause-meaning : goal.returns-in-Var-clause-meaning
+returns-in-Var-clause-meaning c es n ps vs =
+    by_turn es n (local c.args.locals.now) ps vs _ (value_turn c.local_read.result) _ c.value-in-Var.ensures
+    (at-value es n (local c.args.locals.now) ps vs c.local_read.result _ (of_form es n (local c.args.locals.now) c.args.e.now _ (at_var es n (local c.args.locals.now) _ (word c.in-Var.name) _ (ap shape c.in-Var.is ∙ shape-Var c.in-Var.name)
+    (c.local_read.ensures ∙ ap (λ o. read o unknown) (c.find.ensures ∙ ap (local c.args.locals.now) c.deref.ensures.value)))))
+
+pub returns-in-Var-clause-smaller : goal.returns-in-Var-clause-smaller
+returns-in-Var-clause-smaller c =
+    let k = count_of c.args.e.now _ (ap shape c.in-Var.is ∙ shape-Var c.in-Var.name) in let e = ap turn_size c.value-in-Var.ensures in omega arith
+
+pub returns-in-Inputs-clause-meaning : goal.returns-in-Inputs-clause-meaning
+returns-in-Inputs-clause-meaning c es n ps vs =
+    by_turn es n (local c.args.locals.now) ps vs _ (value_turn (f.Int (pos 0))) _ c.value-in-Inputs.ensures
+    (at-value es n (local c.args.locals.now) ps vs (f.Int (pos 0)) _ (of_form es n (local c.args.locals.now) c.args.e.now _ (at_inputs es n (local c.args.locals.now) _ c.in-Inputs.word_at (ap shape c.in-Inputs.is ∙ shape-Inputs c.in-Inputs.word_at))))
+
+pub returns-in-Inputs-clause-smaller : goal.returns-in-Inputs-clause-smaller
+returns-in-Inputs-clause-smaller c =
+    let k = count_of c.args.e.now _ (ap shape c.in-Inputs.is ∙ shape-Inputs c.in-Inputs.word_at) in let e = ap turn_size c.value-in-Inputs.ensures in omega arith
+
+pub returns-in-Cell-clause-meaning : goal.returns-in-Cell-clause-meaning
+returns-in-Cell-clause-meaning c es n ps vs =
+    let l = (local c.args.locals.now) in
+    by_turn es n l ps vs _ (part_turn wait.Cell c.deref-in-Cell.result) _ c.part.ensures
+    (awaited es n l ps wait.Cell c.deref-in-Cell.result vs _ (of_form es n l c.args.e.now _ (wait-cell es n l _ (word c.in-Cell.name) c.deref-in-Cell.result vs (ap shape c.in-Cell.is ∙ shape-Cell c.in-Cell.name c.in-Cell.index ∙ ap (λ e. t.cell (word c.in-Cell.name) (term e)) (sym c.deref-in-Cell.ensures)))))
+
+pub returns-in-Cell-clause-smaller : goal.returns-in-Cell-clause-smaller
+returns-in-Cell-clause-smaller c =
+    let k = count_of c.args.e.now _ (ap shape c.in-Cell.is ∙ shape-Cell c.in-Cell.name c.in-Cell.index ∙ ap (λ e. t.cell (word c.in-Cell.name) (term e)) (sym c.deref-in-Cell.ensures)) in
+    let e = ap turn_size c.part.ensures in
+    omega arith
+
+pub returns-in-Input-clause-meaning : goal.returns-in-Input-clause-meaning
+returns-in-Input-clause-meaning c es n ps vs =
+    let l = (local c.args.locals.now) in
+    by_turn es n l ps vs _ (part_turn wait.Input c.deref-in-Input.result) _ c.part-in-Input.ensures
+    (awaited es n l ps wait.Input c.deref-in-Input.result vs _ (of_form es n l c.args.e.now _ (wait-input es n l _ c.in-Input.word_at c.deref-in-Input.result vs (ap shape c.in-Input.is ∙ shape-Input c.in-Input.word_at c.in-Input.index ∙ ap (λ e. t.input c.in-Input.word_at (term e)) (sym c.deref-in-Input.ensures)))))
+
+pub returns-in-Input-clause-smaller : goal.returns-in-Input-clause-smaller
+returns-in-Input-clause-smaller c =
+    let k = count_of c.args.e.now _ (ap shape c.in-Input.is ∙ shape-Input c.in-Input.word_at c.in-Input.index ∙ ap (λ e. t.input c.in-Input.word_at (term e)) (sym c.deref-in-Input.ensures)) in
+    let e = ap turn_size c.part-in-Input.ensures in
+    omega arith
+
+pub returns-in-Unary-clause-meaning : goal.returns-in-Unary-clause-meaning
+returns-in-Unary-clause-meaning c es n ps vs =
+    let l = (local c.args.locals.now) in
+    by_turn es n l ps vs _ (part_turn (wait.Unary c.in-Unary.op) c.deref-in-Unary.result) _ c.part-in-Unary.ensures
+    (awaited es n l ps (wait.Unary c.in-Unary.op) c.deref-in-Unary.result vs _ (of_form es n l c.args.e.now _ (wait-unary es n l _ c.in-Unary.op c.deref-in-Unary.result vs (ap shape c.in-Unary.is ∙ shape-Unary c.in-Unary.op c.in-Unary.part ∙ ap (λ e. t.unary c.in-Unary.op (term e)) (sym c.deref-in-Unary.ensures)))))
+
+pub returns-in-Unary-clause-smaller : goal.returns-in-Unary-clause-smaller
+returns-in-Unary-clause-smaller c =
+    let k = count_of c.args.e.now _ (ap shape c.in-Unary.is ∙ shape-Unary c.in-Unary.op c.in-Unary.part ∙ ap (λ e. t.unary c.in-Unary.op (term e)) (sym c.deref-in-Unary.ensures)) in
+    let e = ap turn_size c.part-in-Unary.ensures in
+    omega arith
+
+pub returns-in-Pick-clause-meaning : goal.returns-in-Pick-clause-meaning
+returns-in-Pick-clause-meaning c es n ps vs =
+    let l = (local c.args.locals.now) in
+    by_turn es n l ps vs _ (part_turn (wait.Pick c.deref-in-Pick.result c.deref-in-Pick-2.result) c.deref-in-Pick-3.result) _ c.part-in-Pick.ensures
+    (awaited es n l ps (wait.Pick c.deref-in-Pick.result c.deref-in-Pick-2.result) c.deref-in-Pick-3.result vs _ (of_form es n l c.args.e.now _ (wait-pick es n l _ c.deref-in-Pick-3.result c.deref-in-Pick.result c.deref-in-Pick-2.result vs (ap shape c.in-Pick.is ∙ shape-Pick c.in-Pick.test c.in-Pick.yes c.in-Pick.no ∙ (λ i. t.pick (term (sym c.deref-in-Pick-3.ensures i)) (term (sym c.deref-in-Pick.ensures i)) (term (sym c.deref-in-Pick-2.ensures i)))))))
+
+pub returns-in-Pick-clause-smaller : goal.returns-in-Pick-clause-smaller
+returns-in-Pick-clause-smaller c =
+    let k = count_of c.args.e.now _ (ap shape c.in-Pick.is ∙ shape-Pick c.in-Pick.test c.in-Pick.yes c.in-Pick.no ∙ (λ i. t.pick (term (sym c.deref-in-Pick-3.ensures i)) (term (sym c.deref-in-Pick.ensures i)) (term (sym c.deref-in-Pick-2.ensures i)))) in
+    let e = ap turn_size c.part-in-Pick.ensures in
+    omega arith
+
+pub returns-in-Chain-clause-meaning : goal.returns-in-Chain-clause-meaning
+returns-in-Chain-clause-meaning c es n ps vs =
+    let l = (local c.args.locals.now) in
+    by_turn es n l ps vs _ (part_turn (wait.Left c.deref-in-Chain.result) c.deref-in-Chain-2.result) _ c.part-in-Chain.ensures
+    (awaited es n l ps (wait.Left c.deref-in-Chain.result) c.deref-in-Chain-2.result vs _ (of_form es n l c.args.e.now _ (wait-left es n l _ c.deref-in-Chain-2.result c.deref-in-Chain.result vs (ap shape c.in-Chain.is ∙ shape-Chain c.in-Chain.first c.in-Chain.rest ∙ (λ i. t.chain (term (sym c.deref-in-Chain-2.ensures i)) (links (sym c.deref-in-Chain.ensures.value i)))))))
+
+pub returns-in-Chain-clause-smaller : goal.returns-in-Chain-clause-smaller
+returns-in-Chain-clause-smaller c =
+    let k = count_of c.args.e.now _ (ap shape c.in-Chain.is ∙ shape-Chain c.in-Chain.first c.in-Chain.rest ∙ (λ i. t.chain (term (sym c.deref-in-Chain-2.ensures i)) (links (sym c.deref-in-Chain.ensures.value i)))) in
+    let e = ap turn_size c.part-in-Chain.ensures in
+    omega arith
+
+pub returns-in-Apply-clause-meaning : goal.returns-in-Apply-clause-meaning
+returns-in-Apply-clause-meaning c es n ps vs =
+    let l = (local c.args.locals.now) in
+    c.begin_application.ensures.meaning es n l ps vs
+    ∙ ap (ended es n l ps vs) (of_form es n l c.args.e.now _ (ap (shape_within es n l) (sym (ap shape c.in-Apply.is ∙ shape-Apply c.in-Apply.name c.in-Apply.args ∙ ap (λ xs. t.apply (word c.in-Apply.name) (terms xs)) (sym c.deref-in-Apply.ensures.value)))))
+
+pub returns-in-Apply-clause-smaller : goal.returns-in-Apply-clause-smaller
+returns-in-Apply-clause-smaller c =
+    let k = count_of c.args.e.now _ (ap shape c.in-Apply.is ∙ shape-Apply c.in-Apply.name c.in-Apply.args ∙ ap (λ xs. t.apply (word c.in-Apply.name) (terms xs)) (sym c.deref-in-Apply.ensures.value)) in
+    let e = c.begin_application.ensures.smaller in
+    omega arith

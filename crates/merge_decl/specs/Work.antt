@@ -1,0 +1,129 @@
+-- What is left to do while an expression is evaluated, and to what value it comes.
+use Rattle.std.specs.Prelude.{ℕ, ◌+◌, ◌-◌, ◌*◌, List, [], ◌∷◌, ◌++◌, map, reverse, take, drop, length, Option, Some, None, if◌then◌else◌, Result, Ok, Err}
+use Rattle.rev_num.specs.declared.value.Value.{Value}
+use Rattle.rev_num.specs.declared.outcome.Cause.{Cause}
+use Rattle.rev_syntax.specs.Small.{term_count, terms_count, links_count}
+use Rattle.rev_syntax.specs.Trees.{Terms}
+use Rattle.rev_syntax.specs.View.{term, terms, links}
+use Rattle.merge_decl.specs.Names.{Name}
+use Rattle.merge_decl.specs.Value.{Answer, and_then, called, values_by, closed, read_cell, read_input, unknown, number_of, truth_of, reversed, operated}
+use Rattle.merge_decl.specs.Evaluation.{Values, funs_before, value_within, chained_within}
+use Rattle.rev_syntax.specs.Trees.{Entry}
+use Rattle.merge_decl.specs.Flat.{flat}
+use Rattle.merge_decl.specs.declared.flat.Flat.{Flat}
+use Rattle.merge_decl.specs.declared.work.Pending.{Pending}
+use Rattle.merge_decl.specs.declared.work.Pending.TheVariants as wait
+use Rattle.merge_decl.specs.declared.work.Next.{Next}
+use Rattle.merge_decl.specs.declared.work.Next.TheVariants as next
+use Rattle.merge_decl.specs.declared.work.Call.{Call}
+use Rattle.merge_decl.specs.declared.work.Turn.{Turn}
+use Rattle.std.specs.Borrow.{Bor}
+use Rattle.rev_syntax.specs.declared.tree.Expr.{Expr}
+
+-- the last k elements, and those before them
+abbrev pub lasts : {A : Type 0} → ℕ → List A → List A
+lasts k xs = drop (length xs - k) xs
+
+abbrev pub without : {A : Type 0} → ℕ → List A → List A
+without k xs = take (length xs - k) xs
+
+-- the first of these that wait, the last of them first, and with one more
+abbrev pub waiting : List Pending → ℕ → List Pending
+waiting ps depth = reverse (take depth ps)
+
+abbrev pub waits : Option Pending → List Pending → List Pending
+waits (Some p) ps = p ∷ ps
+waits None ps = ps
+
+-- the first of these values, and with one more
+abbrev pub kept : List Flat → ℕ → List Value
+kept xs held = map flat (take held xs)
+
+abbrev pub keeps : Option Flat → List Value → List Value
+keeps (Some x) vs = vs ++ flat x ∷ []
+keeps None vs = vs
+
+abbrev pub passed : Option Flat → List Value
+passed (Some x) = flat x ∷ []
+passed None = []
+
+abbrev pub value_turn : Flat → Turn
+value_turn x = record { keep = None; wait = None; next = next.Value x }
+
+abbrev pub part_turn : Pending → Bor Expr → Turn
+part_turn p e = record { keep = None; wait = Some p; next = next.Part e }
+
+abbrev pub call_turn : Call → Turn
+call_turn c = record { keep = None; wait = None; next = next.Call c }
+
+-- the values that are kept behind a part
+abbrev pub kept_behind : Pending → List Value → List Value
+kept_behind (wait.Argument name before rest) vs = without before vs
+kept_behind p vs = vs
+
+module _ (es : List Entry) (n : ℕ) (local : Values) where
+  -- the value of an application whose first arguments have these values, and whose other arguments are
+  -- evaluated
+  unfoldable pub application : Name → List Value → Terms → Answer
+  application name xs rest =
+      and_then (values_by (funs_before es n) (closed local) rest) (λ ys. called (funs_before es n name) (xs ++ ys))
+
+  -- what comes of the value of a part, where these values of arguments are kept
+  unfoldable pub continued : Pending → List Value → Value → Answer
+  continued wait.Cell vs x = read_cell unknown (number_of x)
+  continued wait.Input vs x = read_input [] (number_of x)
+  continued (wait.Unary op) vs x = reversed op x
+  continued (wait.Pick first second) vs x =
+      if truth_of x then value_within es n local (term first.now) else value_within es n local (term second.now)
+  continued (wait.Left rest) vs x = chained_within es n local x (links rest.now)
+  continued (wait.Right op left rest) vs x =
+      and_then (operated op (flat left) x) (λ z. chained_within es n local z (links rest.now))
+  continued (wait.Argument name before rest) vs x =
+      application name.now.text.items (lasts before vs ++ x ∷ []) (terms rest.now)
+
+  -- what the parts that wait make of a value or a fault
+  unfoldable pub ended : List Pending → List Value → Answer → Answer
+  ended [] vs a = a
+  ended (p ∷ ps) vs a = ended ps (kept_behind p vs) (and_then a (continued p vs))
+
+  -- to what all the rest comes
+  unfoldable pub comes_to : List Pending → List Value → Next → Answer
+  comes_to ps vs (next.Part e) = ended ps vs (value_within es n local (term e.now))
+  comes_to ps vs (next.Value x) = ended ps vs (Ok (flat x))
+  comes_to ps vs (next.Call c) =
+      ended ps (without c.before vs) (application c.name.now.text.items (lasts c.before vs ++ passed c.value) (terms c.rest.now))
+
+  -- after a turn
+  abbrev pub after : List Pending → List Value → Turn → Answer
+  after ps vs t = comes_to (waits t.wait ps) (keeps t.keep vs) t.next
+
+  abbrev pub goes_on : List Pending → List Value → Result Turn Cause → Answer
+  goes_on ps vs (Ok t) = after ps vs t
+  goes_on ps vs (Err c) = Err c
+
+-- ---- how much is left
+
+abbrev pub pending_size : Pending → ℕ
+pending_size wait.Cell = 1
+pending_size wait.Input = 1
+pending_size (wait.Unary op) = 1
+pending_size (wait.Pick first second) = 1 + 3 * (term_count (term first.now) + term_count (term second.now))
+pending_size (wait.Left rest) = 1 + 3 * links_count (links rest.now)
+pending_size (wait.Right op left rest) = 2 + 3 * links_count (links rest.now)
+pending_size (wait.Argument name before rest) = 2 + 3 * terms_count (terms rest.now)
+
+abbrev pub wait_size : Option Pending → ℕ
+wait_size (Some p) = pending_size p
+wait_size None = 0
+
+abbrev pub next_size : Next → ℕ
+next_size (next.Part e) = 3 * term_count (term e.now)
+next_size (next.Value x) = 1
+next_size (next.Call c) = 2 + 3 * terms_count (terms c.rest.now)
+
+abbrev pub turn_size : Turn → ℕ
+turn_size t = wait_size t.wait + next_size t.next
+
+unfoldable pub remains : List Pending → ℕ
+remains [] = 0
+remains (p ∷ ps) = pending_size p + remains ps

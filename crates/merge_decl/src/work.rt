@@ -1,0 +1,290 @@
+//! What is left to do while an expression is evaluated.
+
+ghost use Rattle.std.specs.Prelude.{◌≡◌, ◌<◌, ◌≤◌, ◌+◌, ◌*◌, ◌∷◌, ◌++◌, [], ℕ, List, None, Ok, true, IfOk, IfSome, length};
+ghost use Rattle.rev_num.specs.declared.value.Value.{Value};
+ghost use Rattle.rev_syntax.specs.Trees.{Entry, apply};
+ghost use Rattle.rev_syntax.specs.View.{links, term, terms, word};
+ghost use Rattle.rev_syntax.specs.Small.{links_count, term_count, terms_count};
+ghost use Rattle.merge_decl.specs.Evaluation.{Values, chained_within, shape_within, value_within};
+ghost use Rattle.merge_decl.specs.Flat.{flat, flat_option, local};
+ghost use Rattle.merge_decl.specs.Work.{after, application, call_turn, continued, ended, goes_on, kept, kept_behind, keeps, lasts, part_turn, pending_size, turn_size, value_turn, waiting, waits, without};
+ghost use Rattle.merge_decl.specs.Value as spec;
+ghost use Rattle.merge_decl.specs.declared.work.Pending.{Pending as Waits};
+ghost use Rattle.merge_decl.specs.declared.work.Pending.TheVariants as on;
+
+use crate::flat::{Flat, Locals, operated, reversed, short, truth};
+use rev_num::Cause;
+use rev_syntax::{BinaryOp, Expr, Link, Name, Node, UnaryOp};
+
+/// How many parts of an expression wait in one call, and how many values of arguments are kept.
+pub const ROOM: usize = 64;
+
+/// What is to be done with the value of a part of an expression.
+#[derive(Clone, Copy, Drop)]
+pub enum Pending<'a> {
+    /// It is the index of a cell.
+    Cell,
+    /// It is the position of an input number.
+    Input,
+    Unary(UnaryOp),
+    /// It chooses between two expressions.
+    Pick {
+        yes: &'a Expr,
+        no: &'a Expr,
+    },
+    /// It is the left operand of the first of these links.
+    Left(&'a [Link]),
+    /// It is a right operand, with links behind it.
+    Right {
+        op: BinaryOp,
+        left: Flat,
+        rest: &'a [Link],
+    },
+    /// It is an argument; this many values of others are kept, and the rest comes after it.
+    Argument {
+        name: &'a Name,
+        before: usize,
+        rest: &'a [Expr],
+    },
+}
+
+/// An application: the values of this many arguments are the last that are kept, the value of one more
+/// may come behind them, and the rest is not evaluated yet.
+#[derive(Clone, Copy, Drop)]
+pub struct Call<'a> {
+    pub name: &'a Name,
+    pub before: usize,
+    pub value: Option<Flat>,
+    pub rest: &'a [Expr],
+}
+
+/// What comes next: a part is evaluated, or has a value, or a fun is applied.
+#[derive(Clone, Copy, Drop)]
+pub enum Next<'a> {
+    Part(&'a Expr),
+    Value(Flat),
+    Call(Call<'a>),
+}
+
+/// A turn of the evaluation: a value that is kept, what waits for the value of the part that comes next,
+/// and what comes next.
+#[derive(Clone, Copy, Drop)]
+pub struct Turn<'a> {
+    pub keep: Option<Flat>,
+    pub wait: Option<Pending<'a>>,
+    pub next: Next<'a>,
+}
+
+/// The value of a name, which is a local or nothing.
+fn local_read(found: Option<Flat>) -> Flat
+    ensures { Ok (flat result) ≡ spec.read (flat_option found) spec.unknown }
+{
+    found.unwrap_or(Flat::Int(0))
+}
+
+impl<'a> Turn<'a> {
+    /// A part has a value.
+    pub fn value(x: Flat) -> Turn<'a>
+        ensures { result ≡ value_turn x }
+    {
+        Turn {
+            keep: None,
+            wait: None,
+            next: Next::Value(x),
+        }
+    }
+
+    /// The value of a part is awaited.
+    fn part(what: Pending<'a>, part: &'a Expr) -> Turn<'a>
+        ensures { result ≡ part_turn what.entry part.entry }
+    {
+        Turn {
+            keep: None,
+            wait: Some(what),
+            next: Next::Part(part),
+        }
+    }
+
+    /// A fun is applied.
+    fn call(call: Call<'a>) -> Turn<'a>
+        ensures { result ≡ call_turn call.entry }
+    {
+        Turn {
+            keep: None,
+            wait: None,
+            next: Next::Call(call),
+        }
+    }
+}
+
+/// What comes first in a part.
+pub fn begin<'a>(locals: &Locals, e: &'a Expr) -> Turn<'a>
+    ensures meaning { (es : List Entry) (n : ℕ) (ps : List Waits) (vs : List Value) → after es n (local locals.now) ps vs result ≡ ended es n (local locals.now) ps vs (value_within es n (local locals.now) (term e.now)) }
+    ensures keeps_nothing { result.keep ≡ None }
+    ensures smaller { turn_size result < 3 * term_count (term e.now) }
+{
+    match &e.node {
+        Node::Int(n) => Turn::value(Flat::Int(*n)),
+        Node::Bool(b) => Turn::value(Flat::Bool(*b)),
+        Node::NoRev => Turn::value(Flat::NoRev),
+        Node::Var(name) => Turn::value(local_read(locals.find(&name.text))),
+        Node::Inputs { word_at: _ } => Turn::value(Flat::Int(0)),
+        Node::Cell { name: _, index } => Turn::part(Pending::Cell, index),
+        Node::Input { word_at: _, index } => Turn::part(Pending::Input, index),
+        Node::Pick { test, yes, no } => Turn::part(Pending::Pick { yes, no }, test),
+        Node::Unary { op, part } => Turn::part(Pending::Unary(*op), part),
+        Node::Chain { first, rest } => Turn::part(Pending::Left(rest), first),
+        Node::Apply { name, args } => begin_application(name, args),
+    }
+}
+
+/// The arguments of an application come first, from left to right.
+fn begin_application<'a>(name: &'a Name, args: &'a [Expr]) -> Turn<'a>
+    ensures meaning { (es : List Entry) (n : ℕ) (l : Values) (ps : List Waits) (vs : List Value) → after es n l ps vs result ≡ ended es n l ps vs (shape_within es n l (apply (word name.now) (terms args.now))) }
+    ensures keeps_nothing { result.keep ≡ None }
+    ensures smaller { turn_size result < 3 * (1 + terms_count (terms args.now)) }
+{
+    match args.split_first() {
+        Some((arg, rest)) => Turn::part(
+            Pending::Argument {
+                name,
+                before: 0,
+                rest,
+            },
+            arg,
+        ),
+        None => Turn::call(Call {
+            name,
+            before: 0,
+            value: None,
+            rest: args,
+        }),
+    }
+}
+
+/// What comes after the value of a part, or the fault of what is done with it. A value is kept only where
+/// there is room for it.
+pub fn give<'a>(what: Pending<'a>, x: Flat, room: bool) -> Result<Turn<'a>, Cause>
+    ensures meaning { (es : List Entry) (n : ℕ) (l : Values) (ps : List Waits) (vs : List Value) → goes_on es n l ps vs result ≡ ended es n l ps (kept_behind what.entry vs) (continued es n l what.entry vs (flat x)) }
+    ensures kept { IfOk result (λ t. IfSome t.keep (λ y. room ≡ true)) }
+    ensures smaller { IfOk result (λ t. turn_size t < 1 + pending_size what.entry) }
+{
+    match what {
+        Pending::Cell => Ok(Turn::value(Flat::Int(0))),
+        Pending::Input => Err(Cause::Index),
+        Pending::Unary(op) => Ok(Turn::value(reversed(op, x)?)),
+        Pending::Pick { yes, no } => Ok(chosen(x, yes, no)),
+        Pending::Left(rest) => Ok(give_left(x, rest)),
+        Pending::Right { op, left, rest } => Ok(Turn {
+            keep: None,
+            wait: Some(Pending::Left(rest)),
+            next: Next::Value(operated(op, left, x)?),
+        }),
+        Pending::Argument { name, before, rest } => {
+            Ok(give_argument(name, before, x, rest, room))
+        }
+    }
+}
+
+/// The expression that a test chooses comes next.
+fn chosen<'a>(test: Flat, yes: &'a Expr, no: &'a Expr) -> Turn<'a>
+    ensures meaning { (es : List Entry) (n : ℕ) (l : Values) (ps : List Waits) (vs : List Value) → after es n l ps vs result ≡ ended es n l ps vs (continued es n l (on.Pick yes.entry no.entry) vs (flat test)) }
+    ensures keeps_nothing { result.keep ≡ None }
+    ensures smaller { turn_size result < 2 + 3 * (term_count (term yes.now) + term_count (term no.now)) }
+{
+    Turn {
+        keep: None,
+        wait: None,
+        next: Next::Part(if truth(test) { yes } else { no }),
+    }
+}
+
+/// What comes after a left operand, which may decide without the right one.
+fn give_left<'a>(left: Flat, behind: &'a [Link]) -> Turn<'a>
+    ensures meaning { (es : List Entry) (n : ℕ) (l : Values) (ps : List Waits) (vs : List Value) → after es n l ps vs result ≡ ended es n l ps vs (chained_within es n l (flat left) (links behind.now)) }
+    ensures keeps_nothing { result.keep ≡ None }
+    ensures smaller { turn_size result < 2 + 3 * links_count (links behind.now) }
+{
+    let Some((link, rest)) = behind.split_first() else {
+        return Turn::value(left);
+    };
+    match short(link.op, left) {
+        Some(decided) => Turn {
+            keep: None,
+            wait: Some(Pending::Left(rest)),
+            next: Next::Value(decided),
+        },
+        None => Turn::part(
+            Pending::Right {
+                op: link.op,
+                left,
+                rest,
+            },
+            &link.part,
+        ),
+    }
+}
+
+/// What comes after the value of an argument: the next argument, where there is one and room for the
+/// value, or the fun.
+fn give_argument<'a>(
+    name: &'a Name,
+    before: usize,
+    x: Flat,
+    args: &'a [Expr],
+    room: bool,
+) -> Turn<'a>
+    ensures meaning { (es : List Entry) (n : ℕ) (l : Values) (ps : List Waits) (vs : List Value) → after es n l ps vs result ≡ ended es n l ps (without before vs) (application es n l name.now.text.items (lasts before vs ++ flat x ∷ []) (terms args.now)) }
+    ensures kept { IfSome result.keep (λ y. room ≡ true) }
+    ensures smaller { turn_size result < 3 + 3 * terms_count (terms args.now) }
+{
+    match args.split_first() {
+        Some((arg, rest)) if room && before < ROOM => Turn {
+            keep: Some(x),
+            wait: Some(Pending::Argument {
+                name,
+                before: before + 1,
+                rest,
+            }),
+            next: Next::Part(arg),
+        },
+        _ => Turn::call(Call {
+            name,
+            before,
+            value: Some(x),
+            rest: args,
+        }),
+    }
+}
+
+/// Where something waits, it waits behind the first `depth` that wait; how many wait then.
+pub fn wait<'a>(pending: &mut [Pending<'a>; ROOM], depth: usize, what: Option<Pending<'a>>) -> usize
+    requires { depth < 64 }
+    ensures room { result ≤ 64 }
+    ensures waits { waiting pending.new result ≡ waits what.entry (waiting pending.old depth) }
+    ensures places { length pending.new ≡ 64 }
+{
+    match what {
+        Some(what) => {
+            pending[depth] = what;
+            depth + 1
+        }
+        None => depth,
+    }
+}
+
+/// Where a value is kept, it is kept behind the first `held` values; how many are kept then.
+pub fn keep(values: &mut [Flat; ROOM], held: usize, value: Option<Flat>) -> usize
+    requires free { IfSome value (λ x. held < 64) }
+    requires fits { held ≤ 64 }
+    ensures room { result ≤ 64 }
+    ensures keeps { kept values.new result ≡ keeps value (kept values.old held) }
+{
+    match value {
+        Some(value) => {
+            values[held] = value;
+            held + 1
+        }
+        None => held,
+    }
+}
