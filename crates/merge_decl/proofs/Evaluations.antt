@@ -1,21 +1,17 @@
 -- The value of an expression inside a fun or a merge, form by form.
-use Rattle.std.proofs.Common.{◌≡◌, ◌∙◌, ℕ, ◌<◌, ◌+◌, ℤ, pos, Bool, true, false, List, [], ◌∷◌, drop, length, get_or, Option, Some, None, Result, Ok, Err, if◌then◌else◌, refl, sym, ap}
+use Rattle.std.proofs.Common.{◌≡◌, ◌∙◌, ℕ, ℤ, pos, Bool, List, [], ◌∷◌, Option, Some, None, Result, Ok, Err, refl, sym, ap}
 use Rattle.rev_num.specs.declared.value.Value.{Value}
 use Rattle.rev_num.specs.declared.value.Value.TheVariants as v
 use Rattle.rev_syntax.specs.Trees as t
 use Rattle.rev_syntax.specs.Trees.{Word, Term, Shape, Terms, Links, Entry}
-use Rattle.rev_syntax.specs.View.{links, link}
-use Rattle.rev_syntax.specs.declared.tree.UnaryOp.{UnaryOp}
 use Rattle.rev_syntax.specs.declared.tree.BinaryOp.{BinaryOp}
-use Rattle.rev_syntax.specs.declared.tree.Link.{Link}
 use Rattle.std.specs.Result.{IsErrAnd}
 use Rattle.merge_decl.specs.declared.flat.Flat.{Flat}
 use Rattle.merge_decl.specs.Flat.{answer}
 use Rattle.merge_decl.specs.Names.{Name}
-use Rattle.merge_decl.specs.Value.{Answer, and_then, bind, bind_all, nothing, read, read_cell, read_input, unknown, number_of, truth_of, flag, reversed, linked, operated, short, values_by, value_by, closed}
-use Rattle.merge_decl.specs.Evaluation.{Values, funs_before, value_within, shape_within, chained_within, link_within, params_at, value_of_body, applied_within, given_within, IsMeant}
+use Rattle.merge_decl.specs.Value.{Answer, and_then, bind, bind_all, nothing, read, unknown, flag, linked, short, values_by, value_by, closed}
+use Rattle.merge_decl.specs.Evaluation.{Values, funs_before, value_within, shape_within, chained_within, link_within, value_of_body, applied_within, given_within}
 use Rattle.rev_num.specs.declared.outcome.Cause.{Cause}
-use Rattle.merge_decl.proofs.FunSteps.{drop_at}
 
 module _ (es : List Entry) (n : ℕ) (local : Values) where
   -- ---- forms
@@ -42,75 +38,9 @@ module _ (es : List Entry) (n : ℕ) (local : Values) where
   unfolding shape_within
   at_var s w r is h = h ∙ ap (shape_within es n local) (sym is)
 
-  pub at_cell : (s : Shape) (w : Word) (index e : Term) (a r : Answer) → s ≡ t.cell w index → e ≡ index → a ≡ value_within es n local e
-      → r ≡ and_then a (λ i. read_cell unknown (number_of i)) → r ≡ shape_within es n local s
-  unfolding shape_within value_within
-  at_cell s w index e a r is same h k =
-      k ∙ ap (λ x. and_then x (λ i. read_cell unknown (number_of i))) (h ∙ ap (value_within es n local) same) ∙ ap (shape_within es n local) (sym is)
-
-  pub at_input : (s : Shape) (at : ℕ) (index e : Term) (a r : Answer) → s ≡ t.input at index → e ≡ index → a ≡ value_within es n local e
-      → r ≡ and_then a (λ i. read_input [] (number_of i)) → r ≡ shape_within es n local s
-  unfolding shape_within value_within
-  at_input s at index e a r is same h k =
-      k ∙ ap (λ x. and_then x (λ i. read_input [] (number_of i))) (h ∙ ap (value_within es n local) same) ∙ ap (shape_within es n local) (sym is)
-
   pub at_inputs : (s : Shape) (at : ℕ) → s ≡ t.inputs at → Ok (v.Int (pos 0)) ≡ shape_within es n local s
   unfolding shape_within
   at_inputs s at is = ap (shape_within es n local) (sym is)
-
-  pub at_unary : (s : Shape) (op : UnaryOp) (part e : Term) (a r : Answer) → s ≡ t.unary op part → e ≡ part → a ≡ value_within es n local e
-      → r ≡ and_then a (reversed op) → r ≡ shape_within es n local s
-  unfolding shape_within value_within
-  at_unary s op part e a r is same h k =
-      k ∙ ap (λ x. and_then x (reversed op)) (h ∙ ap (value_within es n local) same) ∙ ap (shape_within es n local) (sym is)
-
-  pub at_apply : (s : Shape) (w : Word) (args e : Terms) (f : Option ℕ) (params : List Name) (bound : Values) (r : Answer) → s ≡ t.apply w args → e ≡ args
-      → IsMeant es n w.text f → params ≡ params_at es f → bound ≡ nothing → r ≡ applied_within es n local e f params bound → r ≡ shape_within es n local s
-  unfolding shape_within applied_within
-  at_apply s w args e f params bound r is same h p b k =
-      k ∙ (λ i. applied_within es n local (same i) f (p i) (b i))
-      ∙ (λ i. and_then (values_by (funs_before es n) (closed local) args) (λ xs. sym (h xs) i))
-      ∙ ap (shape_within es n local) (sym is)
-
-  pick_fault : (test a b : Term) (c : Cause) → Err c ≡ value_within es n local test → Err c ≡ shape_within es n local (t.pick test a b)
-  unfolding shape_within value_within
-  pick_fault test a b c h =
-      ap (λ x. and_then x (λ y. if truth_of y then value_within es n local a else value_within es n local b)) h
-
-  pub at_pick_fault : (s : Shape) (test a b e : Term) (c : Cause) → s ≡ t.pick test a b → e ≡ test → Err c ≡ value_within es n local e → Err c ≡ shape_within es n local s
-  at_pick_fault s test a b e c is same h =
-      pick_fault test a b c (h ∙ ap (value_within es n local) same) ∙ ap (shape_within es n local) (sym is)
-
-  picked : (test a b : Term) (x : Value) → Ok x ≡ value_within es n local test
-      → (if truth_of x then value_within es n local a else value_within es n local b) ≡ shape_within es n local (t.pick test a b)
-  unfolding shape_within value_within
-  picked test a b x h =
-      ap (λ y. and_then y (λ z. if truth_of z then value_within es n local a else value_within es n local b)) h
-
-  pub at_pick : (s : Shape) (test a b e d : Term) (x : Value) (r : Answer) (c : Bool) → s ≡ t.pick test a b → e ≡ test → Ok x ≡ value_within es n local e
-      → truth_of x ≡ c → d ≡ (if c then a else b) → r ≡ value_within es n local d → r ≡ shape_within es n local s
-  at_pick s test a b e d x r true is same h q p k =
-      k ∙ ap (value_within es n local) p ∙ ap (λ y. if y then value_within es n local a else value_within es n local b) (sym q)
-      ∙ picked test a b x (h ∙ ap (value_within es n local) same) ∙ ap (shape_within es n local) (sym is)
-  at_pick s test a b e d x r false is same h q p k =
-      k ∙ ap (value_within es n local) p ∙ ap (λ y. if y then value_within es n local a else value_within es n local b) (sym q)
-      ∙ picked test a b x (h ∙ ap (value_within es n local) same) ∙ ap (shape_within es n local) (sym is)
-
-  chained_from : (first : Term) (rest : Links) (a : Answer) → a ≡ value_within es n local first
-      → and_then a (λ x. chained_within es n local x rest) ≡ shape_within es n local (t.chain first rest)
-  unfolding shape_within value_within chained_within
-  chained_from first rest a h = ap (λ x. and_then x (λ y. chained_within es n local y rest)) h
-
-  pub at_chain_fault : (s : Shape) (first e : Term) (rest : Links) (c : Cause) → s ≡ t.chain first rest → e ≡ first → Err c ≡ value_within es n local e
-      → Err c ≡ shape_within es n local s
-  at_chain_fault s first e rest c is same h =
-      chained_from first rest (Err c) (h ∙ ap (value_within es n local) same) ∙ ap (shape_within es n local) (sym is)
-
-  pub at_chain : (s : Shape) (first e : Term) (rest l : Links) (x : Value) (r : Answer) → s ≡ t.chain first rest → e ≡ first → l ≡ rest
-      → Ok x ≡ value_within es n local e → r ≡ chained_within es n local x l → r ≡ shape_within es n local s
-  at_chain s first e rest l x r is same same' h k =
-      k ∙ ap (chained_within es n local x) same'
-      ∙ chained_from first rest (Ok x) (h ∙ ap (value_within es n local) same) ∙ ap (shape_within es n local) (sym is)
 
   -- ---- links
 
@@ -118,18 +48,6 @@ module _ (es : List Entry) (n : ℕ) (local : Values) where
   pub link_decided : (op : BinaryOp) (part : Term) (x z : Value) → Some z ≡ short op x → Ok z ≡ link_within es n local x (op, part)
   unfolding link_within
   link_decided op part x z h = ap (linked op x (value_within es n local part)) h
-
-  pub link_fault : (op : BinaryOp) (part : Term) (x : Value) (c : Cause) → None ≡ short op x → Err c ≡ value_within es n local part
-      → Err c ≡ link_within es n local x (op, part)
-  unfolding link_within
-  link_fault op part x c h k =
-      ap (λ a. linked op x a None) k ∙ ap (linked op x (value_within es n local part)) h
-
-  pub link_operated : (op : BinaryOp) (part : Term) (x y : Value) → None ≡ short op x → Ok y ≡ value_within es n local part
-      → operated op x y ≡ link_within es n local x (op, part)
-  unfolding link_within
-  link_operated op part x y h k =
-      ap (λ a. linked op x a None) k ∙ ap (linked op x (value_within es n local part)) h
 
   -- a chain with no more links, and with one more
 
@@ -141,13 +59,6 @@ module _ (es : List Entry) (n : ℕ) (local : Values) where
       → and_then a (λ z. chained_within es n local z rest) ≡ chained_within es n local x (t.link op part rest)
   unfolding chained_within link_within value_within
   chained_step x op part rest a h = ap (λ y. and_then y (λ z. chained_within es n local z rest)) h
-
-  -- the links from number i on
-  pub links_step : (ls : List Link) (i : ℕ) (l : Link) (x : Value) (a : Answer) → i < length ls → l ≡ get_or ls i l → a ≡ link_within es n local x (link l)
-      → and_then a (λ z. chained_within es n local z (links (drop (i + 1) ls))) ≡ chained_within es n local x (links (drop i ls))
-  links_step ls i l x a h e k =
-      chained_step x (link l).0 (link l).1 (links (drop (i + 1) ls)) a k
-      ∙ ap (λ m. chained_within es n local x (links m)) (sym (drop_at ls i l h e))
 
 -- ---- arguments
 
@@ -164,22 +75,6 @@ module _ (es : List Entry) (n : ℕ) (local : Values) where
   applied-none f (p ∷ ps) bound = refl
 
 module _ (es : List Entry) (n : ℕ) (local : Values) (x : Term) (args : Terms) (f : Option ℕ) where
-  -- an argument that is bound to a parameter
-  pub applied-bound : (y : Value) (p : Name) (params : List Name) (bound : Values) → Ok y ≡ value_within es n local x
-      → applied_within es n local args f params (bind bound p y) ≡ applied_within es n local (t.term x args) f (p ∷ params) bound
-  unfolding applied_within value_within
-  applied-bound y p params bound h =
-      ap (λ r. and_then r (λ z. and_then (values_by (funs_before es n) (closed local) args) (λ zs. value_of_body es f (bind_all (bind bound p z) params zs)))) h
-      ∙ prepended (value_by (funs_before es n) (closed local) x) (values_by (funs_before es n) (closed local) args) (λ zs. value_of_body es f (bind_all bound (p ∷ params) zs))
-
-  -- an argument that has no parameter
-  pub applied-unbound : (y : Value) (bound : Values) → Ok y ≡ value_within es n local x
-      → applied_within es n local args f [] bound ≡ applied_within es n local (t.term x args) f [] bound
-  unfolding applied_within value_within
-  applied-unbound y bound h =
-      ap (λ r. and_then r (λ z. and_then (values_by (funs_before es n) (closed local) args) (λ zs. value_of_body es f bound))) h
-      ∙ prepended (value_by (funs_before es n) (closed local) x) (values_by (funs_before es n) (closed local) args) (λ zs. value_of_body es f bound)
-
   -- an argument that faults
   pub applied-fault : (c : Cause) (params : List Name) (bound : Values) → Err c ≡ value_within es n local x
       → Err c ≡ applied_within es n local (t.term x args) f params bound

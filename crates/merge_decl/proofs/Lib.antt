@@ -6,9 +6,9 @@ pub mod Few
 pub mod Firsts
 pub mod FunSteps
 pub mod Leasts
+mod Locals
 pub mod Meanings
 mod Rows
 pub mod Shapes
 pub mod Tables
-mod Locals
 mod Works

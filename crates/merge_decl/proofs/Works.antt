@@ -1,5 +1,5 @@
 -- What is left to do, a turn at a time.
-use Rattle.std.proofs.Common.{◌≡◌, ◌∙◌, ◌<◌, ◌≤◌, ◌+◌, ◌-◌, ℕ, zero, suc, ℤ, pos, negsuc, Bool, true, false, if◌then◌else◌, List, [], ◌∷◌, ◌++◌, map, reverse, take, drop, length, Option, Some, None, Result, Ok, Err, refl, sym, ap, arith, length-append, slice_set, slice_range, get_or, add-one, length-take-le}
+use Rattle.std.proofs.Common.{◌≡◌, ◌∙◌, ◌<◌, ◌≤◌, ◌+◌, ◌-◌, ℕ, zero, suc, ℤ, pos, negsuc, Bool, true, false, if◌then◌else◌, List, [], ◌∷◌, ◌++◌, map, reverse, take, drop, length, Option, Some, None, Result, Ok, Err, refl, sym, ap, arith, length-append, slice_set, slice_range, get_or, length-take-le}
 use Rattle.std.proofs.lemmas.List.{length-map, length-reverse, reverse-append}
 use Rattle.rev_num.specs.declared.value.Value.{Value}
 use Rattle.rev_num.specs.declared.outcome.Cause.{Cause}
@@ -81,20 +81,10 @@ drop-map f zero xs = refl
 drop-map f (suc k) [] = refl
 drop-map f (suc k) (x ∷ xs) = drop-map f k xs
 
-pub lasts-map : {A B : Type 0} (f : A → B) (k : ℕ) (xs : List A) → map f (lasts k xs) ≡ lasts k (map f xs)
-lasts-map f k xs = drop-map f (length xs - k) xs ∙ ap (λ m. drop (m - k) (map f xs)) (sym (length-map xs f))
-
 take-map : {A B : Type 0} (f : A → B) (k : ℕ) (xs : List A) → map f (take k xs) ≡ take k (map f xs)
 take-map f zero xs = refl
 take-map f (suc k) [] = refl
 take-map f (suc k) (x ∷ xs) = ap (λ r. f x ∷ r) (take-map f k xs)
-
-pub without-map : {A B : Type 0} (f : A → B) (k : ℕ) (xs : List A) → map f (without k xs) ≡ without k (map f xs)
-without-map f k xs = take-map f (length xs - k) xs ∙ ap (λ m. take (m - k) (map f xs)) (sym (length-map xs f))
-
-pub none-left : {A : Type 0} (xs : List A) → (0 < length xs → ⊥) → reverse xs ≡ []
-none-left [] h = refl
-none-left (x ∷ xs) h = absurd (h (omega arith))
 
 -- ---- what comes of the rest
 
@@ -442,12 +432,6 @@ take-at : {A : Type 0} (xs : List A) (k : ℕ) (x : A) → k < length xs → x �
 take-at [] k x h e = absurd (omega arith)
 take-at (y ∷ xs) zero x h e = ap (λ z. z ∷ []) (sym e)
 take-at (y ∷ xs) (suc k) x h e = ap (λ r. y ∷ r) (take-at xs k x (omega arith) e)
-
-pub wait-placed : (ps : List Pending) (k : ℕ) (p : Pending) → k < length ps → waiting (slice_set ps k p) (k + 1) ≡ p ∷ waiting ps k
-wait-placed ps k p h = ap (λ m. reverse (take m (slice_set ps k p))) (add-one k) ∙ pushed (take k ps) (take (suc k) (slice_set ps k p)) p (take-set ps k p h)
-
-pub value-placed : (xs : List Flat) (k : ℕ) (x : Flat) → k < length xs → kept (slice_set xs k x) (k + 1) ≡ kept xs k ++ flat x ∷ []
-value-placed xs k x h = ap (λ m. map flat (take m (slice_set xs k x))) (add-one k) ∙ ap (map flat) (take-set xs k x h) ∙ map-push flat (take k xs) x
 
 -- the last that waits
 pub waits-last : (ps : List Pending) (k m : ℕ) (p : Pending) → k < length ps → p ≡ get_or ps k p → m ≡ suc k → waiting ps m ≡ p ∷ waiting ps k

@@ -248,4 +248,5 @@ module _ (p : Whole) (well : IsAccepted p) where
 
   -- a merge gives an int for three ints
   pub merges_give : (n : ℕ) (m j r : Value) → IsOf k.Int m → IsOf k.Int j → IsOf k.Int r → OfOk (IsOf k.Int) (merge_value_of p n m j r)
+  unfolding merge_value_of
   merges_give n m j r = merge_at (merges_in p) n m j r program_declared.merges

@@ -207,4 +207,5 @@ module _ (K : Value → Type 0) (others : OfOthers K) where
 
   -- a merge's value comes from its three values
   pub merge_ok : (p : Whole) (k : ℕ) (m j r : Value) → K m → K j → K r → OfOk K (merge_value_of p k m j r)
+  unfolding merge_value_of
   merge_ok p k m j r = merged_ok (slice_get (merges_in p) k) m j r

@@ -4,10 +4,11 @@ use Rattle.std.proofs.Common.{refl}
 use Rattle.revision_calculus.specs.Examples as x
 use Rattle.revision_calculus.specs.Examples.{given, sharing, usual, usual_fuel}
 use Rattle.revision_calculus.proofs.EveryRun.{always_tells, run_latest}
+use Rattle.merge_decl.specs.Definitions.{merge_value_of}
 use Rattle.revision_calculus.proofs.worked.accounts.Goals as goal
 
 pub returns : goal.returns
-unfolding digits
+unfolding digits merge_value_of
 returns c = record {
   child_fuel = always_tells (sharing 10 x.sums) 100 (0 ∷ []) (λ l. l.fuel) (run_latest 100 (sharing 10 x.sums) 100) _ refl;
   main_fuel = always_tells (sharing 10 x.sums) 100 [] (λ l. l.fuel) (run_latest 100 (sharing 10 x.sums) 100) _ refl;

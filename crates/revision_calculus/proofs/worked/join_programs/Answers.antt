@@ -4,10 +4,11 @@ use Rattle.std.proofs.Common.{refl}
 use Rattle.revision_calculus.specs.Examples as x
 use Rattle.revision_calculus.specs.Examples.{given, sharing, usual, usual_fuel}
 use Rattle.revision_calculus.proofs.EveryRun.{reports, run_latest}
+use Rattle.merge_decl.specs.Definitions.{merge_value_of}
 use Rattle.revision_calculus.proofs.worked.join_programs.Goals as goal
 
 pub returns : goal.returns
-unfolding digits
+unfolding digits merge_value_of
 returns c = record {
   joinee_wins = reports (usual x.joinee_wins) usual_fuel false (run_latest 100 (usual x.joinee_wins) usual_fuel) _ refl;
   no_write = reports (usual x.no_write) usual_fuel false (run_latest 100 (usual x.no_write) usual_fuel) _ refl;

@@ -4,10 +4,11 @@ use Rattle.std.proofs.Common.{refl}
 use Rattle.revision_calculus.specs.Examples as x
 use Rattle.revision_calculus.specs.Examples.{given, sharing, usual, usual_fuel}
 use Rattle.revision_calculus.proofs.EveryRun.{reports, run_latest}
+use Rattle.merge_decl.specs.Definitions.{merge_value_of}
 use Rattle.revision_calculus.proofs.worked.trap_programs.Goals as goal
 
 pub returns : goal.returns
-unfolding digits
+unfolding digits merge_value_of
 returns c = record {
   join_of_none = reports (usual x.join_of_none) usual_fuel false (run_latest 100 (usual x.join_of_none) usual_fuel) _ refl;
   joined = reports (usual x.joins_a_trapped_child) usual_fuel false (run_latest 100 (usual x.joins_a_trapped_child) usual_fuel) _ refl;
