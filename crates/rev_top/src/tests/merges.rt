@@ -115,7 +115,9 @@ fn nested(
     let close = many(rt, brackets.1, levels)?;
     let mut text = String::new(rt.alloc());
     text.push_str("fun first(a: int, b: int): int = a; ")?;
-    text.push_str("fun last(a: int, b: int, c: int, d: int, e: int, f: int, g: int, h: int): int = h; ")?;
+    text.push_str(
+        "fun last(a: int, b: int, c: int, d: int, e: int, f: int, g: int, h: int): int = h; ",
+    )?;
     text.push_str("fun f0(a: int): int = a; ")?;
     let mut inner = 0;
     for i in 1..funs {
