@@ -1,5 +1,5 @@
 -- The limits of the language, and the places and the numbers of the static rules and limits.
-use Rattle.std.specs.Prelude.{ℕ, ◌+◌}
+use Rattle.std.specs.Prelude.{◌≡◌, ℕ, ◌+◌}
 use Rattle.rev_kinds.specs.declared.fault.Which.{Which}
 use Rattle.rev_kinds.specs.declared.fault.Which.TheVariants.{Locations, Procedures, Funs, Parameters, Locals, Items, Weight}
 use Rattle.rev_kinds.specs.declared.fault.TypeFault.{TypeFault}
@@ -19,13 +19,17 @@ limit_of Weight = 65536
 abbrev pub first_past : Which → ℕ
 first_past which = limit_of which + 1
 
+-- the fault of what goes over a limit at a place, with the number of that limit
+abbrev pub exceeded : ℕ → Which → TypeFault
+exceeded at which = LimitOf at which (limit_of which)
+
 abbrev pub place : TypeFault → ℕ
 place (UnknownName at) = at
 place (Redeclared at) = at
 place (WrongType at) = at
 place (WrongCount at) = at
 place (NoReturn at) = at
-place (LimitOf at which) = at
+place (LimitOf at which limit) = at
 place OutOfMemory = 0
 
 -- limits have the number 6; of two at one place the earlier in the list of limits counts
@@ -45,15 +49,25 @@ rank (Redeclared at) = 2
 rank (WrongType at) = 3
 rank (WrongCount at) = 4
 rank (NoReturn at) = 5
-rank (LimitOf at which) = order which
+rank (LimitOf at which limit) = order which
 rank OutOfMemory = 13
 
 -- a limit that is passed, and no other rule
 abbrev pub IsLimit : TypeFault → Type 0
-IsLimit (LimitOf at which) = Unit {0}
+IsLimit (LimitOf at which limit) = Unit {0}
 IsLimit (UnknownName at) = ⊥
 IsLimit (Redeclared at) = ⊥
 IsLimit (WrongType at) = ⊥
 IsLimit (WrongCount at) = ⊥
 IsLimit (NoReturn at) = ⊥
 IsLimit OutOfMemory = ⊥
+
+-- if this is a fault of a limit, its number is that of the limit
+abbrev pub HasLimit : TypeFault → Type 0
+HasLimit (LimitOf at which limit) = limit ≡ limit_of which
+HasLimit (UnknownName at) = Unit {0}
+HasLimit (Redeclared at) = Unit {0}
+HasLimit (WrongType at) = Unit {0}
+HasLimit (WrongCount at) = Unit {0}
+HasLimit (NoReturn at) = Unit {0}
+HasLimit OutOfMemory = Unit {0}

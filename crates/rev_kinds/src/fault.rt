@@ -41,6 +41,17 @@ impl Which {
     {
         self.limit() as usize + 1
     }
+
+    /// The fault of what goes over the limit here.
+    pub fn exceeded(self, at: u32) -> TypeFault
+        ensures { result ≡ rule.exceeded at self }
+    {
+        TypeFault::LimitOf {
+            at,
+            which: self,
+            limit: self.limit(),
+        }
+    }
 }
 
 /// A static rule or a limit that a program breaks, with its place.
@@ -51,7 +62,7 @@ pub enum TypeFault {
     WrongType { at: u32 },
     WrongCount { at: u32 },
     NoReturn { at: u32 },
-    LimitOf { at: u32, which: Which },
+    LimitOf { at: u32, which: Which, limit: u32 },
     OutOfMemory,
 }
 
@@ -72,7 +83,11 @@ fn place(fault: TypeFault) -> u32
         TypeFault::WrongType { at } => at,
         TypeFault::WrongCount { at } => at,
         TypeFault::NoReturn { at } => at,
-        TypeFault::LimitOf { at, which: _ } => at,
+        TypeFault::LimitOf {
+            at,
+            which: _,
+            limit: _,
+        } => at,
         TypeFault::OutOfMemory => 0,
     }
 }
@@ -100,7 +115,11 @@ fn rank(fault: TypeFault) -> u8
         TypeFault::WrongType { at: _ } => 3,
         TypeFault::WrongCount { at: _ } => 4,
         TypeFault::NoReturn { at: _ } => 5,
-        TypeFault::LimitOf { at: _, which } => order(which),
+        TypeFault::LimitOf {
+            at: _,
+            which,
+            limit: _,
+        } => order(which),
         TypeFault::OutOfMemory => 13,
     }
 }

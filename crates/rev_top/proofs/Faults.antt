@@ -11,7 +11,7 @@ use Rattle.rev_parse.specs.Verdicts.{Verdict, tree, unexpected, too_deep, Parses
 use Rattle.rev_parse.specs.declared.whole.SyntaxFault.{SyntaxFault}
 use Rattle.rev_parse.specs.declared.whole.SyntaxFault.TheVariants as syntax
 use Rattle.rev_parse.proofs.OneVerdict.{one_verdict}
-use Rattle.merge_decl.specs.Least.{IsFirst}
+use Rattle.merge_decl.specs.Least.{Among, IsFirst}
 use Rattle.merge_decl.proofs.Firsts.{no_first, one_first}
 use Rattle.merge_decl.specs.FunRules as funs
 use Rattle.merge_decl.specs.Expands as expands
@@ -24,6 +24,7 @@ use Rattle.rev_kinds.specs.declared.fault.Which.{Which}
 use Rattle.rev_kinds.specs.declared.fault.Which.TheVariants as which
 use Rattle.rev_types.specs.Program as program
 use Rattle.rev_types.specs.Tables as tables
+use Rattle.rev_types.proofs.OwnLimits.{own_limits}
 use Rattle.rev_report.specs.declared.fault.TextFault.TheVariants as fault
 use Rattle.rev_report.specs.declared.refusal.Refusal.{Refusal}
 use Rattle.rev_report.specs.declared.refusal.Refusal.TheVariants as refusals
@@ -35,12 +36,13 @@ use Rattle.rev_top.proofs.Stages.{One, one_then, refusal_of, reported}
 
 -- ---- the first of some faults is reported in one way
 
-module _ {F : Type 0} (place rank : F → ℕ) (report : F → Option Refusal) (by : ℕ → ℕ → Option Refusal) (by_rank : (f : F) → report f ≡ by (place f) (rank f)) where
-  one_report : (fs : List F) (r s : Refusal) → Reports (IsFirst place rank fs) report r → Reports (IsFirst place rank fs) report s → r ≡ s
-  one_report fs r s h k =
+module _ {F : Type 0} (place rank : F → ℕ) (report : F → Option Refusal) (by : ℕ → ℕ → Option Refusal) (fs : List F)
+    (by_rank : (f : F) → Among fs f → report f ≡ by (place f) (rank f)) where
+  one_report : (r s : Refusal) → Reports (IsFirst place rank fs) report r → Reports (IsFirst place rank fs) report s → r ≡ s
+  one_report r s h k =
       let both = one_first place rank fs h.fault k.fault h.comes k.comes in
       let same : by (place h.fault) (rank h.fault) ≡ by (place k.fault) (rank k.fault) = ap (λ n. by n (rank h.fault)) both.0 ∙ ap (λ n. by (place k.fault) n) both.1 in
-      let some : Some r ≡ Some s = sym h.reported ∙ by_rank h.fault ∙ same ∙ sym (by_rank k.fault) ∙ k.reported in
+      let some : Some r ≡ Some s = sym h.reported ∙ by_rank h.fault h.comes.among ∙ same ∙ sym (by_rank k.fault k.comes.among) ∙ k.reported in
       cc
 
 -- the report of a fault by its place and its rank
@@ -88,15 +90,15 @@ limits_by_rank text at which.Locals = refl
 limits_by_rank text at which.Items = refl
 limits_by_rank text at which.Weight = refl
 
-types_by_rank : (text : List ℕ) (f : TypeFault) → report_of_types text f ≡ types_by text (types.place f) (types.rank f)
+types_by_rank : (text : List ℕ) (f : TypeFault) → types.HasLimit f → report_of_types text f ≡ types_by text (types.place f) (types.rank f)
 unfolding over limits_by types_by
-types_by_rank text (type.UnknownName at) = refl
-types_by_rank text (type.Redeclared at) = refl
-types_by_rank text (type.WrongType at) = refl
-types_by_rank text (type.WrongCount at) = refl
-types_by_rank text (type.NoReturn at) = refl
-types_by_rank text (type.LimitOf at w) = limits_by_rank text at w
-types_by_rank text type.OutOfMemory = refl
+types_by_rank text (type.UnknownName at) own = refl
+types_by_rank text (type.Redeclared at) own = refl
+types_by_rank text (type.WrongType at) own = refl
+types_by_rank text (type.WrongCount at) own = refl
+types_by_rank text (type.NoReturn at) own = refl
+types_by_rank text (type.LimitOf at w n) own = ap (λ (x : ℕ). Some (refusals.OverLimit (place_in text at) x (limited_of w))) own ∙ limits_by_rank text at w
+types_by_rank text type.OutOfMemory own = refl
 
 -- ---- each stage has one value or refusal at most
 
@@ -117,14 +119,14 @@ one_funs text p (Ok q) (Ok r) h k = ap (λ (x : Whole). Ok x) (h.0 ∙ sym k.0)
 one_funs text p (Ok q) (Err s) h k = absurd (no_first funs.place funs.rank (funs.fun_faults p) k.fault h.1 k.comes)
 one_funs text p (Err r) (Ok q) h k = absurd (no_first funs.place funs.rank (funs.fun_faults p) h.fault k.1 h.comes)
 one_funs text p (Err r) (Err s) h k =
-    ap (λ (x : Refusal). Err x) (one_report funs.place funs.rank (report_of_funs text) (funs_by text) (funs_by_rank text) (funs.fun_faults p) r s h k)
+    ap (λ (x : Refusal). Err x) (one_report funs.place funs.rank (report_of_funs text) (funs_by text) (funs.fun_faults p) (λ f among. funs_by_rank text f) r s h k)
 
 one_types : (text : List ℕ) (p : Whole) → One (KeepsTypes text p)
 one_types text p (Ok q) (Ok r) h k = ap (λ (x : Whole). Ok x) (h.0 ∙ sym k.0)
 one_types text p (Ok q) (Err s) h k = absurd (no_first types.place types.rank (program.faults p) k.fault h.1 k.comes)
 one_types text p (Err r) (Ok q) h k = absurd (no_first types.place types.rank (program.faults p) h.fault k.1 h.comes)
 one_types text p (Err r) (Err s) h k =
-    ap (λ (x : Refusal). Err x) (one_report types.place types.rank (report_of_types text) (types_by text) (types_by_rank text) (program.faults p) r s h k)
+    ap (λ (x : Refusal). Err x) (one_report types.place types.rank (report_of_types text) (types_by text) (program.faults p) (λ f among. types_by_rank text f (own_limits p f among)) r s h k)
 
 pub one_check : (text : List ℕ) → One (Checks text)
 unfolding Checks
@@ -177,7 +179,7 @@ types_of_text text (type.Redeclared at) r is = same_refusal _ r tt is
 types_of_text text (type.WrongType at) r is = same_refusal _ r tt is
 types_of_text text (type.WrongCount at) r is = same_refusal _ r tt is
 types_of_text text (type.NoReturn at) r is = same_refusal _ r tt is
-types_of_text text (type.LimitOf at w) r is = same_refusal _ r tt is
+types_of_text text (type.LimitOf at w n) r is = same_refusal _ r tt is
 types_of_text text type.OutOfMemory r is = cc
 
 pub check_of_text : (text : List ℕ) (r : Refusal) → Checks text (Err r) → IsOfText r

@@ -74,8 +74,7 @@ report_of_types text (type.Redeclared at) = Some (fault_at text at fault.Redecla
 report_of_types text (type.WrongType at) = Some (fault_at text at fault.WrongType)
 report_of_types text (type.WrongCount at) = Some (fault_at text at fault.WrongCount)
 report_of_types text (type.NoReturn at) = Some (fault_at text at fault.NoReturn)
-report_of_types text (type.LimitOf at w) =
-    Some (refusals.OverLimit (place_in text at) (types.limit_of w) (limited_of w))
+report_of_types text (type.LimitOf at w n) = Some (refusals.OverLimit (place_in text at) n (limited_of w))
 report_of_types text type.OutOfMemory = None
 
 -- ---- the stages

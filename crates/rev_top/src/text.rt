@@ -112,9 +112,9 @@ fn of_types(text: &[u8], fault: TypeFault) -> Stop
         TypeFault::WrongType { at } => fault_at(text, at, TextFault::WrongType),
         TypeFault::WrongCount { at } => fault_at(text, at, TextFault::WrongCount),
         TypeFault::NoReturn { at } => fault_at(text, at, TextFault::NoReturn),
-        TypeFault::LimitOf { at, which } => Stop::Refused(Refusal::OverLimit {
+        TypeFault::LimitOf { at, which, limit } => Stop::Refused(Refusal::OverLimit {
             place: place_in(text, at),
-            limit: which.limit(),
+            limit,
             which: limited_of(which),
         }),
         TypeFault::OutOfMemory => Stop::OutOfMemory,

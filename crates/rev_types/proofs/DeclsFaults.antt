@@ -11,8 +11,7 @@ use Rattle.merge_decl.specs.Table.{Table, find, added}
 use Rattle.rev_kinds.specs.declared.fault.Which.{Which}
 use Rattle.rev_kinds.specs.declared.fault.Which.TheVariants as which
 use Rattle.rev_kinds.specs.declared.fault.TypeFault.{TypeFault}
-use Rattle.rev_kinds.specs.declared.fault.TypeFault.TheVariants.{LimitOf}
-use Rattle.rev_kinds.specs.Faults.{IsLimit, first_past, limit_of}
+use Rattle.rev_kinds.specs.Faults.{IsLimit, exceeded, first_past, limit_of}
 use Rattle.rev_kinds.specs.Kinds.{Names, Locals, same_kind, term_place}
 use Rattle.rev_kinds.specs.Rules as r
 use Rattle.rev_kinds.proofs.Lists.{whole, passes, stops, not_found, is_unequal, added_unknown, known_more}
@@ -120,22 +119,22 @@ module _ (P : TypeFault → Type 0) where
 
   abbrev pub ParamsHold : ℕ → List Binder → Type 0
   ParamsHold left [] = Unit {0}
-  ParamsHold left (b ∷ ps) = (left ≡ 1 → P (LimitOf b.name.at which.Parameters)) × ParamsHold (left - 1) ps
+  ParamsHold left (b ∷ ps) = (left ≡ 1 → P (exceeded b.name.at which.Parameters)) × ParamsHold (left - 1) ps
 
   -- parameters that count as locals
   abbrev pub LocalsHold : ℕ → List Binder → Type 0
   LocalsHold left [] = Unit {0}
-  LocalsHold left (b ∷ ps) = (left ≡ 1 → P (LimitOf b.name.at which.Locals)) × LocalsHold (left - 1) ps
+  LocalsHold left (b ∷ ps) = (left ≡ 1 → P (exceeded b.name.at which.Locals)) × LocalsHold (left - 1) ps
 
   abbrev pub EntryHolds : p.Passed → Entry → Type 0
   EntryHolds q (fun w ps x body) =
-      (q.funs_left ≡ 1 → P (LimitOf w.at which.Funs)) × ParamsHold (first_past which.Parameters) ps × (nat_lt (limit_of which.Weight) (p.weight q.weights body) ≡ true → P (LimitOf w.at which.Weight))
+      (q.funs_left ≡ 1 → P (exceeded w.at which.Funs)) × ParamsHold (first_past which.Parameters) ps × (nat_lt (limit_of which.Weight) (p.weight q.weights body) ≡ true → P (exceeded w.at which.Weight))
   EntryHolds q (merge w m j x body) =
-      (q.funs_left ≡ 1 → P (LimitOf w.at which.Funs)) × (nat_lt (limit_of which.Weight) (p.weight q.weights body) ≡ true → P (LimitOf w.at which.Weight))
+      (q.funs_left ≡ 1 → P (exceeded w.at which.Funs)) × (nat_lt (limit_of which.Weight) (p.weight q.weights body) ≡ true → P (exceeded w.at which.Weight))
   EntryHolds q (shared x) =
-      nat_le q.located (limit_of which.Locations) ≡ true → nat_lt (limit_of which.Locations) (p.located_after q.located (p.cells_in x.size)) ≡ true → P (LimitOf x.name.at which.Locations)
+      nat_le q.located (limit_of which.Locations) ≡ true → nat_lt (limit_of which.Locations) (p.located_after q.located (p.cells_in x.size)) ≡ true → P (exceeded x.name.at which.Locations)
   EntryHolds q (proc w ps x body) =
-      (q.procs_left ≡ 1 → P (LimitOf w.at which.Procedures)) × ParamsHold (first_past which.Parameters) ps × LocalsHold (first_past which.Locals) ps × StepsHold P (p.left_params (first_past which.Locals) ps) body
+      (q.procs_left ≡ 1 → P (exceeded w.at which.Procedures)) × ParamsHold (first_past which.Parameters) ps × LocalsHold (first_past which.Locals) ps × StepsHold P (p.left_params (first_past which.Locals) ps) body
 
   abbrev pub EntriesHold : p.Passed → List Entry → Type 0
   EntriesHold q [] = Unit {0}
@@ -148,7 +147,7 @@ module _ (P : TypeFault → Type 0) where
       fun_params c (added l b.name.text (Some b.kind)) (left - 1) _ ps
       (all_both P _ _ a
       (all_both P _ _ (all_of P _ (new_param b.name l h.0.0))
-      (all_both P _ _ (all_of P _ (stops (same_kind b.kind k.Rev) _ (no_handle_kind b.kind (g b (inl refl))))) (all_at P left (LimitOf b.name.at which.Parameters) v.0)))) h.1
+      (all_both P _ _ (all_of P _ (stops (same_kind b.kind k.Rev) _ (no_handle_kind b.kind (g b (inl refl))))) (all_at P left (exceeded b.name.at which.Parameters) v.0)))) h.1
       (λ x m. g x (inr m)) v.1
 
   proc_params : (c : Names) (l : Locals) (left locals : ℕ) (found : All) (ps : List Binder) → AllAre P found → ParamsNew c l ps → ParamsHold left ps → LocalsHold locals ps
@@ -158,13 +157,13 @@ module _ (P : TypeFault → Type 0) where
       proc_params c (added l b.name.text (Some b.kind)) (left - 1) (locals - 1) _ ps
       (all_both P _ _ a
       (all_both P _ _ (all_of P _ (new_nothing b.name (find b.name.text l) (c.shared b.name.text) h.0.0 h.0.1))
-      (all_both P _ _ (all_at P left (LimitOf b.name.at which.Parameters) v.0) (all_at P locals (LimitOf b.name.at which.Locals) u.0)))) h.1 v.1 u.1
+      (all_both P _ _ (all_at P left (exceeded b.name.at which.Parameters) v.0) (all_at P locals (exceeded b.name.at which.Locals) u.0)))) h.1 v.1 u.1
 
-  location_faults : (w : Word) (before after : ℕ) → (nat_le before (limit_of which.Locations) ≡ true → nat_lt (limit_of which.Locations) after ≡ true → P (LimitOf w.at which.Locations)) → AllAre P (p.location_limit [] one app w before after)
+  location_faults : (w : Word) (before after : ℕ) → (nat_le before (limit_of which.Locations) ≡ true → nat_lt (limit_of which.Locations) after ≡ true → P (exceeded w.at which.Locations)) → AllAre P (p.location_limit [] one app w before after)
   location_faults w before after h = by (nat_le before (limit_of which.Locations)) h
     where
-      by : (x : Bool) → (x ≡ true → nat_lt (limit_of which.Locations) after ≡ true → P (LimitOf w.at which.Locations)) → AllAre P (cond x (cond (nat_lt (limit_of which.Locations) after) (LimitOf w.at which.Locations ∷ []) []) [])
-      by true g = all_when P (nat_lt (limit_of which.Locations) after) (LimitOf w.at which.Locations) (g refl)
+      by : (x : Bool) → (x ≡ true → nat_lt (limit_of which.Locations) after ≡ true → P (exceeded w.at which.Locations)) → AllAre P (cond x (cond (nat_lt (limit_of which.Locations) after) (exceeded w.at which.Locations ∷ []) []) [])
+      by true g = all_when P (nat_lt (limit_of which.Locations) after) (exceeded w.at which.Locations) (g refl)
       by false g = all_none P
 
   shared_faults : (q : p.Passed) (before : List Entry) (x : Variable) → Knows q before → SharedTyped before x → EntryHolds q (shared x) → AllAre P (p.shared_by [] one app q x)
@@ -180,25 +179,25 @@ module _ (P : TypeFault → Type 0) where
       let value = complete inner (p.with_params [] ps) body x h.body in
       let no_rev = ap (λ o. r.not_rev [] one app (term_place body) o) value.1 ∙ handle_not (term_place body) x h.result in
       all_both P _ _
-      (all_both P _ _ (all_of P _ (new_name q before w f h.name)) (all_at P q.funs_left (LimitOf w.at which.Funs) v.0))
+      (all_both P _ _ (all_of P _ (new_name q before w f h.name)) (all_at P q.funs_left (exceeded w.at which.Funs) v.0))
       (all_both P _ _
       (all_both P _ _ (fun_params inner [] (first_past which.Parameters) [] ps (all_none P) h.params h.kinds v.1) (all_of P _ (stops (same_kind x k.Rev) _ (no_handle_kind x h.result))))
       (all_both P _ _ (all_of P _ (whole _ _ (part_nothing inner (p.with_params [] ps) body x h.body) no_rev))
-      (all_when P (nat_lt (limit_of which.Weight) (p.weight q.weights body)) (LimitOf w.at which.Weight) v.2)))
+      (all_when P (nat_lt (limit_of which.Weight) (p.weight q.weights body)) (exceeded w.at which.Weight) v.2)))
 
   merge_faults : (inner : Names) (q : p.Passed) (before : List Entry) (w m j x : Word) (body : Term) → Knows q before → MergeTyped inner before w m j x body → EntryHolds q (merge w m j x body)
       → AllAre P (p.merge_by [] one app inner q w m j x body)
   merge_faults inner q before w m j x body f h v =
       all_both P _ _
-      (all_both P _ _ (all_of P _ (new_name q before w f h.name)) (all_at P q.funs_left (LimitOf w.at which.Funs) v.0))
+      (all_both P _ _ (all_of P _ (new_name q before w f h.name)) (all_at P q.funs_left (exceeded w.at which.Funs) v.0))
       (all_both P _ _ (all_of P _ (merge_params m j x h.params))
-      (all_both P _ _ (all_of P _ (part_nothing inner (p.merge_locals m j x) body k.Int h.body)) (all_when P (nat_lt (limit_of which.Weight) (p.weight q.weights body)) (LimitOf w.at which.Weight) v.1)))
+      (all_both P _ _ (all_of P _ (part_nothing inner (p.merge_locals m j x) body k.Int h.body)) (all_when P (nat_lt (limit_of which.Weight) (p.weight q.weights body)) (exceeded w.at which.Weight) v.1)))
 
   proc_faults : (outer : Names) (q : p.Passed) (before : List Entry) (w : Word) (ps : List Binder) (x : Option ValueKind) (body : Steps) → Knows q before → ProcTyped outer before w ps x body
       → EntryHolds q (proc w ps x body) → AllAre P (p.proc_by [] one app outer q w ps x body)
   proc_faults outer q before w ps x body f h v =
       all_both P _ _
-      (all_both P _ _ (all_of P _ (new_name q before w f h.name)) (all_at P q.procs_left (LimitOf w.at which.Procedures) v.0))
+      (all_both P _ _ (all_of P _ (new_name q before w f h.name)) (all_at P q.procs_left (exceeded w.at which.Procedures) v.0))
       (all_both P _ _
       (all_both P _ _ (proc_params outer [] (first_past which.Parameters) (first_past which.Locals) [] ps (all_none P) h.params v.1 v.2) (all_of P _ (returns_nothing w x body h.result)))
       (steps_faults P outer x (p.with_params [] ps) (p.left_params (first_past which.Locals) ps) [] body (all_none P) h.body v.3))
@@ -222,7 +221,7 @@ module _ (P : TypeFault → Type 0) where
       (steps_faults P (p.outside x.entries) None [] (first_past which.Locals) [] x.main (all_none P) h.main u)
 
   -- where it holds of every limit
-  module _ (every : (at : ℕ) (what : Which) → P (LimitOf at what)) where
+  module _ (every : (at : ℕ) (what : Which) → P (exceeded at what)) where
     params_hold : (left : ℕ) (ps : List Binder) → ParamsHold left ps
     params_hold left [] = tt
     params_hold left (b ∷ ps) = (λ e. every b.name.at which.Parameters, params_hold (left - 1) ps)

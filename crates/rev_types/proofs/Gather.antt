@@ -14,7 +14,7 @@ use Rattle.rev_kinds.specs.declared.fault.TypeFault.{TypeFault}
 use Rattle.rev_kinds.specs.declared.fault.Which.{Which}
 use Rattle.rev_kinds.specs.declared.fault.Which.TheVariants as which
 use Rattle.rev_kinds.specs.declared.names.Holder.{Holder}
-use Rattle.rev_kinds.specs.Faults.{first_past, limit_of, place, rank}
+use Rattle.rev_kinds.specs.Faults.{HasLimit, first_past, limit_of, place, rank}
 use Rattle.rev_kinds.specs.Kinds.{Callee, Names, Locals, same_kind, name_kind, operand_kind, kind_in, right_kind, right_place, term_place}
 use Rattle.rev_kinds.specs.Rules as r
 use Rattle.rev_kinds.specs.Walk.{both}
@@ -22,9 +22,10 @@ use Rattle.rev_types.specs.Steps as s
 use Rattle.rev_types.specs.Program as p
 use Rattle.rev_types.specs.Walk.{program_by}
 
--- Two ways to gather faults, the second of which is the first seen by h.
+-- Two ways to gather faults, the second of which is the first seen by h. A fault of a limit has the
+-- number of that limit.
 module _ {M N : Type 0} (none : M) (one : TypeFault → M) (both : M → M → M) (none' : N) (one' : TypeFault → N) (both' : N → N → N)
-    (h : M → N) (h-none : h none ≡ none') (h-one : (f : TypeFault) → h (one f) ≡ one' f) (h-both : (x y : M) → h (both x y) ≡ both' (h x) (h y)) where
+    (h : M → N) (h-none : h none ≡ none') (h-one : (f : TypeFault) → HasLimit f → h (one f) ≡ one' f) (h-both : (x y : M) → h (both x y) ≡ both' (h x) (h y)) where
   -- two parts
   pub two : (x y : M) (x' y' : N) → h x ≡ x' → h y ≡ y' → h (both x y) ≡ both' x' y'
   two x y x' y' p q = h-both x y ∙ (λ i. both' (p i) (q i))
@@ -38,13 +39,13 @@ module _ {M N : Type 0} (none : M) (one : TypeFault → M) (both : M → M → M
 
   wants : (at : ℕ) (found : Option ValueKind) (wanted : ValueKind) → h (r.wants none one both at found wanted) ≡ r.wants none' one' both' at found wanted
   wants at None wanted = h-none
-  wants at (Some found) wanted = test (same_kind found wanted) _ _ _ _ h-none (h-one _)
+  wants at (Some found) wanted = test (same_kind found wanted) _ _ _ _ h-none (h-one _ tt)
 
   not_rev : (at : ℕ) (found : Option ValueKind) → h (r.not_rev none one both at found) ≡ r.not_rev none' one' both' at found
   not_rev at None = h-none
   not_rev at (Some k.Int) = h-none
   not_rev at (Some k.Bool) = h-none
-  not_rev at (Some k.Rev) = h-one _
+  not_rev at (Some k.Rev) = h-one _ tt
 
   alike : (at : ℕ) (wanted found : Option ValueKind) → h (r.alike none one both at wanted found) ≡ r.alike none' one' both' at wanted found
   alike at None found = h-none
@@ -56,16 +57,16 @@ module _ {M N : Type 0} (none : M) (one : TypeFault → M) (both : M → M → M
 
   scalar_use : (n : Word) (l : Option (Option ValueKind)) (o : Option Holder) → h (r.scalar_use none one both n l o) ≡ r.scalar_use none' one' both' n l o
   scalar_use n (Some found) o = h-none
-  scalar_use n None (Some o) = test o.array _ _ _ _ (h-one _) h-none
-  scalar_use n None None = h-one _
+  scalar_use n None (Some o) = test o.array _ _ _ _ (h-one _ tt) h-none
+  scalar_use n None None = h-one _ tt
 
   array_use : (n : Word) (l : Option (Option ValueKind)) (o : Option Holder) → h (r.array_use none one both n l o) ≡ r.array_use none' one' both' n l o
-  array_use n (Some found) o = h-one _
-  array_use n None (Some o) = test o.array _ _ _ _ h-none (h-one _)
-  array_use n None None = h-one _
+  array_use n (Some found) o = h-one _ tt
+  array_use n None (Some o) = test o.array _ _ _ _ h-none (h-one _ tt)
+  array_use n None None = h-one _ tt
 
   input_use : (inside : Bool) (at : ℕ) → h (r.input_use none one both inside at) ≡ r.input_use none' one' both' inside at
-  input_use true at = h-one _
+  input_use true at = h-one _ tt
   input_use false at = h-none
 
   left_operand : (op : BinaryOp) (at : ℕ) (found : Option ValueKind) → h (r.left_operand none one both op at found) ≡ r.left_operand none' one' both' op at found
@@ -146,15 +147,15 @@ module _ {M N : Type 0} (none : M) (one : TypeFault → M) (both : M → M → M
   part_first c l e wanted = two _ _ _ _ (terms_first c l e) (wants (term_place e) (kind_in c l e) wanted)
 
   callee_use : (n : Word) (k : ℕ) (f : Option Callee) → h (r.callee_use none one both n k f) ≡ r.callee_use none' one' both' n k f
-  callee_use n k None = h-one _
-  callee_use n k (Some f) = test (nat_eq k (length f.params)) _ _ _ _ h-none (h-one _)
+  callee_use n k None = h-one _ tt
+  callee_use n k (Some f) = test (nat_eq k (length f.params)) _ _ _ _ h-none (h-one _ tt)
 
   call_first : (c : Names) (l : Locals) (n : Word) (args : Terms) → h (r.call_by none one both c l n args) ≡ r.call_by none' one' both' c l n args
   call_first c l n args =
       two _ _ _ _ (callee_use n (count args) (c.procs n.text)) (args_first c l (r.params_of none one both (c.procs n.text)) 0 none none' args h-none)
 
   has_result : (at : ℕ) (found : Option ValueKind) → h (r.has_result none one both at found) ≡ r.has_result none' one' both' at found
-  has_result at None = h-one _
+  has_result at None = h-one _ tt
   has_result at (Some found) = h-none
 
   result_use : (at : ℕ) (f : Option Callee) → h (r.result_use none one both at f) ≡ r.result_use none' one' both' at f
@@ -170,13 +171,13 @@ module _ {M N : Type 0} (none : M) (one : TypeFault → M) (both : M → M → M
   -- ---- statements
 
   new_local : (n : Word) (found : Option (Option ValueKind)) (o : Option Holder) → h (s.new_local none one both n found o) ≡ s.new_local none' one' both' n found o
-  new_local n found o = test (is_some found) _ _ _ _ (h-one _) (test (is_some o) _ _ _ _ (h-one _) h-none)
+  new_local n found o = test (is_some found) _ _ _ _ (h-one _ tt) (test (is_some o) _ _ _ _ (h-one _ tt) h-none)
 
   one_more_local : (n : Word) (left : ℕ) → h (s.one_more_local none one both n left) ≡ s.one_more_local none' one' both' n left
-  one_more_local n left = test (nat_eq left 1) _ _ _ _ (h-one _) h-none
+  one_more_local n left = test (nat_eq left 1) _ _ _ _ (h-one _ refl) h-none
 
   one_more_item : (at left : ℕ) → h (s.one_more_item none one both at left) ≡ s.one_more_item none' one' both' at left
-  one_more_item at left = test (nat_eq left 1) _ _ _ _ (h-one _) h-none
+  one_more_item at left = test (nat_eq left 1) _ _ _ _ (h-one _ refl) h-none
 
   item_first : (c : Names) (l : Locals) (left : ℕ) (x : Shown) → h (s.item_by none one both c l left x) ≡ s.item_by none' one' both' c l left x
   item_first c l left (text at bytes) = one_more_item at left
@@ -190,8 +191,8 @@ module _ {M N : Type 0} (none : M) (one : TypeFault → M) (both : M → M → M
 
   return_first : (c : Names) (l : Locals) (result : Option ValueKind) (at : ℕ) (e : Option Term) → h (s.return_by none one both c l result at e) ≡ s.return_by none' one' both' c l result at e
   return_first c l None at None = h-none
-  return_first c l None at (Some e) = two _ _ _ _ (terms_first c l e) (h-one _)
-  return_first c l (Some wanted) at None = h-one _
+  return_first c l None at (Some e) = two _ _ _ _ (terms_first c l e) (h-one _ tt)
+  return_first c l (Some wanted) at None = h-one _ tt
   return_first c l (Some wanted) at (Some e) = part_first c l e wanted
 
   assigned_first : (c : Names) (l : Locals) (wanted : Option ValueKind) (x : Right) → h (s.assigned none one both c l wanted x) ≡ s.assigned none' one' both' c l wanted x
@@ -238,16 +239,16 @@ module _ {M N : Type 0} (none : M) (one : TypeFault → M) (both : M → M → M
   -- ---- declarations
 
   new_name : (n : Word) (names : Table ℕ) → h (p.new_name none one both n names) ≡ p.new_name none' one' both' n names
-  new_name n names = test (is_some (find n.text names)) _ _ _ _ (h-one _) h-none
+  new_name n names = test (is_some (find n.text names)) _ _ _ _ (h-one _ tt) h-none
 
   limit_at : (at : ℕ) (which : Which) (left : ℕ) → h (p.limit_at none one both at which left) ≡ p.limit_at none' one' both' at which left
-  limit_at at which left = test (nat_eq left 1) _ _ _ _ (h-one _) h-none
+  limit_at at which left = test (nat_eq left 1) _ _ _ _ (h-one _ refl) h-none
 
   new_param : (n : Word) (l : Locals) → h (p.new_param none one both n l) ≡ p.new_param none' one' both' n l
-  new_param n l = test (is_some (find n.text l)) _ _ _ _ (h-one _) h-none
+  new_param n l = test (is_some (find n.text l)) _ _ _ _ (h-one _ tt) h-none
 
   no_rev_param : (b : Binder) → h (p.no_rev_param none one both b) ≡ p.no_rev_param none' one' both' b
-  no_rev_param b = test (same_kind b.kind k.Rev) _ _ _ _ (h-one _) h-none
+  no_rev_param b = test (same_kind b.kind k.Rev) _ _ _ _ (h-one _ tt) h-none
 
   fun_params : (l : Locals) (left : ℕ) (x : M) (x' : N) (bs : List Binder) → h x ≡ x' → h (p.fun_params none one both l left x bs) ≡ p.fun_params none' one' both' l left x' bs
   fun_params l left x x' [] q = q
@@ -266,36 +267,36 @@ module _ {M N : Type 0} (none : M) (one : TypeFault → M) (both : M → M → M
       two _ _ _ _ (new_param j (added [] m.text (Some k.Int))) (new_param x (added (added [] m.text (Some k.Int)) j.text (Some k.Int)))
 
   weight_of : (n : Word) (weight : ℕ) → h (p.weight_of none one both n weight) ≡ p.weight_of none' one' both' n weight
-  weight_of n weight = test (nat_lt (limit_of which.Weight) weight) _ _ _ _ (h-one _) h-none
+  weight_of n weight = test (nat_lt (limit_of which.Weight) weight) _ _ _ _ (h-one _ refl) h-none
 
   fun_result : (n : Word) (x : ValueKind) → h (p.fun_result none one both n x) ≡ p.fun_result none' one' both' n x
-  fun_result n x = test (same_kind x k.Rev) _ _ _ _ (h-one _) h-none
+  fun_result n x = test (same_kind x k.Rev) _ _ _ _ (h-one _ tt) h-none
 
   fun_body : (c : Names) (l : Locals) (x : ValueKind) (e : Term) → h (p.fun_body none one both c l x e) ≡ p.fun_body none' one' both' c l x e
   fun_body c l x e = two _ _ _ _ (part_first c l e x) (not_rev (term_place e) (kind_in c l e))
 
   by_use : (ms : Table ℕ) (n : Option Word) → h (p.by_use none one both ms n) ≡ p.by_use none' one' both' ms n
   by_use ms None = h-none
-  by_use ms (Some n) = test (is_some (find n.text ms)) _ _ _ _ h-none (h-one _)
+  by_use ms (Some n) = test (is_some (find n.text ms)) _ _ _ _ h-none (h-one _ tt)
 
   cumulative_kind : (n : Option Word) (at : ℕ) (found : ValueKind) → h (p.cumulative_kind none one both n at found) ≡ p.cumulative_kind none' one' both' n at found
   cumulative_kind None at found = h-none
-  cumulative_kind (Some n) at found = test (same_kind found k.Int) _ _ _ _ h-none (h-one _)
+  cumulative_kind (Some n) at found = test (same_kind found k.Int) _ _ _ _ h-none (h-one _ tt)
 
   size_use : (x : Option Extent) → h (p.size_use none one both x) ≡ p.size_use none' one' both' x
   size_use None = h-none
-  size_use (Some x) = test (nat_eq (p.size_cells x.cells) 0) _ _ _ _ (h-one _) h-none
+  size_use (Some x) = test (nat_eq (p.size_cells x.cells) 0) _ _ _ _ (h-one _ tt) h-none
 
   first_value : (x : Option Constant) (wanted : ValueKind) → h (p.first_value none one both x wanted) ≡ p.first_value none' one' both' x wanted
   first_value None wanted = h-none
   first_value (Some x) wanted = wants x.at (Some (kind_of x.value)) wanted
 
   location_limit : (n : Word) (before after : ℕ) → h (p.location_limit none one both n before after) ≡ p.location_limit none' one' both' n before after
-  location_limit n before after = test (nat_le before (limit_of which.Locations)) _ _ _ _ (test (nat_lt (limit_of which.Locations) after) _ _ _ _ (h-one _) h-none) h-none
+  location_limit n before after = test (nat_le before (limit_of which.Locations)) _ _ _ _ (test (nat_lt (limit_of which.Locations) after) _ _ _ _ (h-one _ refl) h-none) h-none
 
   return_use : (n : Word) (x : Option ValueKind) (b : Bool) → h (p.return_use none one both n x b) ≡ p.return_use none' one' both' n x b
   return_use n None b = h-none
-  return_use n (Some x) b = test b _ _ _ _ h-none (h-one _)
+  return_use n (Some x) b = test b _ _ _ _ h-none (h-one _ tt)
 
   entry_first : (outer inner : Names) (q : p.Passed) (e : Entry) → h (p.entry_by none one both outer inner q e) ≡ p.entry_by none' one' both' outer inner q e
   entry_first outer inner q (fun n bs x body) =
@@ -318,7 +319,7 @@ module _ {M N : Type 0} (none : M) (one : TypeFault → M) (both : M → M → M
   entries_first outer inner q x x' [] e = e
   entries_first outer inner q x x' (d ∷ ds) e = entries_first outer inner (p.passed_with q d) _ _ ds (two _ _ _ _ e (entry_first outer inner q d))
 
-  program_first : (x : Whole) → h (p.program_by none one both x) ≡ p.program_by none' one' both' x
+  pub program_first : (x : Whole) → h (p.program_by none one both x) ≡ p.program_by none' one' both' x
   program_first x =
       two _ _ _ _ (entries_first (p.outside x.entries) (p.within x.entries) p.nothing_passed none none' x.entries h-none)
       (steps_first (p.outside x.entries) None [] (first_past which.Locals) none none' x.main h-none)
@@ -326,4 +327,4 @@ module _ {M N : Type 0} (none : M) (one : TypeFault → M) (both : M → M → M
 -- the first fault of a program is the first of all its faults
 pub first_of_faults : (x : Whole) → least place rank (p.faults x) ≡ program_by x
 first_of_faults x =
-    program_first [] (λ f. f ∷ []) (λ xs ys. xs ++ ys) None Some both (λ fs. least place rank fs) refl (λ f. refl) (λ xs ys. least-append place rank xs ys) x
+    program_first [] (λ f. f ∷ []) (λ xs ys. xs ++ ys) None Some both (λ fs. least place rank fs) refl (λ f own. refl) (λ xs ys. least-append place rank xs ys) x

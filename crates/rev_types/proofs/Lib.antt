@@ -7,6 +7,7 @@ pub mod Gather
 pub mod Layouts
 pub mod Named
 pub mod Namings
+pub mod OwnLimits
 pub mod StepsFaults
 pub mod StepsSound
 pub mod StepsWithin

@@ -9,9 +9,8 @@ use Rattle.merge_decl.specs.Table.{find, added}
 use Rattle.rev_kinds.specs.declared.fault.Which.{Which}
 use Rattle.rev_kinds.specs.declared.fault.Which.TheVariants as which
 use Rattle.rev_kinds.specs.declared.fault.TypeFault.{TypeFault}
-use Rattle.rev_kinds.specs.declared.fault.TypeFault.TheVariants.{LimitOf}
 use Rattle.rev_kinds.specs.declared.names.Holder.{Holder}
-use Rattle.rev_kinds.specs.Faults.{first_past}
+use Rattle.rev_kinds.specs.Faults.{exceeded, first_past}
 use Rattle.rev_kinds.specs.Kinds.{Callee, Names, Locals, name_kind, result_of, kind_in, right_kind, right_place, term_place}
 use Rattle.rev_kinds.specs.Rules as r
 use Rattle.rev_kinds.specs.Typing.{HasKind}
@@ -119,14 +118,14 @@ module _ (P : TypeFault → Type 0) where
 
   abbrev pub ItemsHold : ℕ → List Shown → Type 0
   ItemsHold left [] = Unit {0}
-  ItemsHold left (x ∷ xs) = (left ≡ 1 → P (LimitOf (item_place x) which.Items)) × ItemsHold (left - 1) xs
+  ItemsHold left (x ∷ xs) = (left ≡ 1 → P (exceeded (item_place x) which.Items)) × ItemsHold (left - 1) xs
 
   abbrev mutual
     pub StepHolds : ℕ → Step → Type 0
     StepHolds left (step at line act) = ActHolds left act
 
     pub ActHolds : ℕ → Act → Type 0
-    ActHolds left (bind w x) = left ≡ 1 → P (LimitOf w.at which.Locals)
+    ActHolds left (bind w x) = left ≡ 1 → P (exceeded w.at which.Locals)
     ActHolds left (choose arms) = ArmsHold left arms
     ActHolds left (choose_or arms last) = ArmsHold left arms × StepsHold (s.left_arms left arms) last
     ActHolds left (repeat test body) = StepsHold left body
@@ -147,22 +146,22 @@ module _ (P : TypeFault → Type 0) where
     ArmsHold left no_arms = Unit {0}
     ArmsHold left (arm test body rest) = StepsHold left body × ArmsHold (s.left_steps left body) rest
 
-  item_faults : (c : Names) (l : Locals) (left : ℕ) (x : Shown) → ItemTyped c l x → (left ≡ 1 → P (LimitOf (item_place x) which.Items)) → AllAre (s.item_by [] one app c l left x)
-  item_faults c l left (text at bytes) h g = all_at left (LimitOf at which.Items) g
+  item_faults : (c : Names) (l : Locals) (left : ℕ) (x : Shown) → ItemTyped c l x → (left ≡ 1 → P (exceeded (item_place x) which.Items)) → AllAre (s.item_by [] one app c l left x)
+  item_faults c l left (text at bytes) h g = all_at left (exceeded at which.Items) g
   item_faults c l left (shown e) h g =
       let both = complete c l e h.0 h.1 in
       let handle = ap (λ o. r.not_rev [] one app (term_place e) o) both.1 ∙ handle_not (term_place e) h.0 h.2 in
-      all_both _ _ (all_of _ (whole _ _ both.0 handle)) (all_at left (LimitOf (term_place e) which.Items) g)
+      all_both _ _ (all_of _ (whole _ _ both.0 handle)) (all_at left (exceeded (term_place e) which.Items) g)
 
   items_faults : (c : Names) (l : Locals) (left : ℕ) (found : All) (xs : List Shown) → AllAre found → ItemsTyped c l xs → ItemsHold left xs → AllAre (s.items_by [] one app c l left found xs)
   items_faults c l left found [] a h g = a
   items_faults c l left found (x ∷ xs) a h g = items_faults c l (left - 1) _ xs (all_both _ _ a (item_faults c l left x h.0 g.0)) h.1 g.1
 
-  bind_faults : (c : Names) (l : Locals) (left : ℕ) (w : Word) (x : Right) (l' : Locals) → ActTyped c None l (bind w x) l' → (left ≡ 1 → P (LimitOf w.at which.Locals))
+  bind_faults : (c : Names) (l : Locals) (left : ℕ) (w : Word) (x : Right) (l' : Locals) → ActTyped c None l (bind w x) l' → (left ≡ 1 → P (exceeded w.at which.Locals))
       → AllAre (s.bind_by [] one app c l left w x)
   bind_faults c l left w x l' h g =
       all_both _ _ (all_of _ (right_complete c l x h.1.0 h.1.1).0)
-      (all_both _ _ (all_of _ (new_nothing w (find w.text l) (c.shared w.text) h.0.0 h.0.1)) (all_at left (LimitOf w.at which.Locals) g))
+      (all_both _ _ (all_of _ (new_nothing w (find w.text l) (c.shared w.text) h.0.0 h.0.1)) (all_at left (exceeded w.at which.Locals) g))
 
   mutual
     step_faults : (c : Names) (result : Option ValueKind) (l : Locals) (left : ℕ) (x : Step) (l' : Locals) → StepTyped c result l x l' → StepHolds left x → AllAre (s.step_by [] one app c result l left x)
@@ -199,7 +198,7 @@ module _ (P : TypeFault → Type 0) where
         (all_both _ _ a (all_both _ _ (all_of _ (part_nothing c l test k.Bool h.0)) (steps_faults c result l left [] body all_none h.1 g.0))) h.2 g.1
 
   -- where it holds of every limit
-  module _ (every : (at : ℕ) (what : Which) → P (LimitOf at what)) where
+  module _ (every : (at : ℕ) (what : Which) → P (exceeded at what)) where
     items_hold : (left : ℕ) (xs : List Shown) → ItemsHold left xs
     items_hold left [] = tt
     items_hold left (x ∷ xs) = (λ e. every (item_place x) which.Items, items_hold (left - 1) xs)

@@ -6,7 +6,7 @@ use Rattle.merge_decl.specs.FunRules.{fun_faults}
 use Rattle.merge_decl.specs.Least.{Among}
 use Rattle.rev_kinds.specs.declared.fault.TypeFault.{TypeFault}
 use Rattle.rev_kinds.specs.declared.fault.TypeFault.TheVariants.{OutOfMemory}
-use Rattle.rev_kinds.specs.Faults.{IsLimit}
+use Rattle.rev_kinds.specs.Faults.{HasLimit, IsLimit}
 use Rattle.rev_types.specs.Program.{faults}
 use Rattle.rev_types.specs.Judgement.{ProgramTyped}
 use Rattle.rev_types.specs.Limits.{IsWithinLimits}
@@ -30,3 +30,7 @@ Accepts = (p : Whole) → IsWellTyped p → faults p ≡ []
 -- all that a typed program breaks is limits
 abbrev pub LimitsAlone : Type 0
 LimitsAlone = (p : Whole) → ProgramTyped p → (f : TypeFault) → Among (faults p) f → IsLimit f
+
+-- each fault of a limit has the number of that limit
+abbrev pub OwnLimits : Type 0
+OwnLimits = (p : Whole) (f : TypeFault) → Among (faults p) f → HasLimit f

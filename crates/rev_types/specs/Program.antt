@@ -10,8 +10,8 @@ use Rattle.rev_kinds.specs.declared.names.Holder.{Holder}
 use Rattle.rev_kinds.specs.declared.fault.Which.{Which}
 use Rattle.rev_kinds.specs.declared.fault.Which.TheVariants as which
 use Rattle.rev_kinds.specs.declared.fault.TypeFault.{TypeFault}
-use Rattle.rev_kinds.specs.declared.fault.TypeFault.TheVariants.{UnknownName, Redeclared, WrongType, WrongCount, NoReturn, LimitOf}
-use Rattle.rev_kinds.specs.Faults.{limit_of, first_past}
+use Rattle.rev_kinds.specs.declared.fault.TypeFault.TheVariants.{UnknownName, Redeclared, WrongType, WrongCount, NoReturn}
+use Rattle.rev_kinds.specs.Faults.{limit_of, first_past, exceeded}
 use Rattle.rev_kinds.specs.Kinds.{Callee, Names, Locals, same_kind, kind_in, term_place}
 use Rattle.rev_kinds.specs.Rules.{wants, not_rev, part_by}
 use Rattle.rev_types.specs.declared.tables.SharedInfo.{SharedInfo}
@@ -200,7 +200,7 @@ module _ {M : Type 0} (none : M) (one : TypeFault → M) (both : M → M → M) 
 
   -- the first past a limit
   abbrev pub limit_at : ℕ → Which → ℕ → M
-  limit_at at which left = if nat_eq left 1 then one (LimitOf at which) else none
+  limit_at at which left = if nat_eq left 1 then one (exceeded at which) else none
 
   -- a parameter of this name, where these are the earlier ones
   abbrev pub new_param : Word → Locals → M
@@ -234,7 +234,7 @@ module _ {M : Type 0} (none : M) (one : TypeFault → M) (both : M → M → M) 
 
   -- a fun's or a merge's weight
   abbrev pub weight_of : Word → ℕ → M
-  weight_of w n = if nat_lt (limit_of which.Weight) n then one (LimitOf w.at which.Weight) else none
+  weight_of w n = if nat_lt (limit_of which.Weight) n then one (exceeded w.at which.Weight) else none
 
   -- the result of a fun is no handle
   abbrev pub fun_result : Word → ValueKind → M
@@ -266,7 +266,7 @@ module _ {M : Type 0} (none : M) (one : TypeFault → M) (both : M → M → M) 
   -- the variable with which there are too many locations
   abbrev pub location_limit : Word → ℕ → ℕ → M
   location_limit w before after =
-      if nat_le before (limit_of which.Locations) then (if nat_lt (limit_of which.Locations) after then one (LimitOf w.at which.Locations) else none) else none
+      if nat_le before (limit_of which.Locations) then (if nat_lt (limit_of which.Locations) after then one (exceeded w.at which.Locations) else none) else none
 
   -- a procedure with a result returns
   abbrev pub return_use : Word → Option ValueKind → Bool → M

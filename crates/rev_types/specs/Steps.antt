@@ -7,8 +7,8 @@ use Rattle.merge_decl.specs.Table.{find, added}
 use Rattle.rev_kinds.specs.declared.names.Holder.{Holder}
 use Rattle.rev_kinds.specs.declared.fault.Which.TheVariants as which
 use Rattle.rev_kinds.specs.declared.fault.TypeFault.{TypeFault}
-use Rattle.rev_kinds.specs.declared.fault.TypeFault.TheVariants.{Redeclared, WrongType, LimitOf}
-use Rattle.rev_kinds.specs.Faults.{first_past}
+use Rattle.rev_kinds.specs.declared.fault.TypeFault.TheVariants.{Redeclared, WrongType}
+use Rattle.rev_kinds.specs.Faults.{first_past, exceeded}
 use Rattle.rev_kinds.specs.Kinds.{Names, Locals, name_kind, kind_in, right_kind, right_place, term_place}
 use Rattle.rev_kinds.specs.Rules.{not_rev, alike, scalar_use, array_use, part_by, term_by, right_by, call_by}
 
@@ -102,11 +102,11 @@ module _ {M : Type 0} (none : M) (one : TypeFault → M) (both : M → M → M) 
 
   -- the local of this name, where this many are left up to and with the first past the limit
   abbrev pub one_more_local : Word → ℕ → M
-  one_more_local w left = if nat_eq left 1 then one (LimitOf w.at which.Locals) else none
+  one_more_local w left = if nat_eq left 1 then one (exceeded w.at which.Locals) else none
 
   -- an item of a print, where this many are left up to and with the first past the limit
   abbrev pub one_more_item : ℕ → ℕ → M
-  one_more_item at left = if nat_eq left 1 then one (LimitOf at which.Items) else none
+  one_more_item at left = if nat_eq left 1 then one (exceeded at which.Items) else none
 
   abbrev pub item_by : Names → Locals → ℕ → Shown → M
   item_by c l left (text at bytes) = one_more_item at left

@@ -100,7 +100,7 @@ fn limit_at(at: u32, which: Which, left: usize) -> Option<TypeFault>
     ensures { result ≡ rule.limit_at at which left }
 {
     if left == 1 {
-        Some(TypeFault::LimitOf { at, which })
+        Some(which.exceeded(at))
     } else {
         None
     }
@@ -122,10 +122,7 @@ fn weight_of(name: &Name, weight: u32) -> Option<TypeFault>
     ensures { result ≡ rule.weight_of (word name.now) weight }
 {
     if weight > Which::Weight.limit() {
-        Some(TypeFault::LimitOf {
-            at: name.at,
-            which: Which::Weight,
-        })
+        Some(Which::Weight.exceeded(name.at))
     } else {
         None
     }
@@ -364,10 +361,7 @@ fn location_limit(name: &Name, before: u32, after: u32) -> Option<TypeFault>
         return None;
     }
     if after > limit {
-        return Some(TypeFault::LimitOf {
-            at: name.at,
-            which: Which::Locations,
-        });
+        return Some(Which::Locations.exceeded(name.at));
     }
     None
 }

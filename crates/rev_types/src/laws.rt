@@ -1,16 +1,17 @@
 //! What the static rules say of programs.
 
-ghost use Rattle.rev_types.specs.Accepted.{Typed, Accepts, LimitsAlone};
+ghost use Rattle.rev_types.specs.Accepted.{Typed, Accepts, LimitsAlone, OwnLimits};
 ghost use Rattle.rev_types.specs.Layout.{LaidOut};
 ghost use Rattle.rev_types.specs.Naming.{FirstCounts};
 
 /// A small program that breaks no rule is typed and within the limits, and a program that is both
-/// breaks none; all that a typed program breaks is limits; and within the limits each shared variable
-/// lies behind the cells of those before it.
+/// breaks none; all that a typed program breaks is limits; each fault of a limit has the number of
+/// that limit; and within the limits each shared variable lies behind the cells of those before it.
 pub fn program_laws()
     ensures typed { Typed }
     ensures accepts { Accepts }
     ensures limits_alone { LimitsAlone }
+    ensures own_limits { OwnLimits }
     ensures laid_out { LaidOut }
 {}
 

@@ -62,10 +62,7 @@ pub fn one_more_local(name: &Name, left: usize) -> Option<TypeFault>
     ensures { result ≡ rule.one_more_local (word name.now) left }
 {
     if left == 1 {
-        Some(TypeFault::LimitOf {
-            at: name.at,
-            which: Which::Locals,
-        })
+        Some(Which::Locals.exceeded(name.at))
     } else {
         None
     }
@@ -76,10 +73,7 @@ fn one_more_item(at: u32, left: usize) -> Option<TypeFault>
     ensures { result ≡ rule.one_more_item at left }
 {
     if left == 1 {
-        Some(TypeFault::LimitOf {
-            at,
-            which: Which::Items,
-        })
+        Some(Which::Items.exceeded(at))
     } else {
         None
     }

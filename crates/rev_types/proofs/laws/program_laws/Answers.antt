@@ -1,7 +1,8 @@
 use Rattle.rev_types.proofs.Accepting.{well_typed, accepts}
 use Rattle.rev_types.proofs.DeclsFaults.{limits_alone}
 use Rattle.rev_types.proofs.Layouts.{laid_out}
+use Rattle.rev_types.proofs.OwnLimits.{own_limits}
 use Rattle.rev_types.proofs.laws.program_laws.Goals as goal
 
 pub returns : goal.returns
-returns c = record { typed = well_typed; accepts = accepts; limits_alone = limits_alone; laid_out = laid_out }
+returns c = record { typed = well_typed; accepts = accepts; limits_alone = limits_alone; own_limits = own_limits; laid_out = laid_out }
