@@ -11,4 +11,5 @@ pub mod Meanings
 mod Rows
 pub mod Shapes
 pub mod Tables
+mod Weighed
 mod Works

@@ -1,5 +1,6 @@
 -- What is left to do, a turn at a time.
-use Rattle.std.proofs.Common.{◌≡◌, ◌∙◌, ◌<◌, ◌≤◌, ◌+◌, ◌-◌, ℕ, zero, suc, ℤ, pos, negsuc, Bool, true, false, if◌then◌else◌, List, [], ◌∷◌, ◌++◌, map, reverse, take, drop, length, Option, Some, None, Result, Ok, Err, refl, sym, ap, arith, length-append, slice_set, slice_range, get_or, length-take-le}
+use Rattle.std.proofs.Common.{◌≡◌, ◌∙◌, ◌<◌, ◌≤◌, ◌+◌, ◌-◌, ℕ, zero, suc, ℤ, pos, negsuc, Bool, true, false, if◌then◌else◌, List, [], ◌∷◌, ◌++◌, map, reverse, take, drop, length, Option, Some, None, Result, Ok, Err, refl, sym, ap, arith, length-append, ◌==◌, slice_set, slice_range, get_or, length-take-le}
+use Rattle.std.proofs.lemmas.Bool.Decides.{nat_tests}
 use Rattle.std.proofs.lemmas.List.{length-map, length-reverse, reverse-append}
 use Rattle.rev_num.specs.declared.value.Value.{Value}
 use Rattle.rev_num.specs.declared.outcome.Cause.{Cause}
@@ -16,6 +17,8 @@ use Rattle.std.specs.Borrow.{Bor}
 use Rattle.rev_syntax.specs.declared.tree.Expr.{Expr}
 use Rattle.rev_syntax.specs.declared.tree.BinaryOp.{BinaryOp}
 use Rattle.merge_decl.specs.Names.{Name}
+use Rattle.merge_decl.specs.Table.{Table}
+use Rattle.merge_decl.specs.Weights.{term_weight, shape_weight, links_weight}
 use Rattle.merge_decl.specs.Value.{Answer, and_then, bind, bind_all, nothing, called, values_by, value_by, closed, linked, number_of, operated, read_input, reversed, short, some_value, truth_of}
 use Rattle.rev_syntax.specs.declared.tree.UnaryOp.{UnaryOp}
 use Rattle.std.specs.Result.{IsErrAnd}
@@ -24,14 +27,14 @@ use Rattle.merge_decl.specs.Flat.{flat, local}
 use Rattle.merge_decl.specs.Definitions.{names_of}
 use Rattle.rev_syntax.specs.declared.tree.Param.{Param}
 use Rattle.merge_decl.specs.declared.flat.Locals as locals
-use Rattle.merge_decl.specs.Work.{waiting, waits, kept, keeps, kept_behind, continued, ended, comes_to, after, goes_on, passed, remains, pending_size, wait_size, application, lasts, without}
+use Rattle.merge_decl.specs.Work.{waiting, waits, kept, keeps, kept_behind, continued, ended, comes_to, after, goes_on, passed, remains, pending_size, wait_size, link_cost, pending_cost, pending_weight, wait_weight, waiting_weight, application, lasts, without}
 use Rattle.merge_decl.specs.declared.work.Turn.{Turn}
 use Rattle.merge_decl.specs.declared.work.Call.{Call}
 use Rattle.merge_decl.specs.declared.work.Pending.{Pending}
 use Rattle.merge_decl.specs.declared.work.Next.TheVariants as next
 use Rattle.merge_decl.proofs.Appends.{appends}
 use Rattle.merge_decl.proofs.Evaluations.{at_placed, prepended, chained_step, chained_none, link_decided}
-use Rattle.merge_decl.proofs.Shapes.{term-placed, local-Empty}
+use Rattle.merge_decl.proofs.Shapes.{links-first, term-placed, local-Empty}
 
 -- ---- lists
 
@@ -496,3 +499,43 @@ module _ (xs : List Flat) (held k first : ℕ) where
 -- where all places are taken, something is left
 pub remains-full : (ps : List Pending) (k : ℕ) → k ≤ length ps → 0 < k → 0 < remains (waiting ps k)
 remains-full ps k h p = remains-some (waiting ps k) (let l = length-reverse (take k ps) in let m = length-take-le k ps h in omega arith)
+
+-- ---- how much it costs
+
+pub weight_of_node : (ws : Table ℕ) (e : Expr) (s : Shape) → shape e.node ≡ s → term_weight ws (term e) ≡ shape_weight ws s
+weight_of_node ws e s h = ap (term_weight ws) (term-placed e) ∙ ap (shape_weight ws) h
+
+pub cost_none : (ls : List Link) → (length ls == 0) ≡ true → 0 ≡ link_cost (links ls)
+cost_none [] h = refl
+cost_none (l ∷ ls) h = absurd (grind (arith, nat_tests))
+
+pub cost_some : (ls : List Link) → (length ls == 0) ≡ false → 1 ≡ link_cost (links ls)
+cost_some [] h = cc
+cost_some (l ∷ ls) h = ap link_cost (sym (links-first l ls))
+
+module _ (ws : Table ℕ) where
+  pub weight-none : waiting_weight ws [] ≡ 0
+  unfolding waiting_weight
+  weight-none = refl
+
+  pub weight-step : (p : Pending) (ps : List Pending) → waiting_weight ws (p ∷ ps) ≡ pending_weight ws p + waiting_weight ws ps
+  unfolding waiting_weight
+  weight-step p ps = refl
+
+  pub weight-waits : (o : Option Pending) (ps : List Pending) → waiting_weight ws (waits o ps) ≡ wait_weight ws o + waiting_weight ws ps
+  weight-waits (Some p) ps = weight-step p ps
+  weight-waits None ps = omega arith
+
+  -- what a turn takes is part of the weight
+  pub cost-within : (p : Pending) → pending_cost p ≤ pending_weight ws p
+  cost-within wait.Cell = omega arith
+  cost-within wait.Input = omega arith
+  cost-within (wait.Unary op) = omega arith
+  cost-within (wait.Pick a b) = omega arith
+  cost-within (wait.Left rest) = of_links (links rest.now)
+    where
+      of_links : (ls : Links) → link_cost ls ≤ links_weight ws ls
+      of_links t.no_links = omega arith
+      of_links (t.link op part rest) = omega arith
+  cost-within (wait.Right op left rest) = omega arith
+  cost-within (wait.Argument name before rest) = omega arith

@@ -8,4 +8,5 @@ pub mod Names
 pub mod Table
 pub mod Uses
 pub mod Value
+pub mod Weights
 pub mod Work

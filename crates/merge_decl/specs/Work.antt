@@ -3,9 +3,12 @@ use Rattle.std.specs.Prelude.{ℕ, ◌+◌, ◌-◌, ◌*◌, List, [], ◌∷�
 use Rattle.rev_num.specs.declared.value.Value.{Value}
 use Rattle.rev_num.specs.declared.outcome.Cause.{Cause}
 use Rattle.rev_syntax.specs.Small.{term_count, terms_count, links_count}
-use Rattle.rev_syntax.specs.Trees.{Terms}
+use Rattle.rev_syntax.specs.Trees as t
+use Rattle.rev_syntax.specs.Trees.{Terms, Shape, Links}
 use Rattle.rev_syntax.specs.View.{term, terms, links}
 use Rattle.merge_decl.specs.Names.{Name}
+use Rattle.merge_decl.specs.Table.{Table, find}
+use Rattle.merge_decl.specs.Weights.{known_weight, term_weight, terms_weight, links_weight}
 use Rattle.merge_decl.specs.Value.{Answer, and_then, called, values_by, closed, read_cell, read_input, unknown, number_of, truth_of, reversed, operated}
 use Rattle.merge_decl.specs.Evaluation.{Values, funs_before, value_within, chained_within}
 use Rattle.rev_syntax.specs.Trees.{Entry}
@@ -127,3 +130,44 @@ turn_size t = wait_size t.wait + next_size t.next
 unfoldable pub remains : List Pending → ℕ
 remains [] = 0
 remains (p ∷ ps) = pending_size p + remains ps
+
+-- ---- how much it may cost
+
+module _ (ws : Table ℕ) where
+  abbrev pub pending_weight : Pending → ℕ
+  pending_weight wait.Cell = 0
+  pending_weight wait.Input = 0
+  pending_weight (wait.Unary op) = 0
+  pending_weight (wait.Pick first second) = term_weight ws (term first.now) + term_weight ws (term second.now)
+  pending_weight (wait.Left rest) = links_weight ws (links rest.now)
+  pending_weight (wait.Right op left rest) = links_weight ws (links rest.now)
+  pending_weight (wait.Argument name before rest) = known_weight (find name.now.text.items ws) + terms_weight ws (terms rest.now)
+
+  abbrev pub wait_weight : Option Pending → ℕ
+  wait_weight (Some p) = pending_weight p
+  wait_weight None = 0
+
+  abbrev pub next_weight : Next → ℕ
+  next_weight (next.Part e) = term_weight ws (term e.now)
+  next_weight (next.Value x) = 0
+  next_weight (next.Call c) = known_weight (find c.name.now.text.items ws) + terms_weight ws (terms c.rest.now)
+
+  abbrev pub turn_weight : Turn → ℕ
+  turn_weight t = wait_weight t.wait + next_weight t.next
+
+  unfoldable pub waiting_weight : List Pending → ℕ
+  waiting_weight [] = 0
+  waiting_weight (p ∷ ps) = pending_weight p + waiting_weight ps
+
+-- a part counts 1 where it is begun; a chain counts where a link is
+abbrev pub part_cost : Shape → ℕ
+part_cost (t.chain first rest) = 0
+part_cost s = 1
+
+abbrev pub link_cost : Links → ℕ
+link_cost t.no_links = 0
+link_cost (t.link op part rest) = 1
+
+abbrev pub pending_cost : Pending → ℕ
+pending_cost (wait.Left rest) = link_cost (links rest.now)
+pending_cost p = 0

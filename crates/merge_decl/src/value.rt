@@ -1,6 +1,6 @@
 //! The value of a merge, without memory.
 
-ghost use Rattle.std.specs.Prelude.{◌≡◌, [], ℕ, ◌<◌, List, map, length, IfSome, option_map, slice_get, drop, ◌++◌};
+ghost use Rattle.std.specs.Prelude.{◌≡◌, [], ℕ, ◌<◌, ◌≤◌, ◌+◌, List, map, length, IfSome, option_map, slice_get, drop, ◌++◌};
 ghost use Rattle.std.specs.Option.{option_copied};
 ghost use Rattle.rev_num.specs.declared.value.Value.{Value};
 ghost use Rattle.rev_num.specs.declared.value.Value.TheVariants as v;
@@ -8,6 +8,7 @@ ghost use Rattle.rev_syntax.specs.View.{binder, entry, link, links, program as w
 ghost use Rattle.merge_decl.specs.Definitions.{merge_value_of, names_of};
 ghost use Rattle.merge_decl.specs.Evaluation as meant;
 ghost use Rattle.merge_decl.specs.Flat.{answer, flat, local};
+ghost use Rattle.merge_decl.specs.Weights.{args_within, entry_weight, greatest_weight, merge_weight, name_within, weight_of, weight_within, weights_before};
 ghost use Rattle.merge_decl.specs.Work.{application, passed};
 
 use crate::expand::Expanded;
@@ -16,9 +17,13 @@ use crate::work::{Call, Next, Pending, ROOM, begin, give, keep, wait};
 use rev_num::{Cause, NumFault};
 use rev_syntax::{Decl, Expr, Name, Param};
 
+/// The greatest weight of a fun or a merge.
+pub const GREATEST_WEIGHT: u32 = 65_536;
+
 /// The declaration of the fun that a name means among the program's first `within` declarations.
 fn fun_before(expanded: &Expanded, within: usize, name: &Name) -> Option<usize>
     ensures earlier { IfSome result (λ d. d < within) }
+    ensures lighter { weight_of (map entry expanded.now.program.decls.items) result ≤ name_within (map entry expanded.now.program.decls.items) within name.now.text.items }
     ensures meaning { meant.IsMeant (map entry expanded.now.program.decls.items) within name.now.text.items result }
 {
     let head = expanded.table.find(&name.text)?;
@@ -97,8 +102,16 @@ fn behind(params: &[Param], first: usize) -> &[Param]
 /// The values of an expression's parts are taken in turn. It calls itself only where a fun is applied
 /// and where too many parts wait.
 #[cycle(value)]
-fn evaluate(expanded: &Expanded, within: usize, locals: &Locals, e: &Expr) -> Result<Flat, Cause>
-    ensures { answer result ≡ meant.value_within (map entry expanded.now.program.decls.items) within (local locals.now) (term e.now) }
+fn evaluate(
+    expanded: &Expanded,
+    within: usize,
+    locals: &Locals,
+    e: &Expr,
+    left: &mut u32,
+) -> Result<Flat, Cause>
+    requires { weight_within (map entry expanded.now.program.decls.items) within (term e.now) ≤ left.old }
+    ensures work { left.old ≤ left.new + weight_within (map entry expanded.now.program.decls.items) within (term e.now) }
+    ensures answer { answer result ≡ meant.value_within (map entry expanded.now.program.decls.items) within (local locals.now) (term e.now) }
 {
     let mut pending = [Pending::Cell; ROOM];
     let mut depth = 0usize;
@@ -109,16 +122,16 @@ fn evaluate(expanded: &Expanded, within: usize, locals: &Locals, e: &Expr) -> Re
         next = match next {
             Next::Part(part) => {
                 if depth < ROOM {
-                    let turn = begin(locals, part);
+                    let turn = begin(locals, part, left);
                     depth = wait(&mut pending, depth, turn.wait);
                     turn.next
                 } else {
-                    Next::Value(evaluate(expanded, within, locals, part)?)
+                    Next::Value(evaluate(expanded, within, locals, part, left)?)
                 }
             }
             Next::Call(call) => {
                 let first = held.saturating_sub(call.before);
-                let value = called(expanded, within, locals, &values[first..held], call)?;
+                let value = called(expanded, within, locals, &values[first..held], call, left)?;
                 held = first;
                 Next::Value(value)
             }
@@ -127,7 +140,7 @@ fn evaluate(expanded: &Expanded, within: usize, locals: &Locals, e: &Expr) -> Re
                     return Ok(x);
                 }
                 depth -= 1;
-                let turn = give(pending[depth], x, held < ROOM)?;
+                let turn = give(pending[depth], x, held < ROOM, left)?;
                 held = keep(&mut values, held, turn.keep);
                 depth = wait(&mut pending, depth, turn.wait);
                 turn.next
@@ -144,8 +157,11 @@ fn called(
     locals: &Locals,
     values: &[Flat],
     call: Call,
+    left: &mut u32,
 ) -> Result<Flat, Cause>
-    ensures { answer result ≡ application (map entry expanded.now.program.decls.items) within (local locals.now) call.entry.name.now.text.items (map flat values.now ++ passed call.entry.value) (terms call.entry.rest.now) }
+    requires { name_within (map entry expanded.now.program.decls.items) within call.name.now.text.items + args_within (map entry expanded.now.program.decls.items) within (terms call.rest.now) ≤ left.old }
+    ensures work { left.old ≤ left.new + (name_within (map entry expanded.now.program.decls.items) within call.entry.name.now.text.items + args_within (map entry expanded.now.program.decls.items) within (terms call.entry.rest.now)) }
+    ensures answer { answer result ≡ application (map entry expanded.now.program.decls.items) within (local locals.now) call.entry.name.now.text.items (map flat values.now ++ passed call.entry.value) (terms call.entry.rest.now) }
 {
     let fun = fun_before(expanded, within, call.name);
     let params = params_at(expanded, fun);
@@ -154,9 +170,11 @@ fn called(
     let others = behind(params, values.len());
     match call.value {
         Some(value) => given(
-            expanded, within, locals, value, call.rest, fun, others, &earlier,
+            expanded, within, locals, value, call.rest, fun, others, &earlier, left,
         ),
-        None => applied(expanded, within, locals, call.rest, fun, others, &earlier),
+        None => applied(
+            expanded, within, locals, call.rest, fun, others, &earlier, left,
+        ),
     }
 }
 
@@ -172,16 +190,19 @@ fn given(
     fun: Option<usize>,
     params: &[Param],
     earlier: &Locals,
+    left: &mut u32,
 ) -> Result<Flat, Cause>
-    requires { IfSome fun (λ d. d < within) }
-    ensures { answer result ≡ meant.given_within (map entry expanded.now.program.decls.items) within (local locals.now) (flat value) (terms more.now) fun (names_of (map binder params.now)) (local earlier.now) }
+    requires before { IfSome fun (λ d. d < within) }
+    requires enough { weight_of (map entry expanded.now.program.decls.items) fun + args_within (map entry expanded.now.program.decls.items) within (terms more.now) ≤ left.old }
+    ensures work { left.old ≤ left.new + (weight_of (map entry expanded.now.program.decls.items) fun + args_within (map entry expanded.now.program.decls.items) within (terms more.now)) }
+    ensures answer { answer result ≡ meant.given_within (map entry expanded.now.program.decls.items) within (local locals.now) (flat value) (terms more.now) fun (names_of (map binder params.now)) (local earlier.now) }
 {
     match params.split_first() {
         Some((param, others)) => {
             let inner = bound(&param.name, value, &*earlier);
-            applied(expanded, within, locals, more, fun, others, &inner)
+            applied(expanded, within, locals, more, fun, others, &inner, left)
         }
-        None => applied(expanded, within, locals, more, fun, params, &*earlier),
+        None => applied(expanded, within, locals, more, fun, params, &*earlier, left),
     }
 }
 
@@ -196,31 +217,41 @@ fn applied(
     fun: Option<usize>,
     params: &[Param],
     earlier: &Locals,
+    left: &mut u32,
 ) -> Result<Flat, Cause>
-    requires { IfSome fun (λ d. d < within) }
-    ensures { answer result ≡ meant.applied_within (map entry expanded.now.program.decls.items) within (local locals.now) (terms args.now) fun (names_of (map binder params.now)) (local earlier.now) }
+    requires before { IfSome fun (λ d. d < within) }
+    requires enough { weight_of (map entry expanded.now.program.decls.items) fun + args_within (map entry expanded.now.program.decls.items) within (terms args.now) ≤ left.old }
+    ensures work { left.old ≤ left.new + (weight_of (map entry expanded.now.program.decls.items) fun + args_within (map entry expanded.now.program.decls.items) within (terms args.now)) }
+    ensures answer { answer result ≡ meant.applied_within (map entry expanded.now.program.decls.items) within (local locals.now) (terms args.now) fun (names_of (map binder params.now)) (local earlier.now) }
 {
     match args.split_first() {
         Some((arg, more)) => {
-            let value = evaluate(expanded, within, locals, arg)?;
+            let value = evaluate(expanded, within, locals, arg, left)?;
             given(
-                expanded, within, locals, value, more, fun, params, &*earlier,
+                expanded, within, locals, value, more, fun, params, &*earlier, left,
             )
         }
-        None => body_value(expanded, fun, &*earlier),
+        None => body_value(expanded, fun, &*earlier, left),
     }
 }
 
 /// The value of the body of the fun that is declared at this number.
 #[cycle(value)]
-fn body_value(expanded: &Expanded, fun: Option<usize>, locals: &Locals) -> Result<Flat, Cause>
-    ensures { answer result ≡ meant.value_of_body (map entry expanded.now.program.decls.items) fun (local locals.now) }
+fn body_value(
+    expanded: &Expanded,
+    fun: Option<usize>,
+    locals: &Locals,
+    left: &mut u32,
+) -> Result<Flat, Cause>
+    requires { weight_of (map entry expanded.now.program.decls.items) fun ≤ left.old }
+    ensures work { left.old ≤ left.new + weight_of (map entry expanded.now.program.decls.items) fun }
+    ensures answer { answer result ≡ meant.value_of_body (map entry expanded.now.program.decls.items) fun (local locals.now) }
 {
     let Some(number) = fun else {
         return Ok(Flat::Int(0));
     };
     match body_at(expanded, number) {
-        Some(body) => evaluate(expanded, number, locals, body),
+        Some(body) => evaluate(expanded, number, locals, body, left),
         None => Ok(Flat::Int(0)),
     }
 }
@@ -246,6 +277,7 @@ fn merged(
     join: i64,
     root: i64,
 ) -> Result<i64, NumFault>
+    requires { entry_weight (weights_before (map entry expanded.now.program.decls.items) number) (entry decl.now) ≤ greatest_weight }
     ensures { result ≡ meant.merge_answer (meant.entry_value (map entry expanded.now.program.decls.items) number (entry decl.now) (v.Int main) (v.Int join) (v.Int root)) }
 {
     match decl {
@@ -260,7 +292,8 @@ fn merged(
             let main = bound(of_main, Flat::Int(main), &empty);
             let join = bound(of_join, Flat::Int(join), &main);
             let root = bound(of_root, Flat::Int(root), &join);
-            outcome(evaluate(expanded, number, &root, body))
+            let mut left = GREATEST_WEIGHT;
+            outcome(evaluate(expanded, number, &root, body, &mut left))
         }
         _ => Ok(0),
     }
@@ -270,8 +303,9 @@ fn merged(
 /// the joinee's and the root's value; or the fault of the first part that faults, from left to
 /// right.
 ///
-/// It takes no memory but the stack; the depth of its recursion is bounded by the weight of the
-/// merge. In a program that keeps the rules on kinds the value is a number, and a fault is one of
+/// It takes no memory but the stack. The weight of the merge is at most 65,536, and no more parts are
+/// evaluated: each takes 1 of that number, which is proved to suffice. In a program that keeps the
+/// rules on kinds the value is a number, and a fault is one of
 /// arithmetic.
 pub fn merge_value(
     expanded: &Expanded,
@@ -280,7 +314,8 @@ pub fn merge_value(
     join: i64,
     root: i64,
 ) -> Result<i64, NumFault>
-    requires { merge < length expanded.now.merges }
+    requires declared { merge < length expanded.now.merges }
+    requires light { merge_weight (whole expanded.now.program) merge ≤ greatest_weight }
     ensures { result ≡ meant.merge_answer (merge_value_of (whole expanded.now.program) merge (v.Int main) (v.Int join) (v.Int root)) }
 {
     let merges = expanded.merges.as_slice();

@@ -3,11 +3,13 @@
 ghost use Rattle.std.specs.Prelude.{◌≡◌, ◌<◌, ◌≤◌, ◌+◌, ◌*◌, ◌∷◌, ◌++◌, [], ℕ, List, None, Ok, true, IfOk, IfSome, length};
 ghost use Rattle.rev_num.specs.declared.value.Value.{Value};
 ghost use Rattle.rev_syntax.specs.Trees.{Entry, apply};
-ghost use Rattle.rev_syntax.specs.View.{links, term, terms, word};
+ghost use Rattle.rev_syntax.specs.View.{links, shape, term, terms, word};
 ghost use Rattle.rev_syntax.specs.Small.{links_count, term_count, terms_count};
 ghost use Rattle.merge_decl.specs.Evaluation.{Values, chained_within, shape_within, value_within};
 ghost use Rattle.merge_decl.specs.Flat.{flat, flat_option, local};
-ghost use Rattle.merge_decl.specs.Work.{after, application, call_turn, continued, ended, goes_on, kept, kept_behind, keeps, lasts, part_turn, pending_size, turn_size, value_turn, waiting, waits, without};
+ghost use Rattle.merge_decl.specs.Work.{after, application, call_turn, continued, ended, goes_on, kept, kept_behind, keeps, lasts, link_cost, part_cost, part_turn, pending_cost, pending_size, pending_weight, turn_size, turn_weight, value_turn, waiting, waits, without};
+ghost use Rattle.merge_decl.specs.Table.{Table, find};
+ghost use Rattle.merge_decl.specs.Weights.{known_weight, links_weight, term_weight, terms_weight};
 ghost use Rattle.merge_decl.specs.Value as spec;
 ghost use Rattle.merge_decl.specs.declared.work.Pending.{Pending as Waits};
 ghost use Rattle.merge_decl.specs.declared.work.Pending.TheVariants as on;
@@ -117,12 +119,52 @@ impl<'a> Turn<'a> {
     }
 }
 
-/// What comes first in a part.
-pub fn begin<'a>(locals: &Locals, e: &'a Expr) -> Turn<'a>
+/// What a part counts where it is begun: a chain counts with its links.
+fn part_cost(node: &Node) -> u32
+    ensures { result ≡ part_cost (shape node.now) }
+{
+    match node {
+        Node::Chain { first: _, rest: _ } => 0,
+        Node::Int(_) => 1,
+        Node::Bool(_) => 1,
+        Node::NoRev => 1,
+        Node::Var(_) => 1,
+        Node::Cell { name: _, index: _ } => 1,
+        Node::Apply { name: _, args: _ } => 1,
+        Node::Input {
+            word_at: _,
+            index: _,
+        } => 1,
+        Node::Inputs { word_at: _ } => 1,
+        Node::Pick {
+            test: _,
+            yes: _,
+            no: _,
+        } => 1,
+        Node::Unary { op: _, part: _ } => 1,
+    }
+}
+
+/// What the link counts that comes next, where the value of a left operand is awaited.
+fn pending_cost(what: &Pending) -> u32
+    ensures { result ≡ pending_cost what.now }
+{
+    match what {
+        Pending::Left(rest) => { if rest.is_empty() { 0 } else { 1 } }
+        _ => 0,
+    }
+}
+
+/// What comes first in a part, which takes what the part counts from what is left.
+pub fn begin<'a>(locals: &Locals, e: &'a Expr, left: &mut u32) -> Turn<'a>
+    requires { part_cost (shape e.now.node) ≤ left.old }
+    ensures paid { left.old ≡ left.new + part_cost (shape e.now.node) }
     ensures meaning { (es : List Entry) (n : ℕ) (ps : List Waits) (vs : List Value) → after es n (local locals.now) ps vs result ≡ ended es n (local locals.now) ps vs (value_within es n (local locals.now) (term e.now)) }
     ensures keeps_nothing { result.keep ≡ None }
     ensures smaller { turn_size result < 3 * term_count (term e.now) }
+    ensures lighter { (ws : Table ℕ) → turn_weight ws result + part_cost (shape e.now.node) ≤ term_weight ws (term e.now) }
 {
+    *left -= part_cost(&e.node);
     match &e.node {
         Node::Int(n) => Turn::value(Flat::Int(*n)),
         Node::Bool(b) => Turn::value(Flat::Bool(*b)),
@@ -143,6 +185,7 @@ fn begin_application<'a>(name: &'a Name, args: &'a [Expr]) -> Turn<'a>
     ensures meaning { (es : List Entry) (n : ℕ) (l : Values) (ps : List Waits) (vs : List Value) → after es n l ps vs result ≡ ended es n l ps vs (shape_within es n l (apply (word name.now) (terms args.now))) }
     ensures keeps_nothing { result.keep ≡ None }
     ensures smaller { turn_size result < 3 * (1 + terms_count (terms args.now)) }
+    ensures lighter { (ws : Table ℕ) → turn_weight ws result ≤ known_weight (find name.now.text.items ws) + terms_weight ws (terms args.now) }
 {
     match args.split_first() {
         Some((arg, rest)) => Turn::part(
@@ -163,12 +206,16 @@ fn begin_application<'a>(name: &'a Name, args: &'a [Expr]) -> Turn<'a>
 }
 
 /// What comes after the value of a part, or the fault of what is done with it. A value is kept only where
-/// there is room for it.
-pub fn give<'a>(what: Pending<'a>, x: Flat, room: bool) -> Result<Turn<'a>, Cause>
+/// there is room for it. A link that comes next takes 1 from what is left.
+pub fn give<'a>(what: Pending<'a>, x: Flat, room: bool, left: &mut u32) -> Result<Turn<'a>, Cause>
+    requires { pending_cost what ≤ left.old }
+    ensures paid { left.old ≡ left.new + pending_cost what.entry }
     ensures meaning { (es : List Entry) (n : ℕ) (l : Values) (ps : List Waits) (vs : List Value) → goes_on es n l ps vs result ≡ ended es n l ps (kept_behind what.entry vs) (continued es n l what.entry vs (flat x)) }
     ensures kept { IfOk result (λ t. IfSome t.keep (λ y. room ≡ true)) }
     ensures smaller { IfOk result (λ t. turn_size t < 1 + pending_size what.entry) }
+    ensures lighter { (ws : Table ℕ) → IfOk result (λ t. turn_weight ws t + pending_cost what.entry ≤ pending_weight ws what.entry) }
 {
+    *left -= pending_cost(&what);
     match what {
         Pending::Cell => Ok(Turn::value(Flat::Int(0))),
         Pending::Input => Err(Cause::Index),
@@ -191,6 +238,7 @@ fn chosen<'a>(test: Flat, yes: &'a Expr, no: &'a Expr) -> Turn<'a>
     ensures meaning { (es : List Entry) (n : ℕ) (l : Values) (ps : List Waits) (vs : List Value) → after es n l ps vs result ≡ ended es n l ps vs (continued es n l (on.Pick yes.entry no.entry) vs (flat test)) }
     ensures keeps_nothing { result.keep ≡ None }
     ensures smaller { turn_size result < 2 + 3 * (term_count (term yes.now) + term_count (term no.now)) }
+    ensures lighter { (ws : Table ℕ) → turn_weight ws result ≤ term_weight ws (term yes.now) + term_weight ws (term no.now) }
 {
     Turn {
         keep: None,
@@ -204,6 +252,7 @@ fn give_left<'a>(left: Flat, behind: &'a [Link]) -> Turn<'a>
     ensures meaning { (es : List Entry) (n : ℕ) (l : Values) (ps : List Waits) (vs : List Value) → after es n l ps vs result ≡ ended es n l ps vs (chained_within es n l (flat left) (links behind.now)) }
     ensures keeps_nothing { result.keep ≡ None }
     ensures smaller { turn_size result < 2 + 3 * links_count (links behind.now) }
+    ensures lighter { (ws : Table ℕ) → turn_weight ws result + link_cost (links behind.now) ≤ links_weight ws (links behind.now) }
 {
     let Some((link, rest)) = behind.split_first() else {
         return Turn::value(left);
@@ -237,6 +286,7 @@ fn give_argument<'a>(
     ensures meaning { (es : List Entry) (n : ℕ) (l : Values) (ps : List Waits) (vs : List Value) → after es n l ps vs result ≡ ended es n l ps (without before vs) (application es n l name.now.text.items (lasts before vs ++ flat x ∷ []) (terms args.now)) }
     ensures kept { IfSome result.keep (λ y. room ≡ true) }
     ensures smaller { turn_size result < 3 + 3 * terms_count (terms args.now) }
+    ensures lighter { (ws : Table ℕ) → turn_weight ws result ≤ known_weight (find name.now.text.items ws) + terms_weight ws (terms args.now) }
 {
     match args.split_first() {
         Some((arg, rest)) if room && before < ROOM => Turn {

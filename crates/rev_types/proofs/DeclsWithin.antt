@@ -13,7 +13,8 @@ use Rattle.rev_kinds.proofs.Typings.{All, one, app}
 use Rattle.rev_types.specs.Judgement.{ProgramTyped}
 use Rattle.rev_types.specs.Steps as s
 use Rattle.rev_types.specs.Program as p
-use Rattle.rev_types.specs.Limits.{steps_lets, term_weight, weights_with, cells, procs, funs, EntryWithin, EntriesWithin, IsWithinLimits}
+use Rattle.merge_decl.specs.Weights.{term_weight, weights_with}
+use Rattle.rev_types.specs.Limits.{steps_lets, cells, procs, funs, EntryWithin, EntriesWithin, IsWithinLimits}
 use Rattle.rev_types.proofs.DeclsFaults.{ParamsHold, LocalsHold, EntriesHold, program_faults}
 use Rattle.rev_types.proofs.StepsFaults.{AllAre}
 use Rattle.rev_types.proofs.StepsWithin.{Never, more_left, steps_never, steps_within, not_last, one_less, one_more}

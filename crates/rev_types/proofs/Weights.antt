@@ -5,7 +5,7 @@ use Rattle.merge_decl.specs.Names.{Name, same}
 use Rattle.merge_decl.specs.Table.{Table, find, added}
 use Rattle.merge_decl.proofs.Tables.{or_else, find-added}
 use Rattle.rev_types.specs.Program as p
-use Rattle.rev_types.specs.Limits.{term_weight, shape_weight, terms_weight, links_weight}
+use Rattle.merge_decl.specs.Weights.{known_weight, term_weight, shape_weight, terms_weight, links_weight}
 
 -- one past the limit
 abbrev pub cap : ℕ → ℕ
@@ -37,7 +37,7 @@ added_caps ws vs w n m c e name =
     ap (λ x. find name (added vs w x)) e ∙ find-added name w (cap n) vs ∙ ap (λ o. or_else o (if same name w then Some (cap n) else None)) (c name)
     ∙ added_by (find name ws) (same name w) n ∙ sym (ap (λ o. option_map cap o) (find-added name w n ws))
 
-known_caps : (o : Option ℕ) → p.known_weight (option_map cap o) ≡ cap (p.known_weight o)
+known_caps : (o : Option ℕ) → known_weight (option_map cap o) ≡ cap (known_weight o)
 known_caps None = refl
 known_caps (Some n) = refl
 
@@ -55,7 +55,7 @@ module _ (ws vs : Table ℕ) (c : Caps ws vs) where
     shape_caps (cell w index) = plus_one _ _ (term_caps index)
     shape_caps (input at index) = plus_one _ _ (term_caps index)
     shape_caps (apply w args) =
-        terms_caps _ (1 + p.known_weight (find w.text ws)) args (plus_one _ _ (ap p.known_weight (c w.text) ∙ known_caps (find w.text ws)))
+        terms_caps _ (1 + known_weight (find w.text ws)) args (plus_one _ _ (ap known_weight (c w.text) ∙ known_caps (find w.text ws)))
     shape_caps (pick x y z) =
         plus_caps _ _ (1 + term_weight ws x + term_weight ws y) _ (plus_caps _ _ (1 + term_weight ws x) _ (plus_one _ _ (term_caps x)) (term_caps y)) (term_caps z)
     shape_caps (unary op e) = plus_one _ _ (term_caps e)

@@ -1,10 +1,11 @@
 -- The limits on a program, by what it counts.
 use Rattle.std.specs.Prelude.{ℕ, ◌+◌, ◌≤◌, List, [], ◌∷◌, length}
 use Rattle.rev_syntax.specs.Trees.{Term, placed, Shape, Terms, Links, int, bool, no_rev, var, cell, apply, input, inputs, pick, unary, chain, no_terms, term, no_links, link, Step, step, Act, bind, assign, assign_cell, choose, choose_or, repeat, call, return, fork, join, print, assert, Steps, no_steps, steps, Arms, no_arms, arm, Entry, fun, merge, shared, proc, Whole}
-use Rattle.merge_decl.specs.Table.{Table, find, added}
+use Rattle.merge_decl.specs.Table.{Table}
 use Rattle.rev_kinds.specs.declared.fault.Which.TheVariants as which
 use Rattle.rev_kinds.specs.Faults.{limit_of}
-use Rattle.rev_types.specs.Program.{known_weight, cells_of}
+use Rattle.merge_decl.specs.Weights.{term_weight, weights_with}
+use Rattle.rev_types.specs.Program.{cells_of}
 
 -- ---- locals and items
 
@@ -65,42 +66,6 @@ abbrev mutual
 -- a body with this many parameters
 abbrev pub BodyWithin : ℕ → Steps → Type 0
 BodyWithin params body = (params + steps_lets body ≤ limit_of which.Locals) × StepsPrint body
-
--- ---- weights
-
-abbrev mutual
-  -- the weight of an expression, where the funs have these weights: 1 for each node, and 1 for each
-  -- link in place of a chain's node; an application also has the weight of its fun
-  pub term_weight : Table ℕ → Term → ℕ
-  term_weight ws (placed at s) = shape_weight ws s
-
-  pub shape_weight : Table ℕ → Shape → ℕ
-  shape_weight ws (int n) = 1
-  shape_weight ws (bool x) = 1
-  shape_weight ws no_rev = 1
-  shape_weight ws (var w) = 1
-  shape_weight ws (inputs at) = 1
-  shape_weight ws (cell w index) = 1 + term_weight ws index
-  shape_weight ws (input at index) = 1 + term_weight ws index
-  shape_weight ws (apply w args) = 1 + known_weight (find w.text ws) + terms_weight ws args
-  shape_weight ws (pick test x y) = 1 + term_weight ws test + term_weight ws x + term_weight ws y
-  shape_weight ws (unary op part) = 1 + term_weight ws part
-  shape_weight ws (chain first rest) = term_weight ws first + links_weight ws rest
-
-  pub terms_weight : Table ℕ → Terms → ℕ
-  terms_weight ws no_terms = 0
-  terms_weight ws (term x xs) = term_weight ws x + terms_weight ws xs
-
-  pub links_weight : Table ℕ → Links → ℕ
-  links_weight ws no_links = 0
-  links_weight ws (link op x rest) = 1 + term_weight ws x + links_weight ws rest
-
--- the weights of the funs after a declaration: with two of one name the first counts
-abbrev pub weights_with : Table ℕ → Entry → Table ℕ
-weights_with ws (fun w ps r body) = added ws w.text (term_weight ws body)
-weights_with ws (merge w m j r body) = ws
-weights_with ws (shared x) = ws
-weights_with ws (proc w ps r body) = ws
 
 -- ---- declarations
 

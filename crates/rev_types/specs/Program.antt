@@ -6,6 +6,7 @@ use Rattle.rev_num.specs.Value.{kind_of}
 use Rattle.rev_syntax.specs.Trees.{Word, Binder, Extent, Constant, Variable, Term, placed, Shape, Terms, Links, int, bool, no_rev, var, cell, apply, input, inputs, pick, unary, chain, no_terms, term, no_links, link, Steps, Entry, fun, merge, shared, proc, Whole}
 use Rattle.merge_decl.specs.Names.{Name, same}
 use Rattle.merge_decl.specs.Table.{Table, find, added}
+use Rattle.merge_decl.specs.Weights.{known_weight}
 use Rattle.rev_kinds.specs.declared.names.Holder.{Holder}
 use Rattle.rev_kinds.specs.declared.fault.Which.{Which}
 use Rattle.rev_kinds.specs.declared.fault.Which.TheVariants as which
@@ -61,10 +62,6 @@ within es = record { shared = λ name. None; procs = proc_named es; funs = fun_n
 -- the sum of weights; a weight past the limit counts as one past it
 abbrev pub plus : ℕ → ℕ → ℕ
 plus a b = min (a + b) 65537
-
-abbrev pub known_weight : Option ℕ → ℕ
-known_weight None = 0
-known_weight (Some n) = n
 
 abbrev mutual
   -- the weight of an expression: 1 for each node and 1 for each link in place of a chain's node; an

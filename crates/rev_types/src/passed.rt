@@ -4,6 +4,7 @@ ghost use Rattle.std.specs.Prelude.{◌≡◌, ◌+◌, ◌<◌, ◌≤◌, ◌^
 ghost use Rattle.rev_syntax.specs.View.{entry, extent, links, shape, term, terms};
 ghost use Rattle.merge_decl.specs.Table.{find};
 ghost use Rattle.rev_types.specs.Passing.{passed_of};
+ghost use Rattle.merge_decl.specs.Weights.{known_weight};
 ghost use Rattle.rev_types.specs.Program as program;
 
 use merge_decl::table::NameTable;
@@ -35,7 +36,7 @@ fn plus(a: u32, b: u32) -> u32
 
 /// The weight of a fun of this name.
 fn known_weight(weights: &NameTable<u32>, name: &Name) -> u32
-    ensures { result ≡ program.known_weight (find name.now.text.items weights.now) }
+    ensures { result ≡ known_weight (find name.now.text.items weights.now) }
 {
     weights.find(&name.text).unwrap_or(0)
 }

@@ -2,7 +2,6 @@
 use super::*;
 use crate::stop::Stop;
 use crate::text::checked;
-use merge_decl::value::merge_value;
 use rev_num::NumFault;
 
 const GREATEST: i64 = 9223372036854775807;
@@ -26,7 +25,7 @@ fn merged(
     }
     let last = (count - 1) as u32;
     let (main, join, root) = numbers;
-    Ok(Some(merge_value(&typed.expanded, last, main, join, root)))
+    Ok(Some(typed.merge_value(last, main, join, root)))
 }
 
 /// Whether the last merge of the text gives this.

@@ -3,7 +3,8 @@ use Rattle.rev_syntax.specs.View.{entry, term, terms}
 use Rattle.rev_syntax.specs.Small.{term_count, terms_count}
 use Rattle.merge_decl.specs.Evaluation as meant
 use Rattle.merge_decl.specs.Flat.{local}
-use Rattle.merge_decl.specs.Work.{comes_to, kept, next_size, remains, waiting}
+use Rattle.merge_decl.specs.Weights.{weight_within, weights_before}
+use Rattle.merge_decl.specs.Work.{comes_to, kept, next_size, next_weight, remains, waiting, waiting_weight}
 use Rattle.merge_decl.proofs.Counts.{bodies_before, bodies_to}
 use Rattle.merge_decl.proofs.value.+value.Given as goal
 
@@ -29,6 +30,9 @@ invariant-evaluate-loop-next l =
     ≡ meant.value_within (map entry l.expanded.program.decls.items) l.within (local l.locals) (term l.e))
     × (remains (waiting l.pending l.depth) + next_size l.next ≤ 3 * term_count (term l.e))
     × (length l.pending ≡ 64)
+    × (l.initial.left + (waiting_weight (weights_before (map entry l.expanded.program.decls.items) l.within) (waiting l.pending l.depth) + next_weight (weights_before (map entry l.expanded.program.decls.items) l.within) l.next)
+    ≤ l.left + weight_within (map entry l.expanded.program.decls.items) l.within (term l.e))
+    × (weight_within (map entry l.expanded.program.decls.items) l.within (term l.e) ≤ l.initial.left)
 
 abbrev pub decreases-evaluate-loop-next : goal.decreases-evaluate-loop-next
 decreases-evaluate-loop-next l = remains (waiting l.pending l.depth) + next_size l.next

@@ -1,7 +1,8 @@
-use Rattle.std.proofs.Common.{◌∙◌, ap, sym, subst, map}
+use Rattle.std.proofs.Common.{◌∙◌, ap, sym, subst, map, arith}
 use Rattle.rev_syntax.specs.View.{entry}
 use Rattle.merge_decl.specs.Evaluation.{IsMeant}
 use Rattle.merge_decl.specs.Table.{find}
+use Rattle.merge_decl.proofs.Weighed.{name_weight}
 use Rattle.merge_decl.proofs.Meanings.{meant_none, meant_later, meant_some}
 use Rattle.merge_decl.proofs.value.fun_before.Goals as goal
 
@@ -25,3 +26,11 @@ returns-else-decl-within-clause-meaning c =
     (sym (c.args.expanded.now.funs_found c.args.name.now.text.items) ∙ ap (λ n. find n c.args.expanded.now.table) (sym c.deref.ensures.value)
     ∙ sym c.in_ok-head.ensures)
     c.if-decl-within.false
+
+pub returns-then-decl-within-clause-lighter : goal.returns-then-decl-within-clause-lighter
+returns-then-decl-within-clause-lighter c =
+    let e = name_weight (map entry c.args.expanded.now.program.decls.items) c.args.within c.args.name.now.text.items c.in_ok-head.head
+    (sym (c.args.expanded.now.funs_found c.args.name.now.text.items) ∙ ap (λ n. find n c.args.expanded.now.table) (sym c.deref.ensures.value)
+    ∙ sym c.in_ok-head.ensures)
+    c.if-decl-within.true in
+    omega arith

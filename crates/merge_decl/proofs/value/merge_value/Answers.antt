@@ -1,4 +1,4 @@
-use Rattle.std.proofs.Common.{◌≡◌, ◌∙◌, ◌<◌, ℕ, List, length, ap, sym, map, get_or, slice_get, Some, None, w64}
+use Rattle.std.proofs.Common.{◌≡◌, ◌∙◌, ◌<◌, ℕ, List, length, ap, sym, map, get_or, slice_get, Some, None, w64, arith}
 use Rattle.std.proofs.lemmas.Int.{to_z-of_z}
 use Rattle.rev_syntax.specs.View.{entry, program as whole}
 use Rattle.rev_num.specs.declared.value.Value.TheVariants as v
@@ -6,6 +6,7 @@ use Rattle.merge_decl.specs.Evaluation.{merge_answer, entry_value}
 use Rattle.merge_decl.specs.FunRules.{merge_decls}
 use Rattle.merge_decl.specs.declared.expand.Expanded.{Expanded}
 use Rattle.merge_decl.specs.declared.expand.MergeRef.{MergeRef}
+use Rattle.merge_decl.proofs.Weighed.{merge_weighs}
 use Rattle.merge_decl.proofs.Meanings.{declared_value, merge_number}
 use Rattle.merge_decl.proofs.value.merge_value.Goals as goal
 
@@ -18,7 +19,7 @@ listed x ms k e h =
 pub returns-in-Some : goal.returns-in-Some
 returns-in-Some c =
     let g = declared_value (whole c.args.expanded.now.program) c.args.merge _ (Some (entry c.in-Some.decl.now)) (v.Int c.args.main) (v.Int c.args.join) (v.Int c.args.root)
-    (listed c.args.expanded.now c.as_slice-merges.result.now c.args.merge c.as_slice-merges.ensures c.requires) c.in-Some.ensures in
+    (listed c.args.expanded.now c.as_slice-merges.result.now c.args.merge c.as_slice-merges.ensures c.requires.declared) c.in-Some.ensures in
     let e : entry c.in-Some.decl.now ≡ g.0 = (let h = g.1 in cc) in
     c.merged.ensures
     ∙ (λ i. merge_answer (entry_value (map entry c.args.expanded.now.program.decls.items) (get_or {A = MergeRef} c.as_slice-merges.result.now c.args.merge (record { decl = 0 })).decl (e i)
@@ -28,5 +29,12 @@ returns-in-Some c =
 pub returns-in-None : goal.returns-in-None
 returns-in-None c =
     let g = declared_value (whole c.args.expanded.now.program) c.args.merge _ None (v.Int c.args.main) (v.Int c.args.join) (v.Int c.args.root)
-    (listed c.args.expanded.now c.as_slice-merges.result.now c.args.merge c.as_slice-merges.ensures c.requires) c.in-None.ensures in
+    (listed c.args.expanded.now c.as_slice-merges.result.now c.args.merge c.as_slice-merges.ensures c.requires.declared) c.in-None.ensures in
     let e = g.1 in cc
+
+pub merged-requires : goal.merged-requires
+merged-requires c =
+    let e = merge_weighs (whole c.args.expanded.now.program) c.args.merge _ (entry c.in-Some.decl.now)
+    (listed c.args.expanded.now c.as_slice-merges.result.now c.args.merge c.as_slice-merges.ensures c.requires.declared) c.in-Some.ensures in
+    let l = c.requires.light in
+    omega arith

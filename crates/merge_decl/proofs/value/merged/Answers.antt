@@ -12,7 +12,7 @@ pub returns-in-Merge : goal.returns-in-Merge
 unfolding meant.entry_value
 returns-in-Merge c =
     c.outcome.ensures
-    ∙ ap meant.merge_answer (c.evaluate.ensures
+    ∙ ap meant.merge_answer (c.evaluate.ensures.answer
     ∙ ap (λ l. meant.value_within (map entry c.args.expanded.now.program.decls.items) c.args.number l (term c.in-Merge.body))
     (bound_three _ _ _ _ c.in-Merge.of_main.text.items c.in-Merge.of_join.text.items c.in-Merge.of_root.text.items _ _ _ (v.Int c.args.main) (v.Int c.args.join) (v.Int c.args.root)
     local-Empty c.bound-main.ensures c.bound-join.ensures c.bound-root.ensures

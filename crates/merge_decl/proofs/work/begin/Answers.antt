@@ -4,12 +4,12 @@ use Rattle.rev_syntax.specs.View.{links, shape, term, terms, word}
 use Rattle.merge_decl.specs.Flat.{local}
 use Rattle.merge_decl.specs.Evaluation.{shape_within}
 use Rattle.merge_decl.specs.Value.{read, unknown}
-use Rattle.merge_decl.specs.Work.{ended, part_turn, turn_size, value_turn}
+use Rattle.merge_decl.specs.Work.{ended, part_cost, part_turn, turn_size, turn_weight, value_turn}
 use Rattle.merge_decl.specs.declared.flat.Flat.TheVariants as f
 use Rattle.merge_decl.specs.declared.work.Pending.TheVariants as wait
 use Rattle.merge_decl.proofs.Evaluations.{at_int, at_bool, at_no_rev, at_var, at_inputs}
 use Rattle.merge_decl.proofs.Shapes.{shape-Chain, shape-Pick, shape-Apply, shape-Unary, shape-Cell, shape-Input, shape-Int, shape-Bool, shape-NoRev, shape-Var, shape-Inputs}
-use Rattle.merge_decl.proofs.Works.{at-value, awaited, by_turn, count_of, of_form, wait-cell, wait-input, wait-left, wait-pick, wait-unary}
+use Rattle.merge_decl.proofs.Works.{at-value, awaited, by_turn, count_of, of_form, weight_of_node, wait-cell, wait-input, wait-left, wait-pick, wait-unary}
 use Rattle.merge_decl.proofs.work.begin.Goals as goal
 
 pub returns-in-Int-clause-meaning : goal.returns-in-Int-clause-meaning
@@ -128,4 +128,92 @@ pub returns-in-Apply-clause-smaller : goal.returns-in-Apply-clause-smaller
 returns-in-Apply-clause-smaller c =
     let k = count_of c.args.e.now _ (ap shape c.in-Apply.is ∙ shape-Apply c.in-Apply.name c.in-Apply.args ∙ ap (λ xs. t.apply (word c.in-Apply.name) (terms xs)) (sym c.deref-in-Apply.ensures.value)) in
     let e = c.begin_application.ensures.smaller in
+    omega arith
+
+pub returns-in-Int-clause-lighter : goal.returns-in-Int-clause-lighter
+returns-in-Int-clause-lighter c ws =
+    let h = ap shape c.in-Int.is ∙ shape-Int c.in-Int.n in
+    let k = weight_of_node ws c.args.e.now _ h in
+    let p = ap part_cost h in
+    let e = ap (turn_weight ws) c.value.ensures in
+    omega arith
+
+pub returns-in-Bool-clause-lighter : goal.returns-in-Bool-clause-lighter
+returns-in-Bool-clause-lighter c ws =
+    let h = ap shape c.in-Bool.is ∙ shape-Bool c.in-Bool.b in
+    let k = weight_of_node ws c.args.e.now _ h in
+    let p = ap part_cost h in
+    let e = ap (turn_weight ws) c.value-in-Bool.ensures in
+    omega arith
+
+pub returns-in-NoRev-clause-lighter : goal.returns-in-NoRev-clause-lighter
+returns-in-NoRev-clause-lighter c ws =
+    let h = ap shape c.in-NoRev.is ∙ shape-NoRev in
+    let k = weight_of_node ws c.args.e.now _ h in
+    let p = ap part_cost h in
+    let e = ap (turn_weight ws) c.value-in-NoRev.ensures in
+    omega arith
+
+pub returns-in-Var-clause-lighter : goal.returns-in-Var-clause-lighter
+returns-in-Var-clause-lighter c ws =
+    let h = ap shape c.in-Var.is ∙ shape-Var c.in-Var.name in
+    let k = weight_of_node ws c.args.e.now _ h in
+    let p = ap part_cost h in
+    let e = ap (turn_weight ws) c.value-in-Var.ensures in
+    omega arith
+
+pub returns-in-Inputs-clause-lighter : goal.returns-in-Inputs-clause-lighter
+returns-in-Inputs-clause-lighter c ws =
+    let h = ap shape c.in-Inputs.is ∙ shape-Inputs c.in-Inputs.word_at in
+    let k = weight_of_node ws c.args.e.now _ h in
+    let p = ap part_cost h in
+    let e = ap (turn_weight ws) c.value-in-Inputs.ensures in
+    omega arith
+
+pub returns-in-Cell-clause-lighter : goal.returns-in-Cell-clause-lighter
+returns-in-Cell-clause-lighter c ws =
+    let h = ap shape c.in-Cell.is ∙ shape-Cell c.in-Cell.name c.in-Cell.index ∙ ap (λ e. t.cell (word c.in-Cell.name) (term e)) (sym c.deref-in-Cell.ensures) in
+    let k = weight_of_node ws c.args.e.now _ h in
+    let p = ap part_cost h in
+    let e = ap (turn_weight ws) c.part.ensures in
+    omega arith
+
+pub returns-in-Input-clause-lighter : goal.returns-in-Input-clause-lighter
+returns-in-Input-clause-lighter c ws =
+    let h = ap shape c.in-Input.is ∙ shape-Input c.in-Input.word_at c.in-Input.index ∙ ap (λ e. t.input c.in-Input.word_at (term e)) (sym c.deref-in-Input.ensures) in
+    let k = weight_of_node ws c.args.e.now _ h in
+    let p = ap part_cost h in
+    let e = ap (turn_weight ws) c.part-in-Input.ensures in
+    omega arith
+
+pub returns-in-Unary-clause-lighter : goal.returns-in-Unary-clause-lighter
+returns-in-Unary-clause-lighter c ws =
+    let h = ap shape c.in-Unary.is ∙ shape-Unary c.in-Unary.op c.in-Unary.part ∙ ap (λ e. t.unary c.in-Unary.op (term e)) (sym c.deref-in-Unary.ensures) in
+    let k = weight_of_node ws c.args.e.now _ h in
+    let p = ap part_cost h in
+    let e = ap (turn_weight ws) c.part-in-Unary.ensures in
+    omega arith
+
+pub returns-in-Pick-clause-lighter : goal.returns-in-Pick-clause-lighter
+returns-in-Pick-clause-lighter c ws =
+    let h = ap shape c.in-Pick.is ∙ shape-Pick c.in-Pick.test c.in-Pick.yes c.in-Pick.no ∙ (λ i. t.pick (term (sym c.deref-in-Pick-3.ensures i)) (term (sym c.deref-in-Pick.ensures i)) (term (sym c.deref-in-Pick-2.ensures i))) in
+    let k = weight_of_node ws c.args.e.now _ h in
+    let p = ap part_cost h in
+    let e = ap (turn_weight ws) c.part-in-Pick.ensures in
+    omega arith
+
+pub returns-in-Chain-clause-lighter : goal.returns-in-Chain-clause-lighter
+returns-in-Chain-clause-lighter c ws =
+    let h = ap shape c.in-Chain.is ∙ shape-Chain c.in-Chain.first c.in-Chain.rest ∙ (λ i. t.chain (term (sym c.deref-in-Chain-2.ensures i)) (links (sym c.deref-in-Chain.ensures.value i))) in
+    let k = weight_of_node ws c.args.e.now _ h in
+    let p = ap part_cost h in
+    let e = ap (turn_weight ws) c.part-in-Chain.ensures in
+    omega arith
+
+pub returns-in-Apply-clause-lighter : goal.returns-in-Apply-clause-lighter
+returns-in-Apply-clause-lighter c ws =
+    let h = ap shape c.in-Apply.is ∙ shape-Apply c.in-Apply.name c.in-Apply.args ∙ ap (λ xs. t.apply (word c.in-Apply.name) (terms xs)) (sym c.deref-in-Apply.ensures.value) in
+    let k = weight_of_node ws c.args.e.now _ h in
+    let p = ap part_cost h in
+    let e = c.begin_application.ensures.lighter ws in
     omega arith

@@ -2,8 +2,9 @@ use Rattle.std.proofs.Common.{◌∙◌, None, ap, sym, arith}
 use Rattle.rev_syntax.specs.Trees as t
 use Rattle.rev_syntax.specs.View.{terms, word}
 use Rattle.rev_syntax.specs.Small.{terms_count}
+use Rattle.merge_decl.specs.Weights.{terms_weight}
 use Rattle.merge_decl.specs.Evaluation.{shape_within}
-use Rattle.merge_decl.specs.Work.{call_turn, ended, part_turn, turn_size}
+use Rattle.merge_decl.specs.Work.{call_turn, ended, part_turn, turn_size, turn_weight}
 use Rattle.merge_decl.specs.declared.work.Pending.TheVariants as wait
 use Rattle.merge_decl.proofs.Works.{apply-begun, apply-none, awaited, by_turn, without-none}
 use Rattle.merge_decl.proofs.work.begin_application.Goals as goal
@@ -30,3 +31,12 @@ pub returns-in-None-clause-smaller : goal.returns-in-None-clause-smaller
 returns-in-None-clause-smaller c =
     let e = ap turn_size c.call.ensures in
     omega arith
+
+pub returns-in-Some-clause-lighter : goal.returns-in-Some-clause-lighter
+returns-in-Some-clause-lighter c ws =
+    let e = ap (turn_weight ws) c.part.ensures in
+    let k = ap (λ xs. terms_weight ws (terms xs)) c.in-Some.ensures.cases.0 in
+    omega arith
+
+pub returns-in-None-clause-lighter : goal.returns-in-None-clause-lighter
+returns-in-None-clause-lighter c ws = let e = ap (turn_weight ws) c.call.ensures in omega arith

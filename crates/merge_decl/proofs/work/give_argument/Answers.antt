@@ -1,8 +1,9 @@
 use Rattle.std.proofs.Common.{◌∙◌, Some, ◌++◌, ◌∷◌, [], suc, ap, sym, arith, add-one}
 use Rattle.rev_syntax.specs.View.{terms}
 use Rattle.rev_syntax.specs.Small.{terms_count}
+use Rattle.merge_decl.specs.Weights.{terms_weight}
 use Rattle.merge_decl.specs.Flat.{flat}
-use Rattle.merge_decl.specs.Work.{application, call_turn, comes_to, ended, lasts, turn_size}
+use Rattle.merge_decl.specs.Work.{application, call_turn, comes_to, ended, lasts, turn_size, turn_weight}
 use Rattle.merge_decl.specs.declared.work.Pending.TheVariants as wait
 use Rattle.merge_decl.specs.declared.work.Next.TheVariants as next
 use Rattle.merge_decl.proofs.Works.{argument-kept, argument-next, awaited, by_turn, without-push}
@@ -28,3 +29,11 @@ returns-in_default-clause-meaning c es n l ps vs =
 
 pub returns-in_default-clause-smaller : goal.returns-in_default-clause-smaller
 returns-in_default-clause-smaller c = let e = ap turn_size c.call.ensures in omega arith
+
+pub returns-in-Some-clause-lighter : goal.returns-in-Some-clause-lighter
+returns-in-Some-clause-lighter c ws =
+    let k = ap (λ xs. terms_weight ws (terms xs)) c.in-Some.ensures.cases.0 in
+    omega arith
+
+pub returns-in_default-clause-lighter : goal.returns-in_default-clause-lighter
+returns-in_default-clause-lighter c ws = let e = ap (turn_weight ws) c.call.ensures in omega arith

@@ -1,9 +1,10 @@
 use Rattle.std.proofs.Common.{◌∙◌, ap, sym, refl, arith}
 use Rattle.rev_syntax.specs.View.{links, term}
 use Rattle.rev_syntax.specs.Small.{links_count}
+use Rattle.merge_decl.specs.Weights.{links_weight}
 use Rattle.merge_decl.specs.Evaluation.{chained_within}
 use Rattle.merge_decl.specs.Flat.{flat}
-use Rattle.merge_decl.specs.Work.{ended, turn_size}
+use Rattle.merge_decl.specs.Work.{ended, link_cost, turn_size, turn_weight}
 use Rattle.merge_decl.specs.declared.work.Pending.TheVariants as wait
 use Rattle.merge_decl.proofs.Declared.{no_elements}
 use Rattle.merge_decl.proofs.Shapes.{links-first}
@@ -40,4 +41,25 @@ pub returns-in-None-clause-smaller : goal.returns-in-None-clause-smaller
 returns-in-None-clause-smaller c =
     let e = ap turn_size c.part.ensures in
     let k = ap links_count (ap links c.in-Some.ensures.cases.0 ∙ links-first c.in-Some.link.now c.in-Some.rest.now) in
+    omega arith
+
+pub returns-in_default-clause-lighter : goal.returns-in_default-clause-lighter
+returns-in_default-clause-lighter c ws =
+    let e = ap (turn_weight ws) c.value.ensures in
+    let n = ap (λ ls. link_cost (links ls)) (no_elements c.args.behind.now c.in_default.ensures.cases) in
+    omega arith
+
+pub returns-in-Some-short-clause-lighter : goal.returns-in-Some-short-clause-lighter
+returns-in-Some-short-clause-lighter c ws =
+    let is = ap links c.in-Some.ensures.cases.0 ∙ links-first c.in-Some.link.now c.in-Some.rest.now in
+    let k = ap (links_weight ws) is in
+    let n = ap link_cost is in
+    omega arith
+
+pub returns-in-None-clause-lighter : goal.returns-in-None-clause-lighter
+returns-in-None-clause-lighter c ws =
+    let is = ap links c.in-Some.ensures.cases.0 ∙ links-first c.in-Some.link.now c.in-Some.rest.now in
+    let e = ap (turn_weight ws) c.part.ensures in
+    let k = ap (links_weight ws) is in
+    let n = ap link_cost is in
     omega arith
