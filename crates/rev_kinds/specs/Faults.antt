@@ -1,5 +1,6 @@
 -- The limits of the language, and the places and the numbers of the static rules and limits.
 use Rattle.std.specs.Prelude.{◌≡◌, ℕ, ◌+◌}
+use Rattle.merge_decl.specs.Weights.{greatest_weight}
 use Rattle.rev_kinds.specs.declared.fault.Which.{Which}
 use Rattle.rev_kinds.specs.declared.fault.Which.TheVariants.{Locations, Procedures, Funs, Parameters, Locals, Items, Weight}
 use Rattle.rev_kinds.specs.declared.fault.TypeFault.{TypeFault}
@@ -13,7 +14,7 @@ limit_of Funs = 256
 limit_of Parameters = 8
 limit_of Locals = 64
 limit_of Items = 64
-limit_of Weight = 65536
+limit_of Weight = greatest_weight
 
 -- how many there are up to and with the first past a limit
 abbrev pub first_past : Which → ℕ

@@ -5,6 +5,7 @@ ghost use Rattle.merge_decl.specs.Least.{is_less, first_of};
 ghost use Rattle.rev_kinds.specs.Faults as rule;
 ghost use Rattle.rev_kinds.specs.declared.fault.TypeFault.TheVariants.{OutOfMemory};
 
+use merge_decl::value::GREATEST_WEIGHT;
 use std::alloc::AllocError;
 
 /// What a limit is on.
@@ -31,7 +32,7 @@ impl Which {
             Which::Parameters => 8,
             Which::Locals => 64,
             Which::Items => 64,
-            Which::Weight => 65_536,
+            Which::Weight => GREATEST_WEIGHT,
         }
     }
 
