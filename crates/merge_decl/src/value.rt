@@ -276,9 +276,11 @@ fn merged(
     main: i64,
     join: i64,
     root: i64,
+    left: &mut u32,
 ) -> Result<i64, NumFault>
-    requires { entry_weight (weights_before (map entry expanded.now.program.decls.items) number) (entry decl.now) ≤ greatest_weight }
-    ensures { result ≡ meant.merge_answer (meant.entry_value (map entry expanded.now.program.decls.items) number (entry decl.now) (v.Int main) (v.Int join) (v.Int root)) }
+    requires { entry_weight (weights_before (map entry expanded.now.program.decls.items) number) (entry decl.now) ≤ left.old }
+    ensures work { left.old ≤ left.new + entry_weight (weights_before (map entry expanded.now.program.decls.items) number) (entry decl.now) }
+    ensures answer { result ≡ meant.merge_answer (meant.entry_value (map entry expanded.now.program.decls.items) number (entry decl.now) (v.Int main) (v.Int join) (v.Int root)) }
 {
     match decl {
         Decl::Merge {
@@ -292,10 +294,34 @@ fn merged(
             let main = bound(of_main, Flat::Int(main), &empty);
             let join = bound(of_join, Flat::Int(join), &main);
             let root = bound(of_root, Flat::Int(root), &join);
-            let mut left = GREATEST_WEIGHT;
-            outcome(evaluate(expanded, number, &root, body, &mut left))
+            outcome(evaluate(expanded, number, &root, body, left))
         }
         _ => Ok(0),
+    }
+}
+
+/// The value of the merge of this number, as `merge_value` gives it, where each part that is
+/// evaluated, and each link of a chain, takes 1 from what is left.
+///
+/// No more is taken than the weight of the merge, and no more may be than there is.
+pub fn counted_merge_value(
+    expanded: &Expanded,
+    merge: u32,
+    main: i64,
+    join: i64,
+    root: i64,
+    left: &mut u32,
+) -> Result<i64, NumFault>
+    requires declared { merge < length expanded.now.merges }
+    requires enough { merge_weight (whole expanded.now.program) merge ≤ left.old }
+    ensures work { left.old ≤ left.new + merge_weight (whole expanded.now.program) merge }
+    ensures answer { result ≡ meant.merge_answer (merge_value_of (whole expanded.now.program) merge (v.Int main) (v.Int join) (v.Int root)) }
+{
+    let merges = expanded.merges.as_slice();
+    let number = merges[merge as usize].decl as usize;
+    match declared(expanded, number) {
+        Some(decl) => merged(expanded, number, decl, main, join, root, left),
+        None => Ok(0),
     }
 }
 
@@ -303,10 +329,9 @@ fn merged(
 /// the joinee's and the root's value; or the fault of the first part that faults, from left to
 /// right.
 ///
-/// It takes no memory but the stack. The weight of the merge is at most 65,536, and no more parts are
-/// evaluated: each takes 1 of that number, which is proved to suffice. In a program that keeps the
-/// rules on kinds the value is a number, and a fault is one of
-/// arithmetic.
+/// It takes no memory but the stack. The weight of the merge is at most the greatest weight, and so
+/// no more parts are evaluated. In a program that keeps the rules on kinds the value is a number, and
+/// a fault is one of arithmetic.
 pub fn merge_value(
     expanded: &Expanded,
     merge: u32,
@@ -318,10 +343,6 @@ pub fn merge_value(
     requires light { merge_weight (whole expanded.now.program) merge ≤ greatest_weight }
     ensures { result ≡ meant.merge_answer (merge_value_of (whole expanded.now.program) merge (v.Int main) (v.Int join) (v.Int root)) }
 {
-    let merges = expanded.merges.as_slice();
-    let number = merges[merge as usize].decl as usize;
-    match declared(expanded, number) {
-        Some(decl) => merged(expanded, number, decl, main, join, root),
-        None => Ok(0),
-    }
+    let mut left = GREATEST_WEIGHT;
+    counted_merge_value(expanded, merge, main, join, root, &mut left)
 }

@@ -8,9 +8,9 @@ use Rattle.merge_decl.proofs.Meanings.{no_merge}
 use Rattle.merge_decl.proofs.Shapes.{local-Empty}
 use Rattle.merge_decl.proofs.value.merged.Goals as goal
 
-pub returns-in-Merge : goal.returns-in-Merge
+pub returns-in-Merge-clause-answer : goal.returns-in-Merge-clause-answer
 unfolding meant.entry_value
-returns-in-Merge c =
+returns-in-Merge-clause-answer c =
     c.outcome.ensures
     ∙ ap meant.merge_answer (c.evaluate.ensures.answer
     ∙ ap (λ l. meant.value_within (map entry c.args.expanded.now.program.decls.items) c.args.number l (term c.in-Merge.body))
@@ -19,6 +19,6 @@ returns-in-Merge c =
     (ap v.Int (to_z-of_z w64 c.args.main c.ranges.main)) (ap v.Int (to_z-of_z w64 c.args.join c.ranges.join)) (ap v.Int (to_z-of_z w64 c.args.root c.ranges.root)))
     ∙ ap (λ d. meant.entry_value (map entry c.args.expanded.now.program.decls.items) c.args.number (entry d) (v.Int c.args.main) (v.Int c.args.join) (v.Int c.args.root)) (sym c.in-Merge.is))
 
-pub returns-in_default : goal.returns-in_default
-returns-in_default c =
+pub returns-in_default-clause-answer : goal.returns-in_default-clause-answer
+returns-in_default-clause-answer c =
     ap meant.merge_answer (no_merge (map entry c.args.expanded.now.program.decls.items) c.args.number c.args.decl.now (v.Int c.args.main) (v.Int c.args.join) (v.Int c.args.root) c.in_default.not-Merge)

@@ -1,6 +1,5 @@
 use Rattle.std.proofs.Common.{◌∙◌, ap, sym}
-use Rattle.rev_syntax.specs.View.{links}
-use Rattle.merge_decl.specs.Work.{link_cost, pending_cost}
+use Rattle.merge_decl.specs.Work.{pending_cost}
 use Rattle.merge_decl.proofs.Works.{cost_none, cost_some}
 use Rattle.merge_decl.proofs.work.pending_cost.Goals as goal
 
