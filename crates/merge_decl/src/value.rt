@@ -1,10 +1,9 @@
 //! The value of a merge, without memory.
 
-ghost use Rattle.std.specs.Prelude.{◌≡◌, [], ℕ, ◌<◌, ◌≤◌, ◌+◌, List, map, length, IfSome, option_map, slice_get, drop, ◌++◌};
+ghost use Rattle.std.specs.Prelude.{◌≡◌, ◌<◌, ◌≤◌, ◌+◌, map, length, IfSome, option_map, slice_get, drop, ◌++◌};
 ghost use Rattle.std.specs.Option.{option_copied};
-ghost use Rattle.rev_num.specs.declared.value.Value.{Value};
 ghost use Rattle.rev_num.specs.declared.value.Value.TheVariants as v;
-ghost use Rattle.rev_syntax.specs.View.{binder, entry, link, links, program as whole, shape, term, terms};
+ghost use Rattle.rev_syntax.specs.View.{binder, entry, program as whole, term, terms};
 ghost use Rattle.merge_decl.specs.Definitions.{merge_value_of, names_of};
 ghost use Rattle.merge_decl.specs.Evaluation as meant;
 ghost use Rattle.merge_decl.specs.Flat.{answer, flat, local};
