@@ -2,8 +2,8 @@
 #![tactic(auto)]
 
 pub mod expand;
-pub mod flat;
+mod flat;
 pub mod table;
 pub mod uses;
 pub mod value;
-pub mod work;
+mod work;

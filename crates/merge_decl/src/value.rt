@@ -98,19 +98,22 @@ fn behind(params: &[Param], first: usize) -> &[Param]
     params.get(first..).unwrap_or(&[])
 }
 
+/// What the body of a fun or a merge knows: the program, how many of its first declarations may be
+/// used, and the locals.
+#[derive(Clone, Copy, Drop)]
+struct Scope<'a> {
+    expanded: &'a Expanded,
+    within: usize,
+    locals: &'a Locals<'a>,
+}
+
 /// The values of an expression's parts are taken in turn. It calls itself only where a fun is applied
 /// and where too many parts wait.
 #[cycle(value)]
-fn evaluate(
-    expanded: &Expanded,
-    within: usize,
-    locals: &Locals,
-    e: &Expr,
-    left: &mut u32,
-) -> Result<Flat, Cause>
-    requires { weight_within (map entry expanded.now.program.decls.items) within (term e.now) ≤ left.old }
-    ensures work { left.old ≤ left.new + weight_within (map entry expanded.now.program.decls.items) within (term e.now) }
-    ensures answer { answer result ≡ meant.value_within (map entry expanded.now.program.decls.items) within (local locals.now) (term e.now) }
+fn evaluate(scope: &Scope, e: &Expr, left: &mut u32) -> Result<Flat, Cause>
+    requires { weight_within (map entry scope.now.expanded.now.program.decls.items) scope.now.within (term e.now) ≤ left.old }
+    ensures work { left.old ≤ left.new + weight_within (map entry scope.now.expanded.now.program.decls.items) scope.now.within (term e.now) }
+    ensures answer { answer result ≡ meant.value_within (map entry scope.now.expanded.now.program.decls.items) scope.now.within (local scope.now.locals.now) (term e.now) }
 {
     let mut pending = [Pending::Cell; ROOM];
     let mut depth = 0usize;
@@ -121,16 +124,16 @@ fn evaluate(
         next = match next {
             Next::Part(part) => {
                 if depth < ROOM {
-                    let turn = begin(locals, part, left);
+                    let turn = begin(scope.locals, part, left);
                     depth = wait(&mut pending, depth, turn.wait);
                     turn.next
                 } else {
-                    Next::Value(evaluate(expanded, within, locals, part, left)?)
+                    Next::Value(evaluate(scope, part, left)?)
                 }
             }
             Next::Call(call) => {
                 let first = held.saturating_sub(call.before);
-                let value = called(expanded, within, locals, &values[first..held], call, left)?;
+                let value = called(scope, &values[first..held], call, left)?;
                 held = first;
                 Next::Value(value)
             }
@@ -150,30 +153,19 @@ fn evaluate(
 
 /// The value of an application some of whose arguments have these values.
 #[cycle(value)]
-fn called(
-    expanded: &Expanded,
-    within: usize,
-    locals: &Locals,
-    values: &[Flat],
-    call: Call,
-    left: &mut u32,
-) -> Result<Flat, Cause>
-    requires { name_within (map entry expanded.now.program.decls.items) within call.name.now.text.items + args_within (map entry expanded.now.program.decls.items) within (terms call.rest.now) ≤ left.old }
-    ensures work { left.old ≤ left.new + (name_within (map entry expanded.now.program.decls.items) within call.entry.name.now.text.items + args_within (map entry expanded.now.program.decls.items) within (terms call.entry.rest.now)) }
-    ensures answer { answer result ≡ application (map entry expanded.now.program.decls.items) within (local locals.now) call.entry.name.now.text.items (map flat values.now ++ passed call.entry.value) (terms call.entry.rest.now) }
+fn called(scope: &Scope, values: &[Flat], call: Call, left: &mut u32) -> Result<Flat, Cause>
+    requires { name_within (map entry scope.now.expanded.now.program.decls.items) scope.now.within call.name.now.text.items + args_within (map entry scope.now.expanded.now.program.decls.items) scope.now.within (terms call.rest.now) ≤ left.old }
+    ensures work { left.old ≤ left.new + (name_within (map entry scope.now.expanded.now.program.decls.items) scope.now.within call.entry.name.now.text.items + args_within (map entry scope.now.expanded.now.program.decls.items) scope.now.within (terms call.entry.rest.now)) }
+    ensures answer { answer result ≡ application (map entry scope.now.expanded.now.program.decls.items) scope.now.within (local scope.now.locals.now) call.entry.name.now.text.items (map flat values.now ++ passed call.entry.value) (terms call.entry.rest.now) }
 {
-    let fun = fun_before(expanded, within, call.name);
-    let params = params_at(expanded, fun);
+    let fun = fun_before(scope.expanded, scope.within, call.name);
+    let params = params_at(scope.expanded, fun);
     let empty = Locals::Empty;
     let earlier = arguments(params, &*values, &empty);
     let others = behind(params, values.len());
     match call.value {
-        Some(value) => given(
-            expanded, within, locals, value, call.rest, fun, others, &earlier, left,
-        ),
-        None => applied(
-            expanded, within, locals, call.rest, fun, others, &earlier, left,
-        ),
+        Some(value) => given(scope, value, call.rest, fun, others, &earlier, left),
+        None => applied(scope, call.rest, fun, others, &earlier, left),
     }
 }
 
@@ -181,9 +173,7 @@ fn called(
 /// bound to these parameters, behind others.
 #[cycle(value)]
 fn given(
-    expanded: &Expanded,
-    within: usize,
-    locals: &Locals,
+    scope: &Scope,
     value: Flat,
     more: &[Expr],
     fun: Option<usize>,
@@ -191,17 +181,17 @@ fn given(
     earlier: &Locals,
     left: &mut u32,
 ) -> Result<Flat, Cause>
-    requires before { IfSome fun (λ d. d < within) }
-    requires enough { weight_of (map entry expanded.now.program.decls.items) fun + args_within (map entry expanded.now.program.decls.items) within (terms more.now) ≤ left.old }
-    ensures work { left.old ≤ left.new + (weight_of (map entry expanded.now.program.decls.items) fun + args_within (map entry expanded.now.program.decls.items) within (terms more.now)) }
-    ensures answer { answer result ≡ meant.given_within (map entry expanded.now.program.decls.items) within (local locals.now) (flat value) (terms more.now) fun (names_of (map binder params.now)) (local earlier.now) }
+    requires before { IfSome fun (λ d. d < scope.now.within) }
+    requires enough { weight_of (map entry scope.now.expanded.now.program.decls.items) fun + args_within (map entry scope.now.expanded.now.program.decls.items) scope.now.within (terms more.now) ≤ left.old }
+    ensures work { left.old ≤ left.new + (weight_of (map entry scope.now.expanded.now.program.decls.items) fun + args_within (map entry scope.now.expanded.now.program.decls.items) scope.now.within (terms more.now)) }
+    ensures answer { answer result ≡ meant.given_within (map entry scope.now.expanded.now.program.decls.items) scope.now.within (local scope.now.locals.now) (flat value) (terms more.now) fun (names_of (map binder params.now)) (local earlier.now) }
 {
     match params.split_first() {
         Some((param, others)) => {
             let inner = bound(&param.name, value, &*earlier);
-            applied(expanded, within, locals, more, fun, others, &inner, left)
+            applied(scope, more, fun, others, &inner, left)
         }
-        None => applied(expanded, within, locals, more, fun, params, &*earlier, left),
+        None => applied(scope, more, fun, params, &*earlier, left),
     }
 }
 
@@ -209,28 +199,24 @@ fn given(
 /// parameters, behind others.
 #[cycle(value)]
 fn applied(
-    expanded: &Expanded,
-    within: usize,
-    locals: &Locals,
+    scope: &Scope,
     args: &[Expr],
     fun: Option<usize>,
     params: &[Param],
     earlier: &Locals,
     left: &mut u32,
 ) -> Result<Flat, Cause>
-    requires before { IfSome fun (λ d. d < within) }
-    requires enough { weight_of (map entry expanded.now.program.decls.items) fun + args_within (map entry expanded.now.program.decls.items) within (terms args.now) ≤ left.old }
-    ensures work { left.old ≤ left.new + (weight_of (map entry expanded.now.program.decls.items) fun + args_within (map entry expanded.now.program.decls.items) within (terms args.now)) }
-    ensures answer { answer result ≡ meant.applied_within (map entry expanded.now.program.decls.items) within (local locals.now) (terms args.now) fun (names_of (map binder params.now)) (local earlier.now) }
+    requires before { IfSome fun (λ d. d < scope.now.within) }
+    requires enough { weight_of (map entry scope.now.expanded.now.program.decls.items) fun + args_within (map entry scope.now.expanded.now.program.decls.items) scope.now.within (terms args.now) ≤ left.old }
+    ensures work { left.old ≤ left.new + (weight_of (map entry scope.now.expanded.now.program.decls.items) fun + args_within (map entry scope.now.expanded.now.program.decls.items) scope.now.within (terms args.now)) }
+    ensures answer { answer result ≡ meant.applied_within (map entry scope.now.expanded.now.program.decls.items) scope.now.within (local scope.now.locals.now) (terms args.now) fun (names_of (map binder params.now)) (local earlier.now) }
 {
     match args.split_first() {
         Some((arg, more)) => {
-            let value = evaluate(expanded, within, locals, arg, left)?;
-            given(
-                expanded, within, locals, value, more, fun, params, &*earlier, left,
-            )
+            let value = evaluate(scope, arg, left)?;
+            given(scope, value, more, fun, params, &*earlier, left)
         }
-        None => body_value(expanded, fun, &*earlier, left),
+        None => body_value(scope.expanded, fun, &*earlier, left),
     }
 }
 
@@ -250,7 +236,14 @@ fn body_value(
         return Ok(Flat::Int(0));
     };
     match body_at(expanded, number) {
-        Some(body) => evaluate(expanded, number, locals, body, left),
+        Some(body) => {
+            let inner = Scope {
+                expanded: &*expanded,
+                within: number,
+                locals: &*locals,
+            };
+            evaluate(&inner, body, left)
+        }
         None => Ok(Flat::Int(0)),
     }
 }
@@ -293,7 +286,12 @@ fn merged(
             let main = bound(of_main, Flat::Int(main), &empty);
             let join = bound(of_join, Flat::Int(join), &main);
             let root = bound(of_root, Flat::Int(root), &join);
-            outcome(evaluate(expanded, number, &root, body, left))
+            let inner = Scope {
+                expanded: &*expanded,
+                within: number,
+                locals: &root,
+            };
+            outcome(evaluate(&inner, body, left))
         }
         _ => Ok(0),
     }

@@ -16,35 +16,35 @@ use Rattle.merge_decl.proofs.value.+value.Goals as goal
 
 pub applied-body_value-requires : goal.applied-body_value-requires
 applied-body_value-requires t c =
-    (let b = bodies_to-before (map entry c.args.expanded.now.program.decls.items) c.args.fun c.args.within c.requires.before in omega arith, (let e = c.requires.enough in omega arith))
+    (let b = bodies_to-before (map entry c.args.scope.now.expanded.now.program.decls.items) c.args.fun c.args.scope.now.within c.requires.before in omega arith, (let e = c.requires.enough in omega arith))
 
 pub applied-returns-in-None : goal.applied-returns-in-None
 applied-returns-in-None t c =
     record {
       work = (let u = c.body_value.ensures.work in omega arith);
       answer =
-          c.body_value.ensures.answer ∙ applied-none (map entry c.args.expanded.now.program.decls.items) c.args.within (local c.args.locals.now) c.args.fun (names_of (map binder c.args.params.now)) (local c.args.earlier.now)
-          ∙ ap (λ es. meant.applied_within (map entry c.args.expanded.now.program.decls.items) c.args.within (local c.args.locals.now) (terms es) c.args.fun (names_of (map binder c.args.params.now)) (local c.args.earlier.now)) (sym (no_elements c.args.args.now c.in-None.ensures.cases));
+          c.body_value.ensures.answer ∙ applied-none (map entry c.args.scope.now.expanded.now.program.decls.items) c.args.scope.now.within (local c.args.scope.now.locals.now) c.args.fun (names_of (map binder c.args.params.now)) (local c.args.earlier.now)
+          ∙ ap (λ es. meant.applied_within (map entry c.args.scope.now.expanded.now.program.decls.items) c.args.scope.now.within (local c.args.scope.now.locals.now) (terms es) c.args.fun (names_of (map binder c.args.params.now)) (local c.args.earlier.now)) (sym (no_elements c.args.args.now c.in-None.ensures.cases));
     }
 
 pub applied-returns-in_err-value-in-Some : goal.applied-returns-in_err-value-in-Some
 applied-returns-in_err-value-in-Some t c =
     record {
-      work = (let k = ap (λ es. args_within (map entry c.args.expanded.now.program.decls.items) c.args.within (terms es)) c.in-Some.ensures.cases.0 in let w = c.evaluate.ensures.work in omega arith);
+      work = (let k = ap (λ es. args_within (map entry c.args.scope.now.expanded.now.program.decls.items) c.args.scope.now.within (terms es)) c.in-Some.ensures.cases.0 in let w = c.evaluate.ensures.work in omega arith);
       answer =
           on_fault _ _ _ c.from_residual.ensures.1
-          (applied-fault (map entry c.args.expanded.now.program.decls.items) c.args.within (local c.args.locals.now) (term c.in-Some.arg.now) (terms c.in-Some.more.now) c.args.fun _ (names_of (map binder c.args.params.now)) (local c.args.earlier.now) c.in_err-value-in-Some.ensures.answer
-          ∙ ap (λ es. meant.applied_within (map entry c.args.expanded.now.program.decls.items) c.args.within (local c.args.locals.now) (terms es) c.args.fun (names_of (map binder c.args.params.now)) (local c.args.earlier.now)) (sym c.in-Some.ensures.cases.0));
+          (applied-fault (map entry c.args.scope.now.expanded.now.program.decls.items) c.args.scope.now.within (local c.args.scope.now.locals.now) (term c.in-Some.arg.now) (terms c.in-Some.more.now) c.args.fun _ (names_of (map binder c.args.params.now)) (local c.args.earlier.now) c.in_err-value-in-Some.ensures.answer
+          ∙ ap (λ es. meant.applied_within (map entry c.args.scope.now.expanded.now.program.decls.items) c.args.scope.now.within (local c.args.scope.now.locals.now) (terms es) c.args.fun (names_of (map binder c.args.params.now)) (local c.args.earlier.now)) (sym c.in-Some.ensures.cases.0));
     }
 
 pub applied-returns-in_ok-value-in-Some : goal.applied-returns-in_ok-value-in-Some
 applied-returns-in_ok-value-in-Some t c =
     record {
-      work = (let k = ap (λ es. args_within (map entry c.args.expanded.now.program.decls.items) c.args.within (terms es)) c.in-Some.ensures.cases.0 in let w = c.evaluate.ensures.work in let u = c.given.ensures.work in omega arith);
+      work = (let k = ap (λ es. args_within (map entry c.args.scope.now.expanded.now.program.decls.items) c.args.scope.now.within (terms es)) c.in-Some.ensures.cases.0 in let w = c.evaluate.ensures.work in let u = c.given.ensures.work in omega arith);
       answer =
           c.given.ensures.answer
-          ∙ applied-given (map entry c.args.expanded.now.program.decls.items) c.args.within (local c.args.locals.now) (terms c.in-Some.more.now) c.args.fun (term c.in-Some.arg.now) _ (names_of (map binder c.args.params.now)) (local c.args.earlier.now) c.in_ok-value-in-Some.ensures.answer
-          ∙ ap (λ es. meant.applied_within (map entry c.args.expanded.now.program.decls.items) c.args.within (local c.args.locals.now) (terms es) c.args.fun (names_of (map binder c.args.params.now)) (local c.args.earlier.now)) (sym c.in-Some.ensures.cases.0);
+          ∙ applied-given (map entry c.args.scope.now.expanded.now.program.decls.items) c.args.scope.now.within (local c.args.scope.now.locals.now) (terms c.in-Some.more.now) c.args.fun (term c.in-Some.arg.now) _ (names_of (map binder c.args.params.now)) (local c.args.earlier.now) c.in_ok-value-in-Some.ensures.answer
+          ∙ ap (λ es. meant.applied_within (map entry c.args.scope.now.expanded.now.program.decls.items) c.args.scope.now.within (local c.args.scope.now.locals.now) (terms es) c.args.fun (names_of (map binder c.args.params.now)) (local c.args.earlier.now)) (sym c.in-Some.ensures.cases.0);
     }
 
 pub body_value-returns-in_default : goal.body_value-returns-in_default
@@ -88,30 +88,30 @@ body_value-returns-in-None t c =
 
 pub called-returns-in-Some : goal.called-returns-in-Some
 called-returns-in-Some t c =
-    let es = map entry c.args.expanded.now.program.decls.items in
+    let es = map entry c.args.scope.now.expanded.now.program.decls.items in
     record {
       work = (let l = c.fun_before-fun.ensures.lighter in let u = c.given.ensures.work in omega arith);
       answer =
           c.given.ensures.answer
-          ∙ (λ i. meant.given_within es c.args.within (local c.args.locals.now) (flat c.in-Some.value) (terms c.args.call.rest.now) c.fun_before-fun.result
+          ∙ (λ i. meant.given_within es c.args.scope.now.within (local c.args.scope.now.locals.now) (flat c.in-Some.value) (terms c.args.call.rest.now) c.fun_before-fun.result
           (w.others c.args.values.now c.params_at-params.result.now c.behind-others.result.now c.behind-others.ensures i) (w.earlier _ (local locals.Empty) (names_of (map binder c.params_at-params.result.now)) (map flat c.args.values.now) refl c.arguments-earlier.ensures i))
-          ∙ w.given-application es c.args.within (local c.args.locals.now) c.args.call.name.now.text.items c.fun_before-fun.result (names_of (map binder c.params_at-params.result.now))
+          ∙ w.given-application es c.args.scope.now.within (local c.args.scope.now.locals.now) c.args.call.name.now.text.items c.fun_before-fun.result (names_of (map binder c.params_at-params.result.now))
           c.fun_before-fun.ensures.meaning c.params_at-params.ensures (map flat c.args.values.now) (flat c.in-Some.value) (terms c.args.call.rest.now)
-          ∙ ap (λ o. application es c.args.within (local c.args.locals.now) c.args.call.name.now.text.items (map flat c.args.values.now ++ passed o) (terms c.args.call.rest.now)) (sym c.in-Some.is);
+          ∙ ap (λ o. application es c.args.scope.now.within (local c.args.scope.now.locals.now) c.args.call.name.now.text.items (map flat c.args.values.now ++ passed o) (terms c.args.call.rest.now)) (sym c.in-Some.is);
     }
 
 pub called-returns-in-None : goal.called-returns-in-None
 called-returns-in-None t c =
-    let es = map entry c.args.expanded.now.program.decls.items in
+    let es = map entry c.args.scope.now.expanded.now.program.decls.items in
     record {
       work = (let l = c.fun_before-fun.ensures.lighter in let u = c.applied.ensures.work in omega arith);
       answer =
           c.applied.ensures.answer
-          ∙ (λ i. meant.applied_within es c.args.within (local c.args.locals.now) (terms c.args.call.rest.now) c.fun_before-fun.result
+          ∙ (λ i. meant.applied_within es c.args.scope.now.within (local c.args.scope.now.locals.now) (terms c.args.call.rest.now) c.fun_before-fun.result
           (w.others c.args.values.now c.params_at-params.result.now c.behind-others.result.now c.behind-others.ensures i) (w.earlier _ (local locals.Empty) (names_of (map binder c.params_at-params.result.now)) (map flat c.args.values.now) refl c.arguments-earlier.ensures i))
-          ∙ w.applied-application es c.args.within (local c.args.locals.now) c.args.call.name.now.text.items c.fun_before-fun.result (names_of (map binder c.params_at-params.result.now))
+          ∙ w.applied-application es c.args.scope.now.within (local c.args.scope.now.locals.now) c.args.call.name.now.text.items c.fun_before-fun.result (names_of (map binder c.params_at-params.result.now))
           c.fun_before-fun.ensures.meaning c.params_at-params.ensures (map flat c.args.values.now) (terms c.args.call.rest.now)
-          ∙ ap (λ o. application es c.args.within (local c.args.locals.now) c.args.call.name.now.text.items (map flat c.args.values.now ++ passed o) (terms c.args.call.rest.now)) (sym c.in-None.is);
+          ∙ ap (λ o. application es c.args.scope.now.within (local c.args.scope.now.locals.now) c.args.call.name.now.text.items (map flat c.args.values.now ++ passed o) (terms c.args.call.rest.now)) (sym c.in-None.is);
     }
 
 -- ---- the turns
@@ -119,7 +119,7 @@ called-returns-in-None t c =
 pub evaluate-loop-next-init : goal.evaluate-loop-next-init
 evaluate-loop-next-init t c =
     let z = w.remains-none in
-    (omega arith, omega arith, w.starts (map entry c.args.expanded.now.program.decls.items) c.args.within (local c.args.locals.now) c.args.e, omega arith, refl, (let y = w.weight-none (weights_before (map entry c.args.expanded.now.program.decls.items) c.args.within) in omega arith), c.requires)
+    (omega arith, omega arith, w.starts (map entry c.args.scope.now.expanded.now.program.decls.items) c.args.scope.now.within (local c.args.scope.now.locals.now) c.args.e, omega arith, refl, (let y = w.weight-none (weights_before (map entry c.args.scope.now.expanded.now.program.decls.items) c.args.scope.now.within) in omega arith), c.requires)
 
 pub evaluate-evaluate-requires : goal.evaluate-evaluate-requires
 evaluate-evaluate-requires t c = (
@@ -127,79 +127,79 @@ evaluate-evaluate-requires t c = (
       let s = c.loop-next.invariant.3 in
       let r = w.remains-full c.loop-next.pending c.loop-next.depth (let h = c.loop-next.invariant.4 in let g = c.loop-next.invariant.0 in omega arith) (omega arith) in
       omega arith,
-  (let p = ap (next_weight (weights_before (map entry c.args.expanded.now.program.decls.items) c.args.within)) c.in-Part.is in let u = c.loop-next.invariant.5 in let v = c.loop-next.invariant.6 in omega arith),
+  (let p = ap (next_weight (weights_before (map entry c.args.scope.now.expanded.now.program.decls.items) c.args.scope.now.within)) c.in-Part.is in let u = c.loop-next.invariant.5 in let v = c.loop-next.invariant.6 in omega arith),
 )
 
 pub evaluate-returns-in_err-evaluate-in-Part : goal.evaluate-returns-in_err-evaluate-in-Part
 evaluate-returns-in_err-evaluate-in-Part t c =
-    let es = map entry c.args.expanded.now.program.decls.items in
-    let l = local c.args.locals.now in
+    let es = map entry c.args.scope.now.expanded.now.program.decls.items in
+    let l = local c.args.scope.now.locals.now in
     let ps = waiting c.loop-next.pending c.loop-next.depth in
     let vs = kept c.loop-next.values c.loop-next.held in
     record {
-      work = (let u = c.evaluate.ensures.work in let p = ap (next_weight (weights_before (map entry c.args.expanded.now.program.decls.items) c.args.within)) c.in-Part.is in let i = c.loop-next.invariant.5 in omega arith);
+      work = (let u = c.evaluate.ensures.work in let p = ap (next_weight (weights_before (map entry c.args.scope.now.expanded.now.program.decls.items) c.args.scope.now.within)) c.in-Part.is in let i = c.loop-next.invariant.5 in omega arith);
       answer =
           on_fault _ _ _ c.from_residual.ensures.1
-          (w.part-fault es c.args.within l ps vs c.in-Part.part _ _ c.in_err-evaluate-in-Part.ensures.answer
-          (ap (comes_to es c.args.within l ps vs) (sym c.in-Part.is) ∙ c.loop-next.invariant.2));
+          (w.part-fault es c.args.scope.now.within l ps vs c.in-Part.part _ _ c.in_err-evaluate-in-Part.ensures.answer
+          (ap (comes_to es c.args.scope.now.within l ps vs) (sym c.in-Part.is) ∙ c.loop-next.invariant.2));
     }
 
 pub evaluate-returns-in_err-value-in-Call : goal.evaluate-returns-in_err-value-in-Call
 evaluate-returns-in_err-value-in-Call t c =
-    let es = map entry c.args.expanded.now.program.decls.items in
-    let l = local c.args.locals.now in
+    let es = map entry c.args.scope.now.expanded.now.program.decls.items in
+    let l = local c.args.scope.now.locals.now in
     let ps = waiting c.loop-next.pending c.loop-next.depth in
     let vs = kept c.loop-next.values c.loop-next.held in
     let d = c.in-Call.call in
     record {
-      work = (let u = c.called.ensures.work in let p = ap (next_weight (weights_before (map entry c.args.expanded.now.program.decls.items) c.args.within)) c.in-Call.is in let i = c.loop-next.invariant.5 in omega arith);
+      work = (let u = c.called.ensures.work in let p = ap (next_weight (weights_before (map entry c.args.scope.now.expanded.now.program.decls.items) c.args.scope.now.within)) c.in-Call.is in let i = c.loop-next.invariant.5 in omega arith);
       answer =
           on_fault _ _ _ c.from_residual-in_err-value-in-Call.ensures.1
-          (w.call-fault es c.args.within l ps vs d _ _
-          (c.in_err-value-in-Call.ensures.answer ∙ ap (λ xs. application es c.args.within l d.name.now.text.items (xs ++ passed d.value) (terms d.rest.now))
+          (w.call-fault es c.args.scope.now.within l ps vs d _ _
+          (c.in_err-value-in-Call.ensures.answer ∙ ap (λ xs. application es c.args.scope.now.within l d.name.now.text.items (xs ++ passed d.value) (terms d.rest.now))
           (w.values-last c.loop-next.values c.loop-next.held d.before c.saturating_sub-first.result (omega arith) c.saturating_sub-first.ensures))
-          (ap (comes_to es c.args.within l ps vs) (sym c.in-Call.is) ∙ c.loop-next.invariant.2));
+          (ap (comes_to es c.args.scope.now.within l ps vs) (sym c.in-Call.is) ∙ c.loop-next.invariant.2));
     }
 
 pub evaluate-returns-then-depth-eq0 : goal.evaluate-returns-then-depth-eq0
 evaluate-returns-then-depth-eq0 t c =
-    let es = map entry c.args.expanded.now.program.decls.items in
-    let l = local c.args.locals.now in
+    let es = map entry c.args.scope.now.expanded.now.program.decls.items in
+    let l = local c.args.scope.now.locals.now in
     let vs = kept c.loop-next.values c.loop-next.held in
     record {
       work = (let i = c.loop-next.invariant.5 in omega arith);
       answer =
-          w.ends es c.args.within l vs c.in-Value.x _
-          (ap (λ k. comes_to es c.args.within l (waiting c.loop-next.pending k) vs (next.Value c.in-Value.x)) (sym c.if-depth-eq0.true)
-          ∙ ap (comes_to es c.args.within l (waiting c.loop-next.pending c.loop-next.depth) vs) (sym c.in-Value.is) ∙ c.loop-next.invariant.2);
+          w.ends es c.args.scope.now.within l vs c.in-Value.x _
+          (ap (λ k. comes_to es c.args.scope.now.within l (waiting c.loop-next.pending k) vs (next.Value c.in-Value.x)) (sym c.if-depth-eq0.true)
+          ∙ ap (comes_to es c.args.scope.now.within l (waiting c.loop-next.pending c.loop-next.depth) vs) (sym c.in-Value.is) ∙ c.loop-next.invariant.2);
     }
 
 pub evaluate-give-requires : goal.evaluate-give-requires
 evaluate-give-requires t c =
     let k = c.loop-next.depth - 1 in
-    let n = ap (next_weight (weights_before (map entry c.args.expanded.now.program.decls.items) c.args.within)) c.in-Value.is in
-    let f = ap (waiting_weight (weights_before (map entry c.args.expanded.now.program.decls.items) c.args.within)) (w.waits-last c.loop-next.pending k c.loop-next.depth (get_or c.loop-next.pending k c.index-pending-depth.result) (omega arith) (ap (get_or c.loop-next.pending k) c.index-pending-depth.is) (omega arith)) in
-    let y = w.weight-step (weights_before (map entry c.args.expanded.now.program.decls.items) c.args.within) (get_or c.loop-next.pending k c.index-pending-depth.result) (waiting c.loop-next.pending k) in
-    let cw = w.cost-within (weights_before (map entry c.args.expanded.now.program.decls.items) c.args.within) (get_or c.loop-next.pending k c.index-pending-depth.result) in
+    let n = ap (next_weight (weights_before (map entry c.args.scope.now.expanded.now.program.decls.items) c.args.scope.now.within)) c.in-Value.is in
+    let f = ap (waiting_weight (weights_before (map entry c.args.scope.now.expanded.now.program.decls.items) c.args.scope.now.within)) (w.waits-last c.loop-next.pending k c.loop-next.depth (get_or c.loop-next.pending k c.index-pending-depth.result) (omega arith) (ap (get_or c.loop-next.pending k) c.index-pending-depth.is) (omega arith)) in
+    let y = w.weight-step (weights_before (map entry c.args.scope.now.expanded.now.program.decls.items) c.args.scope.now.within) (get_or c.loop-next.pending k c.index-pending-depth.result) (waiting c.loop-next.pending k) in
+    let cw = w.cost-within (weights_before (map entry c.args.scope.now.expanded.now.program.decls.items) c.args.scope.now.within) (get_or c.loop-next.pending k c.index-pending-depth.result) in
     let u = c.loop-next.invariant.5 in
     let v = c.loop-next.invariant.6 in
     omega arith
 
 pub evaluate-returns-in_err-turn-in-Value : goal.evaluate-returns-in_err-turn-in-Value
 evaluate-returns-in_err-turn-in-Value t c =
-    let es = map entry c.args.expanded.now.program.decls.items in
-    let l = local c.args.locals.now in
+    let es = map entry c.args.scope.now.expanded.now.program.decls.items in
+    let l = local c.args.scope.now.locals.now in
     let k = c.loop-next.depth - 1 in
     let ps = waiting c.loop-next.pending k in
     let vs = kept c.loop-next.values c.loop-next.held in
     record {
-      work = (let i = c.loop-next.invariant.5 in let f = ap (waiting_weight (weights_before (map entry c.args.expanded.now.program.decls.items) c.args.within)) (w.waits-last c.loop-next.pending k c.loop-next.depth (get_or c.loop-next.pending k c.index-pending-depth.result) (omega arith) (ap (get_or c.loop-next.pending k) c.index-pending-depth.is) (omega arith)) in let y = w.weight-step (weights_before (map entry c.args.expanded.now.program.decls.items) c.args.within) (get_or c.loop-next.pending k c.index-pending-depth.result) ps in let x = c.give.ensures.paid in let cw = w.cost-within (weights_before (map entry c.args.expanded.now.program.decls.items) c.args.within) (get_or c.loop-next.pending k c.index-pending-depth.result) in omega arith);
+      work = (let i = c.loop-next.invariant.5 in let f = ap (waiting_weight (weights_before (map entry c.args.scope.now.expanded.now.program.decls.items) c.args.scope.now.within)) (w.waits-last c.loop-next.pending k c.loop-next.depth (get_or c.loop-next.pending k c.index-pending-depth.result) (omega arith) (ap (get_or c.loop-next.pending k) c.index-pending-depth.is) (omega arith)) in let y = w.weight-step (weights_before (map entry c.args.scope.now.expanded.now.program.decls.items) c.args.scope.now.within) (get_or c.loop-next.pending k c.index-pending-depth.result) ps in let x = c.give.ensures.paid in let cw = w.cost-within (weights_before (map entry c.args.scope.now.expanded.now.program.decls.items) c.args.scope.now.within) (get_or c.loop-next.pending k c.index-pending-depth.result) in omega arith);
       answer =
           on_fault _ _ _ c.from_residual-in_err-turn-in-Value.ensures.1
-          (w.taken es c.args.within l (waiting c.loop-next.pending c.loop-next.depth) ps vs (get_or c.loop-next.pending k c.index-pending-depth.result) c.in-Value.x _ _
+          (w.taken es c.args.scope.now.within l (waiting c.loop-next.pending c.loop-next.depth) ps vs (get_or c.loop-next.pending k c.index-pending-depth.result) c.in-Value.x _ _
           (w.waits-last c.loop-next.pending k c.loop-next.depth (get_or c.loop-next.pending k c.index-pending-depth.result) (omega arith) (ap (get_or c.loop-next.pending k) c.index-pending-depth.is) (omega arith))
-          (c.in_err-turn-in-Value.ensures.meaning es c.args.within l ps vs)
-          (ap (comes_to es c.args.within l (waiting c.loop-next.pending c.loop-next.depth) vs) (sym c.in-Value.is) ∙ c.loop-next.invariant.2));
+          (c.in_err-turn-in-Value.ensures.meaning es c.args.scope.now.within l ps vs)
+          (ap (comes_to es c.args.scope.now.within l (waiting c.loop-next.pending c.loop-next.depth) vs) (sym c.in-Value.is) ∙ c.loop-next.invariant.2));
     }
 
 pub evaluate-loop-next-smaller-then-depth-lt-ROOM : goal.evaluate-loop-next-smaller-then-depth-lt-ROOM
@@ -212,8 +212,8 @@ evaluate-loop-next-smaller-then-depth-lt-ROOM t c =
 
 pub evaluate-loop-next-preserved-then-depth-lt-ROOM : goal.evaluate-loop-next-preserved-then-depth-lt-ROOM
 evaluate-loop-next-preserved-then-depth-lt-ROOM t c =
-    let es = map entry c.args.expanded.now.program.decls.items in
-    let l = local c.args.locals.now in
+    let es = map entry c.args.scope.now.expanded.now.program.decls.items in
+    let l = local c.args.scope.now.locals.now in
     let ps = waiting c.loop-next.pending c.loop-next.depth in
     let vs = kept c.loop-next.values c.loop-next.held in
     let e = ap next_size c.in-Part.is in
@@ -223,18 +223,18 @@ evaluate-loop-next-preserved-then-depth-lt-ROOM t c =
     let s = c.loop-next.invariant.3 in (
       c.wait-depth.ensures.room,
       c.loop-next.invariant.1,
-      w.part-begun es c.args.within l ps _ vs c.in-Part.part c.begin-turn.result _ (c.begin-turn.ensures.meaning es c.args.within ps vs) c.begin-turn.ensures.keeps_nothing c.wait-depth.ensures.waits
-          (ap (comes_to es c.args.within l ps vs) (sym c.in-Part.is) ∙ c.loop-next.invariant.2),
+      w.part-begun es c.args.scope.now.within l ps _ vs c.in-Part.part c.begin-turn.result _ (c.begin-turn.ensures.meaning es c.args.scope.now.within ps vs) c.begin-turn.ensures.keeps_nothing c.wait-depth.ensures.waits
+          (ap (comes_to es c.args.scope.now.within l ps vs) (sym c.in-Part.is) ∙ c.loop-next.invariant.2),
       omega arith,
       c.wait-depth.ensures.places,
-      (let u = c.loop-next.invariant.5 in let v = c.loop-next.invariant.6 in let y = ap (next_weight (weights_before (map entry c.args.expanded.now.program.decls.items) c.args.within)) c.in-Part.is in let g = c.begin-turn.ensures.lighter (weights_before (map entry c.args.expanded.now.program.decls.items) c.args.within) in let h = ap (waiting_weight (weights_before (map entry c.args.expanded.now.program.decls.items) c.args.within)) c.wait-depth.ensures.waits in let k = w.weight-waits (weights_before (map entry c.args.expanded.now.program.decls.items) c.args.within) c.begin-turn.result.wait ps in let x = c.begin-turn.ensures.paid in omega arith),
+      (let u = c.loop-next.invariant.5 in let v = c.loop-next.invariant.6 in let y = ap (next_weight (weights_before (map entry c.args.scope.now.expanded.now.program.decls.items) c.args.scope.now.within)) c.in-Part.is in let g = c.begin-turn.ensures.lighter (weights_before (map entry c.args.scope.now.expanded.now.program.decls.items) c.args.scope.now.within) in let h = ap (waiting_weight (weights_before (map entry c.args.scope.now.expanded.now.program.decls.items) c.args.scope.now.within)) c.wait-depth.ensures.waits in let k = w.weight-waits (weights_before (map entry c.args.scope.now.expanded.now.program.decls.items) c.args.scope.now.within) c.begin-turn.result.wait ps in let x = c.begin-turn.ensures.paid in omega arith),
       c.loop-next.invariant.6,
     )
 
 pub evaluate-loop-next-preserved-in_ok-evaluate-in-Part : goal.evaluate-loop-next-preserved-in_ok-evaluate-in-Part
 evaluate-loop-next-preserved-in_ok-evaluate-in-Part t c =
-    let es = map entry c.args.expanded.now.program.decls.items in
-    let l = local c.args.locals.now in
+    let es = map entry c.args.scope.now.expanded.now.program.decls.items in
+    let l = local c.args.scope.now.locals.now in
     let ps = waiting c.loop-next.pending c.loop-next.depth in
     let vs = kept c.loop-next.values c.loop-next.held in
     let e = ap next_size c.in-Part.is in
@@ -242,18 +242,18 @@ evaluate-loop-next-preserved-in_ok-evaluate-in-Part t c =
     let s = c.loop-next.invariant.3 in (
       c.loop-next.invariant.0,
       c.loop-next.invariant.1,
-      w.part-value es c.args.within l ps vs c.in-Part.part c.in_ok-evaluate-in-Part.field-0 _ c.in_ok-evaluate-in-Part.ensures.answer
-          (ap (comes_to es c.args.within l ps vs) (sym c.in-Part.is) ∙ c.loop-next.invariant.2),
+      w.part-value es c.args.scope.now.within l ps vs c.in-Part.part c.in_ok-evaluate-in-Part.field-0 _ c.in_ok-evaluate-in-Part.ensures.answer
+          (ap (comes_to es c.args.scope.now.within l ps vs) (sym c.in-Part.is) ∙ c.loop-next.invariant.2),
       omega arith,
       c.loop-next.invariant.4,
-      (let u = c.loop-next.invariant.5 in let v = c.loop-next.invariant.6 in let y = ap (next_weight (weights_before (map entry c.args.expanded.now.program.decls.items) c.args.within)) c.in-Part.is in let g = c.evaluate.ensures.work in omega arith),
+      (let u = c.loop-next.invariant.5 in let v = c.loop-next.invariant.6 in let y = ap (next_weight (weights_before (map entry c.args.scope.now.expanded.now.program.decls.items) c.args.scope.now.within)) c.in-Part.is in let g = c.evaluate.ensures.work in omega arith),
       c.loop-next.invariant.6,
     )
 
 pub evaluate-loop-next-preserved-in_ok-value-in-Call : goal.evaluate-loop-next-preserved-in_ok-value-in-Call
 evaluate-loop-next-preserved-in_ok-value-in-Call t c =
-    let es = map entry c.args.expanded.now.program.decls.items in
-    let l = local c.args.locals.now in
+    let es = map entry c.args.scope.now.expanded.now.program.decls.items in
+    let l = local c.args.scope.now.locals.now in
     let ps = waiting c.loop-next.pending c.loop-next.depth in
     let vs = kept c.loop-next.values c.loop-next.held in
     let d = c.in-Call.call in
@@ -261,14 +261,14 @@ evaluate-loop-next-preserved-in_ok-value-in-Call t c =
     let s = c.loop-next.invariant.3 in (
       c.loop-next.invariant.0,
       (let f = c.saturating_sub-first.ensures in omega arith),
-      w.call-value es c.args.within l ps vs _ d c.in_ok-value-in-Call.value _
-          (c.in_ok-value-in-Call.ensures.answer ∙ ap (λ xs. application es c.args.within l d.name.now.text.items (xs ++ passed d.value) (terms d.rest.now))
+      w.call-value es c.args.scope.now.within l ps vs _ d c.in_ok-value-in-Call.value _
+          (c.in_ok-value-in-Call.ensures.answer ∙ ap (λ xs. application es c.args.scope.now.within l d.name.now.text.items (xs ++ passed d.value) (terms d.rest.now))
           (w.values-last c.loop-next.values c.loop-next.held d.before c.saturating_sub-first.result (omega arith) c.saturating_sub-first.ensures))
           (w.values-left c.loop-next.values c.loop-next.held d.before c.saturating_sub-first.result (omega arith) c.saturating_sub-first.ensures)
-          (ap (comes_to es c.args.within l ps vs) (sym c.in-Call.is) ∙ c.loop-next.invariant.2),
+          (ap (comes_to es c.args.scope.now.within l ps vs) (sym c.in-Call.is) ∙ c.loop-next.invariant.2),
       omega arith,
       c.loop-next.invariant.4,
-      (let u = c.loop-next.invariant.5 in let v = c.loop-next.invariant.6 in let y = ap (next_weight (weights_before (map entry c.args.expanded.now.program.decls.items) c.args.within)) c.in-Call.is in let g = c.called.ensures.work in omega arith),
+      (let u = c.loop-next.invariant.5 in let v = c.loop-next.invariant.6 in let y = ap (next_weight (weights_before (map entry c.args.scope.now.expanded.now.program.decls.items) c.args.scope.now.within)) c.in-Call.is in let g = c.called.ensures.work in omega arith),
       c.loop-next.invariant.6,
     )
 
@@ -285,8 +285,8 @@ evaluate-loop-next-smaller t c =
 
 pub evaluate-loop-next-preserved : goal.evaluate-loop-next-preserved
 evaluate-loop-next-preserved t c =
-    let es = map entry c.args.expanded.now.program.decls.items in
-    let l = local c.args.locals.now in
+    let es = map entry c.args.scope.now.expanded.now.program.decls.items in
+    let l = local c.args.scope.now.locals.now in
     let k = c.loop-next.depth - 1 in
     let ps = waiting c.loop-next.pending k in
     let vs = kept c.loop-next.values c.loop-next.held in
@@ -300,14 +300,14 @@ evaluate-loop-next-preserved t c =
     let s = c.loop-next.invariant.3 in (
       c.wait-depth-in-Value.ensures.room,
       c.keep-held.ensures.room,
-      w.turned es c.args.within l ps _ vs _ c.in_ok-turn-in-Value.turn _
-          (w.taken es c.args.within l (waiting c.loop-next.pending c.loop-next.depth) ps vs (get_or c.loop-next.pending k c.index-pending-depth.result) c.in-Value.x _ _ last
-          (c.in_ok-turn-in-Value.ensures.meaning es c.args.within l ps vs)
-          (ap (comes_to es c.args.within l (waiting c.loop-next.pending c.loop-next.depth) vs) (sym c.in-Value.is) ∙ c.loop-next.invariant.2))
+      w.turned es c.args.scope.now.within l ps _ vs _ c.in_ok-turn-in-Value.turn _
+          (w.taken es c.args.scope.now.within l (waiting c.loop-next.pending c.loop-next.depth) ps vs (get_or c.loop-next.pending k c.index-pending-depth.result) c.in-Value.x _ _ last
+          (c.in_ok-turn-in-Value.ensures.meaning es c.args.scope.now.within l ps vs)
+          (ap (comes_to es c.args.scope.now.within l (waiting c.loop-next.pending c.loop-next.depth) vs) (sym c.in-Value.is) ∙ c.loop-next.invariant.2))
           c.wait-depth-in-Value.ensures.waits c.keep-held.ensures.keeps,
       omega arith,
       c.wait-depth-in-Value.ensures.places,
-      (let u = c.loop-next.invariant.5 in let v = c.loop-next.invariant.6 in let n = ap (next_weight (weights_before (map entry c.args.expanded.now.program.decls.items) c.args.within)) c.in-Value.is in let f = ap (waiting_weight (weights_before (map entry c.args.expanded.now.program.decls.items) c.args.within)) last in let y = w.weight-step (weights_before (map entry c.args.expanded.now.program.decls.items) c.args.within) (get_or c.loop-next.pending k c.index-pending-depth.result) ps in let g = c.in_ok-turn-in-Value.ensures.lighter (weights_before (map entry c.args.expanded.now.program.decls.items) c.args.within) in let h = ap (waiting_weight (weights_before (map entry c.args.expanded.now.program.decls.items) c.args.within)) c.wait-depth-in-Value.ensures.waits in let z = w.weight-waits (weights_before (map entry c.args.expanded.now.program.decls.items) c.args.within) c.in_ok-turn-in-Value.turn.wait ps in let x = c.give.ensures.paid in let cw = w.cost-within (weights_before (map entry c.args.expanded.now.program.decls.items) c.args.within) (get_or c.loop-next.pending k c.index-pending-depth.result) in omega arith),
+      (let u = c.loop-next.invariant.5 in let v = c.loop-next.invariant.6 in let n = ap (next_weight (weights_before (map entry c.args.scope.now.expanded.now.program.decls.items) c.args.scope.now.within)) c.in-Value.is in let f = ap (waiting_weight (weights_before (map entry c.args.scope.now.expanded.now.program.decls.items) c.args.scope.now.within)) last in let y = w.weight-step (weights_before (map entry c.args.scope.now.expanded.now.program.decls.items) c.args.scope.now.within) (get_or c.loop-next.pending k c.index-pending-depth.result) ps in let g = c.in_ok-turn-in-Value.ensures.lighter (weights_before (map entry c.args.scope.now.expanded.now.program.decls.items) c.args.scope.now.within) in let h = ap (waiting_weight (weights_before (map entry c.args.scope.now.expanded.now.program.decls.items) c.args.scope.now.within)) c.wait-depth-in-Value.ensures.waits in let z = w.weight-waits (weights_before (map entry c.args.scope.now.expanded.now.program.decls.items) c.args.scope.now.within) c.in_ok-turn-in-Value.turn.wait ps in let x = c.give.ensures.paid in let cw = w.cost-within (weights_before (map entry c.args.scope.now.expanded.now.program.decls.items) c.args.scope.now.within) (get_or c.loop-next.pending k c.index-pending-depth.result) in omega arith),
       c.loop-next.invariant.6,
     )
 
@@ -315,25 +315,25 @@ evaluate-loop-next-preserved t c =
 
 pub given-returns-in-Some : goal.given-returns-in-Some
 given-returns-in-Some t c =
-    let es = map entry c.args.expanded.now.program.decls.items in
+    let es = map entry c.args.scope.now.expanded.now.program.decls.items in
     record {
       work = (let u = c.applied.ensures.work in omega arith);
       answer =
           c.applied.ensures.answer
-          ∙ ap (meant.applied_within es c.args.within (local c.args.locals.now) (terms c.args.more.now) c.args.fun (names_of (map binder c.in-Some.others.now))) c.bound-inner.ensures
-          ∙ given-bound es c.args.within (local c.args.locals.now) (terms c.args.more.now) c.args.fun (flat c.args.value) c.in-Some.param.now.name.text.items (names_of (map binder c.in-Some.others.now)) (local c.args.earlier.now)
-          ∙ ap (λ ps. meant.given_within es c.args.within (local c.args.locals.now) (flat c.args.value) (terms c.args.more.now) c.args.fun (names_of (map binder ps)) (local c.args.earlier.now)) (sym c.in-Some.ensures.cases.0);
+          ∙ ap (meant.applied_within es c.args.scope.now.within (local c.args.scope.now.locals.now) (terms c.args.more.now) c.args.fun (names_of (map binder c.in-Some.others.now))) c.bound-inner.ensures
+          ∙ given-bound es c.args.scope.now.within (local c.args.scope.now.locals.now) (terms c.args.more.now) c.args.fun (flat c.args.value) c.in-Some.param.now.name.text.items (names_of (map binder c.in-Some.others.now)) (local c.args.earlier.now)
+          ∙ ap (λ ps. meant.given_within es c.args.scope.now.within (local c.args.scope.now.locals.now) (flat c.args.value) (terms c.args.more.now) c.args.fun (names_of (map binder ps)) (local c.args.earlier.now)) (sym c.in-Some.ensures.cases.0);
     }
 
 pub given-returns-in-None : goal.given-returns-in-None
 given-returns-in-None t c =
-    let es = map entry c.args.expanded.now.program.decls.items in
+    let es = map entry c.args.scope.now.expanded.now.program.decls.items in
     let h = no_elements c.args.params.now c.in-None.ensures.cases in
     record {
       work = (let u = c.applied-in-None.ensures.work in omega arith);
       answer =
           c.applied-in-None.ensures.answer
-          ∙ ap (λ ps. meant.applied_within es c.args.within (local c.args.locals.now) (terms c.args.more.now) c.args.fun (names_of (map binder ps)) (local c.args.earlier.now)) h
-          ∙ given-unbound es c.args.within (local c.args.locals.now) (terms c.args.more.now) c.args.fun (flat c.args.value) (local c.args.earlier.now)
-          ∙ ap (λ ps. meant.given_within es c.args.within (local c.args.locals.now) (flat c.args.value) (terms c.args.more.now) c.args.fun (names_of (map binder ps)) (local c.args.earlier.now)) (sym h);
+          ∙ ap (λ ps. meant.applied_within es c.args.scope.now.within (local c.args.scope.now.locals.now) (terms c.args.more.now) c.args.fun (names_of (map binder ps)) (local c.args.earlier.now)) h
+          ∙ given-unbound es c.args.scope.now.within (local c.args.scope.now.locals.now) (terms c.args.more.now) c.args.fun (flat c.args.value) (local c.args.earlier.now)
+          ∙ ap (λ ps. meant.given_within es c.args.scope.now.within (local c.args.scope.now.locals.now) (flat c.args.value) (terms c.args.more.now) c.args.fun (names_of (map binder ps)) (local c.args.earlier.now)) (sym h);
     }
