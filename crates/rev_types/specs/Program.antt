@@ -61,7 +61,7 @@ within es = record { shared = λ name. None; procs = proc_named es; funs = fun_n
 
 -- the sum of weights; a weight past the limit counts as one past it
 abbrev pub plus : ℕ → ℕ → ℕ
-plus a b = min (a + b) 65537
+plus a b = min (a + b) (first_past which.Weight)
 
 abbrev mutual
   -- the weight of an expression: 1 for each node and 1 for each link in place of a chain's node; an

@@ -5,9 +5,12 @@ ghost use Rattle.rev_syntax.specs.View.{entry, extent, links, shape, term, terms
 ghost use Rattle.merge_decl.specs.Table.{find};
 ghost use Rattle.rev_types.specs.Passing.{passed_of};
 ghost use Rattle.merge_decl.specs.Weights.{known_weight};
+ghost use Rattle.rev_kinds.specs.Faults.{first_past};
+ghost use Rattle.rev_kinds.specs.declared.fault.Which.TheVariants as which;
 ghost use Rattle.rev_types.specs.Program as program;
 
 use merge_decl::table::NameTable;
+use rev_kinds::fault::Which;
 use rev_syntax::{Decl, Expr, Link, Name, Node, Size};
 use std::alloc::{AllocError, Global};
 
@@ -31,7 +34,7 @@ pub struct Passed {
 fn plus(a: u32, b: u32) -> u32
     ensures { result ≡ program.plus a b }
 {
-    a.saturating_add(b).min(65537)
+    a.saturating_add(b).min(Which::Weight.limit() + 1)
 }
 
 /// The weight of a fun of this name.
@@ -109,12 +112,13 @@ pub fn cells_in(size: Option<Size>) -> u32
 }
 
 fn capped_cells(cells: i64) -> u32
-    ensures { result ≡ min (program.size_cells cells) 4097 }
+    ensures { result ≡ min (program.size_cells cells) (first_past which.Locations) }
 {
+    let limit = Which::Locations.limit();
     if cells < 0 {
         0
-    } else if cells > 4096 {
-        4097
+    } else if cells > limit as i64 {
+        limit + 1
     } else {
         cells as u32
     }
@@ -124,7 +128,9 @@ fn capped_cells(cells: i64) -> u32
 pub fn located_after(before: u32, cells: u32) -> u32
     ensures { result ≡ program.located_after before cells }
 {
-    before.saturating_add(cells).min(4097)
+    before
+        .saturating_add(cells)
+        .min(Which::Locations.limit() + 1)
 }
 
 impl Passed {
@@ -139,8 +145,8 @@ impl Passed {
             merge_count: 0,
             weights: NameTable::new(alloc),
             located: 0,
-            procs_left: 257,
-            funs_left: 257,
+            procs_left: Which::Procedures.first_past(),
+            funs_left: Which::Funs.first_past(),
         }
     }
 
