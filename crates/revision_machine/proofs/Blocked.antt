@@ -4,12 +4,13 @@ use Rattle.std.proofs.lemmas.Bool.{cases_Bool, true≢false}
 use Rattle.rev_num.specs.Path.{Path, before}
 use Rattle.revision_machine.specs.Machine.{Event, Moves, Forks, Joins, Ended, Machine, Entry, Plain, Joined, Global, Twice, Live, Revisions, start, step, step_at, happens, join_at, join_ended, Final, Reached}
 use Rattle.revision_machine.specs.Conditions.{Counts, Handles, HoldsNone}
-use Rattle.revision_machine.specs.Laws.{local_of, WellForked, IsOrdered, HandlesPrecede, HandleLaw, AllEnded, NoBlockedEnd, IsIn, Census}
+use Rattle.revision_machine.specs.Laws.{local_of, WellForked, IsOrdered, HandlesPrecede, HandleLaw, IsStanding, AllEnded, NoBlockedEnd, IsIn, Census}
 use Rattle.revision_machine.proofs.Paths.{some_inj}
 use Rattle.revision_machine.proofs.PostOrder.{before_trans, before_irrefl}
 use Rattle.revision_machine.proofs.Way.{Way, writes, twice, way}
 use Rattle.revision_machine.proofs.Forker.{keeps_forked, start_forked}
 use Rattle.revision_machine.proofs.Ends.{along}
+use Rattle.revision_machine.proofs.Standing.{standing_law}
 use Rattle.revision_machine.proofs.Order.{ordered_step}
 use Rattle.revision_machine.proofs.Census.{spending_law, no_cost}
 
@@ -113,11 +114,18 @@ module _ (M : Machine) where
 
   -- so each has ended
   pub all_ended : (main : M.Local) → Counts M → (revs : Revisions M) → Reached M main (Live revs) → ((r : Path) → waits_at r (revs r) ≡ true → (q : Path) × (waits_at q (revs q) ≡ true) × (before q r ≡ true)) → AllEnded M (Live revs)
-  all_ended main counts revs reached waits_for r l here = go (going_on (M.next r l)) refl
+  all_ended main counts revs reached waits_for = record { main = stands.main; each = each }
     where
-      go : (b : Bool) → going_on (M.next r l) ≡ b → M.next r l ≡ Ended
-      go false e = ended_since (M.next r l) e
-      go true e = let c = spending_law M main 0 (λ l. 0) counts (no_cost M) (Live revs) reached.by reached.runs in absurd (none_waits revs c.1.0 c.1.1 waits_for r (ap (waits_at r) here ∙ e))
+      stands : IsStanding M revs
+      stands = standing_law M main (Live revs) reached
+
+      of_plain : (r : Path) (l : M.Local) → revs r ≡ Some (Plain l) → (b : Bool) → going_on (M.next r l) ≡ b → M.next r l ≡ Ended
+      of_plain r l here false e = ended_since (M.next r l) e
+      of_plain r l here true e = let c = spending_law M main 0 (λ l. 0) counts (no_cost M) (Live revs) reached.by reached.runs in absurd (none_waits revs c.1.0 c.1.1 waits_for r (ap (waits_at r) here ∙ e))
+
+      each : (r : Path) (e : Entry M.Local) → revs r ≡ Some e → M.next r (local_of e) ≡ Ended
+      each r (Plain l) here = of_plain r l here (going_on (M.next r l)) refl
+      each r (Joined l) here = stands.marked r l here
 
   module _ (holds : M.Local → Path → Type 0) (H : Handles M holds) (revs : Revisions M) (ordered : IsOrdered M holds revs) (final : Final M (Live revs)) where
     -- where nothing steps, one that has not ended waits for one before it

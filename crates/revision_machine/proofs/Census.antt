@@ -2,13 +2,14 @@
 use Rattle.std.proofs.Common.{◌≡◌, ◌≢◌, ◌⊎◌, inl, inr, ℕ, ◌+◌, ◌*◌, ◌≤◌, length, List, [], ◌∷◌, Some, None, refl, sym, ap, ◌∙◌, subst, arith}
 use Rattle.rev_num.specs.Path.{Path}
 use Rattle.revision_machine.specs.PathMap.{PathMap, with_at}
-use Rattle.revision_machine.specs.Machine.{Ended, Machine, Entry, Plain, Global, Twice, Live, nowhere, Revisions, start, step, Runs}
-use Rattle.revision_machine.specs.Conditions.{Counts, Spends}
-use Rattle.revision_machine.specs.Laws.{WellForked, IsIn, IsDistinct, amount, total, Census, Amounts, SpendingLaw, BoundLaw}
+use Rattle.revision_machine.specs.Machine.{Moves, Forks, Joins, Ended, Machine, Entry, Plain, Global, Twice, Live, nowhere, Revisions, start, step, Runs}
+use Rattle.revision_machine.specs.Conditions.{Counts, Spends, PaysForks}
+use Rattle.revision_machine.specs.Laws.{WellForked, IsIn, IsDistinct, amount, total, Census, Amounts, HasAtMost, SpendingLaw, BoundLaw, CountLaw}
 use Rattle.revision_machine.proofs.Paths.{child-apart, at_here, at_other, decide_same}
 use Rattle.revision_machine.proofs.Way.{put_two, Role, Way, writes, twice, way, Place, own, new, marks, place, going, ended_apart}
 use Rattle.revision_machine.proofs.Diamond.{two_here, two_there, two_other, gone, IsFresh}
 use Rattle.revision_machine.proofs.Forker.{fresh_of, keeps_forked, start_forked}
+use Rattle.revision_machine.proofs.Ends.{along}
 
 module _ {L : Type 0} (of : L → ℕ) where
   total-elsewhere : (revs : PathMap (Entry L)) (r : Path) (e : Entry L) (ps : List Path) → (IsIn r ps → ⊥) → total of (with_at revs r e) ps ≡ total of revs ps
@@ -76,23 +77,34 @@ module _ (M : Machine) where
           go (inr u) (inl v) = inl (sym v)
           go (inr u) (inr v) = inr (c.all p e (sym (two_other revs s o a b p u v) ∙ there))
 
-  -- what is left after a step
-  Left : ℕ → (M.Local → ℕ) → Global M.Local → ℕ → Type 0
-  Left cost of h n = (m : ℕ) × Amounts M of h m × (m + cost ≤ n)
+  -- each event uses up so much, and a fork so much more
+  record Uses (cost more : ℕ) (of : M.Local → ℕ) : Type 0 where
+    moves : (r : Path) (l l' : M.Local) → M.next r l ≡ Moves l' → of l' + cost ≤ of l
+    forks : (r : Path) (l l' c : M.Local) → M.next r l ≡ Forks l' c → of l' + of c + cost + more ≤ of l
+    joins : (r q : Path) (l lq : M.Local) → M.next r l ≡ Joins q → M.next q lq ≡ Ended → of (M.join r l q lq) + cost ≤ of l + of lq
 
-  spend_step : (cost : ℕ) (of : M.Local → ℕ) → Spends M cost of → (revs : Revisions M) → IsFresh M revs → (n : ℕ) → Amounts M of (Live revs) n → (s : Path) (l l' : M.Local) (o : Path) (e : Entry M.Local) → revs s ≡ Some (Plain l) → Role M revs s l l' o e → Left cost of (Live (put_two revs s (Plain l') o e)) n
-  unfolding Left
-  spend_step cost of spends revs fresh n has s l l' o e here x = go (place M x)
+  spends_uses : (cost : ℕ) (of : M.Local → ℕ) → Spends M cost of → Uses cost 0 of
+  spends_uses cost of spends = record { moves = spends.moves; forks = λ r l l' c e. let h = spends.forks r l l' c e in omega arith; joins = spends.joins }
+
+  pays_uses : (of : M.Local → ℕ) → PaysForks M of → Uses 0 1 of
+  pays_uses of pays = record {
+    moves = λ r l l' e. let h = pays.moves r l l' e in omega arith;
+    forks = λ r l l' c e. let h = pays.forks r l l' c e in omega arith;
+    joins = λ r q l lq e f. let h = pays.joins r q l lq e f in omega arith;
+  }
+
+  -- what a list of paths costs, of which each path costs so much
+  abbrev CostsMore : ℕ → (List Path → ℕ) → Type 0
+  CostsMore more price = (p : Path) (ps : List Path) → price (p ∷ ps) ≤ price ps + more
+
+  -- what the revisions have, and what their list costs, after a step
+  LeftAfter : ℕ → (List Path → ℕ) → (M.Local → ℕ) → Revisions M → ℕ → Type 0
+  LeftAfter cost price of revs n = (qs : List Path) × Census revs qs × (total of revs qs + price qs + cost ≤ n)
+
+  use_step : (cost more : ℕ) (price : List Path → ℕ) → CostsMore more price → (of : M.Local → ℕ) → Uses cost more of → (revs : Revisions M) → IsFresh M revs → (ps : List Path) → Census revs ps → (s : Path) (l l' : M.Local) (o : Path) (e : Entry M.Local) → revs s ≡ Some (Plain l) → Role M revs s l l' o e → LeftAfter cost price of (put_two revs s (Plain l') o e) (total of revs ps + price ps)
+  unfolding LeftAfter
+  use_step cost more price dear of uses revs fresh ps c s l l' o e here x = go (place M x)
     where
-      ps : List Path
-      ps = has.0
-
-      c : Census revs ps
-      c = has.1
-
-      was : total of revs ps ≡ n
-      was = has.2
-
       at_s : amount of (revs s) ≡ of l
       at_s = ap (amount of) here
 
@@ -102,7 +114,7 @@ module _ (M : Machine) where
       mid : Revisions M
       mid = with_at revs o e
 
-      go : Place M revs s l l' o e → Left cost of (Live (put_two revs s (Plain l') o e)) n
+      go : Place M revs s l l' o e → LeftAfter cost price of (put_two revs s (Plain l') o e) (total of revs ps + price ps)
       go (own does a ee) =
           let io : IsIn o ps = subst (λ v. IsIn v ps) (sym a) is in
           let one = total-at of revs o e ps c.distinct io in
@@ -110,8 +122,8 @@ module _ (M : Machine) where
           let amount_o : amount of (revs o) ≡ of l = ap (λ v. amount of (revs v)) a ∙ at_s in
           let amount_e : amount of (Some e) ≡ of l' = ap (λ v. amount of (Some v)) ee in
           let amount_s : amount of (mid s) ≡ of l' = ap (λ v. amount of (mid v)) (sym a) ∙ ap (amount of) (at_here revs o e) ∙ amount_e in
-          let law = spends.moves s l l' does in
-          (total of (put_two revs s (Plain l') o e) ps, (ps, census_after revs s o (Plain l') e ps c is io, refl), omega (arith, was))
+          let law = uses.moves s l l' does in
+          (ps, census_after revs s o (Plain l') e ps c is io, omega arith)
       go (marks lq does there ended jl ee) =
           let io : IsIn o ps = c.all o (Plain lq) there in
           let on : M.next s l ≢ Ended = going M x in
@@ -121,8 +133,8 @@ module _ (M : Machine) where
           let amount_o : amount of (revs o) ≡ of lq = ap (amount of) there in
           let amount_e : amount of (Some e) ≡ 0 = ap (λ v. amount of (Some v)) ee in
           let amount_s : amount of (mid s) ≡ of l = ap (amount of) (at_other revs o e s apart) ∙ at_s in
-          let law : of l' + cost ≤ of l + of lq = subst (λ v. of v + cost ≤ of l + of lq) (sym jl) (spends.joins s o l lq does ended) in
-          (total of (put_two revs s (Plain l') o e) ps, (ps, census_after revs s o (Plain l') e ps c is io, refl), omega (arith, was))
+          let law : of l' + cost ≤ of l + of lq = subst (λ v. of v + cost ≤ of l + of lq) (sym jl) (uses.joins s o l lq does ended) in
+          (ps, census_after revs s o (Plain l') e ps c is io, omega arith)
       go (new k does a ee) =
           let apart : o ≢ s = λ v. child-apart s (M.forks l) (sym (sym a ∙ v)) in
           let out : IsIn o ps → ⊥ = λ v. let had = c.each o v in gone M revs o (ap revs a ∙ fresh s l here) had.1 in
@@ -131,8 +143,21 @@ module _ (M : Machine) where
           let amount_e : amount of (Some e) ≡ of k = ap (λ v. amount of (Some v)) ee in
           let amount_o : amount of (put_two revs s (Plain l') o e o) ≡ of k = ap (amount of) (two_there revs s o (Plain l') e (λ v. apart (sym v))) ∙ amount_e in
           let amount_s : amount of (mid s) ≡ of l = ap (amount of) (at_other revs o e s apart) ∙ at_s in
-          let law = spends.forks s l l' k does in
-          (total of (put_two revs s (Plain l') o e) (o ∷ ps), (o ∷ ps, census_more revs s o (Plain l') e ps c is (λ v. apart (sym v)) out, refl), omega (arith, was))
+          let law = uses.forks s l l' k does in
+          let longer = dear o ps in
+          (o ∷ ps, census_more revs s o (Plain l') e ps c is (λ v. apart (sym v)) out, omega arith)
+
+  -- what is left after a step
+  Left : ℕ → (M.Local → ℕ) → Global M.Local → ℕ → Type 0
+  Left cost of h n = (m : ℕ) × Amounts M of h m × (m + cost ≤ n)
+
+  spend_step : (cost : ℕ) (of : M.Local → ℕ) → Spends M cost of → (revs : Revisions M) → IsFresh M revs → (n : ℕ) → Amounts M of (Live revs) n → (s : Path) (l l' : M.Local) (o : Path) (e : Entry M.Local) → revs s ≡ Some (Plain l) → Role M revs s l l' o e → Left cost of (Live (put_two revs s (Plain l') o e)) n
+  unfolding Left LeftAfter
+  spend_step cost of spends revs fresh n has s l l' o e here x =
+      let left = use_step cost 0 (λ ps. 0) (λ p ps. omega arith) of (spends_uses cost of spends) revs fresh has.0 has.1 s l l' o e here x in
+      let was = has.2 in
+      let less = left.2 in
+      (total of (put_two revs s (Plain l') o e) left.0, (left.0, left.1, refl), omega arith)
 
   census_of_start : (main : M.Local) → Census {A = Entry M.Local} (with_at nowhere [] (Plain main)) ([] ∷ [])
   census_of_start main = record { each = each'; all = all'; distinct = (λ v. v, tt) }
@@ -174,6 +199,47 @@ module _ (M : Machine) where
 
   pub spending_law : (main : M.Local) (cost : ℕ) (of : M.Local → ℕ) → Counts M → Spends M cost of → SpendingLaw M main cost of
   spending_law main cost of counts spends g rs runs = runs_spend cost of counts spends rs (start M main) g (start_forked M main) runs (of main) ([] ∷ [], census_of_start main, omega arith)
+
+  -- the revisions, and what they have, are at most so many together
+  Counted : (M.Local → ℕ) → ℕ → Global M.Local → Type 0
+  Counted of most Twice = Unit {0}
+  Counted of most (Live revs) = (ps : List Path) × Census revs ps × (length ps + total of revs ps ≤ most)
+
+  keeps_count : (of : M.Local → ℕ) → Counts M → PaysForks M of → (most : ℕ) → (g h : Global M.Local) (r : Path) → WellForked M g × Counted of most g → step M g r ≡ Some h → WellForked M h × Counted of most h
+  unfolding Counted LeftAfter
+  keeps_count of counts pays most Twice h r good s = none_some s
+    where
+      none_some : {P : Type 0} → None ≡ Some h → P
+      none_some e = absurd cc
+  keeps_count of counts pays most (Live revs) h r good s = (keeps_forked M counts (Live revs) h r good.0 s, by h (way M revs r h s))
+    where
+      by : (h : Global M.Local) → Way M revs r h → Counted of most h
+      by h (twice l q lq here does there) = tt
+      by h (writes l l' o e here x) =
+          let had = good.1 in
+          let left = use_step 0 1 length (λ p ps. omega arith) of (pays_uses of pays) revs (fresh_of M revs good.0) had.0 had.1 r l l' o e here x in
+          let was = had.2 in
+          let less = left.2 in
+          (left.0, left.1, omega arith)
+
+  of_count : (of : M.Local → ℕ) (most : ℕ) (g : Global M.Local) → Counted of most g → HasAtMost M most g
+  unfolding Counted
+  of_count of most Twice c = tt
+  of_count of most (Live revs) c = let h = c.2 in (c.0, c.1, omega arith)
+
+  pub count_law : (main : M.Local) (of : M.Local → ℕ) → Counts M → PaysForks M of → CountLaw M main (1 + of main)
+  unfolding Counted
+  count_law main of counts pays g reached =
+      of_count of (1 + of main) g
+      (along M (λ v. WellForked M v × Counted of (1 + of main) v) (keeps_count of counts pays (1 + of main)) reached.by (start M main) g (start_forked M main, ([] ∷ [], census_of_start main, omega arith)) reached.runs).1
+
+  -- the same of any greater number
+  pub count_up : (main : M.Local) (most more : ℕ) → most ≤ more → CountLaw M main most → CountLaw M main more
+  count_up main most more less law g reached = go g (law g reached)
+    where
+      go : (g : Global M.Local) → HasAtMost M most g → HasAtMost M more g
+      go Twice h = tt
+      go (Live revs) h = let few = h.2 in (h.0, h.1, omega arith)
 
   pub no_cost : Spends M 0 (λ l. 0)
   no_cost = record { moves = λ r l l' e. omega arith; forks = λ r l l' c e. omega arith; wants = λ r q l e. omega arith; joins = λ r q l lq e f. omega arith }

@@ -3,6 +3,7 @@ pub mod Way
 pub mod Diamond
 pub mod Forker
 pub mod Ends
+pub mod Standing
 pub mod PostOrder
 pub mod Order
 pub mod Census
@@ -15,3 +16,14 @@ pub mod Completion
 pub mod Converse
 pub mod Numbers
 pub mod Schedules
+pub mod ByNumber
+pub mod Legs
+pub mod RevisionList
+pub mod Splits
+pub mod Steps
+pub mod Reached
+pub mod Joins
+pub mod Places
+pub mod Exact
+pub mod Runs
+pub mod Orders

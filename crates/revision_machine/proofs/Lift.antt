@@ -5,9 +5,9 @@ use Rattle.rev_num.specs.Path.{Path, child, same}
 use Rattle.revision_machine.specs.PathMap.{PathMap, with_at}
 use Rattle.revision_machine.specs.Machine.{Joins, Ended, Machine, Entry, Plain, Joined, Global, Twice, Live, nowhere, Revisions, start, step, step_at, happens, join_at, join_ended, Runs, Final}
 use Rattle.revision_machine.specs.Laws.{IsIn, AllEnded}
-use Rattle.revision_machine.specs.Births.{born, RunsBearing, AllKnown}
+use Rattle.revision_machine.specs.Births.{offspring, RunsBearing, AllKnown}
 use Rattle.revision_machine.specs.Simulation.{Quiet, stay, more, Simulates, EntryAgrees, Agrees, StepsTo, StepLaw, RunLaw}
-use Rattle.revision_machine.proofs.Bearing.{born_child, known_front, known_back}
+use Rattle.revision_machine.proofs.Bearing.{offspring_child, known_front, known_back}
 use Rattle.revision_machine.proofs.Paths.{same-eq, overwrite, swap, child-apart, at_here, at_other}
 use Rattle.revision_machine.proofs.Way.{put_two, Role, itself, forked, met, Way, writes, twice, way, ended_apart}
 
@@ -45,7 +45,7 @@ module _ (M : Machine) where
       }
 
 module _ (A B : Machine) (R : Path → A.Local → B.Local → Type 0) where
-  agree_put : (u : Revisions A) (v : Revisions B) → ((p : Path) → EntryAgrees A B R p (u p) (v p)) → (r : Path) (x : Entry A.Local) (y : Entry B.Local) → EntryAgrees A B R r (Some x) (Some y) → (p : Path) → EntryAgrees A B R p (with_at u r x p) (with_at v r y p)
+  pub agree_put : (u : Revisions A) (v : Revisions B) → ((p : Path) → EntryAgrees A B R p (u p) (v p)) → (r : Path) (x : Entry A.Local) (y : Entry B.Local) → EntryAgrees A B R r (Some x) (Some y) → (p : Path) → EntryAgrees A B R p (with_at u r x p) (with_at v r y p)
   agree_put u v h r x y xy p = go (same r p) refl
     where
       go : (b : Bool) → same r p ≡ b → EntryAgrees A B R p (cond b (Some x) (u p)) (cond b (Some y) (v p))
@@ -67,7 +67,7 @@ module _ (A B : Machine) (R : Path → A.Local → B.Local → Type 0) where
   marked_of r (Some (Joined a)) b h = (a, refl)
   marked_of r (Some (Plain a)) b h = absurd h
 
-  live_step : (Known : Path → Type 0) → Simulates A B R Known → (u : Revisions A) (v : Revisions B) → ((p : Path) → EntryAgrees A B R p (u p) (v p)) → (r : Path) (w' : Global B.Local) → Way B v r w' → AllKnown Known (born B (Live v) r) → StepsTo A B R r (Live u) w'
+  live_step : (Known : Path → Type 0) → Simulates A B R Known → (u : Revisions A) (v : Revisions B) → ((p : Path) → EntryAgrees A B R p (u p) (v p)) → (r : Path) (w' : Global B.Local) → Way B v r w' → AllKnown Known (offspring B (Live v) r) → StepsTo A B R r (Live u) w'
   live_step Known sim u v h r w' (writes b b' o e here role) known = of_role b b' o e here role
     where
       of_role : (b b' : B.Local) (o : Path) (e : Entry B.Local) → v r ≡ Some (Plain b) → Role B v r b b' o e → StepsTo A B R r (Live u) (Live (put_two v r (Plain b') o e))
@@ -84,7 +84,7 @@ module _ (A B : Machine) (R : Path → A.Local → B.Local → Type 0) where
           }
       of_role b b' o e here (forked _ c does) =
           let x = plain_of r (u r) b (subst (λ t. EntryAgrees A B R r (u r) t) here (h r)) in
-          let m = sim.forks r x.state b b' c x.related does (known (child r (B.forks b)) (subst (IsIn (child r (B.forks b))) (sym (born_child B v r b b' c here does)) (inl refl))) in
+          let m = sim.forks r x.state b b' c x.related does (known (child r (B.forks b)) (subst (IsIn (child r (B.forks b))) (sym (offspring_child B v r b b' c here does)) (inl refl))) in
           let q = quietly A r x.state m.before m.quiet u x.is in
           let k : Path = child r (B.forks b) in
           let mid : Revisions A = with_at u r (Plain m.before) in
@@ -138,8 +138,8 @@ module _ (A B : Machine) (R : Path → A.Local → B.Local → Type 0) where
   from : (Known : Path → Type 0) → Simulates A B R Known → (ws cs : List Path) (g : Global A.Local) (w w' : Global B.Local) → Agrees A B R g w → RunsBearing B w ws w' cs → AllKnown Known cs → (rs : List Path) × (g' : Global A.Local) × Runs A g rs g' × Agrees A B R g' w'
   from Known sim [] cs g w w' h runs known = ([], g, refl, subst (Agrees A B R g) runs.0 h)
   from Known sim (r ∷ ws) cs g w w' h runs known =
-      let one = step_law Known sim g w runs.0 r h runs.1 (known_front Known cs (born B w r) runs.2 runs.3 known) in
-      let rest = from Known sim ws runs.2 one.end runs.0 w' one.agrees runs.4 (known_back Known cs (born B w r) runs.2 runs.3 known) in
+      let one = step_law Known sim g w runs.0 r h runs.1 (known_front Known cs (offspring B w r) runs.2 runs.3 known) in
+      let rest = from Known sim ws runs.2 one.end runs.0 w' one.agrees runs.4 (known_back Known cs (offspring B w r) runs.2 runs.3 known) in
       (replicate one.times r ++ rest.0, rest.1, runs_on A (replicate one.times r) rest.0 g one.end rest.1 one.runs rest.2, rest.3)
 
   pub run_law : (Known : Path → Type 0) (a : A.Local) (b : B.Local) → Simulates A B R Known → R [] a b → RunLaw A B R Known a b
@@ -156,4 +156,4 @@ module _ (A B : Machine) (R : Path → A.Local → B.Local → Type 0) where
       by (Some (Joined a)) f x y z = refl
       by (Some (Plain a)) None x y z = absurd z
       by (Some (Plain a)) (Some (Joined b)) x y z = absurd z
-      by (Some (Plain a)) (Some (Plain b)) x y z = ap (happens A u r a) (sim.ends r a b z (ended r b y))
+      by (Some (Plain a)) (Some (Plain b)) x y z = ap (happens A u r a) (sim.ends r a b z (ended.each r (Plain b) y))

@@ -4,22 +4,22 @@ use Rattle.rev_num.specs.Path.{Path, child, same}
 use Rattle.revision_machine.specs.PathMap.{with_at}
 use Rattle.revision_machine.specs.Machine.{Joins, Ended, Entry, Plain, Joined, Twice, Live, step, step_at, happens, join_at, join_ended}
 use Rattle.revision_machine.specs.Laws.{IsIn, IsDistinct}
-use Rattle.revision_machine.specs.Numbered.{Wish, Goes, Bears, Wants, Stops, Numbered, Listed, World, Both, Listing, at_number, put_number, join_stopped, join_number, leg_of, leg_at, leg, number_of, or_path, named_event, named, paths_of, globe_of, shows}
-use Rattle.revision_machine.specs.Births.{born_of, born_at, born}
-use Rattle.revision_machine.proofs.Paths.{some_inj, same_refl, apart-same, swap, overwrite, at_here, at_other}
+use Rattle.revision_machine.specs.Numbered.{Wish, Goes, Bears, Wants, Stops, Numbered, Entries, World, Both, Listing, at_number, put_number, join_stopped, join_number, leg_of, leg_at, leg, number_of, or_path, event_by, machine_by, paths_of, globe_of, shows}
+use Rattle.revision_machine.specs.Births.{offspring_of, offspring_at, offspring}
+use Rattle.revision_machine.proofs.Paths.{some_inj, same_refl, same-eq, apart-same, swap, overwrite, at_here, at_other}
 use Rattle.revision_machine.proofs.Way.{ended_apart}
 
 pub none_some : {P : Type 0} {A : Type 0} {a : A} → None ≡ Some a → P
 none_some e = absurd cc
 
-in-append : (ps qs : List Path) (p : Path) → IsIn p ps → IsIn p (ps ++ qs)
-in-append [] qs p none = absurd none
-in-append (x ∷ ps) qs p (inl e) = inl e
-in-append (x ∷ ps) qs p (inr h) = inr (in-append ps qs p h)
+pub in_append : (ps qs : List Path) (p : Path) → IsIn p ps → IsIn p (ps ++ qs)
+in_append [] qs p none = absurd none
+in_append (x ∷ ps) qs p (inl e) = inl e
+in_append (x ∷ ps) qs p (inr h) = inr (in_append ps qs p h)
 
 pub distinct_front : (ps qs : List Path) → IsDistinct (ps ++ qs) → IsDistinct ps
 distinct_front [] qs d = tt
-distinct_front (p ∷ ps) qs d = (λ i. d.0 (in-append ps qs p i), distinct_front ps qs d.1)
+distinct_front (p ∷ ps) qs d = (λ i. d.0 (in_append ps qs p i), distinct_front ps qs d.1)
 
 pub in_at : (ps : List Path) (m : ℕ) (q : Path) → at_number ps m ≡ Some q → IsIn q ps
 in_at [] m q e = none_some e
@@ -32,6 +32,16 @@ number_at (p ∷ ps) zero q d e = ap (λ b. cond b zero (suc (number_of ps q))) 
 number_at (p ∷ ps) (suc m) q d e =
     let apart : p ≢ q = λ f. d.0 (subst (λ v. IsIn v ps) (sym f) (in_at ps m q e)) in
     ap (λ b. cond b zero (suc (number_of ps q))) (apart-same p q apart) ∙ ap suc (number_at ps m q d.1 e)
+
+-- a path of the table is what stands at its number
+pub number_back : (t : List Path) (q : Path) → IsIn q t → at_number t (number_of t q) ≡ Some q
+number_back [] q none = absurd none
+number_back (p ∷ t) q i = go (λ j. number_back t q j) (same p q) refl i
+  where
+    go : (IsIn q t → at_number t (number_of t q) ≡ Some q) → (b : Bool) → same p q ≡ b → IsIn q (p ∷ t) → at_number (p ∷ t) (cond b zero (suc (number_of t q))) ≡ Some q
+    go later true e i = ap Some (same-eq p q e)
+    go later false e (inl is) = absurd (let clash : true ≡ false = sym (ap (λ v. same v q) (sym is) ∙ same_refl q) ∙ e in cc)
+    go later false e (inr i) = later i
 
 pub at_length : (ps : List Path) (c : Path) (rest : List Path) → at_number (ps ++ c ∷ rest) (length ps) ≡ Some c
 at_length [] c rest = refl
@@ -109,30 +119,30 @@ distinct_more (p ∷ ps) c d out = (λ v. not_in ps v d.0 (λ e. out (inl (sym e
     not_in (q ∷ qs) (inr h) f g = not_in qs h (λ v. f (inr v)) g
 
 module _ (N : Numbered) where
-  abbrev pub paths_with : Listed N.Local → World N.Local → List Path
+  abbrev pub paths_with : Entries N.Local → World N.Local → List Path
   paths_with w Both = paths_of w
   paths_with w (Listing w') = paths_of w'
 
   -- a leg of the world as a step of the machine
-  pub record LegIs (w : Listed N.Local) (n : ℕ) (w' : World N.Local) : Type 0 where
+  pub record LegIs (w : Entries N.Local) (n : ℕ) (w' : World N.Local) : Type 0 where
     pub path : Path
     pub state : N.Local
     pub stands : at_number w n ≡ Some (path, Plain state)
     pub distinct : IsDistinct (paths_with w w')
     pub more : List Path
     pub grows : paths_with w w' ≡ paths_of w ++ more
-    pub bears : (t : List Path) → born (named N t) (Live (globe_of w)) path ≡ more
-    pub steps : (t rest : List Path) → IsDistinct t → t ≡ paths_with w w' ++ rest → step (named N t) (Live (globe_of w)) path ≡ Some (shows w')
+    pub bears : (t : List Path) → offspring (machine_by N t) (Live (globe_of w)) path ≡ more
+    pub steps : (t rest : List Path) → IsDistinct t → t ≡ paths_with w w' ++ rest → step (machine_by N t) (Live (globe_of w)) path ≡ Some (shows w')
 
-  module _ (w : Listed N.Local) (distinct : IsDistinct (paths_of w)) (fresh : (r : Path) (l : N.Local) → globe_of w r ≡ Some (Plain l) → globe_of w (child r (N.forks l)) ≡ None) (n : ℕ) where
+  module _ (w : Entries N.Local) (distinct : IsDistinct (paths_of w)) (fresh : (r : Path) (l : N.Local) → globe_of w r ≡ Some (Plain l) → globe_of w (child r (N.forks l)) ≡ None) (n : ℕ) where
     pub leg_is : (w' : World N.Local) → leg N (Listing w) n ≡ Some w' → LegIs w n w'
     leg_is w' s = of_entry (at_number w n) refl s
       where
-        does : (r : Path) (l : N.Local) → at_number w n ≡ Some (r, Plain l) → (t : List Path) (v : Wish N.Local) → N.next l ≡ v → step (named N t) (Live (globe_of w)) r ≡ happens (named N t) (globe_of w) r l (named_event t r (N.forks l) v)
-        does r l here t v e = ap (step_at (named N t) (globe_of w) r) (globe_there w n r (Plain l) distinct here) ∙ ap (λ u. happens (named N t) (globe_of w) r l (named_event t r (N.forks l) u)) e
+        does : (r : Path) (l : N.Local) → at_number w n ≡ Some (r, Plain l) → (t : List Path) (v : Wish N.Local) → N.next l ≡ v → step (machine_by N t) (Live (globe_of w)) r ≡ happens (machine_by N t) (globe_of w) r l (event_by t r (N.forks l) v)
+        does r l here t v e = ap (step_at (machine_by N t) (globe_of w) r) (globe_there w n r (Plain l) distinct here) ∙ ap (λ u. happens (machine_by N t) (globe_of w) r l (event_by t r (N.forks l) u)) e
 
-        child_of : (r : Path) (l : N.Local) → at_number w n ≡ Some (r, Plain l) → (t : List Path) (v : Wish N.Local) → N.next l ≡ v → born (named N t) (Live (globe_of w)) r ≡ born_of (named N t) r l (named_event t r (N.forks l) v)
-        child_of r l here t v e = ap (born_at (named N t) r) (globe_there w n r (Plain l) distinct here) ∙ ap (λ u. born_of (named N t) r l (named_event t r (N.forks l) u)) e
+        child_of : (r : Path) (l : N.Local) → at_number w n ≡ Some (r, Plain l) → (t : List Path) (v : Wish N.Local) → N.next l ≡ v → offspring (machine_by N t) (Live (globe_of w)) r ≡ offspring_of (machine_by N t) r l (event_by t r (N.forks l) v)
+        child_of r l here t v e = ap (offspring_at (machine_by N t) r) (globe_there w n r (Plain l) distinct here) ∙ ap (λ u. offspring_of (machine_by N t) r l (event_by t r (N.forks l) u)) e
 
         of_stop : (r : Path) (l : N.Local) (m : ℕ) (q : Path) (lq : N.Local) → at_number w n ≡ Some (r, Plain l) → N.next l ≡ Wants m → at_number w m ≡ Some (q, Plain lq) → (v : Wish N.Local) → N.next lq ≡ v → join_stopped N w n r l m q lq v ≡ Some w' → LegIs w n w'
         of_stop r l m q lq here e there Stops f s = subst (LegIs w n) (some_inj s) (record { path = r; state = l; stands = here; distinct = distinct'; more = []; grows = paths₂ ∙ sym (append-nil (paths_of w)); bears = λ t. child_of r l here t (Wants m) e; steps = steps' })
@@ -144,7 +154,7 @@ module _ (N : Numbered) where
             plain_q = globe_there w m q (Plain lq) distinct there
 
             apart : r ≢ q
-            apart = ended_apart (named N []) (globe_of w) r q l lq plain_r (λ g. let clash : Joins (or_path (at_number [] m) r) ≡ Ended = sym (ap (named_event [] r (N.forks l)) e) ∙ g in cc) plain_q (ap (named_event [] q (N.forks lq)) f)
+            apart = ended_apart (machine_by N []) (globe_of w) r q l lq plain_r (λ g. let clash : Joins (or_path (at_number [] m) r) ≡ Ended = sym (ap (event_by [] r (N.forks l)) e) ∙ g in cc) plain_q (ap (event_by [] q (N.forks lq)) f)
 
             n_m : n ≢ m
             n_m g = apart (ap (λ v. v.0) (some_inj (sym here ∙ ap (at_number w) g ∙ there)))
@@ -152,7 +162,7 @@ module _ (N : Numbered) where
             new_state : Entry N.Local
             new_state = Plain (N.join l m lq)
 
-            w₁ : Listed N.Local
+            w₁ : Entries N.Local
             w₁ = put_number w n (r, new_state)
 
             paths₁ : paths_of w₁ ≡ paths_of w
@@ -167,19 +177,19 @@ module _ (N : Numbered) where
             distinct' : IsDistinct (paths_of (put_number w₁ m (q, Joined lq)))
             distinct' = subst IsDistinct (sym paths₂) distinct
 
-            shown : globe_of (put_number w₁ m (q, Joined lq)) ≡ with_at (with_at (globe_of w) r new_state) q (Joined lq)
-            shown = globe_put w₁ m q (Plain lq) (Joined lq) (subst IsDistinct (sym paths₁) distinct) there₁ ∙ ap (λ v. with_at v q (Joined lq)) (globe_put w n r (Plain l) new_state distinct here)
+            shown_is : globe_of (put_number w₁ m (q, Joined lq)) ≡ with_at (with_at (globe_of w) r new_state) q (Joined lq)
+            shown_is = globe_put w₁ m q (Plain lq) (Joined lq) (subst IsDistinct (sym paths₁) distinct) there₁ ∙ ap (λ v. with_at v q (Joined lq)) (globe_put w n r (Plain l) new_state distinct here)
 
-            steps' : (t rest : List Path) → IsDistinct t → t ≡ paths_of (put_number w₁ m (q, Joined lq)) ++ rest → step (named N t) (Live (globe_of w)) r ≡ Some (Live (globe_of (put_number w₁ m (q, Joined lq))))
+            steps' : (t rest : List Path) → IsDistinct t → t ≡ paths_of (put_number w₁ m (q, Joined lq)) ++ rest → step (machine_by N t) (Live (globe_of w)) r ≡ Some (Live (globe_of (put_number w₁ m (q, Joined lq))))
             steps' t rest d is =
                 let at_m : at_number t m ≡ Some q = ap (λ v. at_number v m) (is ∙ ap (λ v. v ++ rest) paths₂) ∙ at_paths w rest m q (Plain lq) there in
                 let back : number_of t q ≡ m = number_at t m q d at_m in
                 does r l here t (Wants m) e
-                ∙ ap (λ v. join_at (named N t) (globe_of w) r l (or_path v r) (globe_of w (or_path v r))) at_m
-                ∙ ap (join_at (named N t) (globe_of w) r l q) plain_q
-                ∙ ap (λ v. join_ended (named N t) (globe_of w) r l q lq (named_event t q (N.forks lq) v)) f
+                ∙ ap (λ v. join_at (machine_by N t) (globe_of w) r l (or_path v r) (globe_of w (or_path v r))) at_m
+                ∙ ap (join_at (machine_by N t) (globe_of w) r l q) plain_q
+                ∙ ap (λ v. join_ended (machine_by N t) (globe_of w) r l q lq (event_by t q (N.forks lq) v)) f
                 ∙ ap (λ v. Some (Live (with_at (with_at (globe_of w) r (Plain (N.join l v lq))) q (Joined lq)))) back
-                ∙ ap (λ v. Some (Live v)) (sym shown)
+                ∙ ap (λ v. Some (Live v)) (sym shown_is)
         of_stop r l m q lq here e there (Goes _) f s = none_some s
         of_stop r l m q lq here e there (Bears _ _) f s = none_some s
         of_stop r l m q lq here e there (Wants _) f s = none_some s
@@ -189,12 +199,12 @@ module _ (N : Numbered) where
         of_target r l m here e (Some (q, Plain lq)) there s = of_stop r l m q lq here e there (N.next lq) refl s
         of_target r l m here e (Some (q, Joined lq)) there s = subst (LegIs w n) (some_inj s) (record { path = r; state = l; stands = here; distinct = distinct; more = []; grows = sym (append-nil (paths_of w)); bears = λ t. child_of r l here t (Wants m) e; steps = steps' })
           where
-            steps' : (t rest : List Path) → IsDistinct t → t ≡ paths_of w ++ rest → step (named N t) (Live (globe_of w)) r ≡ Some Twice
+            steps' : (t rest : List Path) → IsDistinct t → t ≡ paths_of w ++ rest → step (machine_by N t) (Live (globe_of w)) r ≡ Some Twice
             steps' t rest d is =
                 let at_m : at_number t m ≡ Some q = ap (λ v. at_number v m) is ∙ at_paths w rest m q (Joined lq) there in
                 does r l here t (Wants m) e
-                ∙ ap (λ v. join_at (named N t) (globe_of w) r l (or_path v r) (globe_of w (or_path v r))) at_m
-                ∙ ap (join_at (named N t) (globe_of w) r l q) (globe_there w m q (Joined lq) distinct there)
+                ∙ ap (λ v. join_at (machine_by N t) (globe_of w) r l (or_path v r) (globe_of w (or_path v r))) at_m
+                ∙ ap (join_at (machine_by N t) (globe_of w) r l q) (globe_there w m q (Joined lq) distinct there)
 
         of_wish : (r : Path) (l : N.Local) → at_number w n ≡ Some (r, Plain l) → (v : Wish N.Local) → N.next l ≡ v → leg_of N w n r l v ≡ Some w' → LegIs w n w'
         of_wish r l here Stops e s = none_some s
@@ -220,7 +230,7 @@ module _ (N : Numbered) where
             new_state : Entry N.Local
             new_state = Plain (f (length w))
 
-            w₁ : Listed N.Local
+            w₁ : Entries N.Local
             w₁ = put_number w n (r, new_state)
 
             paths₁ : paths_of w₁ ≡ paths_of w
@@ -232,17 +242,17 @@ module _ (N : Numbered) where
             distinct' : IsDistinct (paths_of (w₁ ++ (k, Plain c) ∷ []))
             distinct' = subst IsDistinct (sym paths₂) (distinct_more (paths_of w) k distinct out)
 
-            shown : globe_of (w₁ ++ (k, Plain c) ∷ []) ≡ with_at (with_at (globe_of w) r new_state) k (Plain c)
-            shown = globe_more w₁ k (Plain c) (λ v. out (subst (IsIn k) paths₁ v)) ∙ ap (λ v. with_at v k (Plain c)) (globe_put w n r (Plain l) new_state distinct here)
+            shown_is : globe_of (w₁ ++ (k, Plain c) ∷ []) ≡ with_at (with_at (globe_of w) r new_state) k (Plain c)
+            shown_is = globe_more w₁ k (Plain c) (λ v. out (subst (IsIn k) paths₁ v)) ∙ ap (λ v. with_at v k (Plain c)) (globe_put w n r (Plain l) new_state distinct here)
 
-            steps' : (t rest : List Path) → IsDistinct t → t ≡ paths_of (w₁ ++ (k, Plain c) ∷ []) ++ rest → step (named N t) (Live (globe_of w)) r ≡ Some (Live (globe_of (w₁ ++ (k, Plain c) ∷ [])))
+            steps' : (t rest : List Path) → IsDistinct t → t ≡ paths_of (w₁ ++ (k, Plain c) ∷ []) ++ rest → step (machine_by N t) (Live (globe_of w)) r ≡ Some (Live (globe_of (w₁ ++ (k, Plain c) ∷ [])))
             steps' t rest d is =
                 let split : t ≡ paths_of w ++ k ∷ rest = is ∙ ap (λ v. v ++ rest) paths₂ ∙ append_assoc (paths_of w) (k ∷ []) rest in
                 let at_k : at_number t (length (paths_of w)) ≡ Some k = ap (λ v. at_number v (length (paths_of w))) split ∙ at_length (paths_of w) k rest in
                 let number : number_of t k ≡ length w = number_at t (length (paths_of w)) k d at_k ∙ length-paths w in
                 does r l here t (Bears f c) e
                 ∙ ap (λ v. Some (Live (with_at (with_at (globe_of w) r (Plain (f v))) k (Plain c)))) number
-                ∙ ap (λ v. Some (Live v)) (sym shown)
+                ∙ ap (λ v. Some (Live v)) (sym shown_is)
 
         of_entry : (o : Option (Path × Entry N.Local)) → at_number w n ≡ o → leg_at N w n o ≡ Some w' → LegIs w n w'
         of_entry None here s = none_some s

@@ -1,5 +1,5 @@
 -- What the revisions of a state have together, by any list of them.
-use Rattle.std.proofs.Common.{◌≡◌, ◌≢◌, inl, inr, ℕ, ◌+◌, ◌≤◌, Bool, true, false, cond, List, [], ◌∷◌, length, Some, refl, sym, ap, ◌∙◌, subst, arith}
+use Rattle.std.proofs.Common.{◌≡◌, ◌≢◌, inl, inr, ℕ, suc, ◌+◌, ◌≤◌, Bool, true, false, cond, List, [], ◌∷◌, length, Some, refl, sym, ap, ◌∙◌, subst, arith}
 use Rattle.rev_num.specs.Path.{Path, same}
 use Rattle.revision_machine.specs.PathMap.{PathMap}
 use Rattle.revision_machine.specs.Machine.{Machine, Entry, Plain, Live, Revisions, Runs, Reached}
@@ -123,3 +123,21 @@ module _ (M : Machine) (counts : Counts M) where
         let at' : amount of (revs q) ≡ of t = ap (amount of) there in
         let low = law.2 in
         omega arith
+
+length-without : (p : Path) (qs : List Path) → IsIn p qs → suc (length (without p qs)) ≡ length qs
+unfolding without
+length-without p [] i = absurd i
+length-without p (q ∷ qs) i = go (length-without p qs) (same q p) refl i
+  where
+    go : (IsIn p qs → suc (length (without p qs)) ≡ length qs) → (b : Bool) → same q p ≡ b → IsIn p (q ∷ qs) → suc (length (cond b qs (q ∷ without p qs))) ≡ length (q ∷ qs)
+    go later true e i = refl
+    go later false e (inl i) = let clash : true ≡ false = sym (ap (λ v. same v p) (sym i) ∙ same_refl p) ∙ e in absurd cc
+    go later false e (inr i) = ap suc (later i)
+
+-- a list in which none stands twice is at most as long as one that has all of it
+pub no_longer : (ps qs : List Path) → IsDistinct ps → ((p : Path) → IsIn p ps → IsIn p qs) → length ps ≤ length qs
+no_longer [] qs d has = omega arith
+no_longer (p ∷ ps) qs d has =
+    let rest = no_longer ps (without p qs) d.1 (λ r i. without-in p r qs (has r (inr i)) (λ e. d.0 (subst (λ v. IsIn v ps) e i))) in
+    let one = length-without p qs (has p (inl refl)) in
+    omega arith

@@ -31,6 +31,12 @@ module _ (M : Machine) where
     pub wants : (r q : Path) (l : M.Local) → M.next r l ≡ Joins q → cost ≤ of l
     pub joins : (r q : Path) (l lq : M.Local) → M.next r l ≡ Joins q → M.next q lq ≡ Ended → of (M.join r l q lq) + cost ≤ of l + of lq
 
+  -- an amount of which each fork uses up 1, and that no event adds to
+  pub record PaysForks (of : M.Local → ℕ) : Type 0 where
+    pub moves : (r : Path) (l l' : M.Local) → M.next r l ≡ Moves l' → of l' ≤ of l
+    pub forks : (r : Path) (l l' c : M.Local) → M.next r l ≡ Forks l' c → of l' + of c + 1 ≤ of l
+    pub joins : (r q : Path) (l lq : M.Local) → M.next r l ≡ Joins q → M.next q lq ≡ Ended → of (M.join r l q lq) ≤ of l + of lq
+
   -- a fact on a path and its local state that every event keeps
   pub record IsKept (P : Path → M.Local → Type 0) : Type 0 where
     pub moves : (r : Path) (l l' : M.Local) → P r l → M.next r l ≡ Moves l' → P r l'

@@ -1,8 +1,8 @@
 -- Worlds whose revisions are numbered in the order of their forks, and whose local states hold numbers as handles.
-use Rattle.std.specs.Prelude.{Option, Some, None, ◌≡◌, ◌↔◌, ◌≤◌, ℕ, zero, suc, cond, List, [], ◌∷◌, ◌++◌, length}
+use Rattle.std.specs.Prelude.{Option, Some, None, ◌≡◌, ◌↔◌, ◌<◌, ◌≤◌, ℕ, zero, suc, cond, List, [], ◌∷◌, ◌++◌, length}
 use Rattle.rev_num.specs.Path.{Path, child, same}
 use Rattle.revision_machine.specs.PathMap.{PathMap, with_at}
-use Rattle.revision_machine.specs.Laws.{IsDistinct}
+use Rattle.revision_machine.specs.Laws.{local_of, IsDistinct}
 use Rattle.revision_machine.specs.Births.{RunsBearing}
 use Rattle.revision_machine.specs.Machine.{Event, Moves, Forks, Joins, Ended, Machine, Entry, Plain, Joined, Global, Twice, Live, start, Final}
 
@@ -19,14 +19,14 @@ pub record Numbered : Type 1 where
   pub forks : Local → ℕ
   pub join : Local → ℕ → Local → Local
 
--- the revisions by number, each with its path
-abbrev pub Listed : Type 0 → Type 0
-Listed L = List (Path × Entry L)
+-- the entries of a world by number, each with its path
+abbrev pub Entries : Type 0 → Type 0
+Entries L = List (Path × Entry L)
 
 -- the revisions, or Both, where one was joined a second time
 pub data World (L : Type 0) : Type 0 where
   Both : World L
-  Listing : Listed L → World L
+  Listing : Entries L → World L
 
 abbrev pub at_number : {A : Type 0} → List A → ℕ → Option A
 at_number [] n = None
@@ -39,24 +39,24 @@ put_number (x ∷ xs) zero y = y ∷ xs
 put_number (x ∷ xs) (suc n) y = x ∷ put_number xs n y
 
 module _ (N : Numbered) where
-  abbrev pub join_stopped : Listed N.Local → ℕ → Path → N.Local → ℕ → Path → N.Local → Wish N.Local → Option (World N.Local)
+  abbrev pub join_stopped : Entries N.Local → ℕ → Path → N.Local → ℕ → Path → N.Local → Wish N.Local → Option (World N.Local)
   join_stopped w n r l m q lq Stops = Some (Listing (put_number (put_number w n (r, Plain (N.join l m lq))) m (q, Joined lq)))
   join_stopped w n r l m q lq (Goes _) = None
   join_stopped w n r l m q lq (Bears _ _) = None
   join_stopped w n r l m q lq (Wants _) = None
 
-  abbrev pub join_number : Listed N.Local → ℕ → Path → N.Local → ℕ → Option (Path × Entry N.Local) → Option (World N.Local)
+  abbrev pub join_number : Entries N.Local → ℕ → Path → N.Local → ℕ → Option (Path × Entry N.Local) → Option (World N.Local)
   join_number w n r l m None = None
   join_number w n r l m (Some (q, Joined lq)) = Some Both
   join_number w n r l m (Some (q, Plain lq)) = join_stopped w n r l m q lq (N.next lq)
 
-  abbrev pub leg_of : Listed N.Local → ℕ → Path → N.Local → Wish N.Local → Option (World N.Local)
+  abbrev pub leg_of : Entries N.Local → ℕ → Path → N.Local → Wish N.Local → Option (World N.Local)
   leg_of w n r l (Goes l') = Some (Listing (put_number w n (r, Plain l')))
   leg_of w n r l (Bears f c) = Some (Listing (put_number w n (r, Plain (f (length w))) ++ (child r (N.forks l), Plain c) ∷ []))
   leg_of w n r l (Wants m) = join_number w n r l m (at_number w m)
   leg_of w n r l Stops = None
 
-  abbrev pub leg_at : Listed N.Local → ℕ → Option (Path × Entry N.Local) → Option (World N.Local)
+  abbrev pub leg_at : Entries N.Local → ℕ → Option (Path × Entry N.Local) → Option (World N.Local)
   leg_at w n None = None
   leg_at w n (Some (r, Joined l)) = None
   leg_at w n (Some (r, Plain l)) = leg_of w n r l (N.next l)
@@ -85,16 +85,16 @@ or_path None r = r
 or_path (Some q) r = q
 
 -- numbers are read as paths by a table
-abbrev pub named_event : {L : Type 0} → List Path → Path → ℕ → Wish L → Event L
-named_event t r k (Goes l) = Moves l
-named_event t r k (Bears f c) = Forks (f (number_of t (child r k))) c
-named_event t r k (Wants m) = Joins (or_path (at_number t m) r)
-named_event t r k Stops = Ended
+abbrev pub event_by : {L : Type 0} → List Path → Path → ℕ → Wish L → Event L
+event_by t r k (Goes l) = Moves l
+event_by t r k (Bears f c) = Forks (f (number_of t (child r k))) c
+event_by t r k (Wants m) = Joins (or_path (at_number t m) r)
+event_by t r k Stops = Ended
 
-abbrev pub named : Numbered → List Path → Machine
-named N t = record {
+abbrev pub machine_by : Numbered → List Path → Machine
+machine_by N t = record {
   Local = N.Local;
-  next = λ r l. named_event t r (N.forks l) (N.next l);
+  next = λ r l. event_by t r (N.forks l) (N.next l);
   forks = N.forks;
   join = λ r l q lq. N.join l (number_of t q) lq;
 }
@@ -124,7 +124,7 @@ module _ (N : Numbered) (main : N.Local) where
     pub distinct : IsDistinct paths
     pub children : List Path
     pub are : paths ≡ [] ∷ children
-    pub run : (t rest : List Path) → IsDistinct t → t ≡ paths ++ rest → RunsBearing (named N t) (start (named N t) main) (paths_at t ns) (shows w) children
+    pub run : (t rest : List Path) → IsDistinct t → t ≡ paths ++ rest → RunsBearing (machine_by N t) (start (machine_by N t) main) (paths_at t ns) (shows w) children
 
   -- the paths are those of the world, or in Both those of some world before it
   abbrev pub HasPaths : World N.Local → List Path → Type 0
@@ -133,12 +133,14 @@ module _ (N : Numbered) (main : N.Local) where
 
   -- a legal schedule of numbers is a run by paths
   abbrev pub ScheduleLaw : Type 0
-  ScheduleLaw = (ns : List ℕ) (w : World N.Local) → Replays N (begin N main) ns w → (paths : List Path) × HasPaths w paths × ReadsAs ns w paths
+  ScheduleLaw =
+      (ns : List ℕ) (w : World N.Local) → Replays N (begin N main) ns w → (paths : List Path)
+      × HasPaths w paths × ReadsAs ns w paths
 
   -- a run by paths, whose table has the children in the order of their forks, is a legal schedule of numbers
   abbrev pub RunIsSchedule : Type 0
   RunIsSchedule =
-      (t rest cs rs : List Path) (h : Global N.Local) → IsDistinct t → t ≡ ([] ∷ cs) ++ rest → RunsBearing (named N t) (start (named N t) main) rs h cs
+      (t rest cs rs : List Path) (h : Global N.Local) → IsDistinct t → t ≡ ([] ∷ cs) ++ rest → RunsBearing (machine_by N t) (start (machine_by N t) main) rs h cs
       → (ns : List ℕ) × (w : World N.Local) × Replays N (begin N main) ns w × (shows w ≡ h) × (paths_at t ns ≡ rs)
 
   -- no number has a leg
@@ -149,8 +151,47 @@ module _ (N : Numbered) (main : N.Local) where
   abbrev pub OverLaw : Type 0
   OverLaw =
       (ns : List ℕ) (w : World N.Local) → Replays N (begin N main) ns w → (t rest paths : List Path) → HasPaths w paths → IsDistinct t → t ≡ paths ++ rest
-      → IsOver w ↔ Final (named N t) (shows w)
+      → IsOver w ↔ Final (machine_by N t) (shows w)
+
+  -- each revision of the world has ended, with or without the mark
+  abbrev pub AllStop : World N.Local → Type 0
+  AllStop Both = Unit {0}
+  AllStop (Listing w) =
+      (n : ℕ) (r : Path) (e : Entry N.Local) → at_number w n ≡ Some (r, e)
+      → N.next (local_of e) ≡ Stops
+
+  abbrev pub CountsAtMost : ℕ → World N.Local → Type 0
+  CountsAtMost most Both = Unit {0}
+  CountsAtMost most (Listing w) = length w ≤ most
+
+  -- the world after a legal schedule has at most so many revisions
+  abbrev pub WorldCount : ℕ → Type 0
+  WorldCount most =
+      (ns : List ℕ) (w : World N.Local) → Replays N (begin N main) ns w → CountsAtMost most w
+
+  -- each entry is the least number that has a leg, and at the end none has one
+  abbrev pub Least : World N.Local → List ℕ → World N.Local → Type 0
+  Least v [] w = (v ≡ w) × IsOver v
+  Least v (n ∷ ns) w = (u : World N.Local) × (leg N v n ≡ Some u) × ((m : ℕ) → m < n → leg N v m ≡ None) × Least u ns w
+
+  -- a legal schedule that nothing can go on
+  pub record CompleteSchedule (v : World N.Local) (ns : List ℕ) (w : World N.Local) : Type 0 where
+    pub replays : Replays N v ns w
+    pub over : IsOver w
+
+  -- every legal schedule can be completed
+  abbrev pub ScheduleCompletes : Type 0
+  ScheduleCompletes =
+      (ns : List ℕ) (v : World N.Local) → Replays N (begin N main) ns v
+      → (ms : List ℕ) × (w : World N.Local) × CompleteSchedule v ms w
+
+  -- after any legal schedule, the least numbers in turn complete it
+  abbrev pub LeastCompletes : Type 0
+  LeastCompletes =
+      (ns : List ℕ) (v : World N.Local) → Replays N (begin N main) ns v
+      → (ms : List ℕ) × (w : World N.Local) × Least v ms w × CompleteSchedule v ms w
 
   -- no legal schedule has more entries than this
   abbrev pub ScheduleBound : ℕ → Type 0
-  ScheduleBound most = (ns : List ℕ) (w : World N.Local) → Replays N (begin N main) ns w → length ns ≤ most
+  ScheduleBound most =
+      (ns : List ℕ) (w : World N.Local) → Replays N (begin N main) ns w → length ns ≤ most

@@ -3,7 +3,7 @@ use Rattle.std.specs.Prelude.{Option, Some, None, ◌≡◌, ℕ, List, replicat
 use Rattle.rev_num.specs.Path.{Path, child}
 use Rattle.revision_machine.specs.Machine.{Moves, Forks, Joins, Ended, Machine, Entry, Plain, Joined, Global, Twice, Live, start, step, Runs, Final, Complete}
 use Rattle.revision_machine.specs.Laws.{AllEnded}
-use Rattle.revision_machine.specs.Births.{born, RunsBearing, AllKnown}
+use Rattle.revision_machine.specs.Births.{offspring, RunsBearing, AllKnown}
 
 module _ (M : Machine) where
   -- l goes to l' by local steps
@@ -64,25 +64,39 @@ module _ (A B : Machine) (R : Path → A.Local → B.Local → Type 0) where
 
   -- each step of B, whose child is known if it forks one, is some number of steps of the same revision in A
   abbrev pub StepLaw : (Path → Type 0) → Type 0
-  StepLaw Known = (g : Global A.Local) (w w' : Global B.Local) (r : Path) → Agrees g w → step B w r ≡ Some w' → AllKnown Known (born B w r) → StepsTo r g w'
+  StepLaw Known =
+      (g : Global A.Local) (w w' : Global B.Local) (r : Path) → Agrees g w → step B w r ≡ Some w'
+      → AllKnown Known (offspring B w r) → StepsTo r g w'
 
 module _ (A B : Machine) (R : Path → A.Local → B.Local → Type 0) (Known : Path → Type 0) (a : A.Local) (b : B.Local) where
   -- each run of B whose children are known agrees with a run of A
   abbrev pub RunLaw : Type 0
-  RunLaw = (ws cs : List Path) (w : Global B.Local) → RunsBearing B (start B b) ws w cs → AllKnown Known cs → (rs : List Path) × (g : Global A.Local) × Runs A (start A a) rs g × Agrees A B R g w
+  RunLaw =
+      (ws cs : List Path) (w : Global B.Local) → RunsBearing B (start B b) ws w cs
+      → AllKnown Known cs → (rs : List Path) × (g : Global A.Local) × Runs A (start A a) rs g
+      × Agrees A B R g w
 
   -- at its end every revision has ended
   abbrev pub UnblockedLaw : Type 0
-  UnblockedLaw = (ws cs : List Path) (w : Global B.Local) → RunsBearing B (start B b) ws w cs → AllKnown Known cs → Final B w → AllEnded B w
+  UnblockedLaw =
+      (ws cs : List Path) (w : Global B.Local) → RunsBearing B (start B b) ws w cs
+      → AllKnown Known cs → Final B w → AllEnded B w
 
   -- each complete run of B whose children are known agrees with a complete run of A
   abbrev pub CompleteLaw : Type 0
-  CompleteLaw = (ws cs : List Path) (w : Global B.Local) → RunsBearing B (start B b) ws w cs → AllKnown Known cs → Final B w → (rs : List Path) × (g : Global A.Local) × Complete A (start A a) rs g × Agrees A B R g w
+  CompleteLaw =
+      (ws cs : List Path) (w : Global B.Local) → RunsBearing B (start B b) ws w cs
+      → AllKnown Known cs → Final B w → (rs : List Path) × (g : Global A.Local)
+      × Complete A (start A a) rs g × Agrees A B R g w
 
   -- a complete run of A and one of B whose children are known end in states that agree
   abbrev pub SameEnd : Type 0
-  SameEnd = (rs ws cs : List Path) (g : Global A.Local) (w : Global B.Local) → Complete A (start A a) rs g → RunsBearing B (start B b) ws w cs → AllKnown Known cs → Final B w → Agrees A B R g w
+  SameEnd =
+      (rs ws cs : List Path) (g : Global A.Local) (w : Global B.Local) → Complete A (start A a) rs g
+      → RunsBearing B (start B b) ws w cs → AllKnown Known cs → Final B w → Agrees A B R g w
 
   -- each complete run of A ends in a state that agrees with the end of a complete run of B
   abbrev pub ConverseLaw : Type 0
-  ConverseLaw = (rs : List Path) (g : Global A.Local) → Complete A (start A a) rs g → (ws : List Path) × (w : Global B.Local) × Complete B (start B b) ws w × Agrees A B R g w
+  ConverseLaw =
+      (rs : List Path) (g : Global A.Local) → Complete A (start A a) rs g → (ws : List Path)
+      × (w : Global B.Local) × Complete B (start B b) ws w × Agrees A B R g w

@@ -1,12 +1,25 @@
-//! The theory of revisions, for every machine: what a global state is, how it steps, and the laws that hold of every
-//! state that a run reaches. Its definitions are those of Burckhardt, Baldassin and Leijen (OOPSLA 2010) and of
-//! Burckhardt and Leijen (ESOP 2011) with paths for the names of revisions, apart from what a local state is.
+//! Revisions, for every machine: what a global state is, how it steps, the laws that hold of every state that a run
+//! reaches, and a runner. Its definitions are those of Burckhardt, Baldassin and Leijen (OOPSLA 2010) and of Burckhardt
+//! and Leijen (ESOP 2011) with paths for the names of revisions, apart from what a local state is.
 //!
-//! `specs/Machine.antt` has machines, states and runs, `specs/Conditions.antt` what a machine has to keep,
-//! `specs/Laws.antt` what then holds of it, `specs/Simulation.antt` one machine that does what another does, and
-//! `specs/Numbered.antt` worlds whose revisions have numbers. The laws are proved in `proofs/`; an instance names
-//! them in the contract of a function of its own.
+//! [`theory`] names the laws of every machine that keeps the conditions. A language implements [`Language`], whose rules
+//! are such a machine; [`step`], [`run`] and [`diamond_step`] run it one step at a time, to the end, or two steps in
+//! both orders.
 #![tactic(auto)]
 
-/// Holds the place of the crate's functions, of which it needs none.
-pub fn theory() {}
+mod complete_run;
+mod language;
+mod laws;
+mod list;
+mod one_step;
+mod state;
+mod two_orders;
+
+pub use complete_run::{run, start};
+pub use language::{Language, Next};
+pub use laws::{
+    LawfulMachine, NumberedWorld, Simulated, schedule_theory, simulation_theory, theory,
+};
+pub use one_step::{StepOutcome, step};
+pub use state::{GlobalState, Revision, Revisions};
+pub use two_orders::{BothOrders, copy_state, diamond_step};

@@ -1,4 +1,2 @@
 pub mod Cells
 pub mod SameLemmas
-pub mod Renames
-pub mod NumberedLemmas

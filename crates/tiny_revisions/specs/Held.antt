@@ -1,5 +1,5 @@
 -- Which handles a local state holds, and how many steps it can make at most.
-use Rattle.std.specs.Prelude.{◌≡◌, ◌⊎◌, ℕ, ◌+◌, ◌*◌, List, [], ◌∷◌, Option, Some}
+use Rattle.std.specs.Prelude.{◌≡◌, ◌⊎◌, ℕ, ◌+◌, ◌*◌, List, [], ◌∷◌, length, Option, Some}
 use Rattle.tiny_revisions.specs.declared.value.Value.TheVariants.{Rev}
 use Rattle.tiny_revisions.specs.declared.value.Cell.{Cell}
 use Rattle.tiny_revisions.specs.declared.value.Phase.{Phase}
@@ -33,3 +33,7 @@ module _ {H : Type 0} where
 
   abbrev pub weight : Local H → ℕ
   weight l = weight_at l.phase l.fuel
+
+-- a cell for each location
+abbrev pub HasCells : {K H : Type 0} → List K → List ℕ → Local H → Type 0
+HasCells kinds r l = length l.cells ≡ length kinds

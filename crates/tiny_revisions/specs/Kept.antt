@@ -37,7 +37,7 @@ module _ {H : Type 0} where
     pub none : c.made ≡ 0
     pub held : (h q : H) → Holds (f h) q → Holds l q ⊎ (q ≡ h)
     pub given : (q : H) → Holds c q → Holds l q
-    pub fuel : (h : H) → (f h).fuel + c.fuel ≤ l.fuel
+    pub fuel : (h : H) → (f h).fuel + c.fuel + 1 ≤ l.fuel
     pub weight : (h : H) → weight (f h) + weight c + 1 ≤ weight l
     pub cells : (h : H) → length (f h).cells ≡ length l.cells
     pub given_cells : length c.cells ≡ length l.cells

@@ -8,3 +8,5 @@ pub mod Shown
 pub mod Same
 pub mod Examples
 pub mod Renamed
+pub mod Renames
+pub mod NumberedLemmas

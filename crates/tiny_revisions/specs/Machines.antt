@@ -3,10 +3,12 @@ use Rattle.std.specs.Prelude.{ℕ}
 use Rattle.rev_num.specs.Path.{Path, child}
 use Rattle.revision_machine.specs.Machine as revisions
 use Rattle.revision_machine.specs.Machine.{Event, Machine}
+use Rattle.revision_machine.specs.Rules.{Rules}
 use Rattle.revision_machine.specs.Numbered as numbers
 use Rattle.revision_machine.specs.Numbered.{Wish, Numbered}
 use Rattle.tiny_revisions.specs.Setting.{Setting}
 use Rattle.tiny_revisions.specs.Tiny.{Local, Act, Goes, Bears, Wants, Stops, act, join_of}
+use Rattle.tiny_revisions.specs.Held.{Holds, weight}
 
 -- what the revision r does, which has made so many forks
 abbrev pub event_of_act : Path → ℕ → Act Path → Event (Local Path)
@@ -20,6 +22,10 @@ next s r l = event_of_act r l.made (act s l)
 
 abbrev pub machine : Setting → Machine
 machine s = record { Local = Local Path; next = next s; forks = λ l. l.made; join = λ r l q t. join_of s l t }
+
+-- the machine as the runner takes it: a revision's forks fit a u32
+abbrev pub rules : Setting → Rules (Local Path)
+rules s = record { next = next s; forks = λ l. l.made; join = λ r l q t. join_of s l t; holds = Holds; weight = weight; limit = 4294967295 }
 
 abbrev pub wish_of : Act ℕ → Wish (Local ℕ)
 wish_of (Goes l) = numbers.Goes l

@@ -1,7 +1,7 @@
 -- Words of the contracts.
 use Rattle.std.specs.Prelude.{ℕ, List, ◌++◌, Option, Some, None, Result, Ok, Err, Vec}
-use Rattle.plain_runner.specs.declared.language.Next.{Next}
-use Rattle.plain_runner.specs.declared.language.Next.TheVariants as next
+use Rattle.revision_machine.specs.declared.language.Next.{Next}
+use Rattle.revision_machine.specs.declared.language.Next.TheVariants as next
 use Rattle.tiny_revisions.specs.declared.value.Value.{Value}
 use Rattle.tiny_revisions.specs.declared.value.Cell.{Cell}
 use Rattle.tiny_revisions.specs.declared.value.Phase.{Phase}

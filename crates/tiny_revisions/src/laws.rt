@@ -1,99 +1,60 @@
-//! What holds of every program of the language and of every order of its steps, and worked examples.
+//! What holds of every program of the language and of every order of its steps, and worked examples. The laws of
+//! `revision_machine` hold of it by `theory`, `schedule_theory` and `simulation_theory`, whose traits it implements.
 
-ghost use Rattle.std.specs.Prelude.{◌≡◌, ℕ, List, ◌+◌, ◌*◌, length};
-ghost use Rattle.rev_num.specs.Path.{Path};
-ghost use Rattle.revision_machine.specs.Laws.{
-  DiamondLaw,
-  UniqueEnd,
-  TwiceIsFinal,
-  TwiceInAll,
-  ForkerLaw,
-  HandleLaw,
-  NoBlockedEnd,
-  SpendingLaw,
-  BoundLaw,
-  KeptLaw,
-  CompletionLaw,
-  IsIn,
-};
-ghost use Rattle.revision_machine.specs.Simulation.{
-  StepLaw,
-  RunLaw,
-  UnblockedLaw,
-  CompleteLaw,
-  SameEnd,
-  ConverseLaw,
-};
-ghost use Rattle.revision_machine.specs.Numbered.{
-  ScheduleLaw,
-  RunIsSchedule,
-  OverLaw,
-  ScheduleBound,
-  named,
-};
-ghost use Rattle.revision_machine.specs.Schedules.{ScheduleAgrees, CompleteScheduleAgrees};
+ghost use Rattle.std.specs.Prelude.{◌≡◌, ℕ, ◌+◌, ◌*◌, length};
+ghost use Rattle.revision_machine.specs.Laws.{SpendingLaw, BoundLaw, KeptLaw, CountLaw};
+ghost use Rattle.revision_machine.specs.Numbered.{ScheduleBound, WorldCount};
+ghost use Rattle.revision_machine.specs.Theory.{AreFirst};
 ghost use Rattle.tiny_revisions.specs.Setting.{Setting};
 ghost use Rattle.tiny_revisions.specs.Tiny.{first};
 ghost use Rattle.tiny_revisions.specs.Machines.{machine, numbered};
-ghost use Rattle.tiny_revisions.specs.Held.{Holds, weight};
-ghost use Rattle.tiny_revisions.specs.Renamed.{IsNumbered};
-ghost use Rattle.tiny_revisions.specs.Same.{IsSame, IsAny};
+ghost use Rattle.tiny_revisions.specs.Held.{HasCells};
+ghost use Rattle.tiny_revisions.specs.Same.{DoesItself};
+ghost use Rattle.tiny_revisions.specs.NumberedLemmas.{simulation};
 ghost use Rattle.tiny_revisions.specs.Examples as example;
 
-/// The laws of revisions, over each program `s` and each fuel.
+use crate::program::Program;
+use revision_machine::{LawfulMachine, NumberedWorld, Simulated};
+
+impl LawfulMachine for Program {
+    ghost use Rattle.tiny_revisions.specs.Meets as meets;
+
+    ghost lawful = { λ s. meets.lawful s };
+}
+
+impl NumberedWorld for Program {
+    ghost use Rattle.tiny_revisions.specs.Meets as meets;
+
+    ghost world = { λ s. meets.lawful_world s };
+}
+
+impl Simulated for Program {
+    ghost use Rattle.tiny_revisions.specs.NumberedLemmas as numbers;
+
+    ghost simulation = { λ s. numbers.simulation s };
+}
+
+/// The amounts of the language, over each program `s` and each fuel.
 ///
-/// - `diamond`: two steps of different revisions can be made in either order;
-/// - `unique`, `twice`, `twice_final`: all complete runs have one end, all reach Twice where one run does, and there
-///   nothing steps;
-/// - `forkers`, `handles`: each revision but `main` has its forker, which has counted it, and each handle names a
-///   revision that comes before its holder in post-order;
-/// - `unblocked`: where nothing steps, every revision has ended;
-/// - `fuel`, `bound`: the fuel of the unmarked revisions is never more than at the start, and a run has at most three
-///   times that many steps and one;
-/// - `cells`: each revision has a cell for each location;
-/// - `completes`: every run can be completed.
+/// - `starts`: `main` by paths and `main` by number are related, and hold no handle;
+/// - `fuel`, `bound`, `count`: the fuel of the unmarked revisions is never more than at the start, a run has at most
+///   three times that many steps and one, and a state at most 1 and that many revisions;
+/// - `schedules`, `worlds`: the same of legal schedules and their worlds;
+/// - `cells`: each revision has a cell for each location.
 pub fn laws()
-    ensures diamond { (s : Setting) (fuel : ℕ) → DiamondLaw (machine s) (first s fuel) }
-    ensures unique { (s : Setting) (fuel : ℕ) → UniqueEnd (machine s) (first s fuel) }
-    ensures twice { (s : Setting) (fuel : ℕ) → TwiceInAll (machine s) (first s fuel) }
-    ensures twice_final { (s : Setting) → TwiceIsFinal (machine s) }
-    ensures forkers { (s : Setting) (fuel : ℕ) → ForkerLaw (machine s) (first s fuel) }
-    ensures handles { (s : Setting) (fuel : ℕ) → HandleLaw (machine s) (first s fuel) Holds }
-    ensures unblocked { (s : Setting) (fuel : ℕ) → NoBlockedEnd (machine s) (first s fuel) }
-    ensures fuel { (s : Setting) (fuel : ℕ) → SpendingLaw (machine s) (first s fuel) 0 (λ l. l.fuel) }
-    ensures bound { (s : Setting) (fuel : ℕ) → BoundLaw (machine s) (first s fuel) (3 * fuel + 1) }
-    ensures cells { (s : Setting) (fuel : ℕ) → KeptLaw (machine s) (first s fuel) (λ r l. length l.cells ≡ length s.kinds) }
-    ensures completes { (s : Setting) (fuel : ℕ) → CompletionLaw (machine s) (first s fuel) }
-{}
-
-/// The laws of schedules, where revisions have numbers in the order of their forks and handles are numbers: a legal
-/// schedule is a run by paths, and a run by paths is a legal schedule; no number has a leg exactly where the state is
-/// final; and a legal schedule has at most three times the fuel and one entries.
-pub fn schedule_laws()
-    ensures runs { (s : Setting) (fuel : ℕ) → ScheduleLaw (numbered s) (first s fuel) }
-    ensures schedules { (s : Setting) (fuel : ℕ) → RunIsSchedule (numbered s) (first s fuel) }
-    ensures over { (s : Setting) (fuel : ℕ) → OverLaw (numbered s) (first s fuel) }
-    ensures bound { (s : Setting) (fuel : ℕ) → ScheduleBound (numbered s) (first s fuel) (3 * fuel + 1) }
-{}
-
-/// The program by paths does what it does by numbers, with the paths of a table `t` for its numbers: each step and run
-/// and complete run by numbers, whose children the table has, agrees with one by paths, none is blocked, and all
-/// complete runs end in states that agree. So the world after a legal schedule agrees with a state that a run reaches,
-/// and after a complete schedule with the end of the complete runs, in which every revision has ended.
-pub fn simulation_laws()
-    ensures steps { (s : Setting) (t : List Path) → StepLaw (machine s) (named (numbered s) t) (IsNumbered t) (λ p. IsIn p t) }
-    ensures runs { (s : Setting) (fuel : ℕ) (t : List Path) → RunLaw (machine s) (named (numbered s) t) (IsNumbered t) (λ p. IsIn p t) (first s fuel) (first s fuel) }
-    ensures unblocked { (s : Setting) (fuel : ℕ) (t : List Path) → UnblockedLaw (machine s) (named (numbered s) t) (IsNumbered t) (λ p. IsIn p t) (first s fuel) (first s fuel) }
-    ensures complete { (s : Setting) (fuel : ℕ) (t : List Path) → CompleteLaw (machine s) (named (numbered s) t) (IsNumbered t) (λ p. IsIn p t) (first s fuel) (first s fuel) }
-    ensures same_end { (s : Setting) (fuel : ℕ) (t : List Path) → SameEnd (machine s) (named (numbered s) t) (IsNumbered t) (λ p. IsIn p t) (first s fuel) (first s fuel) }
-    ensures schedule { (s : Setting) (fuel : ℕ) → ScheduleAgrees (machine s) (numbered s) IsNumbered (first s fuel) (first s fuel) }
-    ensures complete_schedule { (s : Setting) (fuel : ℕ) → CompleteScheduleAgrees (machine s) (numbered s) IsNumbered (first s fuel) (first s fuel) }
+    ensures starts { (s : Setting) (n : ℕ) → AreFirst (simulation s) (first s n) (first s n) }
+    ensures fuel { (s : Setting) (n : ℕ) → SpendingLaw (machine s) (first s n) 0 (λ l. l.fuel) }
+    ensures bound { (s : Setting) (n : ℕ) → BoundLaw (machine s) (first s n) (3 * n + 1) }
+    ensures count { (s : Setting) (n : ℕ) → CountLaw (machine s) (first s n) (1 + n) }
+    ensures schedules { (s : Setting) (n : ℕ) → ScheduleBound (numbered s) (first s n) (3 * n + 1) }
+    ensures worlds { (s : Setting) (n : ℕ) → WorldCount (numbered s) (first s n) (1 + n) }
+    ensures cells { (s : Setting) (n : ℕ) → KeptLaw (machine s) (first s n) (HasCells s.kinds) }
 {}
 
 /// The program does what it does itself, with every child known: so each complete run of the one machine ends in a
 /// state that agrees with the end of a complete run of the other.
 pub fn converse_law()
-    ensures { (s : Setting) (fuel : ℕ) → ConverseLaw (machine s) (machine s) IsSame IsAny (first s fuel) (first s fuel) }
+    ensures { (s : Setting) (n : ℕ) → DoesItself s (first s n) }
 {}
 
 /// Worked examples, each by the steps of one run.

@@ -99,7 +99,8 @@ impl Procedure {
 
 impl Program {
     pub fn new(kinds: Vec<Kind>, procedures: Vec<Procedure>, share: u64) -> Program
-        ensures { result ≡ record { kinds = kinds.items; procedures = procedures.items; share = share } }
+        ensures { result
+            ≡ record { kinds = kinds.items; procedures = procedures.items; share = share } }
     {
         Program {
             kinds,

@@ -22,7 +22,7 @@ ghost use Rattle.std.specs.Prelude.{
 ghost use Rattle.rev_num.specs.Path.{child};
 ghost use Rattle.std.specs.Option.{option_map_or};
 ghost use Rattle.tiny_revisions.specs.Tiny as tiny;
-ghost use Rattle.plain_runner.specs.Runner.{event_of, IsStill};
+ghost use Rattle.revision_machine.specs.Rules.{event_of, IsStill};
 ghost use Rattle.tiny_revisions.specs.Machines.{event_of_act, next};
 ghost use Rattle.tiny_revisions.specs.Held.{weight};
 ghost use Rattle.tiny_revisions.specs.Shown.{IsOver, IsOwn};
@@ -30,8 +30,8 @@ ghost use Rattle.tiny_revisions.specs.Shown.{IsOver, IsOwn};
 use crate::merge::{changes, put};
 use crate::program::{Expr, Instr, Kind, Program};
 use crate::value::{Cause, Cell, Phase, Value};
-use plain_runner::language::Next;
 use rev_num::{NumFault, Path, add};
+use revision_machine::Next;
 use std::alloc::{AllocError, Global};
 use std::marker::Model;
 
@@ -287,7 +287,8 @@ impl State {
 
     /// Comes to join the revision of the handle in the slot, or traps where there is none.
     fn join(&mut self, alloc: Global, slot: u32) -> Result<(), AllocError>
-        ensures { OnOk result (self.new ≡ tiny.joining self.old (tiny.handle_at self.old.handles slot)) }
+        ensures { OnOk result
+            (self.new ≡ tiny.joining self.old (tiny.handle_at self.old.handles slot)) }
     {
         match read_handle(alloc, self.handles.as_slice(), slot)? {
             Some(on) => self.phase = Phase::Joining(on),
@@ -322,8 +323,12 @@ impl State {
         procedure: u32,
     ) -> Result<State, AllocError>
         requires { self.old.made + 1 < 2 ^ 32 }
-        ensures child_state { IfOk result (λ c. c ≡ tiny.child_with (min share (self.old.fuel / 2)) self.old procedure) }
-        ensures forker { OnOk result (self.new ≡ tiny.forker_with (min share (self.old.fuel / 2)) self.old slot (child path.now self.old.made)) }
+        ensures child_state { IfOk result
+            (λ c. c ≡ tiny.child_with (min share (self.old.fuel / 2)) self.old procedure) }
+        ensures forker { OnOk result
+            (self.new
+            ≡ tiny.forker_with (min share (self.old.fuel / 2)) self.old slot
+            (child path.now self.old.made)) }
     {
         let part = share.min(self.fuel / 2);
         let child = self.child(alloc, procedure, part)?;
@@ -369,7 +374,10 @@ impl State {
     ) -> Result<Next<State>, AllocError>
         requires made { self.old.made + 1 < 2 ^ 32 }
         requires at { self.old.at + 1 < 2 ^ 64 }
-        ensures event { IfOk result (λ n. event_of n self.new ≡ event_of_act path.now self.old.made (tiny.charged program.now self.old self.old.fuel (Some instr))) }
+        ensures event { IfOk result
+            (λ n. event_of n self.new
+            ≡ event_of_act path.now self.old.made
+            (tiny.charged program.now self.old self.old.fuel (Some instr))) }
         ensures goes { IfOk result (λ n. IsOwn n) }
     {
         if self.fuel == 0 {
@@ -390,7 +398,9 @@ impl State {
         instr: Instr,
     ) -> Result<Next<State>, AllocError>
         requires { self.old.made + 1 < 2 ^ 32 }
-        ensures event { IfOk result (λ n. event_of n self.new ≡ event_of_act path.now self.old.made (tiny.does program.now self.old instr)) }
+        ensures event { IfOk result
+            (λ n. event_of n self.new
+            ≡ event_of_act path.now self.old.made (tiny.does program.now self.old instr)) }
         ensures goes { IfOk result (λ n. IsOwn n) }
     {
         match instr {
@@ -437,7 +447,10 @@ impl State {
     /// where the merge has no value.
     fn compose(&mut self, alloc: Global, kinds: &[Kind], ended: &State) -> Result<(), AllocError>
         requires { self.old.fuel + ended.now.fuel < 2 ^ 64 }
-        ensures { OnOk result (self.new ≡ tiny.settled self.old ended.now (tiny.changes 0 kinds.now self.old.cells ended.now.cells)) }
+        ensures { OnOk result
+            (self.new
+            ≡ tiny.settled self.old ended.now
+            (tiny.changes 0 kinds.now self.old.cells ended.now.cells)) }
     {
         let values = match changes(alloc, kinds, self.cells.as_slice(), ended.cells.as_slice())? {
             Ok(values) => values,

@@ -1,19 +1,16 @@
 //! Programs that run through the generic runner.
 
 ghost use Rattle.std.specs.Prelude.{◌+◌, IfOk};
-ghost use Rattle.plain_runner.specs.States.{shown};
-ghost use Rattle.plain_runner.specs.Answers.{IsReached};
-ghost use Rattle.tiny_revisions.specs.Machines.{machine};
-ghost use Rattle.tiny_revisions.specs.Held.{Holds, weight};
+ghost use Rattle.revision_machine.specs.States.{global_of};
+ghost use Rattle.revision_machine.specs.Rules.{IsWithin};
+ghost use Rattle.tiny_revisions.specs.Machines.{rules};
 
 use crate::program::{Expr, Instr, Kind, Procedure, Program};
 use crate::run::{run_program, start_program};
 use crate::state::State;
 use crate::value::Value;
-use plain_runner::diamond::{Diamond, diamond_step};
-use plain_runner::state::State as Global;
-use plain_runner::step::{Stepped, step};
 use rev_num::Path;
+use revision_machine::{BothOrders, GlobalState, StepOutcome, diamond_step, step};
 use std::alloc::Global as Heap;
 use std::test::Fail;
 
@@ -36,20 +33,20 @@ fn prints(state: &State, wanted: &[i64]) -> bool {
 }
 
 /// Whether `main` is done and has printed these.
-fn ends_with(state: &Global<State>, wanted: &[i64]) -> bool {
+fn ends_with(state: &GlobalState<State>, wanted: &[i64]) -> bool {
     match state {
-        Global::Twice => false,
-        Global::Live(revisions) => match revisions.slots.first() {
+        GlobalState::Twice => false,
+        GlobalState::Live(revisions) => match revisions.list.first() {
             Some(main) => main.state.is_done() && prints(&main.state, wanted),
             None => false,
         },
     }
 }
 
-fn is_twice(state: &Global<State>) -> bool {
+fn is_twice(state: &GlobalState<State>) -> bool {
     match state {
-        Global::Twice => true,
-        Global::Live(_) => false,
+        GlobalState::Twice => true,
+        GlobalState::Live(_) => false,
     }
 }
 
@@ -171,13 +168,13 @@ fn joiners(alloc: Heap) -> Result<Program, std::alloc::AllocError> {
 fn after_three(
     alloc: Heap,
     program: &Program,
-    state: Global<State>,
+    state: GlobalState<State>,
     a: &Path,
     b: &Path,
     c: &Path,
-) -> Result<Global<State>, std::alloc::AllocError>
-    requires { IsReached (machine program.now) Holds (λ l. l.made + weight l) 4294967295 (shown state) }
-    ensures { IfOk result (λ g. IsReached (machine program.now) Holds (λ l. l.made + weight l) 4294967295 (shown g)) }
+) -> Result<GlobalState<State>, std::alloc::AllocError>
+    requires { IsWithin (rules program.now) (global_of state) }
+    ensures { IfOk result (λ g. IsWithin (rules program.now) (global_of g)) }
 {
     let (state, _) = step(program, alloc, state, a)?;
     let (state, _) = step(program, alloc, state, b)?;
@@ -194,7 +191,7 @@ fn answers(rt: HostRuntime) -> Result<(), Fail> {
     let state = start_program(alloc, &program, 1000)?;
     let state = after_three(alloc, &program, state, &main, &main, &one)?;
     let (_, stepped) = step(&program, alloc, state, &one)?;
-    assert!(rt; matches!(stepped, Stepped::Waits { .. }));
+    assert!(rt; matches!(stepped, StepOutcome::Waits { .. }));
     Ok(())
 }
 
@@ -211,6 +208,6 @@ fn both_orders(rt: HostRuntime) -> Result<(), Fail> {
     let state = after_three(alloc, &program, state, &main, &main, &main)?;
     let state = after_three(alloc, &program, state, &ended, &one, &other)?;
     let both = diamond_step(&program, alloc, &state, &one, &other)?;
-    assert!(rt; matches!(both, Diamond::Twice));
+    assert!(rt; matches!(both, BothOrders::Twice));
     Ok(())
 }

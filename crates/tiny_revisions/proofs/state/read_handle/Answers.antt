@@ -1,5 +1,5 @@
 use Rattle.std.proofs.Common.{◌∙◌}
-use Rattle.plain_runner.proofs.Splits.{if_ok_map}
+use Rattle.revision_machine.proofs.Splits.{if_ok_map}
 use Rattle.tiny_revisions.proofs.Cells.{handle_read, handle_past}
 use Rattle.tiny_revisions.proofs.state.read_handle.Goals as goal
 

@@ -1,9 +1,0 @@
-pub mod Slots
-pub mod Splits
-pub mod Steps
-pub mod Reached
-pub mod Joins
-pub mod Places
-pub mod Exact
-pub mod Runs
-pub mod Orders

@@ -1,0 +1,36 @@
+use Rattle.std.proofs.Common.{◌+◌, sym, ap, subst}
+use Rattle.revision_machine.specs.Machine.{Live}
+use Rattle.revision_machine.specs.Rules.{machine_of}
+use Rattle.revision_machine.specs.RevisionList.{globe}
+use Rattle.revision_machine.specs.States.{global_of, global_after}
+use Rattle.revision_machine.specs.StepOutcomes.{IsReached, Tells}
+use Rattle.revision_machine.specs.ListStep.{IsAt, Does}
+use Rattle.revision_machine.proofs.Steps.{revision_at}
+use Rattle.revision_machine.proofs.Exact.{exact, told, after_told}
+use Rattle.revision_machine.proofs.Reached.{steps_on}
+use Rattle.revision_machine.proofs.one_step.step.Goals as goal
+
+pub returns-clause-answers : goal.returns-clause-answers
+returns-clause-answers g c =
+    let M = machine_of (g.L.Language.rules c.args.language.now) in
+    let there = subst (λ v. IsAt v c.in-Some.i c.args.path.now) c.as_slice.ensures.value c.in-Some.ensures in
+    let old = c.in-Live.live.list.items in
+    let new = c.step_at.new.list.items in
+    let a = c.in_ok-outcome.outcome in
+    let x = revision_at old c.in-Some.i there.within in
+    let tells = told M a c.args.path.now old new (subst (λ v. Does M a v old new) (there.path x.0) (c.in_ok-outcome.ensures.step x.0)) in
+    exact M a c.args.path.now (global_of c.args.state) (global_of c.state_after.result) (subst (λ v. Tells M a c.args.path.now v (global_of c.state_after.result)) (sym (ap global_of c.in-Live.is)) (subst (Tells M a c.args.path.now (Live (globe old))) (sym c.state_after.ensures) tells))
+
+pub returns-clause-reached : goal.returns-clause-reached
+returns-clause-reached g c =
+    let M = machine_of (g.L.Language.rules c.args.language.now) in
+    let there = subst (λ v. IsAt v c.in-Some.i c.args.path.now) c.as_slice.ensures.value c.in-Some.ensures in
+    let old = c.in-Live.live.list.items in
+    let new = c.step_at.new.list.items in
+    let a = c.in_ok-outcome.outcome in
+    let x = revision_at old c.in-Some.i there.within in
+    let tells = told M a c.args.path.now old new (subst (λ v. Does M a v old new) (there.path x.0) (c.in_ok-outcome.ensures.step x.0)) in
+    let Within = IsReached M (g.L.Language.rules c.args.language.now).holds (λ l. M.forks l + (g.L.Language.rules c.args.language.now).weight l) (g.L.Language.rules c.args.language.now).limit in
+    let before = subst Within (ap global_of c.in-Live.is) c.requires in
+    subst Within (sym c.state_after.ensures)
+    (after_told M Within a c.args.path.now (Live (globe old)) (global_after a new) before (λ k s. steps_on M (g.L.Language.rules c.args.language.now).holds (g.L.Language.rules c.args.language.now).weight (g.L.Language.rules c.args.language.now).limit (g.met.L.Language.keeps c.args.language.now).counts (g.met.L.Language.keeps c.args.language.now).handles (g.met.L.Language.keeps c.args.language.now).spends c.args.path.now (Live (globe old)) k before s) tells)

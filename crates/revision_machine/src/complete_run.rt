@@ -1,0 +1,204 @@
+//! A run to its end.
+
+ghost use Rattle.std.specs.Prelude.{
+  ◌≡◌,
+  ◌<◌,
+  ◌≤◌,
+  ◌+◌,
+  ℕ,
+  length,
+  vec_len,
+  IfOk,
+  OnOk,
+  All,
+};
+ghost use Rattle.revision_machine.specs.Machine.{Live, start as start_of, Final};
+ghost use Rattle.revision_machine.specs.Conditions.{HoldsNone};
+ghost use Rattle.revision_machine.specs.Laws.{IsDistinct};
+ghost use Rattle.revision_machine.specs.Rules.{machine_of, start_by, IsFirst, IsWithin};
+ghost use Rattle.revision_machine.specs.RevisionList.{paths, globe};
+ghost use Rattle.revision_machine.specs.States.{global_of};
+ghost use Rattle.revision_machine.specs.StepOutcomes.{IsEnd};
+ghost use Rattle.revision_machine.specs.Progress.{Tries, TriesEach, TriesSome, most_of, moved_by};
+
+use crate::language::Language;
+use crate::list::step_at;
+use crate::one_step::StepOutcome;
+use crate::state::{GlobalState, Revision, Revisions};
+use rev_num::Path;
+use std::alloc::{AllocError, Global};
+
+/// What came of some steps.
+#[derive(Clone, Copy, Drop)]
+enum Progress {
+    Moved,
+    Stuck,
+    Twice,
+}
+
+/// The start of a run: `main` alone, at this local state, which holds no handle.
+pub fn start<L: Language>(
+    language: &L,
+    alloc: Global,
+    main: L::State,
+) -> Result<GlobalState<L::State>, AllocError>
+    requires { IsFirst (L.rules language.now) main }
+    ensures start { IfOk result (λ s. global_of s ≡ start_by (L.rules language.now) main) }
+    ensures reached { IfOk result (λ s. IsWithin (L.rules language.now) (global_of s)) }
+{
+    let mut list = Vec::new(alloc);
+    list.push(Revision {
+        path: Path::root(alloc),
+        state: main,
+        joined: false,
+    })?;
+    Ok(GlobalState::Live(Revisions { list }))
+}
+
+/// Steps the revision at this place. One that moved is to be tried again, and before it a child that it forked.
+fn try_step<L: Language>(
+    language: &L,
+    alloc: Global,
+    list: &mut Vec<Revision<L::State>>,
+    place: usize,
+    todo: &mut Vec<usize>,
+) -> Result<Progress, AllocError>
+    requires within { place < length list.old.items }
+    requires distinct { IsDistinct (paths list.old.items) }
+    requires reached { IsWithin (L.rules language.now) (Live (globe list.old.items)) }
+    requires todo { All (λ k. k < length list.old.items) todo.old.items }
+    ensures progress { IfOk result (λ p. Tries (L.rules language.now) place p list.old list.new) }
+    ensures distinct { OnOk result (IsDistinct (paths list.new.items)) }
+    ensures longer { OnOk result (length list.old.items ≤ length list.new.items) }
+    ensures todo { OnOk result (All (λ k. k < length list.new.items) todo.new.items) }
+    ensures more { IfOk result (λ p. vec_len todo.new ≤ vec_len todo.old + most_of p) }
+{
+    let before = list.len();
+    match step_at(language, alloc, list, place)? {
+        StepOutcome::Moved => {}
+        StepOutcome::Twice => return Ok(Progress::Twice),
+        StepOutcome::Waits { .. } | StepOutcome::Ended | StepOutcome::NoSuch => return Ok(
+            Progress::Stuck,
+        ),
+    }
+    note(todo, place, before, list.len())?;
+    Ok(Progress::Moved)
+}
+
+/// Notes the place, and before it that of a new revision if there are more than before.
+fn note(todo: &mut Vec<usize>, place: usize, before: usize, now: usize) -> Result<(), AllocError>
+    requires within { place < now }
+    requires todo { All (λ k. k < now) todo.old.items }
+    ensures todo { OnOk result (All (λ k. k < now) todo.new.items) }
+    ensures more { OnOk result (vec_len todo.new ≤ vec_len todo.old + 2) }
+{
+    todo.push(place)?;
+    if before < now {
+        todo.push(before)?;
+    }
+    Ok(())
+}
+
+/// Runs the list at these places, the last first, and those that they fork, each as far as it goes.
+fn run_these<L: Language>(
+    language: &L,
+    alloc: Global,
+    list: &mut Vec<Revision<L::State>>,
+    mut todo: Vec<usize>,
+) -> Result<Progress, AllocError>
+    requires distinct { IsDistinct (paths list.old.items) }
+    requires reached { IsWithin (L.rules language.now) (Live (globe list.old.items)) }
+    requires todo { All (λ k. k < length list.old.items) todo.items }
+    ensures progress { IfOk result (λ p. TriesSome (L.rules language.now) p list.old list.new) }
+    ensures distinct { OnOk result (IsDistinct (paths list.new.items)) }
+    ensures longer { OnOk result (length list.old.items ≤ length list.new.items) }
+{
+    while let Some(place) = todo.pop() {
+        match try_step(language, alloc, list, place, &mut todo)? {
+            Progress::Twice => return Ok(Progress::Twice),
+            Progress::Moved | Progress::Stuck => {}
+        }
+    }
+    Ok(Progress::Moved)
+}
+
+/// Runs the revision at this place, and those that it forks, each as far as it goes.
+fn run_from<L: Language>(
+    language: &L,
+    alloc: Global,
+    list: &mut Vec<Revision<L::State>>,
+    place: usize,
+) -> Result<Progress, AllocError>
+    requires within { place < length list.old.items }
+    requires distinct { IsDistinct (paths list.old.items) }
+    requires reached { IsWithin (L.rules language.now) (Live (globe list.old.items)) }
+    ensures progress { IfOk result (λ p. Tries (L.rules language.now) place p list.old list.new) }
+    ensures distinct { OnOk result (IsDistinct (paths list.new.items)) }
+    ensures longer { OnOk result (length list.old.items ≤ length list.new.items) }
+{
+    let mut todo = Vec::new(alloc);
+    match try_step(language, alloc, list, place, &mut todo)? {
+        Progress::Moved => run_these(language, alloc, list, todo),
+        Progress::Stuck => Ok(Progress::Stuck),
+        Progress::Twice => Ok(Progress::Twice),
+    }
+}
+
+/// Runs each revision in turn as far as it goes.
+fn run_each<L: Language>(
+    language: &L,
+    alloc: Global,
+    list: &mut Vec<Revision<L::State>>,
+) -> Result<Progress, AllocError>
+    requires distinct { IsDistinct (paths list.old.items) }
+    requires reached { IsWithin (L.rules language.now) (Live (globe list.old.items)) }
+    ensures progress { IfOk result (λ p. TriesEach (L.rules language.now) p list.old list.new) }
+    ensures distinct { OnOk result (IsDistinct (paths list.new.items)) }
+{
+    let mut moved = false;
+    for place in 0..list.len() {
+        let progress = run_from(language, alloc, list, place)?;
+        match progress {
+            Progress::Twice => return Ok(Progress::Twice),
+            Progress::Moved | Progress::Stuck => {}
+        }
+        moved = has_moved(moved, progress);
+    }
+    Ok(if moved {
+        Progress::Moved
+    } else {
+        Progress::Stuck
+    })
+}
+
+/// Whether something has moved, now or before.
+fn has_moved(before: bool, progress: Progress) -> bool
+    ensures { result ≡ moved_by before progress }
+{
+    match progress {
+        Progress::Moved => true,
+        Progress::Stuck | Progress::Twice => before,
+    }
+}
+
+/// The end of a complete run from `main`, which is the end of every complete run. Want of memory is the one error.
+pub fn run<L: Language>(
+    language: &L,
+    alloc: Global,
+    main: L::State,
+) -> Result<GlobalState<L::State>, AllocError>
+    requires { IsFirst (L.rules language.now) main }
+    ensures { IfOk result (λ s. IsEnd (machine_of (L.rules language.now)) main (global_of s)) }
+{
+    let mut list = match start(language, alloc, main)? {
+        GlobalState::Live(live) => live.list,
+        GlobalState::Twice => return Ok(GlobalState::Twice),
+    };
+    loop {
+        match run_each(language, alloc, &mut list)? {
+            Progress::Moved => {}
+            Progress::Stuck => return Ok(GlobalState::Live(Revisions { list })),
+            Progress::Twice => return Ok(GlobalState::Twice),
+        }
+    }
+}
