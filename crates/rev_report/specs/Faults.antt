@@ -2,8 +2,6 @@
 use Rattle.std.specs.Prelude.{ℕ, List, codes}
 use Rattle.rev_report.specs.declared.fault.TextFault.{TextFault}
 use Rattle.rev_report.specs.declared.fault.TextFault.TheVariants as f
-use Rattle.rev_report.specs.declared.fault.Limited.{Limited}
-use Rattle.rev_report.specs.declared.fault.Limited.TheVariants as l
 
 abbrev pub name_of_fault : TextFault → List ℕ
 name_of_fault f.BadByte = codes "bad byte"
@@ -20,12 +18,3 @@ name_of_fault f.Redeclared = codes "redeclared name"
 name_of_fault f.WrongType = codes "wrong type"
 name_of_fault f.WrongCount = codes "wrong count"
 name_of_fault f.NoReturn = codes "missing return"
-
-abbrev pub name_of_limited : Limited → List ℕ
-name_of_limited l.Locations = codes "locations"
-name_of_limited l.Procedures = codes "procedures"
-name_of_limited l.Funs = codes "funs"
-name_of_limited l.Parameters = codes "parameters"
-name_of_limited l.Locals = codes "locals"
-name_of_limited l.Items = codes "items"
-name_of_limited l.Weight = codes "weight"

@@ -9,13 +9,17 @@ space = 32
 abbrev pub line_feed : ℕ
 line_feed = 10
 
+-- a line of these bytes
+abbrev pub with_line_feed : List ℕ → List ℕ
+with_line_feed bytes = bytes ++ line_feed ∷ []
+
 -- the numbers in decimal with one space between two of them
 abbrev pub numbers_text : List ℤ → List ℕ
 numbers_text numbers = join_with_byte space (map signed_decimal numbers)
 
 -- the line of one print
 abbrev pub line : List ℤ → List ℕ
-line numbers = numbers_text numbers ++ line_feed ∷ []
+line numbers = with_line_feed (numbers_text numbers)
 
 -- the lines of prints, one after another
 abbrev pub lines : List (List ℤ) → List ℕ

@@ -1,12 +1,13 @@
 -- What is written of a refusal.
-use Rattle.std.specs.Prelude.{ℕ, List, [], ◌∷◌, ◌++◌, codes, Result, Ok, Err}
+use Rattle.std.specs.Prelude.{ℕ, List, [], ◌++◌, codes, Result, Ok, Err}
 use Rattle.std.specs.Fmt.{decimal}
 use Rattle.rev_report.specs.Status.{read_fault_status, refused_status, usage_status}
-use Rattle.rev_report.specs.Lines.{line_feed}
+use Rattle.rev_report.specs.Lines.{with_line_feed}
 use Rattle.rev_report.specs.Report.{Output}
-use Rattle.rev_report.specs.Faults.{name_of_fault, name_of_limited}
+use Rattle.rev_report.specs.Faults.{name_of_fault}
+use Rattle.rev_report.specs.Limits.{name_of_limit}
 use Rattle.rev_report.specs.declared.fault.Place.{Place}
-use Rattle.rev_report.specs.declared.fault.Limited.{Limited}
+use Rattle.rev_report.specs.declared.limit.Limit.{Limit}
 use Rattle.rev_report.specs.declared.refusal.Refusal.{Refusal}
 use Rattle.rev_report.specs.declared.refusal.Refusal.TheVariants as refusals
 
@@ -15,8 +16,8 @@ abbrev pub at_place : Place → List ℕ → List ℕ
 at_place p what =
     codes "error: line " ++ (decimal p.line ++ (codes " column " ++ (decimal p.column ++ (codes ": " ++ what))))
 
-abbrev pub more_than : ℕ → Limited → List ℕ
-more_than limit which = codes "more than " ++ (decimal limit ++ (codes " " ++ name_of_limited which))
+abbrev pub more_than : ℕ → Limit → List ℕ
+more_than limit which = codes "more than " ++ (decimal limit ++ (codes " " ++ name_of_limit which))
 
 abbrev pub message : Refusal → List ℕ
 message refusals.Usage = codes "usage: revise MODE [options] [numbers]"
@@ -36,7 +37,7 @@ status_of refusals.NotBuilt = refused_status
 
 -- the message and a line feed on standard error
 abbrev pub refused : Refusal → Output
-refused f = record { out = []; err = message f ++ line_feed ∷ []; status = status_of f }
+refused f = record { out = []; err = with_line_feed (message f); status = status_of f }
 
 -- what is written of an answer: of an output itself, or of a refusal
 abbrev pub shown : Result Output Refusal → Output
@@ -45,4 +46,4 @@ shown (Err f) = refused f
 
 -- the message for want of memory
 abbrev pub no_memory : List ℕ
-no_memory = codes "error: out of memory" ++ line_feed ∷ []
+no_memory = with_line_feed (codes "error: out of memory")

@@ -1,6 +1,6 @@
 //! What can be wrong with a text, and where.
 ghost use Rattle.std.specs.Prelude.{◌≡◌};
-ghost use Rattle.rev_report.specs.Faults.{name_of_fault, name_of_limited};
+ghost use Rattle.rev_report.specs.Faults.{name_of_fault};
 
 /// A place of a text: a line and a column, both counted from 1.
 #[derive(Clone, Copy, PartialEq, Eq, Debug, Drop)]
@@ -42,18 +42,6 @@ pub enum TextFault {
     NoReturn,
 }
 
-/// What a text may have only so many of.
-#[derive(Clone, Copy, PartialEq, Eq, Debug, Drop)]
-pub enum Limited {
-    Locations,
-    Procedures,
-    Funs,
-    Parameters,
-    Locals,
-    Items,
-    Weight,
-}
-
 impl TextFault {
     /// How a message names the fault.
     pub(crate) fn name(self) -> &'static str
@@ -74,23 +62,6 @@ impl TextFault {
             TextFault::WrongType => "wrong type",
             TextFault::WrongCount => "wrong count",
             TextFault::NoReturn => "missing return",
-        }
-    }
-}
-
-impl Limited {
-    /// How a message names what there is too much of.
-    pub(crate) fn name(self) -> &'static str
-        ensures { result.now ≡ name_of_limited self }
-    {
-        match self {
-            Limited::Locations => "locations",
-            Limited::Procedures => "procedures",
-            Limited::Funs => "funs",
-            Limited::Parameters => "parameters",
-            Limited::Locals => "locals",
-            Limited::Items => "items",
-            Limited::Weight => "weight",
         }
     }
 }

@@ -1,17 +1,22 @@
 //! What a call of the program writes, and the status with which it ends.
 //!
-//! A report is what standard output and standard error get, and a status. There is one for a run,
-//! which has its printed lines, and one for each refusal, which has its message alone.
+//! A report is what standard output and standard error get, and a status. There is one for each
+//! outcome of a run, which has what `main` printed and the message of its trap, and one for each
+//! refusal, which has its message alone.
 #![tactic(auto)]
 
 mod fault;
+mod limit;
 mod lines;
+mod outcome;
 mod refusal;
 mod report;
 pub mod status;
 
-pub use fault::{Limited, Place, TextFault};
+pub use fault::{Place, TextFault};
+pub use limit::Limit;
 pub use lines::append_line;
+pub use outcome::outcome_bytes;
 pub use refusal::{Refusal, no_memory_message, refusal_bytes};
 pub use report::{Report, printed_report};
 
@@ -86,13 +91,13 @@ mod tests {
     #[test]
     fn limits_of_texts(rt: HostRuntime) -> Result<(), Fail> {
         let wants = [
-            (4096, Limited::Locations, "more than 4096 locations"),
-            (256, Limited::Procedures, "more than 256 procedures"),
-            (256, Limited::Funs, "more than 256 funs"),
-            (8, Limited::Parameters, "more than 8 parameters"),
-            (64, Limited::Locals, "more than 64 locals"),
-            (64, Limited::Items, "more than 64 items"),
-            (65536, Limited::Weight, "more than 65536 weight"),
+            (4096, Limit::Locations, "more than 4096 locations"),
+            (256, Limit::Procedures, "more than 256 procedures"),
+            (256, Limit::Funs, "more than 256 funs"),
+            (8, Limit::Parameters, "more than 8 parameters"),
+            (64, Limit::Locals, "more than 64 locals"),
+            (64, Limit::Items, "more than 64 items"),
+            (65536, Limit::Weight, "more than 65536 weight"),
         ];
         let place = Place {
             line: 10,

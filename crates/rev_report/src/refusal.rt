@@ -4,7 +4,8 @@ ghost use Rattle.std.specs.String.{string_bytes};
 ghost use Rattle.rev_report.specs.Report.{output};
 ghost use Rattle.rev_report.specs.Messages.{at_place, message, more_than, no_memory, refused, status_of};
 
-use crate::fault::{Limited, Place, TextFault};
+use crate::fault::{Place, TextFault};
+use crate::limit::Limit;
 use crate::report::Report;
 use crate::status;
 use std::alloc::{AllocError, Global};
@@ -27,7 +28,7 @@ pub enum Refusal {
     OverLimit {
         place: Place,
         limit: u32,
-        which: Limited,
+        which: Limit,
     },
     /// The text is a program that does not run yet.
     NotBuilt,
@@ -42,7 +43,7 @@ fn located(alloc: Global, place: Place, what: &str) -> Result<String, AllocError
 }
 
 /// That a text has more of something than it may have.
-fn more_than(alloc: Global, limit: u32, which: Limited) -> Result<String, AllocError>
+fn more_than(alloc: Global, limit: u32, which: Limit) -> Result<String, AllocError>
     ensures { IfOk result (λ s. string_bytes s ≡ more_than limit which) }
 {
     let name = which.name();
