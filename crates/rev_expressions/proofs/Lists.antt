@@ -1,15 +1,15 @@
 -- Equations of the parser, for lists with commas and for rules that are repeated.
 use Rattle.std.proofs.Common.{◌≡◌, ℕ, zero, suc, Bool, true, false, cond, ◌&&◌, ◌||◌, List, [], ◌∷◌, ◌++◌, length, Option, Some, None, refl, sym, ap, ◌∙◌, append_assoc}
 use Rattle.rev_syntax.specs.declared.token.Token.{Token}
-use Rattle.rev_expressions.specs.declared.sort.Sort.{Sort}
-use Rattle.rev_expressions.specs.declared.sort.Sort.TheVariants as s
-use Rattle.rev_expressions.specs.Sorts.{is_same}
+use Rattle.rev_syntax.specs.declared.token.Fixed.TheVariants as s
+use Rattle.rev_expressions.specs.Classes.{Class, is_same}
 use Rattle.token_grammar.specs.Outcome.{Outcome, Read, Failed, Unexpected, and_then, after}
 use Rattle.token_grammar.specs.Reader.{begins, first, is_next, passes, next_kind, read}
 use Rattle.rev_expressions.specs.Grammar.{alphabet, Rule, behind, all, listed, never}
 use Rattle.rev_expressions.specs.Parse.{parse}
 use Rattle.rev_expressions.specs.Lists.{more_of, more_listed}
 use Rattle.rev_expressions.proofs.Turns.{repeat_end, repeat_stop, repeat_go}
+use Rattle.rev_expressions.specs.Classes as class
 
 module _ (bytes : List ℕ) (n : ℕ) {A : Type 0} (F : Rule A) where
   -- ---- a rule as often as it comes
@@ -37,14 +37,14 @@ module _ (bytes : List ℕ) (n : ℕ) {A : Type 0} (F : Rule A) where
   or_nothing true b = refl
   or_nothing false b = refl
 
-  comma_begins : (ts : List Token) → begins alphabet (behind s.Comma F) ts ≡ is_next alphabet s.Comma ts
+  comma_begins : (ts : List Token) → begins alphabet (behind s.Comma F) ts ≡ is_next alphabet (class.fixed s.Comma) ts
   comma_begins ts = by_next (next_kind alphabet ts)
     where
-      by_next : (o : Option Sort) → passes alphabet (first alphabet (behind s.Comma F)) o ≡ passes alphabet (is_same s.Comma) o
+      by_next : (o : Option Class) → passes alphabet (first alphabet (behind s.Comma F)) o ≡ passes alphabet (is_same (class.fixed s.Comma)) o
       by_next None = refl
-      by_next (Some k) = or_nothing (is_same s.Comma k) (first alphabet F k)
+      by_next (Some k) = or_nothing (is_same (class.fixed s.Comma) k) (first alphabet F k)
 
-  comma_read : (ts : List Token) → is_next alphabet s.Comma ts ≡ true → parse bytes n (behind s.Comma F) ts ≡ parse bytes n F (after ts)
+  comma_read : (ts : List Token) → is_next alphabet (class.fixed s.Comma) ts ≡ true → parse bytes n (behind s.Comma F) ts ≡ parse bytes n F (after ts)
   unfolding read
   comma_read [] e = absurd cc
   comma_read (t ∷ ts) e = ap (λ b. and_then (cond b (Read tt ts) (Failed Unexpected (t ∷ ts))) (λ x rest. and_then (parse bytes n F rest) (λ a rest2. Read a rest2))) e ∙ same_outcome (parse bytes n F ts)
@@ -56,10 +56,10 @@ module _ (bytes : List ℕ) (n : ℕ) {A : Type 0} (F : Rule A) where
   pub comma_end : (k : ℕ) (found : List A) (ts : List Token) → k ≡ 0 → more_listed bytes n F k found ts ≡ Read found ts
   comma_end = repeat_end (parse bytes n (behind s.Comma F)) never (begins alphabet (behind s.Comma F))
 
-  pub comma_stop : (k : ℕ) (found : List A) (ts : List Token) → is_next alphabet s.Comma ts ≡ false → more_listed bytes n F k found ts ≡ Read found ts
+  pub comma_stop : (k : ℕ) (found : List A) (ts : List Token) → is_next alphabet (class.fixed s.Comma) ts ≡ false → more_listed bytes n F k found ts ≡ Read found ts
   comma_stop k found ts e = repeat_stop (parse bytes n (behind s.Comma F)) never (begins alphabet (behind s.Comma F)) k found ts (comma_begins ts ∙ e)
 
-  pub comma_go : (k j : ℕ) (found : List A) (ts : List Token) → k ≡ suc j → is_next alphabet s.Comma ts ≡ true → more_listed bytes n F k found ts ≡ and_then (parse bytes n F (after ts)) (λ a rest. more_listed bytes n F j (found ++ a ∷ []) rest)
+  pub comma_go : (k j : ℕ) (found : List A) (ts : List Token) → k ≡ suc j → is_next alphabet (class.fixed s.Comma) ts ≡ true → more_listed bytes n F k found ts ≡ and_then (parse bytes n F (after ts)) (λ a rest. more_listed bytes n F j (found ++ a ∷ []) rest)
   comma_go k j found ts ek e =
       repeat_go (parse bytes n (behind s.Comma F)) never (begins alphabet (behind s.Comma F)) k j found ts ek (comma_begins ts ∙ e)
       ∙ ap (λ o. and_then o (λ a rest. more_listed bytes n F j (found ++ a ∷ []) rest)) (comma_read ts e)

@@ -1,14 +1,14 @@
 -- Equations of the parser, for loops and levels.
 use Rattle.std.proofs.Common.{◌≡◌, ℕ, zero, suc, Bool, true, false, cond, ◌&&◌, ◌||◌, List, [], ◌∷◌, ◌++◌, length, Option, Some, None, refl, ap, ◌∙◌, append_assoc}
 use Rattle.rev_syntax.specs.declared.token.Token.{Token}
-use Rattle.rev_syntax.specs.Trees.{Term}
+use Rattle.rev_syntax.specs.Trees.{Expression}
 use Rattle.rev_syntax.specs.declared.tree.BinaryOp.{BinaryOp}
 use Rattle.token_grammar.specs.Outcome.{Outcome, Read, Failed, Parser, and_then, after}
 use Rattle.token_grammar.specs.Reader.{begins, first, nullable, passes, next_kind, read, repeat, below}
 use Rattle.rev_expressions.specs.declared.expression.Rank.{Rank}
 use Rattle.rev_expressions.specs.declared.expression.Rank.TheVariants as r
 use Rattle.rev_expressions.specs.Grammar.{alphabet, rank_sign, linked, is_single, joined, ranked, operand, product, sum, comparison, conjunction, expr}
-use Rattle.rev_expressions.specs.declared.sort.Sort.{Sort}
+use Rattle.rev_expressions.specs.Classes.{Class}
 use Rattle.rev_expressions.specs.Declarations.{inner}
 use Rattle.rev_expressions.specs.Parse.{parse, links}
 
@@ -72,7 +72,7 @@ ranked_is bytes n r.Product ts = refl
 
 module _ (bytes : List ℕ) (n : ℕ) (rank : Rank) where
   -- the links behind those that were found, of which so many may come
-  abbrev pub more_links : ℕ → List (BinaryOp × Term) → Parser Token (List (BinaryOp × Term))
+  abbrev pub more_links : ℕ → List (BinaryOp × Expression) → Parser Token (List (BinaryOp × Expression))
   more_links = repeat alphabet (parse bytes n (linked (rank_sign rank) (operand bytes rank))) (λ l. is_single rank) (begins alphabet (linked (rank_sign rank) (operand bytes rank)))
 
   sign_is_token : (rank : Rank) → nullable alphabet (rank_sign rank) ≡ false
@@ -91,7 +91,7 @@ module _ (bytes : List ℕ) (n : ℕ) (rank : Rank) where
   link_begins : (ts : List Token) → begins alphabet (linked (rank_sign rank) (operand bytes rank)) ts ≡ begins alphabet (rank_sign rank) ts
   link_begins ts = by_next (next_kind alphabet ts)
     where
-      by_next : (o : Option Sort) → passes alphabet (first alphabet (linked (rank_sign rank) (operand bytes rank))) o ≡ passes alphabet (first alphabet (rank_sign rank)) o
+      by_next : (o : Option Class) → passes alphabet (first alphabet (linked (rank_sign rank) (operand bytes rank))) o ≡ passes alphabet (first alphabet (rank_sign rank)) o
       by_next None = refl
       by_next (Some k) = or_nothing (first alphabet (rank_sign rank) k) (nullable alphabet (rank_sign rank)) (first alphabet (operand bytes rank) k) (sign_is_token rank)
 
@@ -99,20 +99,20 @@ module _ (bytes : List ℕ) (n : ℕ) (rank : Rank) where
   unfolding read
   links_are ts = all_read (parse bytes n (linked (rank_sign rank) (operand bytes rank))) (λ l. is_single rank) (begins alphabet (linked (rank_sign rank) (operand bytes rank))) (more_links (length ts) [] ts)
 
-  pub links_end : (k : ℕ) (found : List (BinaryOp × Term)) (ts : List Token) → k ≡ 0 → more_links k found ts ≡ Read found ts
+  pub links_end : (k : ℕ) (found : List (BinaryOp × Expression)) (ts : List Token) → k ≡ 0 → more_links k found ts ≡ Read found ts
   links_end = repeat_end (parse bytes n (linked (rank_sign rank) (operand bytes rank))) (λ l. is_single rank) (begins alphabet (linked (rank_sign rank) (operand bytes rank)))
 
-  pub links_stop : (k : ℕ) (found : List (BinaryOp × Term)) (ts : List Token) → begins alphabet (rank_sign rank) ts ≡ false → more_links k found ts ≡ Read found ts
+  pub links_stop : (k : ℕ) (found : List (BinaryOp × Expression)) (ts : List Token) → begins alphabet (rank_sign rank) ts ≡ false → more_links k found ts ≡ Read found ts
   links_stop k found ts e = repeat_stop (parse bytes n (linked (rank_sign rank) (operand bytes rank))) (λ l. is_single rank) (begins alphabet (linked (rank_sign rank) (operand bytes rank))) k found ts (link_begins ts ∙ e)
 
-  pub links_go : (k j : ℕ) (found : List (BinaryOp × Term)) (ts : List Token) (o : BinaryOp) → k ≡ suc j → begins alphabet (rank_sign rank) ts ≡ true → parse bytes n (rank_sign rank) ts ≡ Read o (after ts) → more_links k found ts ≡ and_then (parse bytes n (operand bytes rank) (after ts)) (λ e rest. cond (is_single rank) (Read (found ++ (o, e) ∷ []) rest) (more_links j (found ++ (o, e) ∷ []) rest))
+  pub links_go : (k j : ℕ) (found : List (BinaryOp × Expression)) (ts : List Token) (o : BinaryOp) → k ≡ suc j → begins alphabet (rank_sign rank) ts ≡ true → parse bytes n (rank_sign rank) ts ≡ Read o (after ts) → more_links k found ts ≡ and_then (parse bytes n (operand bytes rank) (after ts)) (λ e rest. cond (is_single rank) (Read (found ++ (o, e) ∷ []) rest) (more_links j (found ++ (o, e) ∷ []) rest))
   unfolding read
   links_go k j found ts o ek eb er =
       repeat_go (parse bytes n (linked (rank_sign rank) (operand bytes rank))) (λ l. is_single rank) (begins alphabet (linked (rank_sign rank) (operand bytes rank))) k j found ts ek (link_begins ts ∙ eb)
       ∙ ap (λ s. and_then (and_then s (λ o rest. and_then (parse bytes n (operand bytes rank) rest) (λ e rest2. Read (o, e) rest2))) (λ a rest. cond (is_single rank) (Read (found ++ a ∷ []) rest) (more_links j (found ++ a ∷ []) rest))) er
       ∙ twice (parse bytes n (operand bytes rank) (after ts))
     where
-      twice : (x : Outcome Token Term) → and_then (and_then x (λ e rest2. Read (o, e) rest2)) (λ a rest. cond (is_single rank) (Read (found ++ a ∷ []) rest) (more_links j (found ++ a ∷ []) rest)) ≡ and_then x (λ e rest. cond (is_single rank) (Read (found ++ (o, e) ∷ []) rest) (more_links j (found ++ (o, e) ∷ []) rest))
+      twice : (x : Outcome Token Expression) → and_then (and_then x (λ e rest2. Read (o, e) rest2)) (λ a rest. cond (is_single rank) (Read (found ++ a ∷ []) rest) (more_links j (found ++ a ∷ []) rest)) ≡ and_then x (λ e rest. cond (is_single rank) (Read (found ++ (o, e) ∷ []) rest) (more_links j (found ++ (o, e) ∷ []) rest))
       twice (Read e rest) = refl
       twice (Failed e rest) = refl
 

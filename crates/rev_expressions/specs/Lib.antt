@@ -1,8 +1,9 @@
-pub mod Sorts
+pub mod Classes
 pub mod Source
 pub mod Reads
 pub mod Grammar
 pub mod Statements
 pub mod Declarations
 pub mod Parse
+pub mod Parses
 pub mod Lists

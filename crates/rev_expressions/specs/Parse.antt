@@ -2,13 +2,26 @@
 use Rattle.std.specs.Prelude.{◌≡◌, ℕ, Bool, true, false, List, [], Option, Some, None}
 use Rattle.rev_syntax.specs.declared.token.Token.{Token}
 use Rattle.rev_syntax.specs.declared.tree.BinaryOp.{BinaryOp}
-use Rattle.rev_syntax.specs.Trees.{Word, Term, placed, cell, apply, pick}
-use Rattle.rev_syntax.specs.View.{terms_of}
-use Rattle.token_grammar.specs.Outcome.{Outcome, Read, and_then, after}
-use Rattle.token_grammar.specs.Reader.{begins, below, inside_of, parser, read}
+use Rattle.rev_syntax.specs.Trees.{PlacedName, Expression, placed, cell, apply, pick}
+use Rattle.rev_syntax.specs.View.{expressions_of}
+use Rattle.token_grammar.specs.Outcome.{Outcome, Parser, Read, and_then, after, next}
+use Rattle.token_grammar.specs.Reader.{begins, below, inside_of, is_next, parser, read, taken}
 use Rattle.rev_expressions.specs.declared.expression.Rank.{Rank}
 use Rattle.rev_expressions.specs.Grammar.{alphabet, Rule, Inner, Value, rank_sign, operand, links_by, expr}
+use Rattle.rev_syntax.specs.declared.token.Fixed.{Fixed}
+use Rattle.rev_expressions.specs.Classes as class
 use Rattle.rev_expressions.specs.Declarations.{inner}
+
+-- this word or sign
+abbrev pub expected : Fixed → Parser Token (Unit {0})
+expected sign ts = taken alphabet (class.fixed sign) (λ t. tt) (next ts) ts
+
+-- whether this word or sign comes, and whether a name does
+abbrev pub sign_comes : Fixed → List Token → Bool
+sign_comes sign ts = is_next alphabet (class.fixed sign) ts
+
+abbrev pub name_comes : List Token → Bool
+name_comes ts = is_next alphabet class.name ts
 
 -- what a rule reads, where so many levels may be opened
 abbrev pub parse : List ℕ → ℕ → {A : Type 0} → Rule A → List Token → Outcome Token A
@@ -32,18 +45,18 @@ abbrev pub expr_begins : List Token → Bool
 expr_begins ts = begins alphabet (expr []) ts
 
 -- the links of a chain of this rank
-abbrev pub links : List ℕ → Rank → Rule (List (BinaryOp × Term))
+abbrev pub links : List ℕ → Rank → Rule (List (BinaryOp × Expression))
 links bytes rank = links_by rank (rank_sign rank) (operand bytes rank)
 
 -- what follows a name, at that name
-abbrev pub of_name : Word → Outcome Token (Word → Term) → Outcome Token Term
+abbrev pub of_name : PlacedName → Outcome Token (PlacedName → Expression) → Outcome Token Expression
 of_name w o = and_then o (λ f rest. Read (f w) rest)
 
-abbrev pub of_parts : ℕ → Outcome Token (Term × Term × Term) → Outcome Token Term
+abbrev pub of_parts : ℕ → Outcome Token (Expression × Expression × Expression) → Outcome Token Expression
 of_parts at o = and_then o (λ p rest. Read (placed at (pick p.0 p.1 p.2)) rest)
 
-abbrev pub cell_of : Word → Term → Term
+abbrev pub cell_of : PlacedName → Expression → Expression
 cell_of w i = placed w.at (cell w i)
 
-abbrev pub apply_of : Word → List Term → Term
-apply_of w args = placed w.at (apply w (terms_of args))
+abbrev pub apply_of : PlacedName → List Expression → Expression
+apply_of w args = placed w.at (apply w (expressions_of args))

@@ -3,7 +3,7 @@ use Rattle.std.specs.Prelude.{ℕ, ℤ, pos, ◌-◌, ◌+◌, ◌==◌, if◌th
 use Rattle.rev_syntax.specs.declared.token.Token.{Token}
 use Rattle.rev_syntax.specs.declared.token.TokenKind.{TokenKind}
 use Rattle.rev_syntax.specs.declared.token.TokenKind.TheVariants as k
-use Rattle.rev_syntax.specs.Trees.{Word}
+use Rattle.rev_syntax.specs.Trees.{PlacedName}
 
 -- the places of the line feeds, where the first byte stands at this place
 abbrev pub feeds_from : ℕ → List ℕ → List ℕ
@@ -13,7 +13,7 @@ feeds_from at (b ∷ bs) = if b == 10 then at ∷ feeds_from (at + 1) bs else fe
 abbrev pub slice : List ℕ → ℕ → ℕ → List ℕ
 slice bytes from to = take (to - from) (drop from bytes)
 
-abbrev pub word_of : List ℕ → Token → Word
+abbrev pub word_of : List ℕ → Token → PlacedName
 word_of bytes t = record { at = t.start; text = slice bytes t.start t.end }
 
 -- the bytes between the quotes of a text

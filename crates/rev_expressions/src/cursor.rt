@@ -1,12 +1,11 @@
 // The tokens that are left.
 ghost use Rattle.std.specs.Prelude.{◌≡◌, length};
 ghost use Rattle.token_grammar.specs.Outcome as spec;
-ghost use Rattle.token_grammar.specs.Reader as reader;
-ghost use Rattle.rev_expressions.specs.Grammar.{alphabet};
+ghost use Rattle.rev_expressions.specs.Classes.{class_of, fixed, is_same};
+ghost use Rattle.rev_expressions.specs.Parse.{expected, name_comes, sign_comes};
 ghost use Rattle.rev_expressions.specs.Reads.{Reads, IsWithin, same};
 
-use crate::sort::Sort;
-use rev_syntax::Token;
+use rev_syntax::{Fixed, Token, TokenKind};
 use std::alloc::{AllocError, AllocFailed};
 
 /// Why a text has no tree. The cursor stands at the place.
@@ -73,24 +72,44 @@ impl<'a> Cursor<'a> {
     }
 
     /// Whether the next token is this word or sign.
-    pub fn is_at(&self, sort: Sort) -> bool
-        ensures { result ≡ reader.is_next alphabet sort self.now.rest.now }
+    pub fn is_at(&self, sign: Fixed) -> bool
+        ensures { result ≡ sign_comes sign self.now.rest.now }
     {
         match self.peek() {
-            Some(token) => sort.is_same(Sort::of(token.kind)),
+            Some(token) => is_sign(token.kind, sign),
+            None => false,
+        }
+    }
+
+    /// Whether the next token is a name.
+    pub fn is_at_name(&self) -> bool
+        ensures { result ≡ name_comes self.now.rest.now }
+    {
+        match self.peek() {
+            Some(token) => matches!(token.kind, TokenKind::Name),
             None => false,
         }
     }
 
     /// Reads this word or sign.
-    pub fn expect(&mut self, sort: Sort) -> Result<(), Fault>
-        ensures { Reads (reader.taken alphabet sort (λ t. tt) (spec.next self.old.rest.now) self.old.rest.now) same result self.new.rest.now }
+    pub fn expect(&mut self, sign: Fixed) -> Result<(), Fault>
+        ensures { Reads (expected sign self.old.rest.now) same result self.new.rest.now }
     {
-        if !self.is_at(sort) {
+        if !self.is_at(sign) {
             return Err(Fault::Unexpected);
         }
         self.advance();
         Ok(())
+    }
+}
+
+/// Whether a token of this kind is this word or sign.
+fn is_sign(kind: TokenKind, sign: Fixed) -> bool
+    ensures { result ≡ is_same (fixed sign) (class_of kind) }
+{
+    match kind {
+        TokenKind::Fixed(found) => sign.spelling() == found.spelling(),
+        _ => false,
     }
 }
 

@@ -2,15 +2,14 @@
 ghost use Rattle.std.specs.Prelude.{◌≡◌, ◌++◌, [], ◌∷◌, IfOk, OnOk, map, length};
 ghost use Rattle.rev_expressions.specs.Grammar as spec;
 ghost use Rattle.rev_expressions.specs.Parse.{parse, inside, IsSign, links, of_name, of_parts, cell_of, apply_of, expr_begins};
-ghost use Rattle.rev_expressions.specs.Lists.{more_listed};
-ghost use Rattle.rev_expressions.specs.Reads.{Reads};
+ghost use Rattle.rev_expressions.specs.Lists.{more_behind};
+ghost use Rattle.rev_expressions.specs.Parses.{Parses, ParsesBy};
 ghost use Rattle.rev_syntax.specs.Trees as t;
 ghost use Rattle.rev_syntax.specs.View as view;
 
 use crate::cursor::{Cursor, Fault, within};
-use crate::sort::Sort;
 use crate::source::Source;
-use rev_syntax::{BinaryOp, Expr, Link, Name, Node, Token, TokenKind, UnaryOp};
+use rev_syntax::{BinaryOp, Expr, Fixed, Link, Name, Node, Token, TokenKind, UnaryOp};
 use std::alloc::{AllocError, Global};
 
 /// How loosely the operators of a chain bind.
@@ -29,26 +28,27 @@ fn sign(cursor: &Cursor<'_>, rank: Rank) -> Option<BinaryOp>
     ensures { IsSign rank cursor.now.rest.now result }
 {
     match (rank, cursor.peek()?.kind) {
-        (Rank::Or, TokenKind::Or) => Some(BinaryOp::Or),
-        (Rank::And, TokenKind::And) => Some(BinaryOp::And),
-        (Rank::Compare, TokenKind::Equal) => Some(BinaryOp::Eq),
-        (Rank::Compare, TokenKind::NotEqual) => Some(BinaryOp::Ne),
-        (Rank::Compare, TokenKind::Less) => Some(BinaryOp::Lt),
-        (Rank::Compare, TokenKind::LessEqual) => Some(BinaryOp::Le),
-        (Rank::Compare, TokenKind::Greater) => Some(BinaryOp::Gt),
-        (Rank::Compare, TokenKind::GreaterEqual) => Some(BinaryOp::Ge),
-        (Rank::Sum, TokenKind::Plus) => Some(BinaryOp::Add),
-        (Rank::Sum, TokenKind::Minus) => Some(BinaryOp::Sub),
-        (Rank::Product, TokenKind::Star) => Some(BinaryOp::Mul),
-        (Rank::Product, TokenKind::Slash) => Some(BinaryOp::Div),
-        (Rank::Product, TokenKind::Percent) => Some(BinaryOp::Rem),
+        (Rank::Or, TokenKind::Fixed(Fixed::Or)) => Some(BinaryOp::Or),
+        (Rank::And, TokenKind::Fixed(Fixed::And)) => Some(BinaryOp::And),
+        (Rank::Compare, TokenKind::Fixed(Fixed::Equal)) => Some(BinaryOp::Eq),
+        (Rank::Compare, TokenKind::Fixed(Fixed::NotEqual)) => Some(BinaryOp::Ne),
+        (Rank::Compare, TokenKind::Fixed(Fixed::Less)) => Some(BinaryOp::Lt),
+        (Rank::Compare, TokenKind::Fixed(Fixed::LessEqual)) => Some(BinaryOp::Le),
+        (Rank::Compare, TokenKind::Fixed(Fixed::Greater)) => Some(BinaryOp::Gt),
+        (Rank::Compare, TokenKind::Fixed(Fixed::GreaterEqual)) => Some(BinaryOp::Ge),
+        (Rank::Sum, TokenKind::Fixed(Fixed::Plus)) => Some(BinaryOp::Add),
+        (Rank::Sum, TokenKind::Fixed(Fixed::Minus)) => Some(BinaryOp::Sub),
+        (Rank::Product, TokenKind::Fixed(Fixed::Star)) => Some(BinaryOp::Mul),
+        (Rank::Product, TokenKind::Fixed(Fixed::Slash)) => Some(BinaryOp::Div),
+        (Rank::Product, TokenKind::Fixed(Fixed::Percent)) => Some(BinaryOp::Rem),
         _ => None,
     }
 }
 
 /// A part alone, or a chain that begins with it.
 fn joined(alloc: Global, first: Expr, rest: Vec<Link>) -> Result<Expr, AllocError>
-    ensures { IfOk result (λ e. view.term e ≡ spec.joined (view.term first) (map view.link rest.items)) }
+    ensures { IfOk result
+        (λ e. view.expression e ≡ spec.joined (view.expression first) (map view.link rest.items)) }
 {
     if rest.is_empty() {
         return Ok(first);
@@ -62,14 +62,17 @@ fn joined(alloc: Global, first: Expr, rest: Vec<Link>) -> Result<Expr, AllocErro
 }
 
 fn push_link(found: &mut Vec<Link>, op: BinaryOp, part: Expr) -> Result<(), AllocError>
-    ensures { OnOk result (map view.link found.new.items ≡ map view.link found.old.items ++ (op, view.term part) ∷ []) }
+    ensures { OnOk result
+        (map view.link found.new.items
+        ≡ map view.link found.old.items ++ (op, view.expression part) ∷ []) }
 {
     found.push(Link { op, part })?;
     Ok(())
 }
 
 fn signed(alloc: Global, at: u32, op: UnaryOp, part: Expr) -> Result<Expr, AllocError>
-    ensures { IfOk result (λ e. view.term e ≡ t.placed at (t.unary op (view.term part))) }
+    ensures { IfOk result
+        (λ e. view.expression e ≡ t.placed at (t.unary op (view.expression part))) }
 {
     let part = Box::new(alloc, part)?;
     Ok(Expr {
@@ -79,7 +82,9 @@ fn signed(alloc: Global, at: u32, op: UnaryOp, part: Expr) -> Result<Expr, Alloc
 }
 
 fn cell(alloc: Global, name: Name, index: Expr) -> Result<Expr, AllocError>
-    ensures { IfOk result (λ e. view.term e ≡ t.placed name.at (t.cell (view.word name) (view.term index))) }
+    ensures { IfOk result
+        (λ e. view.expression e
+        ≡ t.placed name.at (t.cell (view.placed_name name) (view.expression index))) }
 {
     let at = name.at;
     let index = Box::new(alloc, index)?;
@@ -90,7 +95,7 @@ fn cell(alloc: Global, name: Name, index: Expr) -> Result<Expr, AllocError>
 }
 
 fn variable(name: Name) -> Expr
-    ensures { view.term result ≡ t.placed name.at (t.var (view.word name)) }
+    ensures { view.expression result ≡ t.placed name.at (t.var (view.placed_name name)) }
 {
     Expr {
         at: name.at,
@@ -99,7 +104,8 @@ fn variable(name: Name) -> Expr
 }
 
 fn input(alloc: Global, at: u32, index: Expr) -> Result<Expr, AllocError>
-    ensures { IfOk result (λ e. view.term e ≡ t.placed at (t.input at (view.term index))) }
+    ensures { IfOk result
+        (λ e. view.expression e ≡ t.placed at (t.input at (view.expression index))) }
 {
     let index = Box::new(alloc, index)?;
     Ok(Expr {
@@ -109,7 +115,9 @@ fn input(alloc: Global, at: u32, index: Expr) -> Result<Expr, AllocError>
 }
 
 fn picked(alloc: Global, at: u32, test: Expr, yes: Expr, no: Expr) -> Result<Expr, AllocError>
-    ensures { IfOk result (λ e. view.term e ≡ t.placed at (t.pick (view.term test) (view.term yes) (view.term no))) }
+    ensures { IfOk result
+        (λ e. view.expression e
+        ≡ t.placed at (t.pick (view.expression test) (view.expression yes) (view.expression no))) }
 {
     let test = Box::new(alloc, test)?;
     let yes = Box::new(alloc, yes)?;
@@ -121,7 +129,9 @@ fn picked(alloc: Global, at: u32, test: Expr, yes: Expr, no: Expr) -> Result<Exp
 }
 
 fn applied(name: Name, args: Vec<Expr>) -> Expr
-    ensures { view.term result ≡ t.placed name.at (t.apply (view.word name) (view.terms_of (map view.term args.items))) }
+    ensures { view.expression result
+        ≡ t.placed name.at
+        (t.apply (view.placed_name name) (view.expressions_of (map view.expression args.items))) }
 {
     Expr {
         at: name.at,
@@ -131,14 +141,14 @@ fn applied(name: Name, args: Vec<Expr>) -> Expr
 
 /// The same expression, which begins at an earlier token.
 fn moved(at: u32, e: Expr) -> Expr
-    ensures { view.term result ≡ spec.moved at (view.term e) }
+    ensures { view.expression result ≡ spec.moved at (view.expression e) }
 {
     Expr { at, node: e.node }
 }
 
 /// A node at a place.
 fn placed(at: u32, node: Node) -> Expr
-    ensures { view.term result ≡ t.placed at (view.shape node) }
+    ensures { view.expression result ≡ t.placed at (view.expression_form node) }
 {
     Expr { at, node }
 }
@@ -146,7 +156,7 @@ fn placed(at: u32, node: Node) -> Expr
 /// A name.
 #[tactic(auto, using(crate::proofs::Expressions::name_cases))]
 pub fn name(source: &Source<'_>, cursor: &mut Cursor<'_>, levels: u32) -> Result<Name, Fault>
-    ensures { Reads (parse source.now.bytes.now levels (spec.name source.now.bytes.now) cursor.old.rest.now) view.word result cursor.new.rest.now }
+    ensures { Parses spec.name source.now levels cursor.old view.placed_name result cursor.new }
 {
     let Some(token) = cursor.peek() else {
         return Err(Fault::Unexpected);
@@ -161,7 +171,7 @@ pub fn name(source: &Source<'_>, cursor: &mut Cursor<'_>, levels: u32) -> Result
 
 /// An expression, where so many levels may be opened.
 pub fn expr(source: &Source<'_>, cursor: &mut Cursor<'_>, levels: u32) -> Result<Expr, Fault>
-    ensures { Reads (parse source.now.bytes.now levels (spec.expr source.now.bytes.now) cursor.old.rest.now) view.term result cursor.new.rest.now }
+    ensures { Parses spec.expr source.now levels cursor.old view.expression result cursor.new }
 {
     ranked(source, cursor, levels, Rank::Or)
 }
@@ -175,7 +185,8 @@ fn ranked(
     levels: u32,
     rank: Rank,
 ) -> Result<Expr, Fault>
-    ensures { Reads (parse source.now.bytes.now levels (spec.ranked source.now.bytes.now rank) cursor.old.rest.now) view.term result cursor.new.rest.now }
+    ensures { Parses (λ b. spec.ranked b rank)
+        source.now levels cursor.old view.expression result cursor.new }
 {
     let first = operand(source, cursor, levels, rank)?;
     let rest = links(source, cursor, levels, rank)?;
@@ -196,7 +207,8 @@ fn links(
     levels: u32,
     rank: Rank,
 ) -> Result<Vec<Link>, Fault>
-    ensures { Reads (parse source.now.bytes.now levels (links source.now.bytes.now rank) cursor.old.rest.now) (λ ls. map view.link ls.items) result cursor.new.rest.now }
+    ensures { Parses (λ b. links b rank)
+        source.now levels cursor.old (λ ls. map view.link ls.items) result cursor.new }
 {
     let mut found = Vec::new(source.alloc);
     for _turn in 0..cursor.left() {
@@ -221,7 +233,8 @@ fn operand(
     levels: u32,
     rank: Rank,
 ) -> Result<Expr, Fault>
-    ensures { Reads (parse source.now.bytes.now levels (spec.operand source.now.bytes.now rank) cursor.old.rest.now) view.term result cursor.new.rest.now }
+    ensures { Parses (λ b. spec.operand b rank)
+        source.now levels cursor.old view.expression result cursor.new }
 {
     match rank {
         Rank::Or => ranked(source, cursor, levels, Rank::And),
@@ -234,14 +247,26 @@ fn operand(
 
 #[cycle(expr)]
 fn unary(source: &Source<'_>, cursor: &mut Cursor<'_>, levels: u32) -> Result<Expr, Fault>
-    ensures { Reads (parse source.now.bytes.now levels (spec.unary source.now.bytes.now) cursor.old.rest.now) view.term result cursor.new.rest.now }
+    ensures { Parses spec.unary source.now levels cursor.old view.expression result cursor.new }
 {
     let Some(token) = cursor.peek() else {
         return Err(Fault::Unexpected);
     };
     match token.kind {
-        TokenKind::Minus => prefixed(source, cursor, levels, token.start, UnaryOp::Neg),
-        TokenKind::Bang => prefixed(source, cursor, levels, token.start, UnaryOp::Not),
+        TokenKind::Fixed(Fixed::Minus) => prefixed(
+            source,
+            cursor,
+            levels,
+            token.start,
+            UnaryOp::Neg,
+        ),
+        TokenKind::Fixed(Fixed::Bang) => prefixed(
+            source,
+            cursor,
+            levels,
+            token.start,
+            UnaryOp::Not,
+        ),
         _ => primary(source, cursor, levels),
     }
 }
@@ -256,7 +281,8 @@ fn prefixed(
     at: u32,
     op: UnaryOp,
 ) -> Result<Expr, Fault>
-    ensures { Reads (inside source.now.bytes.now levels spec.Operand (λ e. t.placed at (t.unary op e)) cursor.old.rest.now) view.term result cursor.new.rest.now }
+    ensures { ParsesBy (λ b n ts. inside b n spec.Operand (λ e. t.placed at (t.unary op e)) ts)
+        source.now levels cursor.old view.expression result cursor.new }
 {
     let inner = within(levels)?;
     cursor.advance();
@@ -267,7 +293,7 @@ fn prefixed(
 #[cycle(expr)]
 #[tactic(auto, unfolding(token_grammar::specs::Reader::read, crate::specs::Grammar::primary, crate::specs::Grammar::name))]
 fn primary(source: &Source<'_>, cursor: &mut Cursor<'_>, levels: u32) -> Result<Expr, Fault>
-    ensures { Reads (parse source.now.bytes.now levels (spec.primary source.now.bytes.now) cursor.old.rest.now) view.term result cursor.new.rest.now }
+    ensures { Parses spec.primary source.now levels cursor.old view.expression result cursor.new }
 {
     let Some(token) = cursor.peek() else {
         return Err(Fault::Unexpected);
@@ -278,19 +304,19 @@ fn primary(source: &Source<'_>, cursor: &mut Cursor<'_>, levels: u32) -> Result<
             cursor.advance();
             Ok(placed(at, Node::Int(n)))
         }
-        TokenKind::True => {
+        TokenKind::Fixed(Fixed::True) => {
             cursor.advance();
             Ok(placed(at, Node::Bool(true)))
         }
-        TokenKind::False => {
+        TokenKind::Fixed(Fixed::False) => {
             cursor.advance();
             Ok(placed(at, Node::Bool(false)))
         }
-        TokenKind::NoRev => {
+        TokenKind::Fixed(Fixed::NoRev) => {
             cursor.advance();
             Ok(placed(at, Node::NoRev))
         }
-        TokenKind::Inputs => {
+        TokenKind::Fixed(Fixed::Inputs) => {
             cursor.advance();
             Ok(placed(at, Node::Inputs { word_at: at }))
         }
@@ -299,16 +325,16 @@ fn primary(source: &Source<'_>, cursor: &mut Cursor<'_>, levels: u32) -> Result<
             let name = source.name(token)?;
             named(source, cursor, levels, name)
         }
-        TokenKind::Input => {
+        TokenKind::Fixed(Fixed::Input) => {
             cursor.advance();
             let index = bracketed(source, cursor, levels)?;
             Ok(input(source.alloc, at, index)?)
         }
-        TokenKind::Pick => {
+        TokenKind::Fixed(Fixed::Pick) => {
             cursor.advance();
             pick(source, cursor, levels, at)
         }
-        TokenKind::OpenParen => parenthesized(source, cursor, levels, at),
+        TokenKind::Fixed(Fixed::OpenParen) => parenthesized(source, cursor, levels, at),
         _ => Err(Fault::Unexpected),
     }
 }
@@ -322,12 +348,13 @@ fn parenthesized(
     levels: u32,
     at: u32,
 ) -> Result<Expr, Fault>
-    ensures { Reads (inside source.now.bytes.now levels spec.Parens (spec.moved at) cursor.old.rest.now) view.term result cursor.new.rest.now }
+    ensures { ParsesBy (λ b n ts. inside b n spec.Parens (spec.moved at) ts)
+        source.now levels cursor.old view.expression result cursor.new }
 {
     let inner = within(levels)?;
     cursor.advance();
     let e = ranked(source, cursor, inner, Rank::Or)?;
-    cursor.expect(Sort::CloseParen)?;
+    cursor.expect(Fixed::CloseParen)?;
     Ok(moved(at, e))
 }
 
@@ -339,14 +366,15 @@ fn named(
     levels: u32,
     name: Name,
 ) -> Result<Expr, Fault>
-    ensures { Reads (of_name (view.word name) (parse source.now.bytes.now levels (spec.name_tail source.now.bytes.now) cursor.old.rest.now)) view.term result cursor.new.rest.now }
+    ensures { ParsesBy (λ b n ts. of_name (view.placed_name name) (parse b n (spec.name_tail b) ts))
+        source.now levels cursor.old view.expression result cursor.new }
 {
     let Some(token) = cursor.peek() else {
         return Ok(variable(name));
     };
     match token.kind {
-        TokenKind::OpenBracket => indexed(source, cursor, levels, name),
-        TokenKind::OpenParen => called(source, cursor, levels, name),
+        TokenKind::Fixed(Fixed::OpenBracket) => indexed(source, cursor, levels, name),
+        TokenKind::Fixed(Fixed::OpenParen) => called(source, cursor, levels, name),
         _ => Ok(variable(name)),
     }
 }
@@ -360,7 +388,8 @@ fn indexed(
     levels: u32,
     name: Name,
 ) -> Result<Expr, Fault>
-    ensures { Reads (inside source.now.bytes.now levels spec.Index (cell_of (view.word name)) cursor.old.rest.now) view.term result cursor.new.rest.now }
+    ensures { ParsesBy (λ b n ts. inside b n spec.Index (cell_of (view.placed_name name)) ts)
+        source.now levels cursor.old view.expression result cursor.new }
 {
     let inner = within(levels)?;
     cursor.advance();
@@ -377,7 +406,8 @@ fn called(
     levels: u32,
     name: Name,
 ) -> Result<Expr, Fault>
-    ensures { Reads (inside source.now.bytes.now levels spec.Arguments (apply_of (view.word name)) cursor.old.rest.now) view.term result cursor.new.rest.now }
+    ensures { ParsesBy (λ b n ts. inside b n spec.Arguments (apply_of (view.placed_name name)) ts)
+        source.now levels cursor.old view.expression result cursor.new }
 {
     let inner = within(levels)?;
     cursor.advance();
@@ -389,9 +419,10 @@ fn called(
 #[cycle(expr)]
 #[tactic(auto, using(crate::proofs::Expressions::bracketed_cases))]
 pub fn bracketed(source: &Source<'_>, cursor: &mut Cursor<'_>, levels: u32) -> Result<Expr, Fault>
-    ensures { Reads (parse source.now.bytes.now levels spec.bracketed cursor.old.rest.now) view.term result cursor.new.rest.now }
+    ensures { Parses (λ _. spec.bracketed)
+        source.now levels cursor.old view.expression result cursor.new }
 {
-    if !cursor.is_at(Sort::OpenBracket) {
+    if !cursor.is_at(Fixed::OpenBracket) {
         return Err(Fault::Unexpected);
     }
     let inner = within(levels)?;
@@ -403,10 +434,10 @@ pub fn bracketed(source: &Source<'_>, cursor: &mut Cursor<'_>, levels: u32) -> R
 #[cycle(expr)]
 #[tactic(auto, using(crate::proofs::Expressions::index_is))]
 fn index(source: &Source<'_>, cursor: &mut Cursor<'_>, levels: u32) -> Result<Expr, Fault>
-    ensures { Reads (parse source.now.bytes.now levels (spec.index source.now.bytes.now) cursor.old.rest.now) view.term result cursor.new.rest.now }
+    ensures { Parses spec.index source.now levels cursor.old view.expression result cursor.new }
 {
     let e = ranked(source, cursor, levels, Rank::Or)?;
-    cursor.expect(Sort::CloseBracket)?;
+    cursor.expect(Fixed::CloseBracket)?;
     Ok(e)
 }
 
@@ -414,19 +445,20 @@ fn index(source: &Source<'_>, cursor: &mut Cursor<'_>, levels: u32) -> Result<Ex
 #[cycle(expr)]
 #[tactic(auto, using(crate::proofs::Expressions::pick_cases))]
 fn pick(source: &Source<'_>, cursor: &mut Cursor<'_>, levels: u32, at: u32) -> Result<Expr, Fault>
-    ensures { Reads (of_parts at (parse source.now.bytes.now levels spec.choice cursor.old.rest.now)) view.term result cursor.new.rest.now }
+    ensures { ParsesBy (λ b n ts. of_parts at (parse b n spec.choice ts))
+        source.now levels cursor.old view.expression result cursor.new }
 {
-    if !cursor.is_at(Sort::OpenParen) {
+    if !cursor.is_at(Fixed::OpenParen) {
         return Err(Fault::Unexpected);
     }
     let inner = within(levels)?;
     cursor.advance();
     let test = ranked(source, cursor, inner, Rank::Or)?;
-    cursor.expect(Sort::Comma)?;
+    cursor.expect(Fixed::Comma)?;
     let yes = ranked(source, cursor, inner, Rank::Or)?;
-    cursor.expect(Sort::Comma)?;
+    cursor.expect(Fixed::Comma)?;
     let no = ranked(source, cursor, inner, Rank::Or)?;
-    cursor.expect(Sort::CloseParen)?;
+    cursor.expect(Fixed::CloseParen)?;
     Ok(picked(source.alloc, at, test, yes, no)?)
 }
 
@@ -440,17 +472,17 @@ pub fn begins_expr(cursor: &Cursor<'_>) -> bool
     };
     matches!(
         token.kind,
-        TokenKind::Minus
-            | TokenKind::Bang
+        TokenKind::Fixed(Fixed::Minus)
+            | TokenKind::Fixed(Fixed::Bang)
             | TokenKind::Int(_)
-            | TokenKind::True
-            | TokenKind::False
-            | TokenKind::NoRev
+            | TokenKind::Fixed(Fixed::True)
+            | TokenKind::Fixed(Fixed::False)
+            | TokenKind::Fixed(Fixed::NoRev)
             | TokenKind::Name
-            | TokenKind::Input
-            | TokenKind::Inputs
-            | TokenKind::Pick
-            | TokenKind::OpenParen
+            | TokenKind::Fixed(Fixed::Input)
+            | TokenKind::Fixed(Fixed::Inputs)
+            | TokenKind::Fixed(Fixed::Pick)
+            | TokenKind::Fixed(Fixed::OpenParen)
     )
 }
 
@@ -462,10 +494,11 @@ pub fn arguments(
     cursor: &mut Cursor<'_>,
     levels: u32,
 ) -> Result<Vec<Expr>, Fault>
-    ensures { Reads (parse source.now.bytes.now levels (spec.arguments source.now.bytes.now) cursor.old.rest.now) (λ es. map view.term es.items) result cursor.new.rest.now }
+    ensures { Parses spec.arguments
+        source.now levels cursor.old (λ es. map view.expression es.items) result cursor.new }
 {
     let args = some_arguments(source, cursor, levels)?;
-    cursor.expect(Sort::CloseParen)?;
+    cursor.expect(Fixed::CloseParen)?;
     Ok(args)
 }
 
@@ -475,7 +508,8 @@ fn some_arguments(
     cursor: &mut Cursor<'_>,
     levels: u32,
 ) -> Result<Vec<Expr>, Fault>
-    ensures { Reads (parse source.now.bytes.now levels (spec.listing (spec.expr source.now.bytes.now)) cursor.old.rest.now) (λ es. map view.term es.items) result cursor.new.rest.now }
+    ensures { Parses (λ b. spec.listing (spec.expr b))
+        source.now levels cursor.old (λ es. map view.expression es.items) result cursor.new }
 {
     let mut args = Vec::new(source.alloc);
     if !begins_expr(cursor) {
@@ -495,11 +529,12 @@ fn more_arguments(
     levels: u32,
     args: Vec<Expr>,
 ) -> Result<Vec<Expr>, Fault>
-    ensures { Reads (more_listed source.now.bytes.now levels (spec.expr source.now.bytes.now) (length cursor.old.rest.now) (map view.term args.items) cursor.old.rest.now) (λ es. map view.term es.items) result cursor.new.rest.now }
+    ensures { ParsesBy (λ b n. more_behind b n (spec.expr b) (map view.expression args.items))
+        source.now levels cursor.old (λ es. map view.expression es.items) result cursor.new }
 {
     let mut args = args;
     for _turn in 0..cursor.left() {
-        if !cursor.is_at(Sort::Comma) {
+        if !cursor.is_at(Fixed::Comma) {
             return Ok(args);
         }
         cursor.advance();
@@ -510,7 +545,9 @@ fn more_arguments(
 }
 
 fn push(args: &mut Vec<Expr>, arg: Expr) -> Result<(), AllocError>
-    ensures { OnOk result (map view.term args.new.items ≡ map view.term args.old.items ++ view.term arg ∷ []) }
+    ensures { OnOk result
+        (map view.expression args.new.items
+        ≡ map view.expression args.old.items ++ view.expression arg ∷ []) }
 {
     args.push(arg)?;
     Ok(())

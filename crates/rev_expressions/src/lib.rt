@@ -7,10 +7,8 @@
 
 mod cursor;
 mod expression;
-mod sort;
 mod source;
 
 pub use cursor::{Cursor, Fault, within};
 pub use expression::{arguments, begins_expr, bracketed, expr, name};
-pub use sort::Sort;
 pub use source::Source;

@@ -3,7 +3,7 @@ ghost use Rattle.std.specs.Prelude.{◌≡◌, ◌<◌, ◌^◌, ◌-◌, IfOk, 
 ghost use Rattle.rev_expressions.specs.Source.{feeds_from, text_of, word_of};
 ghost use Rattle.rev_syntax.specs.Places.{line_of};
 ghost use Rattle.rev_syntax.specs.Trees.{text};
-ghost use Rattle.rev_syntax.specs.View.{shown, word};
+ghost use Rattle.rev_syntax.specs.View.{print_item, placed_name};
 
 use rev_syntax::{Item, Name, Token};
 use std::alloc::{AllocError, Global};
@@ -56,7 +56,7 @@ impl<'a> Source<'a> {
 
     /// The name that a token is.
     pub fn name(&self, token: Token) -> Result<Name, AllocError>
-        ensures { IfOk result (λ n. word n ≡ word_of self.now.bytes.now token) }
+        ensures { IfOk result (λ n. placed_name n ≡ word_of self.now.bytes.now token) }
     {
         let from = (token.start as usize).min(self.bytes.len());
         let to = (token.end as usize).min(self.bytes.len()).max(from);
@@ -69,7 +69,8 @@ impl<'a> Source<'a> {
 
     /// The item that a text in quotes is.
     pub fn text(&self, token: Token) -> Result<Item, AllocError>
-        ensures { IfOk result (λ i. shown i ≡ text token.start (text_of self.now.bytes.now token)) }
+        ensures { IfOk result
+            (λ i. print_item i ≡ text token.start (text_of self.now.bytes.now token)) }
     {
         let from = (token.start as usize + 1).min(self.bytes.len());
         let to = (token.end as usize)

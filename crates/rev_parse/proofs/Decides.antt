@@ -1,23 +1,23 @@
 -- The next token decides the grammar.
 use Rattle.std.proofs.Common.{◌≡◌, ◌||◌, not, Bool, true, false, List, ℕ, refl}
-use Rattle.token_grammar.specs.Exact.{all_of, extends, is_decided, is_plain}
-use Rattle.token_grammar.proofs.Exact.{Decided}
-use Rattle.rev_expressions.specs.declared.sort.Sort.{Sort}
-use Rattle.rev_expressions.specs.declared.sort.Sort.TheVariants as s
-use Rattle.rev_expressions.specs.Sorts.{is_same, sorts}
+use Rattle.std.specs.List.{list_all}
+use Rattle.token_grammar.specs.Exact.{extends, is_decided, is_plain, Decided}
+use Rattle.rev_syntax.specs.declared.token.Fixed.TheVariants as s
+use Rattle.rev_expressions.specs.Classes.{Class, is_same, classes}
 use Rattle.rev_expressions.specs.Grammar.{alphabet, Inner, Operand, Parens, Index, Arguments, Parts, Body, Params, Names, Cells, rank_sign, bracketed, choice, name, name_tail, primary, unary, product, sum, comparison, conjunction, expr, parens, index, arguments, parts}
 use Rattle.rev_expressions.specs.Statements.{block, actual, application, right_side, item, assigned, assignment, arm, else_part, else_parts, let_form, if_form, while_form, call_form, return_form, fork_form, join_form, print_form, assert_form, statement, statements, body}
 use Rattle.rev_expressions.specs.Declarations.{kind, constant, cells, size, first_value, param, params, names, formal, head, meaning, fun_form, merge_form, variable, versioned_form, cumulative_form, proc_form, declaration, declarations, program, inner}
 use Rattle.rev_parse.proofs.Complete.{complete}
 use Rattle.rev_parse.proofs.Samples.{sample}
+use Rattle.rev_expressions.specs.Classes as class
 
 -- a unary expression goes on with an index or arguments behind a name, the others end with a closing sign
-abbrev pub going_on : Inner → Sort → Bool
-going_on Operand k = is_same s.OpenBracket k || is_same s.OpenParen k
+abbrev pub going_on : Inner → Class → Bool
+going_on Operand k = is_same (class.fixed s.OpenBracket) k || is_same (class.fixed s.OpenParen) k
 going_on _ k = false
 
 module _ (bytes : List ℕ) where
-  rules_decided : (i : Inner) → is_decided alphabet going_on sorts (inner bytes i) ≡ true
+  rules_decided : (i : Inner) → is_decided alphabet going_on classes (inner bytes i) ≡ true
   unfolding rank_sign bracketed choice name name_tail primary unary product sum comparison conjunction expr parens index arguments parts block actual application right_side item assigned assignment arm else_part else_parts let_form if_form while_form call_form return_form fork_form join_form print_form assert_form statement statements body kind constant cells size first_value param params names formal head meaning fun_form merge_form variable versioned_form cumulative_form proc_form declaration declarations program inner
   rules_decided Operand = refl
   rules_decided Parens = refl
@@ -42,7 +42,7 @@ module _ (bytes : List ℕ) where
   rules_plain Cells = refl
 
   -- an inner rule goes on with no other kinds
-  extends_only : (i : Inner) → all_of (λ k. not (extends alphabet going_on (inner bytes i) k) || going_on i k) sorts ≡ true
+  extends_only : (i : Inner) → list_all (λ k. not (extends alphabet going_on (inner bytes i) k) || going_on i k) classes ≡ true
   unfolding rank_sign bracketed choice name name_tail primary unary product sum comparison conjunction expr parens index arguments parts block actual application right_side item assigned assignment arm else_part else_parts let_form if_form while_form call_form return_form fork_form join_form print_form assert_form statement statements body kind constant cells size first_value param params names formal head meaning fun_form merge_form variable versioned_form cumulative_form proc_form declaration declarations program inner
   extends_only Operand = refl
   extends_only Parens = refl
@@ -58,7 +58,7 @@ module _ (bytes : List ℕ) where
   implied true b e h = e
   implied false b e h = absurd cc
 
-  pub grammar_decided : Decided alphabet (inner bytes) going_on sorts
+  pub grammar_decided : Decided alphabet (inner bytes) going_on classes
   grammar_decided = record {
     complete = complete;
     sample = sample;
@@ -67,6 +67,6 @@ module _ (bytes : List ℕ) where
     plain = rules_plain;
   }
 
-  pub program_decided : is_decided alphabet going_on sorts (program bytes) ≡ true
+  pub program_decided : is_decided alphabet going_on classes (program bytes) ≡ true
   unfolding rank_sign bracketed choice name name_tail primary unary product sum comparison conjunction expr parens index arguments parts block actual application right_side item assigned assignment arm else_part else_parts let_form if_form while_form call_form return_form fork_form join_form print_form assert_form statement statements body kind constant cells size first_value param params names formal head meaning fun_form merge_form variable versioned_form cumulative_form proc_form declaration declarations program inner
   program_decided = refl

@@ -3,8 +3,9 @@ use Rattle.std.proofs.Common.{◌≡◌, ℕ, zero, suc, ◌+◌, ◌-◌, ◌�
 use Rattle.rev_syntax.specs.declared.token.Token.{Token}
 use Rattle.token_grammar.specs.Outcome.{left}
 use Rattle.token_grammar.specs.Form.{nothing, token, level, both, either, many, Lang, Opened, Many, Derives}
-use Rattle.rev_expressions.specs.declared.sort.Sort.{Sort}
-use Rattle.rev_expressions.specs.Sorts.{sort_of, is_same}
+use Rattle.rev_syntax.specs.declared.token.Fixed.{Fixed}
+use Rattle.rev_expressions.specs.Classes as class
+use Rattle.rev_expressions.specs.Classes.{Class, class_of, is_same}
 use Rattle.rev_expressions.specs.Grammar.{alphabet, Rule, Inner, Value, behind, before, all, listing}
 use Rattle.rev_parse.specs.Verdicts.{most_levels}
 use Rattle.rev_parse.proofs.TextTokens.{IsProper, AreProper, span, spans, proper_front, proper_back, spans-append}
@@ -78,12 +79,12 @@ module _ (bytes : List ℕ) where
     pub holds_nothing : {A : Type 0} {Q : Property A} {a : A} → ((n w : ℕ) → Q n w a) → Holds Q (nothing a)
     holds_nothing {Q = Q} h = record { word = λ n k w ts x fits d. subst (Q n w) (sym d.1) (h n w) }
 
-    token_word : {A : Type 0} (Q : Property A) (s : Sort) (val : Token → A) → ((n w : ℕ) (t : Token) → IsProper bytes t → is_same s (sort_of t.kind) ≡ true → span t ≤ w → Q n w (val t)) → (n k w : ℕ) (ts : List Token) (x : A) → Weighs n k w ts → Derives alphabet I (token s val) n k ts x → Q n w x
+    token_word : {A : Type 0} (Q : Property A) (s : Class) (val : Token → A) → ((n w : ℕ) (t : Token) → IsProper bytes t → is_same s (class_of t.kind) ≡ true → span t ≤ w → Q n w (val t)) → (n k w : ℕ) (ts : List Token) (x : A) → Weighs n k w ts → Derives alphabet I (token s val) n k ts x → Q n w x
     token_word Q s val h n k w ts x fits d =
         let whole : Weighs n k w (d.0 ∷ []) = subst (Weighs n k w) d.1 fits in
         subst (Q n w) (sym d.3) (h n w d.0 whole.proper.0 d.2 (omega arith))
 
-    pub holds_token : {A : Type 0} {Q : Property A} {s : Sort} {val : Token → A} → ((n w : ℕ) (t : Token) → IsProper bytes t → is_same s (sort_of t.kind) ≡ true → span t ≤ w → Q n w (val t)) → Holds Q (token s val)
+    pub holds_token : {A : Type 0} {Q : Property A} {s : Class} {val : Token → A} → ((n w : ℕ) (t : Token) → IsProper bytes t → is_same s (class_of t.kind) ≡ true → span t ≤ w → Q n w (val t)) → Holds Q (token s val)
     holds_token {Q = Q} {s = s} {val = val} h = record { word = token_word Q s val h }
 
     pub holds_both : {A B C : Type 0} {P : Property A} {Q : Property B} {R : Property C} {f : A → B → C} {F : Rule A} {G : Rule B} → Holds P F → Holds Q G → ((n u v : ℕ) (a : A) (b : B) → n ≤ most_levels → P n u a → Q n v b → R n (u + v) (f a b)) → Holds R (both f F G)
@@ -116,14 +117,14 @@ module _ (bytes : List ℕ) where
       word = λ n k w ts x fits d. subst (Q n w) (sym d.2) (last n w d.0 (many_word L ends p start grow d.0 n k w ts fits d.1));
     }
 
-    pub holds_behind : {A : Type 0} {Q : Property A} {s : Sort} {F : Rule A} → Holds Q F → Holds Q (behind s F)
+    pub holds_behind : {A : Type 0} {Q : Property A} {s : Fixed} {F : Rule A} → Holds Q F → Holds Q (behind s F)
     holds_behind {Q = Q} q = record {
       word = λ n k w ts x fits d.
           let parts = weighs_part d.front d.back ts n k w d.split fits in
           subst (Q n w) (sym d.value) (q.word n (left k d.front) w d.back d.b parts.1 d.second);
     }
 
-    pub holds_before : {A : Type 0} {Q : Property A} {s : Sort} {F : Rule A} → Holds Q F → Holds Q (before F s)
+    pub holds_before : {A : Type 0} {Q : Property A} {s : Fixed} {F : Rule A} → Holds Q F → Holds Q (before F s)
     holds_before {Q = Q} q = record {
       word = λ n k w ts x fits d.
           let parts = weighs_part d.front d.back ts n k w d.split fits in
@@ -145,7 +146,7 @@ module _ (bytes : List ℕ) where
     holds_any = record { word = λ n k w ts x fits d. tt }
 
     module _ {Has : (i : Inner) → Property (Value i)} (inside : Inside Has I) where
-      opened_word : {A : Type 0} (Q : Property A) (s : Sort) (i : Inner) (val : Token → Value i → A) → ((n u v : ℕ) (t : Token) (y : Value i) → IsProper bytes t → n < most_levels → span t ≤ u → Has i n v y → Q (suc n) (u + v) (val t y)) → (n k w : ℕ) (t : Token) (v : List Token) (y : Value i) → Weighs n k w (t ∷ v) → Opened alphabet (λ n k. I i n k v y) n k → Q n w (val t y)
+      opened_word : {A : Type 0} (Q : Property A) (s : Class) (i : Inner) (val : Token → Value i → A) → ((n u v : ℕ) (t : Token) (y : Value i) → IsProper bytes t → n < most_levels → span t ≤ u → Has i n v y → Q (suc n) (u + v) (val t y)) → (n k w : ℕ) (t : Token) (v : List Token) (y : Value i) → Weighs n k w (t ∷ v) → Opened alphabet (λ n k. I i n k v y) n k → Q n w (val t y)
       opened_word Q s i val h n zero w t v y fits o = absurd (let c : suc (length v) ≤ zero = fits.counted in omega arith)
       opened_word Q s i val h zero (suc k) w t v y fits o = absurd o
       opened_word Q s i val h (suc n) (suc k) w t v y fits o =
@@ -157,7 +158,7 @@ module _ (bytes : List ℕ) where
           let r : Q (suc n) (span t + (w - span t)) (val t y) = h n (span t) (w - span t) t y fits.proper.0 levels (omega arith) (inside i n k (w - span t) v y within o) in
           subst (λ w. Q (suc n) w (val t y)) whole r
 
-      within_word : (s : Sort) (i : Inner) (n k w : ℕ) (t : Token) (v : List Token) (y : Value i) → Weighs n k w (t ∷ v) → Opened alphabet (λ n k. I i n k v y) n k → Within (Has i) n w y
+      within_word : (s : Class) (i : Inner) (n k w : ℕ) (t : Token) (v : List Token) (y : Value i) → Weighs n k w (t ∷ v) → Opened alphabet (λ n k. I i n k v y) n k → Within (Has i) n w y
       within_word s i n zero w t v y fits o = absurd (let c : suc (length v) ≤ zero = fits.counted in omega arith)
       within_word s i zero (suc k) w t v y fits o = absurd o
       within_word s i (suc n) (suc k) w t v y fits o =
@@ -168,14 +169,14 @@ module _ (bytes : List ℕ) where
           record { below = n; one_more = refl; inside = inside i n k w v y within o }
 
       -- what stands in a level, as it is
-      pub holds_within : (s : Sort) (i : Inner) → Holds (Within (Has i)) (level s i (λ x y. y))
+      pub holds_within : (s : Class) (i : Inner) → Holds (Within (Has i)) (level s i (λ x y. y))
       holds_within s i = record {
         word = λ n k w ts x fits d.
             let whole : Weighs n k w (d.0 ∷ d.1) = subst (Weighs n k w) d.3 fits in
             subst (Within (Has i) n w) (sym d.6) (within_word s i n k w d.0 d.1 d.2 whole d.5);
       }
 
-      pub holds_level : {A : Type 0} {Q : Property A} {s : Sort} {i : Inner} {val : Token → Value i → A} → ((n u v : ℕ) (t : Token) (y : Value i) → IsProper bytes t → n < most_levels → span t ≤ u → Has i n v y → Q (suc n) (u + v) (val t y)) → Holds Q (level s i val)
+      pub holds_level : {A : Type 0} {Q : Property A} {s : Class} {i : Inner} {val : Token → Value i → A} → ((n u v : ℕ) (t : Token) (y : Value i) → IsProper bytes t → n < most_levels → span t ≤ u → Has i n v y → Q (suc n) (u + v) (val t y)) → Holds Q (level s i val)
       holds_level {Q = Q} {s = s} {i = i} {val = val} h = record {
         word = λ n k w ts x fits d.
             let whole : Weighs n k w (d.0 ∷ d.1) = subst (Weighs n k w) d.3 fits in

@@ -9,7 +9,7 @@ pub mod OneVerdict
 pub mod TextTokens
 pub mod Holds
 pub mod SmallValues
-pub mod SmallTerms
-pub mod SmallSteps
+pub mod SmallExpressions
+pub mod SmallStatements
 pub mod SmallPrograms
 pub mod SomeVerdict

@@ -13,8 +13,9 @@ use Rattle.rev_syntax.specs.declared.token.TokenKind.TheVariants as k
 use Rattle.token_grammar.specs.Form.{nothing, token, level, both, either, many}
 use Rattle.token_grammar.specs.Outcome.{Outcome, Read, Failed, Parser, and_then, after, next, Unexpected}
 use Rattle.token_grammar.specs.Reader.{Inside, begins, inside_of, read, repeat, below, taken}
-use Rattle.rev_expressions.specs.declared.sort.Sort.{Sort}
-use Rattle.rev_expressions.specs.Sorts.{sort_of, is_same}
+use Rattle.rev_syntax.specs.declared.token.Fixed.{Fixed}
+use Rattle.rev_expressions.specs.Classes as class
+use Rattle.rev_expressions.specs.Classes.{Class, class_of, is_same}
 use Rattle.rev_expressions.specs.Source.{int_of}
 use Rattle.rev_expressions.specs.Grammar.{alphabet, Rule, Inner, Value}
 use Rattle.rev_expressions.specs.Declarations.{inner}
@@ -68,9 +69,9 @@ kept_cond : {A : Type 0} (b : Bool) (x y : Outcome Token A) → Kept x → Kept 
 kept_cond true x y h k = h
 kept_cond false x y h k = k
 
-kept_taken : {A : Type 0} (s : Sort) (val : Token → A) (ts : List Token) → AreNatural ts → Kept (taken alphabet s val (next ts) ts)
+kept_taken : {A : Type 0} (s : Class) (val : Token → A) (ts : List Token) → AreNatural ts → Kept (taken alphabet s val (next ts) ts)
 kept_taken s val [] h = tt
-kept_taken s val (t ∷ ts) h = kept_cond (is_same s (sort_of t.kind)) (Read (val t) ts) (Failed Unexpected (t ∷ ts)) (natural_after (t ∷ ts) h) tt
+kept_taken s val (t ∷ ts) h = kept_cond (is_same s (class_of t.kind)) (Read (val t) ts) (Failed Unexpected (t ∷ ts)) (natural_after (t ∷ ts) h) tt
 
 kept_repeat : {A : Type 0} (p : Parser Token A) (ends : A → Bool) (more : List Token → Bool) → ((ts : List Token) → AreNatural ts → Kept (p ts)) → (m : ℕ) (found : List A) (ts : List Token) → AreNatural ts → Kept (repeat alphabet p ends more m found ts)
 kept_repeat p ends more k zero found ts h = h
@@ -90,7 +91,7 @@ unfolding read
 kept_read o k (nothing a) ts h = h
 kept_read o k (token s val) ts h = kept_taken s val ts h
 kept_read o k (level s i val) [] h = tt
-kept_read o k (level s i val) (t ∷ ts) h = kept_cond (is_same s (sort_of t.kind)) _ (Failed Unexpected (t ∷ ts)) (kept_inside o k i (val t) (t ∷ ts) h) tt
+kept_read o k (level s i val) (t ∷ ts) h = kept_cond (is_same s (class_of t.kind)) _ (Failed Unexpected (t ∷ ts)) (kept_inside o k i (val t) (t ∷ ts) h) tt
 kept_read o k (both f P Q) ts h = kept_then (read alphabet o P ts) _ (kept_read o k P ts h) (λ a rest r. kept_then (read alphabet o Q rest) _ (kept_read o k Q rest r) (λ b rest2 r2. r2))
 kept_read o k (either P Q) ts h = kept_cond (begins alphabet P ts) _ _ (kept_read o k P ts h) (kept_read o k Q ts h)
 kept_read o k (many f ends P) ts h = kept_then (repeat alphabet (read alphabet o P) ends (begins alphabet P) (length ts) [] ts) _ (kept_repeat (read alphabet o P) ends (begins alphabet P) (kept_read o k P) (length ts) [] ts h) (λ xs rest r. r)
@@ -103,5 +104,5 @@ kept_below bytes (suc n) = λ i ts h. kept_read (below alphabet (inner bytes) n)
 pub natural_rest : {A : Type 0} (bytes : List ℕ) (n : ℕ) (F : Rule A) (ts rest : List Token) (a : A) → parse bytes n F ts ≡ Read a rest → AreNatural ts → AreNatural rest
 natural_rest bytes n F ts rest a e h = subst (λ o. Kept o) e (kept_read (below alphabet (inner bytes) n) (kept_below bytes n) F ts h)
 
-pub natural_taken : {A : Type 0} (s : Sort) (val : Token → A) (ts rest : List Token) (a : A) → taken alphabet s val (next ts) ts ≡ Read a rest → AreNatural ts → AreNatural rest
+pub natural_taken : {A : Type 0} (s : Class) (val : Token → A) (ts rest : List Token) (a : A) → taken alphabet s val (next ts) ts ≡ Read a rest → AreNatural ts → AreNatural rest
 natural_taken s val ts rest a e h = subst (λ o. Kept o) e (kept_taken s val ts h)

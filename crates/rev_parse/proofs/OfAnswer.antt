@@ -1,15 +1,16 @@
 -- What the parser's answer says of all tokens of a text.
 use Rattle.std.proofs.Common.{◌≡◌, ◌≢◌, ℕ, List, [], ◌∷◌, length, drop, Ok, Err, Result, refl, sym, ap, ◌∙◌, subst, arith}
-use Rattle.rev_syntax.specs.Trees.{Whole}
+use Rattle.rev_syntax.specs.Trees.{ProgramTree}
 use Rattle.rev_syntax.specs.declared.token.Token.{Token}
 use Rattle.token_grammar.specs.Outcome.{Outcome, Read, Failed, Unexpected, TooDeep}
+use Rattle.token_grammar.specs.Theorem as theorem
 use Rattle.token_grammar.proofs.Whole as whole
 use Rattle.rev_syntax.specs.View.{program as view}
 use Rattle.rev_syntax.specs.declared.tree.Program.{Program}
 use Rattle.rev_expressions.specs.declared.cursor.Fault.{Fault}
 use Rattle.rev_expressions.specs.declared.cursor.Fault.TheVariants as f
 use Rattle.rev_expressions.specs.Reads.{Reads, stop_of}
-use Rattle.rev_expressions.specs.Sorts.{sorts}
+use Rattle.rev_expressions.specs.Classes.{classes}
 use Rattle.rev_expressions.specs.Grammar.{alphabet}
 use Rattle.rev_expressions.specs.Declarations.{inner, program}
 use Rattle.rev_expressions.specs.Parse.{parse}
@@ -19,20 +20,20 @@ use Rattle.rev_parse.proofs.Decides.{going_on, grammar_decided, program_decided}
 use Rattle.rev_parse.proofs.SmallPrograms.{program_small}
 
 module _ (bytes : List ℕ) (ts : List Token) where
-  abbrev Verdict : Outcome Token Whole → Type 0
-  Verdict = whole.Verdict alphabet (inner bytes) going_on sorts (grammar_decided bytes) (program bytes) (program_decided bytes) most_levels ts
+  abbrev Verdict : Outcome Token ProgramTree → Type 0
+  Verdict = theorem.Verdict alphabet (inner bytes) (program bytes) most_levels ts
 
-  verdict : (o : Outcome Token Whole) → parse bytes most_levels (program bytes) ts ≡ o → Verdict o
-  verdict o e = subst Verdict e (whole.verdict alphabet (inner bytes) going_on sorts (grammar_decided bytes) (program bytes) (program_decided bytes) most_levels ts)
+  verdict : (o : Outcome Token ProgramTree) → parse bytes most_levels (program bytes) ts ≡ o → Verdict o
+  verdict o e = subst Verdict e (whole.verdict alphabet (inner bytes) going_on classes (grammar_decided bytes) (program bytes) (program_decided bytes) most_levels ts)
 
   at_rest : {IsFault : ℕ → Type 0} (rest : List Token) (at : ℕ) → at ≡ place_of bytes rest → ((n : ℕ) × IsFault n × (drop n ts ≡ rest)) → At IsFault bytes ts at
   at_rest rest at e f = (f.0, f.1, e ∙ ap (place_of bytes) (sym f.2))
 
-  pub whole_program : (p : Whole) (rest : List Token) → parse bytes most_levels (program bytes) ts ≡ Read p rest → length rest ≡ 0 → IsProgram bytes ts p
+  pub whole_program : (p : ProgramTree) (rest : List Token) → parse bytes most_levels (program bytes) ts ≡ Read p rest → length rest ≡ 0 → IsProgram bytes ts p
   whole_program p [] e none = verdict (Read p []) e
   whole_program p (t ∷ rest) e none = absurd (omega arith)
 
-  pub more_left : (p : Whole) (rest : List Token) (at : ℕ) → parse bytes most_levels (program bytes) ts ≡ Read p rest → length rest ≢ 0 → at ≡ place_of bytes rest → At (IsUnexpected bytes ts) bytes ts at
+  pub more_left : (p : ProgramTree) (rest : List Token) (at : ℕ) → parse bytes most_levels (program bytes) ts ≡ Read p rest → length rest ≢ 0 → at ≡ place_of bytes rest → At (IsUnexpected bytes ts) bytes ts at
   more_left p [] at e some is = absurd (some refl)
   more_left p (t ∷ rest) at e some is = at_rest (t ∷ rest) at is (verdict (Read p (t ∷ rest)) e)
 

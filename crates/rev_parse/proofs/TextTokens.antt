@@ -18,9 +18,10 @@ use Rattle.rev_syntax.specs.Words.{is_name}
 use Rattle.rev_syntax.specs.Small.{greatest}
 use Rattle.rev_syntax.specs.Tokens.{Spells, IsQuoted, IsSound, Piece, Leads, token_of, tokens_of, IsTokens, Ascend, IsToken}
 use Rattle.rev_syntax.proofs.Spans.{tokens-ascend, tokens-kinds}
-use Rattle.rev_expressions.specs.declared.sort.Sort.TheVariants as s
-use Rattle.rev_expressions.specs.Sorts.{sort_of, is_same}
+use Rattle.rev_syntax.specs.declared.token.Fixed.TheVariants as s
+use Rattle.rev_expressions.specs.Classes.{class_of, is_same}
 use Rattle.rev_expressions.specs.Source.{word_of, text_of, int_of}
+use Rattle.rev_expressions.specs.Classes as class
 
 -- a number that a token of a text has
 abbrev pub IsNumber : ℤ → Type 0
@@ -115,11 +116,11 @@ text_spans bytes ts h = let a = ascend_spans 0 ts (length bytes) (tokens-ascend 
 
 -- ---- what a token of a kind is
 
-name_kind : (kd : TokenKind) (w : List ℕ) → is_same s.Name (sort_of kd) ≡ true → Spells (piece.Token kd) w → IsTrue (is_name w)
+name_kind : (kd : TokenKind) (w : List ℕ) → is_same class.name (class_of kd) ≡ true → Spells (piece.Token kd) w → IsTrue (is_name w)
 name_kind k.Name w e h = h
 name_kind _ w e h = absurd cc
 
-pub proper_name : (bytes : List ℕ) (t : Token) → IsProper bytes t → is_same s.Name (sort_of t.kind) ≡ true → is_name (word_of bytes t).text ≡ true
+pub proper_name : (bytes : List ℕ) (t : Token) → IsProper bytes t → is_same class.name (class_of t.kind) ≡ true → is_name (word_of bytes t).text ≡ true
 proper_name bytes t h e = name_kind t.kind (slice_range bytes t.start t.end) e h.spelled
 
 pub word_length : (bytes : List ℕ) (t : Token) → length (word_of bytes t).text ≤ span t
@@ -130,14 +131,14 @@ small_number n w u fits =
     let below : nat_lt (spelled w) (2 ^ 63) ≡ true = subst (λ n. fits_i64 n ≡ true) u.value fits in
     (spelled w, u.value, omega (arith, ltb-true (spelled w) (2 ^ 63) below))
 
-number_kind : (kd : TokenKind) (w : List ℕ) → is_same s.Int (sort_of kd) ≡ true → Spells (piece.Token kd) w → IsWithinRange kd → IsNumber (int_of kd)
+number_kind : (kd : TokenKind) (w : List ℕ) → is_same class.number (class_of kd) ≡ true → Spells (piece.Token kd) w → IsWithinRange kd → IsNumber (int_of kd)
 number_kind (k.Int n) w e h r = small_number n w h r
 number_kind _ w e h r = absurd cc
 
-pub proper_number : (bytes : List ℕ) (t : Token) → IsProper bytes t → is_same s.Int (sort_of t.kind) ≡ true → IsNumber (int_of t.kind)
+pub proper_number : (bytes : List ℕ) (t : Token) → IsProper bytes t → is_same class.number (class_of t.kind) ≡ true → IsNumber (int_of t.kind)
 proper_number bytes t h e = number_kind t.kind (slice_range bytes t.start t.end) e h.spelled h.fits
 
-text_kind : (kd : TokenKind) (w : List ℕ) → is_same s.Text (sort_of kd) ≡ true → Spells (piece.Token kd) w → IsQuoted w
+text_kind : (kd : TokenKind) (w : List ℕ) → is_same class.text (class_of kd) ≡ true → Spells (piece.Token kd) w → IsQuoted w
 text_kind k.Text w e h = h
 text_kind _ w e h = absurd cc
 
@@ -152,7 +153,7 @@ between l body n e h =
     let behind : take (length body + 1) (drop 1 l) ≡ body ++ 34 ∷ [] = sym (drop-take 1 (length body + 1) l) ∙ ap (λ m. drop 1 (take m l)) (sym size) ∙ ap (drop 1) e in
     ap (λ m. take m (drop 1 l)) less ∙ sym (take-take (length body) (length body + 1) (drop 1 l) (omega arith)) ∙ ap (take (length body)) behind ∙ take-append_seam body (34 ∷ [])
 
-pub proper_text : (bytes : List ℕ) (t : Token) → IsProper bytes t → is_same s.Text (sort_of t.kind) ≡ true → list_all is_text_byte (text_of bytes t) ≡ true
+pub proper_text : (bytes : List ℕ) (t : Token) → IsProper bytes t → is_same class.text (class_of t.kind) ≡ true → list_all is_text_byte (text_of bytes t) ≡ true
 proper_text bytes t h e =
     let some : t.start < t.end = h.some in
     let inside : t.end ≤ length bytes = h.inside in

@@ -1,6 +1,6 @@
 -- What the parser promises of a text's tokens.
 use Rattle.std.specs.Prelude.{◌≡◌, ℕ, List, [], ◌∷◌, length, drop, Result, Ok, Err, ⊤}
-use Rattle.rev_syntax.specs.Trees.{Whole}
+use Rattle.rev_syntax.specs.Trees.{ProgramTree}
 use Rattle.rev_syntax.specs.View.{program as view}
 use Rattle.rev_syntax.specs.declared.tree.Program.{Program}
 use Rattle.rev_syntax.specs.declared.token.Token.{Token}
@@ -16,7 +16,7 @@ abbrev pub most_levels : ℕ
 most_levels = 200
 
 -- The tokens are a program, no more levels are open at once than may be, and no other tree of any nesting is derived.
-abbrev pub IsProgram : List ℕ → List Token → Whole → Type 0
+abbrev pub IsProgram : List ℕ → List Token → ProgramTree → Type 0
 IsProgram bytes ts p = first.IsOnly alphabet (inner bytes) (program bytes) most_levels ts p
 
 -- With the token of this number, or with the end behind the last, no program of any nesting goes on as the tokens do.
@@ -39,7 +39,7 @@ At IsFault bytes ts at = (n : ℕ) × IsFault n × (at ≡ place_of bytes (drop 
 
 -- what the tokens of a text are: a program, or at fault at a place
 pub data Verdict : Type 0 where
-  tree : Whole → Verdict
+  tree : ProgramTree → Verdict
   unexpected : ℕ → Verdict
   too_deep : ℕ → Verdict
 

@@ -4,16 +4,17 @@ ghost use Rattle.rev_expressions.specs.Grammar as g;
 ghost use Rattle.rev_expressions.specs.Declarations as spec;
 ghost use Rattle.rev_expressions.specs.Lists.{more_listed};
 ghost use Rattle.rev_expressions.specs.Parse.{parse};
+ghost use Rattle.rev_expressions.specs.Parses.{Parses, ParsesBy};
 ghost use Rattle.rev_expressions.specs.Reads.{Reads, same};
-ghost use Rattle.rev_expressions.specs.declared.sort.Sort.TheVariants as s;
+ghost use Rattle.rev_syntax.specs.declared.token.Fixed.TheVariants as s;
 ghost use Rattle.rev_parse.specs.Pieces as pieces;
 ghost use Rattle.rev_parse.specs.Pieces.{AreNatural, plain, declaration_begins};
 ghost use Rattle.rev_syntax.specs.View as view;
 
 use crate::statement::block;
-use rev_expressions::{Cursor, Fault, Sort, Source, expr, name, within};
+use rev_expressions::{Cursor, Fault, Source, expr, name, within};
 use rev_num::{Value, ValueKind};
-use rev_syntax::{Const, Decl, Expr, Name, Param, Program, Size, TokenKind};
+use rev_syntax::{Const, Decl, Expr, Fixed, Name, Param, Program, Size, TokenKind};
 use std::alloc::AllocError;
 
 /// A kind, with the offset of its word.
@@ -49,28 +50,29 @@ struct Versions {
 /// Reads a kind.
 #[tactic(auto, unfolding(token_grammar::specs::Reader::read, rev_expressions::specs::Declarations::kind))]
 fn kind(cursor: &mut Cursor<'_>) -> Result<KindAt, Fault>
-    ensures { Reads (plain spec.kind cursor.old.rest.now) pieces.kind_at result cursor.new.rest.now }
+    ensures { Reads
+        (plain spec.kind cursor.old.rest.now) pieces.kind_at result cursor.new.rest.now }
 {
     let Some(token) = cursor.peek() else {
         return Err(Fault::Unexpected);
     };
     let at = token.start;
     match token.kind {
-        TokenKind::KindInt => {
+        TokenKind::Fixed(Fixed::KindInt) => {
             cursor.advance();
             Ok(KindAt {
                 at,
                 kind: ValueKind::Int,
             })
         }
-        TokenKind::KindBool => {
+        TokenKind::Fixed(Fixed::KindBool) => {
             cursor.advance();
             Ok(KindAt {
                 at,
                 kind: ValueKind::Bool,
             })
         }
-        TokenKind::KindRev => {
+        TokenKind::Fixed(Fixed::KindRev) => {
             cursor.advance();
             Ok(KindAt {
                 at,
@@ -85,14 +87,15 @@ fn kind(cursor: &mut Cursor<'_>) -> Result<KindAt, Fault>
 #[tactic(auto, unfolding(token_grammar::specs::Reader::read, rev_expressions::specs::Declarations::constant))]
 fn constant(cursor: &mut Cursor<'_>) -> Result<Const, Fault>
     requires { AreNatural cursor.old.rest.now }
-    ensures { Reads (plain spec.constant cursor.old.rest.now) view.constant result cursor.new.rest.now }
+    ensures { Reads
+        (plain spec.constant cursor.old.rest.now) view.constant result cursor.new.rest.now }
 {
     let Some(token) = cursor.peek() else {
         return Err(Fault::Unexpected);
     };
     let at = token.start;
     match token.kind {
-        TokenKind::Minus => {
+        TokenKind::Fixed(Fixed::Minus) => {
             cursor.advance();
             negative(cursor, at)
         }
@@ -103,21 +106,21 @@ fn constant(cursor: &mut Cursor<'_>) -> Result<Const, Fault>
                 value: Value::Int(n),
             })
         }
-        TokenKind::True => {
+        TokenKind::Fixed(Fixed::True) => {
             cursor.advance();
             Ok(Const {
                 at,
                 value: Value::Bool(true),
             })
         }
-        TokenKind::False => {
+        TokenKind::Fixed(Fixed::False) => {
             cursor.advance();
             Ok(Const {
                 at,
                 value: Value::Bool(false),
             })
         }
-        TokenKind::NoRev => {
+        TokenKind::Fixed(Fixed::NoRev) => {
             cursor.advance();
             Ok(Const {
                 at,
@@ -140,7 +143,9 @@ fn negated(n: i64) -> i64
 #[tactic(auto, unfolding(token_grammar::specs::Reader::read, crate::specs::Pieces::number))]
 fn negative(cursor: &mut Cursor<'_>, at: u32) -> Result<Const, Fault>
     requires { AreNatural cursor.old.rest.now }
-    ensures { Reads (pieces.negative_of at (plain pieces.number cursor.old.rest.now)) view.constant result cursor.new.rest.now }
+    ensures { Reads
+        (pieces.negative_of at (plain pieces.number cursor.old.rest.now)) view.constant result
+        cursor.new.rest.now }
 {
     let Some(token) = cursor.peek() else {
         return Err(Fault::Unexpected);
@@ -161,9 +166,10 @@ fn negative(cursor: &mut Cursor<'_>, at: u32) -> Result<Const, Fault>
 #[tactic(auto, using(crate::proofs::DeclarationRules::first_value_cases))]
 fn first_value(cursor: &mut Cursor<'_>) -> Result<Option<Const>, Fault>
     requires { AreNatural cursor.old.rest.now }
-    ensures { Reads (plain spec.first_value cursor.old.rest.now) (option_map view.constant) result cursor.new.rest.now }
+    ensures { Reads (plain spec.first_value cursor.old.rest.now)
+        (option_map view.constant) result cursor.new.rest.now }
 {
-    if !cursor.is_at(Sort::Assign) {
+    if !cursor.is_at(Fixed::Assign) {
         return Ok(None);
     }
     cursor.advance();
@@ -174,7 +180,8 @@ fn first_value(cursor: &mut Cursor<'_>) -> Result<Option<Const>, Fault>
 /// A number of cells.
 #[tactic(auto, unfolding(token_grammar::specs::Reader::read, crate::specs::Pieces::count))]
 fn count(cursor: &mut Cursor<'_>) -> Result<Size, Fault>
-    ensures { Reads (plain pieces.count cursor.old.rest.now) view.extent result cursor.new.rest.now }
+    ensures { Reads
+        (plain pieces.count cursor.old.rest.now) view.array_size result cursor.new.rest.now }
 {
     let Some(token) = cursor.peek() else {
         return Err(Fault::Unexpected);
@@ -194,19 +201,21 @@ fn count(cursor: &mut Cursor<'_>) -> Result<Size, Fault>
 /// The number of cells of an array behind its opening bracket.
 #[tactic(auto, using(crate::proofs::DeclarationRules::cells_are))]
 fn cells(cursor: &mut Cursor<'_>) -> Result<Size, Fault>
-    ensures { Reads (plain spec.cells cursor.old.rest.now) view.extent result cursor.new.rest.now }
+    ensures { Reads
+        (plain spec.cells cursor.old.rest.now) view.array_size result cursor.new.rest.now }
 {
     let size = count(cursor)?;
-    cursor.expect(Sort::CloseBracket)?;
+    cursor.expect(Fixed::CloseBracket)?;
     Ok(size)
 }
 
 /// The size of a variable, if it is an array.
 #[tactic(auto, using(crate::proofs::DeclarationRules::size_cases))]
 fn size(cursor: &mut Cursor<'_>, levels: u32) -> Result<Option<Size>, Fault>
-    ensures { Reads (parse [] levels spec.size cursor.old.rest.now) (option_map view.extent) result cursor.new.rest.now }
+    ensures { Reads (parse [] levels spec.size cursor.old.rest.now)
+        (option_map view.array_size) result cursor.new.rest.now }
 {
-    if !cursor.is_at(Sort::OpenBracket) {
+    if !cursor.is_at(Fixed::OpenBracket) {
         return Ok(None);
     }
     within(levels)?;
@@ -218,10 +227,10 @@ fn size(cursor: &mut Cursor<'_>, levels: u32) -> Result<Option<Size>, Fault>
 /// A parameter.
 #[tactic(auto, using(crate::proofs::DeclarationRules::param_is))]
 fn param(source: &Source<'_>, cursor: &mut Cursor<'_>, levels: u32) -> Result<Param, Fault>
-    ensures { Reads (parse source.now.bytes.now levels (spec.param source.now.bytes.now) cursor.old.rest.now) view.binder result cursor.new.rest.now }
+    ensures { Parses spec.param source.now levels cursor.old view.parameter result cursor.new }
 {
     let name = name(source, cursor, levels)?;
-    cursor.expect(Sort::Colon)?;
+    cursor.expect(Fixed::Colon)?;
     let kind = kind(cursor)?;
     Ok(Param {
         name,
@@ -231,7 +240,9 @@ fn param(source: &Source<'_>, cursor: &mut Cursor<'_>, levels: u32) -> Result<Pa
 }
 
 fn push_param(params: &mut Vec<Param>, param: Param) -> Result<(), AllocError>
-    ensures { OnOk result (pieces.binders params.new.items ≡ pieces.binders params.old.items ++ view.binder param ∷ []) }
+    ensures { OnOk result
+        (pieces.parameters params.new.items
+        ≡ pieces.parameters params.old.items ++ view.parameter param ∷ []) }
 {
     params.push(param)?;
     Ok(())
@@ -245,11 +256,13 @@ fn more_params(
     levels: u32,
     params: Vec<Param>,
 ) -> Result<Vec<Param>, Fault>
-    ensures { Reads (more_listed source.now.bytes.now levels (spec.param source.now.bytes.now) (length cursor.old.rest.now) (pieces.binders params.items) cursor.old.rest.now) (λ ps. pieces.binders ps.items) result cursor.new.rest.now }
+    ensures { ParsesBy
+        (λ b n ts. more_listed b n (spec.param b) (length ts) (pieces.parameters params.items) ts)
+        source.now levels cursor.old (λ ps. pieces.parameters ps.items) result cursor.new }
 {
     let mut params = params;
     for _turn in 0..cursor.left() {
-        if !cursor.is_at(Sort::Comma) {
+        if !cursor.is_at(Fixed::Comma) {
             return Ok(params);
         }
         cursor.advance();
@@ -264,10 +277,11 @@ fn some_params(
     cursor: &mut Cursor<'_>,
     levels: u32,
 ) -> Result<Vec<Param>, Fault>
-    ensures { Reads (parse source.now.bytes.now levels (g.listing (spec.param source.now.bytes.now)) cursor.old.rest.now) (λ ps. pieces.binders ps.items) result cursor.new.rest.now }
+    ensures { Parses (λ b. g.listing (spec.param b))
+        source.now levels cursor.old (λ ps. pieces.parameters ps.items) result cursor.new }
 {
     let mut params = Vec::new(source.alloc);
-    if !cursor.is_at(Sort::Name) {
+    if !cursor.is_at_name() {
         return Ok(params);
     }
     let first = param(source, cursor, levels)?;
@@ -278,19 +292,21 @@ fn some_params(
 /// Parameters behind their opening parenthesis.
 #[tactic(auto, using(crate::proofs::DeclarationRules::params_are))]
 fn params(source: &Source<'_>, cursor: &mut Cursor<'_>, levels: u32) -> Result<Vec<Param>, Fault>
-    ensures { Reads (parse source.now.bytes.now levels (spec.params source.now.bytes.now) cursor.old.rest.now) (λ ps. pieces.binders ps.items) result cursor.new.rest.now }
+    ensures { Parses spec.params
+        source.now levels cursor.old (λ ps. pieces.parameters ps.items) result cursor.new }
 {
     let params = some_params(source, cursor, levels)?;
-    cursor.expect(Sort::CloseParen)?;
+    cursor.expect(Fixed::CloseParen)?;
     Ok(params)
 }
 
 /// The parameters of a fun or a procedure, in their parentheses.
 #[tactic(auto, using(crate::proofs::DeclarationRules::formal_cases))]
 fn formal(source: &Source<'_>, cursor: &mut Cursor<'_>, levels: u32) -> Result<Vec<Param>, Fault>
-    ensures { Reads (parse source.now.bytes.now levels (spec.formal source.now.bytes.now) cursor.old.rest.now) (λ ps. pieces.binders ps.items) result cursor.new.rest.now }
+    ensures { Parses spec.formal
+        source.now levels cursor.old (λ ps. pieces.parameters ps.items) result cursor.new }
 {
-    if !cursor.is_at(Sort::OpenParen) {
+    if !cursor.is_at(Fixed::OpenParen) {
         return Err(Fault::Unexpected);
     }
     let inner = within(levels)?;
@@ -301,23 +317,24 @@ fn formal(source: &Source<'_>, cursor: &mut Cursor<'_>, levels: u32) -> Result<V
 /// The three names of a merge behind their opening parenthesis.
 #[tactic(auto, using(crate::proofs::DeclarationRules::names_are))]
 fn names(source: &Source<'_>, cursor: &mut Cursor<'_>, levels: u32) -> Result<Versions, Fault>
-    ensures { Reads (parse source.now.bytes.now levels (spec.names source.now.bytes.now) cursor.old.rest.now) pieces.versions result cursor.new.rest.now }
+    ensures { Parses spec.names source.now levels cursor.old pieces.versions result cursor.new }
 {
     let main = name(source, cursor, levels)?;
-    cursor.expect(Sort::Comma)?;
+    cursor.expect(Fixed::Comma)?;
     let join = name(source, cursor, levels)?;
-    cursor.expect(Sort::Comma)?;
+    cursor.expect(Fixed::Comma)?;
     let root = name(source, cursor, levels)?;
-    cursor.expect(Sort::CloseParen)?;
+    cursor.expect(Fixed::CloseParen)?;
     Ok(Versions { main, join, root })
 }
 
 /// The three names of a merge, in their parentheses.
 #[tactic(auto, using(crate::proofs::DeclarationRules::three_names_cases))]
 fn three_names(source: &Source<'_>, cursor: &mut Cursor<'_>, levels: u32) -> Result<Versions, Fault>
-    ensures { Reads (parse source.now.bytes.now levels pieces.three_names cursor.old.rest.now) pieces.versions result cursor.new.rest.now }
+    ensures { Parses (λ _. pieces.three_names)
+        source.now levels cursor.old pieces.versions result cursor.new }
 {
-    if !cursor.is_at(Sort::OpenParen) {
+    if !cursor.is_at(Fixed::OpenParen) {
         return Err(Fault::Unexpected);
     }
     let inner = within(levels)?;
@@ -328,7 +345,7 @@ fn three_names(source: &Source<'_>, cursor: &mut Cursor<'_>, levels: u32) -> Res
 /// A name with its parameters.
 #[tactic(auto, using(crate::proofs::DeclarationRules::head_is))]
 fn head(source: &Source<'_>, cursor: &mut Cursor<'_>, levels: u32) -> Result<Heading, Fault>
-    ensures { Reads (parse source.now.bytes.now levels (spec.head source.now.bytes.now) cursor.old.rest.now) pieces.heading result cursor.new.rest.now }
+    ensures { Parses spec.head source.now levels cursor.old pieces.heading result cursor.new }
 {
     let name = name(source, cursor, levels)?;
     let params = formal(source, cursor, levels)?;
@@ -338,21 +355,21 @@ fn head(source: &Source<'_>, cursor: &mut Cursor<'_>, levels: u32) -> Result<Hea
 /// The expression that a fun or a merge stands for, between `=` and `;`.
 #[tactic(auto, using(crate::proofs::DeclarationRules::meaning_is))]
 fn meaning(source: &Source<'_>, cursor: &mut Cursor<'_>, levels: u32) -> Result<Expr, Fault>
-    ensures { Reads (parse source.now.bytes.now levels (spec.meaning source.now.bytes.now) cursor.old.rest.now) view.term result cursor.new.rest.now }
+    ensures { Parses spec.meaning source.now levels cursor.old view.expression result cursor.new }
 {
-    cursor.expect(Sort::Assign)?;
+    cursor.expect(Fixed::Assign)?;
     let body = expr(source, cursor, levels)?;
-    cursor.expect(Sort::Semicolon)?;
+    cursor.expect(Fixed::Semicolon)?;
     Ok(body)
 }
 
 /// What follows the word `fun`.
 #[tactic(auto, using(crate::proofs::DeclarationRules::fun_is))]
 fn fun(source: &Source<'_>, cursor: &mut Cursor<'_>, levels: u32) -> Result<Decl, Fault>
-    ensures { Reads (parse source.now.bytes.now levels (spec.fun_form source.now.bytes.now) cursor.old.rest.now) view.entry result cursor.new.rest.now }
+    ensures { Parses spec.fun_form source.now levels cursor.old view.declaration result cursor.new }
 {
     let head = head(source, cursor, levels)?;
-    cursor.expect(Sort::Colon)?;
+    cursor.expect(Fixed::Colon)?;
     let result = kind(cursor)?;
     let body = meaning(source, cursor, levels)?;
     Ok(Decl::Fun {
@@ -366,7 +383,8 @@ fn fun(source: &Source<'_>, cursor: &mut Cursor<'_>, levels: u32) -> Result<Decl
 /// What follows the word `merge`.
 #[tactic(auto, using(crate::proofs::DeclarationRules::merge_is))]
 fn merge(source: &Source<'_>, cursor: &mut Cursor<'_>, levels: u32) -> Result<Decl, Fault>
-    ensures { Reads (parse source.now.bytes.now levels (spec.merge_form source.now.bytes.now) cursor.old.rest.now) view.entry result cursor.new.rest.now }
+    ensures { Parses spec.merge_form
+        source.now levels cursor.old view.declaration result cursor.new }
 {
     let name = name(source, cursor, levels)?;
     let versions = three_names(source, cursor, levels)?;
@@ -383,17 +401,19 @@ fn merge(source: &Source<'_>, cursor: &mut Cursor<'_>, levels: u32) -> Result<De
 /// A shared variable with its kind, and its size if it is an array.
 #[tactic(auto, using(crate::proofs::DeclarationRules::variable_is))]
 fn variable(source: &Source<'_>, cursor: &mut Cursor<'_>, levels: u32) -> Result<Typed, Fault>
-    ensures { Reads (parse source.now.bytes.now levels (spec.variable source.now.bytes.now) cursor.old.rest.now) pieces.typed result cursor.new.rest.now }
+    ensures { Parses spec.variable source.now levels cursor.old pieces.typed result cursor.new }
 {
     let name = name(source, cursor, levels)?;
-    cursor.expect(Sort::Colon)?;
+    cursor.expect(Fixed::Colon)?;
     let kind = kind(cursor)?;
     let size = size(cursor, levels)?;
     Ok(Typed { name, kind, size })
 }
 
 fn shared(variable: Typed, by: Option<Name>, first: Option<Const>) -> Decl
-    ensures { view.entry result ≡ spec.shared_of [] (pieces.typed variable) (option_map view.word by) (option_map view.constant first) }
+    ensures { view.declaration result
+        ≡ spec.shared_of [] (pieces.typed variable) (option_map view.placed_name by)
+        (option_map view.constant first) }
 {
     Decl::Shared {
         name: variable.name,
@@ -409,11 +429,12 @@ fn shared(variable: Typed, by: Option<Name>, first: Option<Const>) -> Decl
 #[tactic(auto, using(crate::proofs::DeclarationRules::versioned_is))]
 fn versioned(source: &Source<'_>, cursor: &mut Cursor<'_>, levels: u32) -> Result<Decl, Fault>
     requires { AreNatural cursor.old.rest.now }
-    ensures { Reads (parse source.now.bytes.now levels (spec.versioned_form source.now.bytes.now) cursor.old.rest.now) view.entry result cursor.new.rest.now }
+    ensures { Parses spec.versioned_form
+        source.now levels cursor.old view.declaration result cursor.new }
 {
     let variable = variable(source, cursor, levels)?;
     let first = first_value(cursor)?;
-    cursor.expect(Sort::Semicolon)?;
+    cursor.expect(Fixed::Semicolon)?;
     Ok(shared(variable, None, first))
 }
 
@@ -421,13 +442,14 @@ fn versioned(source: &Source<'_>, cursor: &mut Cursor<'_>, levels: u32) -> Resul
 #[tactic(auto, using(crate::proofs::DeclarationRules::cumulative_is))]
 fn cumulative(source: &Source<'_>, cursor: &mut Cursor<'_>, levels: u32) -> Result<Decl, Fault>
     requires { AreNatural cursor.old.rest.now }
-    ensures { Reads (parse source.now.bytes.now levels (spec.cumulative_form source.now.bytes.now) cursor.old.rest.now) view.entry result cursor.new.rest.now }
+    ensures { Parses spec.cumulative_form
+        source.now levels cursor.old view.declaration result cursor.new }
 {
     let variable = variable(source, cursor, levels)?;
-    cursor.expect(Sort::By)?;
+    cursor.expect(Fixed::By)?;
     let by = name(source, cursor, levels)?;
     let first = first_value(cursor)?;
-    cursor.expect(Sort::Semicolon)?;
+    cursor.expect(Fixed::Semicolon)?;
     Ok(shared(variable, Some(by), first))
 }
 
@@ -436,7 +458,7 @@ fn cumulative(source: &Source<'_>, cursor: &mut Cursor<'_>, levels: u32) -> Resu
 fn result_kind(cursor: &mut Cursor<'_>) -> Result<Option<ValueKind>, Fault>
     ensures { Reads (plain pieces.result_kind cursor.old.rest.now) same result cursor.new.rest.now }
 {
-    if !cursor.is_at(Sort::Colon) {
+    if !cursor.is_at(Fixed::Colon) {
         return Ok(None);
     }
     cursor.advance();
@@ -447,7 +469,8 @@ fn result_kind(cursor: &mut Cursor<'_>) -> Result<Option<ValueKind>, Fault>
 /// What follows the word `proc`.
 #[tactic(auto, using(crate::proofs::DeclarationRules::proc_is))]
 fn procedure(source: &Source<'_>, cursor: &mut Cursor<'_>, levels: u32) -> Result<Decl, Fault>
-    ensures { Reads (parse source.now.bytes.now levels (spec.proc_form source.now.bytes.now) cursor.old.rest.now) view.entry result cursor.new.rest.now }
+    ensures { Parses spec.proc_form
+        source.now levels cursor.old view.declaration result cursor.new }
 {
     let head = head(source, cursor, levels)?;
     let result = result_kind(cursor)?;
@@ -463,29 +486,30 @@ fn procedure(source: &Source<'_>, cursor: &mut Cursor<'_>, levels: u32) -> Resul
 /// A declaration. No number of the tokens is negative.
 pub fn declaration(source: &Source<'_>, cursor: &mut Cursor<'_>, levels: u32) -> Result<Decl, Fault>
     requires { AreNatural cursor.old.rest.now }
-    ensures { Reads (parse source.now.bytes.now levels (spec.declaration source.now.bytes.now) cursor.old.rest.now) view.entry result cursor.new.rest.now }
+    ensures { Parses spec.declaration
+        source.now levels cursor.old view.declaration result cursor.new }
 {
     let Some(token) = cursor.peek() else {
         return Err(Fault::Unexpected);
     };
     match token.kind {
-        TokenKind::Fun => {
+        TokenKind::Fixed(Fixed::Fun) => {
             cursor.advance();
             fun(source, cursor, levels)
         }
-        TokenKind::Merge => {
+        TokenKind::Fixed(Fixed::Merge) => {
             cursor.advance();
             merge(source, cursor, levels)
         }
-        TokenKind::Versioned => {
+        TokenKind::Fixed(Fixed::Versioned) => {
             cursor.advance();
             versioned(source, cursor, levels)
         }
-        TokenKind::Cumulative => {
+        TokenKind::Fixed(Fixed::Cumulative) => {
             cursor.advance();
             cumulative(source, cursor, levels)
         }
-        TokenKind::Proc => {
+        TokenKind::Fixed(Fixed::Proc) => {
             cursor.advance();
             procedure(source, cursor, levels)
         }
@@ -503,16 +527,18 @@ fn begins_declaration(cursor: &Cursor<'_>) -> bool
     };
     matches!(
         token.kind,
-        TokenKind::Fun
-            | TokenKind::Merge
-            | TokenKind::Versioned
-            | TokenKind::Cumulative
-            | TokenKind::Proc
+        TokenKind::Fixed(Fixed::Fun)
+            | TokenKind::Fixed(Fixed::Merge)
+            | TokenKind::Fixed(Fixed::Versioned)
+            | TokenKind::Fixed(Fixed::Cumulative)
+            | TokenKind::Fixed(Fixed::Proc)
     )
 }
 
 fn push_decl(decls: &mut Vec<Decl>, decl: Decl) -> Result<(), AllocError>
-    ensures { OnOk result (map view.entry decls.new.items ≡ map view.entry decls.old.items ++ view.entry decl ∷ []) }
+    ensures { OnOk result
+        (map view.declaration decls.new.items
+        ≡ map view.declaration decls.old.items ++ view.declaration decl ∷ []) }
 {
     decls.push(decl)?;
     Ok(())
@@ -526,7 +552,8 @@ pub fn declarations(
     levels: u32,
 ) -> Result<Vec<Decl>, Fault>
     requires { AreNatural cursor.old.rest.now }
-    ensures { Reads (parse source.now.bytes.now levels (spec.declarations source.now.bytes.now) cursor.old.rest.now) (λ ds. map view.entry ds.items) result cursor.new.rest.now }
+    ensures { Parses spec.declarations
+        source.now levels cursor.old (λ ds. map view.declaration ds.items) result cursor.new }
 {
     let mut found = Vec::new(source.alloc);
     for _turn in 0..cursor.left() {
@@ -548,7 +575,7 @@ fn main_word(cursor: &mut Cursor<'_>) -> Result<u32, Fault>
         return Err(Fault::Unexpected);
     };
     match token.kind {
-        TokenKind::Main => {
+        TokenKind::Fixed(Fixed::Main) => {
             cursor.advance();
             Ok(token.start)
         }
@@ -560,7 +587,7 @@ fn main_word(cursor: &mut Cursor<'_>) -> Result<u32, Fault>
 #[tactic(auto, using(crate::proofs::DeclarationRules::program_is))]
 pub fn program(source: &Source<'_>, cursor: &mut Cursor<'_>, levels: u32) -> Result<Program, Fault>
     requires { AreNatural cursor.old.rest.now }
-    ensures { Reads (parse source.now.bytes.now levels (spec.program source.now.bytes.now) cursor.old.rest.now) view.program result cursor.new.rest.now }
+    ensures { Parses spec.program source.now levels cursor.old view.program result cursor.new }
 {
     let decls = declarations(source, cursor, levels)?;
     let main_at = main_word(cursor)?;

@@ -4,23 +4,25 @@ ghost use Rattle.rev_expressions.specs.Grammar as spec;
 ghost use Rattle.rev_expressions.specs.Statements as st;
 ghost use Rattle.rev_expressions.specs.Lists.{more_of, more_listed};
 ghost use Rattle.rev_expressions.specs.Parse.{parse};
+ghost use Rattle.rev_expressions.specs.Parses.{Parses, ParsesBy};
 ghost use Rattle.rev_expressions.specs.Reads.{Reads};
-ghost use Rattle.rev_parse.specs.Parts.{act_of_name, flat_form_behind, form_behind, item_begins, more_parts, statement_begins, with_last};
+ghost use Rattle.rev_parse.specs.Parts.{statement_form_of_name, flat_form_behind, form_behind, item_begins, more_parts, statement_begins, with_last};
 ghost use Rattle.rev_syntax.specs.View as view;
 
 use crate::form;
 use rev_expressions::{
-    Cursor, Fault, Sort, Source, arguments, begins_expr, bracketed, expr, name, within,
+    Cursor, Fault, Source, arguments, begins_expr, bracketed, expr, name, within,
 };
-use rev_syntax::{Arm, Block, Expr, Form, Item, Name, Rhs, Stmt, Token, TokenKind};
+use rev_syntax::{Arm, Block, Expr, Fixed, Form, Item, Name, Rhs, Stmt, Token, TokenKind};
 use std::alloc::AllocError;
 
 /// Arguments in their parentheses.
 #[tactic(auto, using(crate::proofs::StatementRules::actual_cases))]
 fn actual(source: &Source<'_>, cursor: &mut Cursor<'_>, levels: u32) -> Result<Vec<Expr>, Fault>
-    ensures { Reads (parse source.now.bytes.now levels (st.actual source.now.bytes.now) cursor.old.rest.now) (λ es. map view.term es.items) result cursor.new.rest.now }
+    ensures { Parses st.actual
+        source.now levels cursor.old (λ es. map view.expression es.items) result cursor.new }
 {
-    if !cursor.is_at(Sort::OpenParen) {
+    if !cursor.is_at(Fixed::OpenParen) {
         return Err(Fault::Unexpected);
     }
     let inner = within(levels)?;
@@ -35,7 +37,8 @@ fn application(
     cursor: &mut Cursor<'_>,
     levels: u32,
 ) -> Result<(Name, Vec<Expr>), Fault>
-    ensures { Reads (parse source.now.bytes.now levels (st.application source.now.bytes.now) cursor.old.rest.now) (λ p. (view.word p.0, map view.term p.1.items)) result cursor.new.rest.now }
+    ensures { Parses st.application
+        source.now levels cursor.old (λ p. (view.placed_name p.0, map view.expression p.1.items)) result cursor.new }
 {
     let name = name(source, cursor, levels)?;
     let args = actual(source, cursor, levels)?;
@@ -44,24 +47,24 @@ fn application(
 
 /// What is assigned.
 fn right_side(source: &Source<'_>, cursor: &mut Cursor<'_>, levels: u32) -> Result<Rhs, Fault>
-    ensures { Reads (parse source.now.bytes.now levels (st.right_side source.now.bytes.now) cursor.old.rest.now) view.right result cursor.new.rest.now }
+    ensures { Parses st.right_side source.now levels cursor.old view.right_side result cursor.new }
 {
     let Some(token) = cursor.peek() else {
         return Err(Fault::Unexpected);
     };
     let at = token.start;
     match token.kind {
-        TokenKind::Call => {
+        TokenKind::Fixed(Fixed::Call) => {
             cursor.advance();
             let (name, args) = application(source, cursor, levels)?;
             Ok(Rhs::Call { at, name, args })
         }
-        TokenKind::Fork => {
+        TokenKind::Fixed(Fixed::Fork) => {
             cursor.advance();
             let (name, args) = application(source, cursor, levels)?;
             Ok(Rhs::Fork { at, name, args })
         }
-        TokenKind::TryJoin => {
+        TokenKind::Fixed(Fixed::TryJoin) => {
             cursor.advance();
             let handle = expr(source, cursor, levels)?;
             Ok(Rhs::Try { at, handle })
@@ -73,11 +76,11 @@ fn right_side(source: &Source<'_>, cursor: &mut Cursor<'_>, levels: u32) -> Resu
 /// `=`, a right side and `;`.
 #[tactic(auto, using(crate::proofs::StatementRules::assigned_is))]
 fn assigned(source: &Source<'_>, cursor: &mut Cursor<'_>, levels: u32) -> Result<Rhs, Fault>
-    ensures { Reads (parse source.now.bytes.now levels (st.assigned source.now.bytes.now) cursor.old.rest.now) view.right result cursor.new.rest.now }
+    ensures { Parses st.assigned source.now levels cursor.old view.right_side result cursor.new }
 {
-    cursor.expect(Sort::Assign)?;
+    cursor.expect(Fixed::Assign)?;
     let rhs = right_side(source, cursor, levels)?;
-    cursor.expect(Sort::Semicolon)?;
+    cursor.expect(Fixed::Semicolon)?;
     Ok(rhs)
 }
 
@@ -88,21 +91,23 @@ fn assignment(
     levels: u32,
     name: Name,
 ) -> Result<Form, Fault>
-    ensures { Reads (act_of_name (view.word name) (parse source.now.bytes.now levels (st.assignment source.now.bytes.now) cursor.old.rest.now)) view.act result cursor.new.rest.now }
+    ensures { ParsesBy
+        (λ b n ts. statement_form_of_name (view.placed_name name) (parse b n (st.assignment b) ts))
+        source.now levels cursor.old view.statement_form result cursor.new }
 {
     let Some(token) = cursor.peek() else {
         return Err(Fault::Unexpected);
     };
     match token.kind {
-        TokenKind::Assign => {
+        TokenKind::Fixed(Fixed::Assign) => {
             let rhs = assigned(source, cursor, levels)?;
             Ok(form::assign(name, rhs))
         }
         _ => {
             let index = bracketed(source, cursor, levels)?;
-            cursor.expect(Sort::Assign)?;
+            cursor.expect(Fixed::Assign)?;
             let value = expr(source, cursor, levels)?;
-            cursor.expect(Sort::Semicolon)?;
+            cursor.expect(Fixed::Semicolon)?;
             Ok(form::assign_cell(name, index, value))
         }
     }
@@ -110,7 +115,8 @@ fn assignment(
 
 #[tactic(auto, using(crate::proofs::StatementRules::let_is))]
 fn let_form(source: &Source<'_>, cursor: &mut Cursor<'_>, levels: u32) -> Result<Form, Fault>
-    ensures { Reads (parse source.now.bytes.now levels (st.let_form source.now.bytes.now) cursor.old.rest.now) view.act result cursor.new.rest.now }
+    ensures { Parses st.let_form
+        source.now levels cursor.old view.statement_form result cursor.new }
 {
     let name = name(source, cursor, levels)?;
     let rhs = assigned(source, cursor, levels)?;
@@ -119,55 +125,60 @@ fn let_form(source: &Source<'_>, cursor: &mut Cursor<'_>, levels: u32) -> Result
 
 #[tactic(auto, using(crate::proofs::StatementRules::call_is))]
 fn call_form(source: &Source<'_>, cursor: &mut Cursor<'_>, levels: u32) -> Result<Form, Fault>
-    ensures { Reads (parse source.now.bytes.now levels (st.call_form source.now.bytes.now) cursor.old.rest.now) view.act result cursor.new.rest.now }
+    ensures { Parses st.call_form
+        source.now levels cursor.old view.statement_form result cursor.new }
 {
     let (name, args) = application(source, cursor, levels)?;
-    cursor.expect(Sort::Semicolon)?;
+    cursor.expect(Fixed::Semicolon)?;
     Ok(form::call(name, args))
 }
 
 #[tactic(auto, using(crate::proofs::StatementRules::fork_is))]
 fn fork_form(source: &Source<'_>, cursor: &mut Cursor<'_>, levels: u32) -> Result<Form, Fault>
-    ensures { Reads (parse source.now.bytes.now levels (st.fork_form source.now.bytes.now) cursor.old.rest.now) view.act result cursor.new.rest.now }
+    ensures { Parses st.fork_form
+        source.now levels cursor.old view.statement_form result cursor.new }
 {
     let (name, args) = application(source, cursor, levels)?;
-    cursor.expect(Sort::Semicolon)?;
+    cursor.expect(Fixed::Semicolon)?;
     Ok(form::fork(name, args))
 }
 
 #[tactic(auto, using(crate::proofs::StatementRules::join_is))]
 fn join_form(source: &Source<'_>, cursor: &mut Cursor<'_>, levels: u32) -> Result<Form, Fault>
-    ensures { Reads (parse source.now.bytes.now levels (st.join_form source.now.bytes.now) cursor.old.rest.now) view.act result cursor.new.rest.now }
+    ensures { Parses st.join_form
+        source.now levels cursor.old view.statement_form result cursor.new }
 {
     let handle = expr(source, cursor, levels)?;
-    cursor.expect(Sort::Semicolon)?;
+    cursor.expect(Fixed::Semicolon)?;
     Ok(form::join(handle))
 }
 
 #[tactic(auto, using(crate::proofs::StatementRules::assert_is))]
 fn assert_form(source: &Source<'_>, cursor: &mut Cursor<'_>, levels: u32) -> Result<Form, Fault>
-    ensures { Reads (parse source.now.bytes.now levels (st.assert_form source.now.bytes.now) cursor.old.rest.now) view.act result cursor.new.rest.now }
+    ensures { Parses st.assert_form
+        source.now levels cursor.old view.statement_form result cursor.new }
 {
     let test = expr(source, cursor, levels)?;
-    cursor.expect(Sort::Semicolon)?;
+    cursor.expect(Fixed::Semicolon)?;
     Ok(form::assert(test))
 }
 
 fn return_form(source: &Source<'_>, cursor: &mut Cursor<'_>, levels: u32) -> Result<Form, Fault>
-    ensures { Reads (parse source.now.bytes.now levels (st.return_form source.now.bytes.now) cursor.old.rest.now) view.act result cursor.new.rest.now }
+    ensures { Parses st.return_form
+        source.now levels cursor.old view.statement_form result cursor.new }
 {
     if !begins_expr(cursor) {
-        cursor.expect(Sort::Semicolon)?;
+        cursor.expect(Fixed::Semicolon)?;
         return Ok(form::return_form(None));
     }
     let value = expr(source, cursor, levels)?;
-    cursor.expect(Sort::Semicolon)?;
+    cursor.expect(Fixed::Semicolon)?;
     Ok(form::return_form(Some(value)))
 }
 
 /// An item of a `print`.
 fn item(source: &Source<'_>, cursor: &mut Cursor<'_>, levels: u32) -> Result<Item, Fault>
-    ensures { Reads (parse source.now.bytes.now levels (st.item source.now.bytes.now) cursor.old.rest.now) view.shown result cursor.new.rest.now }
+    ensures { Parses st.item source.now levels cursor.old view.print_item result cursor.new }
 {
     let Some(token) = cursor.peek() else {
         return Err(Fault::Unexpected);
@@ -193,29 +204,32 @@ fn begins_item(cursor: &Cursor<'_>) -> bool
     matches!(
         token.kind,
         TokenKind::Text
-            | TokenKind::Minus
-            | TokenKind::Bang
+            | TokenKind::Fixed(Fixed::Minus)
+            | TokenKind::Fixed(Fixed::Bang)
             | TokenKind::Int(_)
-            | TokenKind::True
-            | TokenKind::False
-            | TokenKind::NoRev
+            | TokenKind::Fixed(Fixed::True)
+            | TokenKind::Fixed(Fixed::False)
+            | TokenKind::Fixed(Fixed::NoRev)
             | TokenKind::Name
-            | TokenKind::Input
-            | TokenKind::Inputs
-            | TokenKind::Pick
-            | TokenKind::OpenParen
+            | TokenKind::Fixed(Fixed::Input)
+            | TokenKind::Fixed(Fixed::Inputs)
+            | TokenKind::Fixed(Fixed::Pick)
+            | TokenKind::Fixed(Fixed::OpenParen)
     )
 }
 
 fn push_item(items: &mut Vec<Item>, item: Item) -> Result<(), AllocError>
-    ensures { OnOk result (map view.shown items.new.items ≡ map view.shown items.old.items ++ view.shown item ∷ []) }
+    ensures { OnOk result
+        (map view.print_item items.new.items
+        ≡ map view.print_item items.old.items ++ view.print_item item ∷ []) }
 {
     items.push(item)?;
     Ok(())
 }
 
 fn items(source: &Source<'_>, cursor: &mut Cursor<'_>, levels: u32) -> Result<Vec<Item>, Fault>
-    ensures { Reads (parse source.now.bytes.now levels (spec.listing (st.item source.now.bytes.now)) cursor.old.rest.now) (λ xs. map view.shown xs.items) result cursor.new.rest.now }
+    ensures { Parses (λ b. spec.listing (st.item b))
+        source.now levels cursor.old (λ xs. map view.print_item xs.items) result cursor.new }
 {
     let mut found = Vec::new(source.alloc);
     if !begins_item(cursor) {
@@ -234,11 +248,13 @@ fn more_items(
     levels: u32,
     found: Vec<Item>,
 ) -> Result<Vec<Item>, Fault>
-    ensures { Reads (more_listed source.now.bytes.now levels (st.item source.now.bytes.now) (length cursor.old.rest.now) (map view.shown found.items) cursor.old.rest.now) (λ xs. map view.shown xs.items) result cursor.new.rest.now }
+    ensures { ParsesBy
+        (λ b n ts. more_listed b n (st.item b) (length ts) (map view.print_item found.items) ts)
+        source.now levels cursor.old (λ xs. map view.print_item xs.items) result cursor.new }
 {
     let mut found = found;
     for _turn in 0..cursor.left() {
-        if !cursor.is_at(Sort::Comma) {
+        if !cursor.is_at(Fixed::Comma) {
             return Ok(found);
         }
         cursor.advance();
@@ -250,10 +266,11 @@ fn more_items(
 
 #[tactic(auto, using(crate::proofs::StatementRules::print_is))]
 fn print_form(source: &Source<'_>, cursor: &mut Cursor<'_>, levels: u32) -> Result<Form, Fault>
-    ensures { Reads (parse source.now.bytes.now levels (st.print_form source.now.bytes.now) cursor.old.rest.now) view.act result cursor.new.rest.now }
+    ensures { Parses st.print_form
+        source.now levels cursor.old view.statement_form result cursor.new }
 {
     let items = items(source, cursor, levels)?;
-    cursor.expect(Sort::Semicolon)?;
+    cursor.expect(Fixed::Semicolon)?;
     Ok(form::print(items))
 }
 
@@ -267,28 +284,30 @@ fn begins_statement(cursor: &Cursor<'_>) -> bool
     };
     matches!(
         token.kind,
-        TokenKind::Let
+        TokenKind::Fixed(Fixed::Let)
             | TokenKind::Name
-            | TokenKind::If
-            | TokenKind::While
-            | TokenKind::Call
-            | TokenKind::Return
-            | TokenKind::Fork
-            | TokenKind::Join
-            | TokenKind::Print
-            | TokenKind::Assert
+            | TokenKind::Fixed(Fixed::If)
+            | TokenKind::Fixed(Fixed::While)
+            | TokenKind::Fixed(Fixed::Call)
+            | TokenKind::Fixed(Fixed::Return)
+            | TokenKind::Fixed(Fixed::Fork)
+            | TokenKind::Fixed(Fixed::Join)
+            | TokenKind::Fixed(Fixed::Print)
+            | TokenKind::Fixed(Fixed::Assert)
     )
 }
 
 fn push_stmt(found: &mut Vec<Stmt>, stmt: Stmt) -> Result<(), AllocError>
-    ensures { OnOk result (map view.stmt found.new.items ≡ map view.stmt found.old.items ++ view.stmt stmt ∷ []) }
+    ensures { OnOk result
+        (map view.stmt found.new.items ≡ map view.stmt found.old.items ++ view.stmt stmt ∷ []) }
 {
     found.push(stmt)?;
     Ok(())
 }
 
 fn push_arm(found: &mut Vec<Arm>, arm: Arm) -> Result<(), AllocError>
-    ensures { OnOk result (map view.arm found.new.items ≡ map view.arm found.old.items ++ view.arm arm ∷ []) }
+    ensures { OnOk result
+        (map view.arm found.new.items ≡ map view.arm found.old.items ++ view.arm arm ∷ []) }
 {
     found.push(arm)?;
     Ok(())
@@ -298,9 +317,9 @@ fn push_arm(found: &mut Vec<Arm>, arm: Arm) -> Result<(), AllocError>
 #[cycle(stmt)]
 #[tactic(auto, using(crate::proofs::StatementRules::block_cases))]
 pub fn block(source: &Source<'_>, cursor: &mut Cursor<'_>, levels: u32) -> Result<Block, Fault>
-    ensures { Reads (parse source.now.bytes.now levels st.block cursor.old.rest.now) view.block result cursor.new.rest.now }
+    ensures { Parses (λ _. st.block) source.now levels cursor.old view.block result cursor.new }
 {
-    if !cursor.is_at(Sort::OpenBrace) {
+    if !cursor.is_at(Fixed::OpenBrace) {
         return Err(Fault::Unexpected);
     }
     let inner = within(levels)?;
@@ -312,16 +331,17 @@ pub fn block(source: &Source<'_>, cursor: &mut Cursor<'_>, levels: u32) -> Resul
 #[cycle(stmt)]
 #[tactic(auto, using(crate::proofs::StatementRules::body_is))]
 fn body(source: &Source<'_>, cursor: &mut Cursor<'_>, levels: u32) -> Result<Block, Fault>
-    ensures { Reads (parse source.now.bytes.now levels (st.body source.now.bytes.now) cursor.old.rest.now) view.block result cursor.new.rest.now }
+    ensures { Parses st.body source.now levels cursor.old view.block result cursor.new }
 {
     let stmts = statements(source, cursor, levels)?;
-    cursor.expect(Sort::CloseBrace)?;
+    cursor.expect(Fixed::CloseBrace)?;
     Ok(form::block(stmts))
 }
 
 #[cycle(stmt)]
 fn statements(source: &Source<'_>, cursor: &mut Cursor<'_>, levels: u32) -> Result<Vec<Stmt>, Fault>
-    ensures { Reads (more_of source.now.bytes.now levels (st.statement source.now.bytes.now) (length cursor.old.rest.now) [] cursor.old.rest.now) (λ xs. map view.stmt xs.items) result cursor.new.rest.now }
+    ensures { ParsesBy (λ b n ts. more_of b n (st.statement b) (length ts) [] ts)
+        source.now levels cursor.old (λ xs. map view.stmt xs.items) result cursor.new }
 {
     let mut found = Vec::new(source.alloc);
     for _turn in 0..cursor.left() {
@@ -336,7 +356,7 @@ fn statements(source: &Source<'_>, cursor: &mut Cursor<'_>, levels: u32) -> Resu
 
 #[cycle(stmt)]
 fn statement(source: &Source<'_>, cursor: &mut Cursor<'_>, levels: u32) -> Result<Stmt, Fault>
-    ensures { Reads (parse source.now.bytes.now levels (st.statement source.now.bytes.now) cursor.old.rest.now) view.stmt result cursor.new.rest.now }
+    ensures { Parses st.statement source.now levels cursor.old view.stmt result cursor.new }
 {
     let Some(token) = cursor.peek() else {
         return Err(Fault::Unexpected);
@@ -354,10 +374,11 @@ fn form_at(
     levels: u32,
     token: Token,
 ) -> Result<Form, Fault>
-    ensures { Reads (form_behind source.now.bytes.now levels token cursor.old.rest.now) view.act result cursor.new.rest.now }
+    ensures { ParsesBy (λ b n ts. form_behind b n token ts)
+        source.now levels cursor.old view.statement_form result cursor.new }
 {
     match token.kind {
-        TokenKind::Let => {
+        TokenKind::Fixed(Fixed::Let) => {
             cursor.advance();
             let_form(source, cursor, levels)
         }
@@ -366,11 +387,11 @@ fn form_at(
             cursor.advance();
             assignment(source, cursor, levels, name)
         }
-        TokenKind::If => {
+        TokenKind::Fixed(Fixed::If) => {
             cursor.advance();
             if_form(source, cursor, levels)
         }
-        TokenKind::While => {
+        TokenKind::Fixed(Fixed::While) => {
             cursor.advance();
             while_form(source, cursor, levels)
         }
@@ -385,30 +406,31 @@ fn flat_form_at(
     levels: u32,
     token: Token,
 ) -> Result<Form, Fault>
-    ensures { Reads (flat_form_behind source.now.bytes.now levels token cursor.old.rest.now) view.act result cursor.new.rest.now }
+    ensures { ParsesBy (λ b n ts. flat_form_behind b n token ts)
+        source.now levels cursor.old view.statement_form result cursor.new }
 {
     match token.kind {
-        TokenKind::Call => {
+        TokenKind::Fixed(Fixed::Call) => {
             cursor.advance();
             call_form(source, cursor, levels)
         }
-        TokenKind::Return => {
+        TokenKind::Fixed(Fixed::Return) => {
             cursor.advance();
             return_form(source, cursor, levels)
         }
-        TokenKind::Fork => {
+        TokenKind::Fixed(Fixed::Fork) => {
             cursor.advance();
             fork_form(source, cursor, levels)
         }
-        TokenKind::Join => {
+        TokenKind::Fixed(Fixed::Join) => {
             cursor.advance();
             join_form(source, cursor, levels)
         }
-        TokenKind::Print => {
+        TokenKind::Fixed(Fixed::Print) => {
             cursor.advance();
             print_form(source, cursor, levels)
         }
-        TokenKind::Assert => {
+        TokenKind::Fixed(Fixed::Assert) => {
             cursor.advance();
             assert_form(source, cursor, levels)
         }
@@ -419,7 +441,8 @@ fn flat_form_at(
 #[cycle(stmt)]
 #[tactic(auto, using(crate::proofs::StatementRules::while_is))]
 fn while_form(source: &Source<'_>, cursor: &mut Cursor<'_>, levels: u32) -> Result<Form, Fault>
-    ensures { Reads (parse source.now.bytes.now levels (st.while_form source.now.bytes.now) cursor.old.rest.now) view.act result cursor.new.rest.now }
+    ensures { Parses st.while_form
+        source.now levels cursor.old view.statement_form result cursor.new }
 {
     let test = expr(source, cursor, levels)?;
     let body = block(source, cursor, levels)?;
@@ -430,7 +453,7 @@ fn while_form(source: &Source<'_>, cursor: &mut Cursor<'_>, levels: u32) -> Resu
 #[cycle(stmt)]
 #[tactic(auto, using(crate::proofs::StatementRules::arm_is))]
 fn arm(source: &Source<'_>, cursor: &mut Cursor<'_>, levels: u32) -> Result<Arm, Fault>
-    ensures { Reads (parse source.now.bytes.now levels (st.arm source.now.bytes.now) cursor.old.rest.now) view.arm result cursor.new.rest.now }
+    ensures { Parses st.arm source.now levels cursor.old view.arm result cursor.new }
 {
     let test = expr(source, cursor, levels)?;
     let body = block(source, cursor, levels)?;
@@ -439,7 +462,7 @@ fn arm(source: &Source<'_>, cursor: &mut Cursor<'_>, levels: u32) -> Result<Arm,
 
 #[cycle(stmt)]
 fn if_form(source: &Source<'_>, cursor: &mut Cursor<'_>, levels: u32) -> Result<Form, Fault>
-    ensures { Reads (parse source.now.bytes.now levels (st.if_form source.now.bytes.now) cursor.old.rest.now) view.act result cursor.new.rest.now }
+    ensures { Parses st.if_form source.now levels cursor.old view.statement_form result cursor.new }
 {
     let first = arm(source, cursor, levels)?;
     let mut arms = Vec::new(source.alloc);
@@ -456,15 +479,17 @@ fn else_parts(
     levels: u32,
     arms: Vec<Arm>,
 ) -> Result<(Vec<Arm>, Option<Block>), Fault>
-    ensures { Reads (more_parts source.now.bytes.now levels (length cursor.old.rest.now) (map st.Test (map view.arm arms.items)) cursor.old.rest.now) (λ p. with_last (map view.arm p.0.items) (option_map view.block p.1)) result cursor.new.rest.now }
+    ensures { ParsesBy
+        (λ b n ts. more_parts b n (length ts) (map st.Test (map view.arm arms.items)) ts)
+        source.now levels cursor.old (λ p. with_last (map view.arm p.0.items) (option_map view.block p.1)) result cursor.new }
 {
     let mut arms = arms;
     for _turn in 0..cursor.left() {
-        if !cursor.is_at(Sort::Else) {
+        if !cursor.is_at(Fixed::Else) {
             return Ok((arms, None));
         }
         cursor.advance();
-        if !cursor.is_at(Sort::If) {
+        if !cursor.is_at(Fixed::If) {
             let last = block(source, cursor, levels)?;
             return Ok((arms, Some(last)));
         }

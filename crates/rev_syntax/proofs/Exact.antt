@@ -2,7 +2,6 @@
 use Rattle.std.proofs.Common.{◌≡◌, ℕ, zero, suc, ◌+◌, ◌<◌, ◌≤◌, Bool, true, false, not, ◌&&◌, ◌||◌, List, [], ◌∷◌, ◌++◌, length, take, drop, refl, sym, ap, ◌∙◌, subst, arith, inl, inr, nat_eq, nat_lt, nat_le, eq-eqb, min}
 use Rattle.std.specs.Prelude.{Option, Some, None, cond, ◌==◌, ℤ, pos, Ok, Err, codes}
 use Rattle.std.specs.List.{list_all, list_any, prefix_len, starts_with, find}
-use Rattle.std.specs.Option.{unwrap_or}
 use Rattle.std.specs.Cmp.Lexicographic.{same_text}
 use Rattle.std.proofs.lemmas.List.{take-append-drop, length-append, length-take, length-take-le, append_assoc}
 use Rattle.std.proofs.lemmas.List.Sums.{prefix_len-le-length}
@@ -11,6 +10,7 @@ use Rattle.std.proofs.lemmas.Bool.Decides.{nat_tests}
 use Rattle.std.specs.Str.{all_ascii_digits}
 use Rattle.rev_num.specs.Arith.{fits_i64}
 use Rattle.rev_num.specs.Decimal.{decimal_in, spelled}
+use Rattle.rev_syntax.specs.declared.token.Fixed.{Fixed}
 use Rattle.rev_syntax.specs.declared.token.TokenKind.{TokenKind}
 use Rattle.rev_syntax.specs.declared.token.TokenKind.TheVariants as k
 use Rattle.rev_syntax.specs.declared.token.PieceKind.{PieceKind}
@@ -19,7 +19,7 @@ use Rattle.rev_syntax.specs.declared.scan.LexFault.TheVariants as fault
 use Rattle.rev_syntax.specs.Bytes.{is_digit, is_letter, is_name_byte, is_blank, is_word, is_text_byte, is_no_line_feed}
 use Rattle.rev_syntax.specs.Words.{spelling, words, signs, has_spelling, is_reserved}
 use Rattle.rev_syntax.specs.Tokens.{Spells, IsComment, IsQuoted, IsLongest, IsSound, begins_with_letter, is_cut_off}
-use Rattle.rev_syntax.specs.Scan.{cut, word_kind, word_cut, first_sign, scan, scan_from, scan_other, scan_no_digit, scan_no_letter, scan_no_blank, Answers, piece_at, text_scan, number_scan, number_cut, sign_cut, begins_with_quote}
+use Rattle.rev_syntax.specs.Scan.{cut, fixed_or_name, word_kind, word_cut, first_sign, scan, scan_from, scan_other, scan_no_digit, scan_no_letter, scan_no_blank, Answers, piece_at, text_scan, number_scan, number_cut, sign_cut, begins_with_quote}
 use Rattle.rev_syntax.proofs.Lists.{both, also, on, find-none, find-passes, find-both, any-both, any-map, same-self, same-number, passed-all, passed-stops, first_passes, within-prefix, exact-prefix}
 use Rattle.rev_syntax.proofs.PieceKinds.{lead, blank, letter, digit, quote, other, LedBy, from-lead, led, lead-blank, lead-letter, lead-digit, pass-digits, spells-some, is_sign}
 
@@ -68,22 +68,6 @@ exact-blank at b bs h = front-next at (b ∷ bs) piece.WhiteSpace 1 (record {
 
 -- ---- words
 
-abbrev pub is_fixed : TokenKind → Bool
-is_fixed k.Name = false
-is_fixed (k.Int n) = false
-is_fixed k.Text = false
-is_fixed _ = true
-
-fixed-spells : (x : TokenKind) (w : List ℕ) → is_fixed x ≡ true → w ≡ spelling x → Spells (piece.Token x) w
-fixed-spells k.Name w h e = absurd (cc)
-fixed-spells (k.Int n) w h e = absurd (cc)
-fixed-spells k.Text w h e = absurd (cc)
-fixed-spells _ w h e = e
-
-fixed-sound : (x : TokenKind) (rest : List ℕ) → is_fixed x ≡ true → IsSound (piece.Token x) rest
-fixed-sound (k.Int n) rest h = absurd (cc)
-fixed-sound _ rest h = tt
-
 pub record IsKind (x : TokenKind) (w rest : List ℕ) : Type 0 where
   pub spells : Spells (piece.Token x) w
   pub sound : IsSound (piece.Token x) rest
@@ -91,11 +75,10 @@ pub record IsKind (x : TokenKind) (w rest : List ℕ) : Type 0 where
 word-spells : (w rest : List ℕ) → is_word w ≡ true → IsKind (word_kind w) w rest
 word-spells w rest h = found (find (has_spelling w) words) w rest refl h
   where
-    found : (o : Option TokenKind) (w rest : List ℕ) → find (has_spelling w) words ≡ o → is_word w ≡ true → IsKind (unwrap_or o k.Name) w rest
+    found : (o : Option Fixed) (w rest : List ℕ) → find (has_spelling w) words ≡ o → is_word w ≡ true → IsKind (fixed_or_name o) w rest
     found (Some x) w rest e h =
-        let f = find-both is_fixed (has_spelling w) words x refl e in
         let same = same_text (spelling x) w (sym (find-passes (has_spelling w) words x e)) in
-        record { spells = fixed-spells x w f (sym same); sound = fixed-sound x rest f }
+        record { spells = sym same; sound = tt }
     found None w rest e h =
         let free = on (is_reserved w) (find-none (has_spelling w) words e) in
         record { spells = also (is_word w) (not (is_reserved w)) h free; sound = tt }
@@ -299,21 +282,21 @@ exact-comment at b bs h =
 -- ---- signs
 
 -- The signs come with the longer ones first.
-abbrev pub descends : List TokenKind → Bool
+abbrev pub descends : List Fixed → Bool
 descends [] = true
 descends (x ∷ xs) = list_all (λ y. nat_le (length (spelling y)) (length (spelling x))) xs && descends xs
 
 -- the first of these that passes is at least as long as each other one
-longest-found : (p : TokenKind → Bool) (m : ℕ) (xs : List TokenKind) (x : TokenKind) → descends xs ≡ true → find p xs ≡ Some x → list_any (λ y. p y && (length (spelling y) == m)) xs ≡ true → m ≤ length (spelling x)
+longest-found : (p : Fixed → Bool) (m : ℕ) (xs : List Fixed) (x : Fixed) → descends xs ≡ true → find p xs ≡ Some x → list_any (λ y. p y && (length (spelling y) == m)) xs ≡ true → m ≤ length (spelling x)
 longest-found p m [] x d f h = absurd (cc)
 longest-found p m (z ∷ zs) x d f h =
     let e = both (list_all (λ y. nat_le (length (spelling y)) (length (spelling z))) zs) (descends zs) d in
     elim (p z) as (λ b. cond b (Some z) (find p zs) ≡ Some x → ((b && (length (spelling z) == m)) || list_any (λ y. p y && (length (spelling y) == m)) zs) ≡ true → m ≤ length (spelling x)) [
-      | true ↦ λ g i. let same : z ≡ x = cc in subst (λ (v : TokenKind). m ≤ length (spelling v)) same (longest-first p m z zs e.0 i)
+      | true ↦ λ g i. let same : z ≡ x = cc in subst (λ (v : Fixed). m ≤ length (spelling v)) same (longest-first p m z zs e.0 i)
       | false ↦ λ g i. longest-found p m zs x e.1 g i
     ] f h
   where
-    longest-first : (p : TokenKind → Bool) (m : ℕ) (z : TokenKind) (zs : List TokenKind) → list_all (λ y. nat_le (length (spelling y)) (length (spelling z))) zs ≡ true → ((length (spelling z) == m) || list_any (λ y. p y && (length (spelling y) == m)) zs) ≡ true → m ≤ length (spelling z)
+    longest-first : (p : Fixed → Bool) (m : ℕ) (z : Fixed) (zs : List Fixed) → list_all (λ y. nat_le (length (spelling y)) (length (spelling z))) zs ≡ true → ((length (spelling z) == m) || list_any (λ y. p y && (length (spelling y) == m)) zs) ≡ true → m ≤ length (spelling z)
     longest-first p m z zs a h =
         elim (length (spelling z) == m) as (λ b. (length (spelling z) == m) ≡ b → (b || list_any (λ y. p y && (length (spelling y) == m)) zs) ≡ true → m ≤ length (spelling z)) [
           | true ↦ λ e _. let same : length (spelling z) ≡ m = same-number (length (spelling z)) m e in omega arith
@@ -327,7 +310,7 @@ longest-found p m (z ∷ zs) x d f h =
 sign-begins : (s w more : List ℕ) → is_sign w ≡ true → s ≡ w ++ more → list_any (λ y. starts_with nat_eq s (spelling y) && (length (spelling y) == length w)) signs ≡ true
 sign-begins s w more h e = any-map (has_spelling w) (λ y. starts_with nat_eq s (spelling y) && (length (spelling y) == length w)) signs (spelled-begins s w more e) h
   where
-    spelled-begins : (s w more : List ℕ) → s ≡ w ++ more → (y : TokenKind) → has_spelling w y ≡ true → (starts_with nat_eq s (spelling y) && (length (spelling y) == length w)) ≡ true
+    spelled-begins : (s w more : List ℕ) → s ≡ w ++ more → (y : Fixed) → has_spelling w y ≡ true → (starts_with nat_eq s (spelling y) && (length (spelling y) == length w)) ≡ true
     spelled-begins s w more e y h =
         let same = same_text (spelling y) w (sym h) in
         let front : starts_with nat_eq (w ++ more) w ≡ true = rw take-append_seam (same-self w) in
@@ -343,28 +326,27 @@ no_comment b bs c more n h e =
     let j : starts_with nat_eq (b ∷ bs) (codes "//") ≡ true = rw (f, i) refl in
     cc
 
-abbrev sign_passes : List ℕ → TokenKind → Bool
+abbrev sign_passes : List ℕ → Fixed → Bool
 sign_passes s x = starts_with nat_eq s (spelling x)
 
-sign-longest : (b : ℕ) (bs : List ℕ) (x : TokenKind) → starts_with nat_eq (b ∷ bs) (codes "//") ≡ false → find (sign_passes (b ∷ bs)) signs ≡ Some x → (c more : List ℕ) → LedBy other b c → bs ≡ c ++ more → suc (length c) ≤ length (spelling x)
+sign-longest : (b : ℕ) (bs : List ℕ) (x : Fixed) → starts_with nat_eq (b ∷ bs) (codes "//") ≡ false → find (sign_passes (b ∷ bs)) signs ≡ Some x → (c more : List ℕ) → LedBy other b c → bs ≡ c ++ more → suc (length c) ≤ length (spelling x)
 sign-longest b bs x n f c more (inl h) e = absurd (no_comment b bs c more n h e)
 sign-longest b bs x n f c more (inr i) e =
     longest-found (sign_passes (b ∷ bs)) (suc (length c)) signs x refl f (sign-begins (b ∷ bs) (b ∷ c) more i (ap (λ (v : List ℕ). b ∷ v) e))
 
-found-sign : (at b : ℕ) (bs : List ℕ) (x : TokenKind) → lead b ≡ other → starts_with nat_eq (b ∷ bs) (codes "//") ≡ false → find (sign_passes (b ∷ bs)) signs ≡ Some x → Answers at (b ∷ bs) (sign_cut at (Some x))
+found-sign : (at b : ℕ) (bs : List ℕ) (x : Fixed) → lead b ≡ other → starts_with nat_eq (b ∷ bs) (codes "//") ≡ false → find (sign_passes (b ∷ bs)) signs ≡ Some x → Answers at (b ∷ bs) (sign_cut at (Some x))
 found-sign at b bs x l n f =
     let s = b ∷ bs in
     let m = length (spelling x) in
-    let fixed = find-both is_fixed (sign_passes s) signs x refl f in
     let same : spelling x ≡ take m s = same_text (spelling x) (take m s) (sym (find-passes (sign_passes s) signs x f)) in
     let some : nat_lt 0 m ≡ true = find-both (λ y. nat_lt 0 (length (spelling y))) (sign_passes s) signs x refl f in
     let len : m ≡ min m (length s) = ap (λ (v : List ℕ). length v) same ∙ length-take m s in
-    front-next at s (piece.Token x) m (record {
+    front-next at s (piece.Token (k.Fixed x)) m (record {
       some = grind (arith, nat_tests);
       fits = omega arith;
-      spells = fixed-spells x (take m s) fixed (sym same);
+      spells = sym same;
       longest = longest-from b bs m (λ c more i e. sign-longest b bs x n f c more (from-lead b c other l i) e);
-    }) (fixed-sound x (drop m s) fixed)
+    }) tt
 
 no-sign : (b : ℕ) (bs : List ℕ) → starts_with nat_eq (b ∷ bs) (codes "//") ≡ false → find (sign_passes (b ∷ bs)) signs ≡ None → (c more : List ℕ) → LedBy other b c → bs ≡ c ++ more → ⊥
 no-sign b bs n f c more (inl h) e = no_comment b bs c more n h e
@@ -381,7 +363,7 @@ other-no_quote b l e = let q : lead b ≡ quote = rw e refl in cc
 exact-sign : (at b : ℕ) (bs : List ℕ) → lead b ≡ other → starts_with nat_eq (b ∷ bs) (codes "//") ≡ false → Answers at (b ∷ bs) (sign_cut at (first_sign (b ∷ bs)))
 exact-sign at b bs l n = found (find (sign_passes (b ∷ bs)) signs) refl
   where
-    found : (o : Option TokenKind) → find (sign_passes (b ∷ bs)) signs ≡ o → Answers at (b ∷ bs) (sign_cut at o)
+    found : (o : Option Fixed) → find (sign_passes (b ∷ bs)) signs ≡ o → Answers at (b ∷ bs) (sign_cut at o)
     found (Some x) f = found-sign at b bs x l n f
     found None f = (
       refl,

@@ -1,5 +1,6 @@
 pub mod Lists
 pub mod PieceKinds
+pub mod FixedWords
 pub mod Exact
 pub mod Reading
 pub mod Unique

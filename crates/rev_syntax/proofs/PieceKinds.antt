@@ -1,19 +1,20 @@
 -- The kinds of pieces: what each begins with, and that the bytes of a piece determine its kind.
-use Rattle.std.proofs.Common.{◌≡◌, ℕ, zero, suc, ◌<◌, ◌≤◌, Bool, true, false, not, ◌||◌, List, [], ◌∷◌, length, refl, sym, subst, arith, nat_eq, inl, inr, ◌⊎◌}
+use Rattle.std.proofs.Common.{◌≡◌, ℕ, zero, suc, ◌<◌, ◌≤◌, Bool, true, false, not, ◌||◌, List, [], ◌∷◌, length, refl, sym, ap, ◌∙◌, subst, arith, nat_eq, inl, inr, ◌⊎◌}
 use Rattle.std.specs.Prelude.{cond, ◌==◌, ℤ, pos, All, codes}
-use Rattle.std.specs.Option.{unwrap_or}
 use Rattle.std.specs.Char.{IsAsciiDigit}
 use Rattle.std.specs.List.{list_all, list_any, starts_with}
 use Rattle.std.specs.Cmp.Lexicographic.{same_text}
 use Rattle.std.proofs.lemmas.Bool.Decides.{nat_tests}
 use Rattle.rev_num.specs.Decimal.{IsUnsigned, spelled}
+use Rattle.rev_syntax.specs.declared.token.Fixed.{Fixed}
+use Rattle.rev_syntax.specs.declared.token.Fixed.TheVariants as s
 use Rattle.rev_syntax.specs.declared.token.TokenKind.TheVariants as k
 use Rattle.rev_syntax.specs.declared.token.PieceKind.{PieceKind}
 use Rattle.rev_syntax.specs.declared.token.PieceKind.TheVariants as piece
 use Rattle.rev_syntax.specs.Bytes.{is_digit, is_letter, is_name_byte, is_blank, is_word}
 use Rattle.rev_syntax.specs.Words.{spelling, words, signs, has_spelling, is_reserved, is_name}
 use Rattle.rev_syntax.specs.Tokens.{Spells, IsWhiteSpace, IsComment, IsQuoted}
-use Rattle.rev_syntax.specs.Scan.{word_kind, first_sign}
+use Rattle.rev_syntax.specs.Scan.{fixed_or_name, word_kind, first_sign}
 use Rattle.rev_syntax.proofs.Lists.{both, off, find-no, any-both}
 
 -- what kind of byte a piece begins with
@@ -119,6 +120,14 @@ led-spelled b bs v e h =
       | false ↦ λ _ i. at-lead b bs other (lead-sign b bs i) (inr i)
     ] refl g
 
+word-or-sign : (f : Fixed) → (is_word (spelling f) || is_sign (spelling f)) ≡ true
+word-or-sign s.Fun = refl
+word-or-sign _ = refl
+
+spelled-some : (f : Fixed) → [] ≡ spelling f → ⊥
+spelled-some s.Fun h = cc
+spelled-some _ h = cc
+
 pub led : (f : PieceKind) (b : ℕ) (bs : List ℕ) → Spells f (b ∷ bs) → LedBy (lead b) b bs
 led piece.WhiteSpace b bs h = led-white b bs h
 led piece.Comment b bs h = led-comment b bs h
@@ -126,7 +135,7 @@ led (piece.Token k.Name) b bs h = led-word b bs (both (is_word (b ∷ bs)) (not 
 led (piece.Token (k.Int n)) b bs h =
     let d = digits-pass (b ∷ bs) h.digits.each in at-lead b bs digit (lead-digit b (both (is_digit b) (list_all is_digit bs) d).0) d
 led (piece.Token k.Text) b bs h = led-quoted b bs h
-led (piece.Token kind) b bs h = led-spelled b bs (spelling kind) h refl
+led (piece.Token (k.Fixed f)) b bs h = led-spelled b bs (spelling f) h (word-or-sign f)
 
 -- A piece has at least one byte.
 pub spells-some : (f : PieceKind) → Spells f [] → ⊥
@@ -135,7 +144,7 @@ spells-some piece.Comment h = cc
 spells-some (piece.Token k.Name) h = cc
 spells-some (piece.Token (k.Int n)) h = let some : 0 < length {A = ℕ} [] = h.digits.some in omega arith
 spells-some (piece.Token k.Text) h = cc
-spells-some (piece.Token kind) h = cc
+spells-some (piece.Token (k.Fixed f)) h = spelled-some f h
 
 -- the kind of the bytes of a piece
 abbrev pub kind_by : Lead → List ℕ → PieceKind
@@ -143,7 +152,7 @@ kind_by blank w = piece.WhiteSpace
 kind_by letter w = piece.Token (word_kind w)
 kind_by digit w = piece.Token (k.Int (pos (spelled w)))
 kind_by quote w = piece.Token k.Text
-kind_by other w = cond (starts_with nat_eq w (codes "//")) piece.Comment (piece.Token (unwrap_or (first_sign w) k.Name))
+kind_by other w = cond (starts_with nat_eq w (codes "//")) piece.Comment (piece.Token (fixed_or_name (first_sign w)))
 
 abbrev pub kind_of : List ℕ → PieceKind
 kind_of [] = piece.WhiteSpace
@@ -165,13 +174,17 @@ kind_of-number (b ∷ bs) n h =
     let l = lead-digit b (both (is_digit b) (list_all is_digit bs) d).0 in
     rw (l, h.value) refl
 
+kind_of-fixed : (f : Fixed) → kind_of (spelling f) ≡ piece.Token (k.Fixed f)
+kind_of-fixed s.Fun = refl
+kind_of-fixed _ = refl
+
 pub kind_of-spells : (f : PieceKind) (w : List ℕ) → Spells f w → kind_of w ≡ f
 kind_of-spells piece.WhiteSpace w h = let e = lead-blank h.byte h.blank in rw (h.alone, e) refl
 kind_of-spells piece.Comment w h = rw h.opens refl
 kind_of-spells (piece.Token k.Name) w h = kind_of-name w h
 kind_of-spells (piece.Token (k.Int n)) w h = kind_of-number w n h
 kind_of-spells (piece.Token k.Text) w h = rw h.quotes refl
-kind_of-spells (piece.Token kind) w h = rw h refl
+kind_of-spells (piece.Token (k.Fixed f)) w h = ap kind_of h ∙ kind_of-fixed f
 
 -- The bytes of a piece determine its kind.
 pub one-kind : (f g : PieceKind) (w : List ℕ) → Spells f w → Spells g w → f ≡ g

@@ -4,23 +4,23 @@ use Rattle.std.proofs.lemmas.List.{append_assoc, append-nil, length-append, leng
 use Rattle.std.proofs.Math.Seq.{drop-length, take-length}
 use Rattle.rev_syntax.specs.declared.token.Token.{Token}
 use Rattle.rev_syntax.specs.declared.token.PieceKind.{PieceKind}
-use Rattle.rev_syntax.specs.Tokens.{Piece, Next, Leads, extent, tokens_of, token_of, CutTo}
+use Rattle.rev_syntax.specs.Tokens.{Piece, Next, Leads, array_size, tokens_of, token_of, CutTo}
 
 leads-more : (ps : List Piece) (s middle rest : List ℕ) (p : Piece) → Leads ps s middle → Next middle p rest → Leads (ps ++ p ∷ []) s rest
 leads-more [] s middle rest p e n = (rest, subst (λ (v : List ℕ). Next v p rest) (sym e) n, refl)
 leads-more (q ∷ qs) s middle rest p l n = (l.0, l.1, leads-more qs l.0 middle rest p l.2 n)
 
-extent-more : (ps : List Piece) (p : Piece) → extent (ps ++ p ∷ []) ≡ extent ps + length p.bytes
-extent-more [] p = omega arith
-extent-more (q ∷ qs) p = let r = extent-more qs p in omega arith
+array_size-more : (ps : List Piece) (p : Piece) → array_size (ps ++ p ∷ []) ≡ array_size ps + length p.bytes
+array_size-more [] p = omega arith
+array_size-more (q ∷ qs) p = let r = array_size-more qs p in omega arith
 
-tokens_of-more : (at : ℕ) (ps : List Piece) (p : Piece) → tokens_of at (ps ++ p ∷ []) ≡ tokens_of at ps ++ token_of p.kind (at + extent ps) (at + extent ps + length p.bytes)
+tokens_of-more : (at : ℕ) (ps : List Piece) (p : Piece) → tokens_of at (ps ++ p ∷ []) ≡ tokens_of at ps ++ token_of p.kind (at + array_size ps) (at + array_size ps + length p.bytes)
 tokens_of-more at [] p = let z : at + 0 ≡ at = omega arith in rw (z, append-nil) refl
 tokens_of-more at (q ∷ qs) p =
     let next = at + length q.bytes in
     let r = tokens_of-more next qs p in
-    let e : next + extent qs ≡ at + (length q.bytes + extent qs) = omega arith in
-    rw (r, e) (sym (append_assoc (token_of q.kind at next) (tokens_of next qs) (token_of p.kind (at + (length q.bytes + extent qs)) (at + (length q.bytes + extent qs) + length p.bytes))))
+    let e : next + array_size qs ≡ at + (length q.bytes + array_size qs) = omega arith in
+    rw (r, e) (sym (append_assoc (token_of q.kind at next) (tokens_of next qs) (token_of p.kind (at + (length q.bytes + array_size qs)) (at + (length q.bytes + array_size qs) + length p.bytes))))
 
 pub cut-start : (s : List ℕ) → CutTo s 0 s []
 cut-start s = record { pieces = []; leads = refl; place = refl; tokens = refl }
@@ -29,9 +29,9 @@ pub cut-more : (s : List ℕ) (at : ℕ) (rest after : List ℕ) (ts : List Toke
 cut-more s at rest after ts p c n = record {
   pieces = c.pieces ++ p ∷ [];
   leads = leads-more c.pieces s rest after p c.leads n;
-  place = let e = extent-more c.pieces p in let f : at ≡ extent c.pieces = c.place in omega arith;
+  place = let e = array_size-more c.pieces p in let f : at ≡ array_size c.pieces = c.place in omega arith;
   tokens =
-      let e : 0 + extent c.pieces ≡ at = let f : at ≡ extent c.pieces = c.place in omega arith in
+      let e : 0 + array_size c.pieces ≡ at = let f : at ≡ array_size c.pieces = c.place in omega arith in
       let t : tokens_of 0 (c.pieces ++ p ∷ []) ≡ tokens_of 0 c.pieces ++ token_of p.kind at (at + length p.bytes) = rw e at (tokens_of-more 0 c.pieces p) in
       rw (c.tokens, t) refl;
 }
@@ -49,7 +49,7 @@ cut-drop s at n f ts c r e next fits =
     let m = cut-more s at r (drop n r) ts (record { kind = f; bytes = take n r }) from next in
     rw (l, d) at m
 
-pub leads-within : (ps : List Piece) (s end : List ℕ) → Leads ps s end → length s ≡ extent ps + length end
+pub leads-within : (ps : List Piece) (s end : List ℕ) → Leads ps s end → length s ≡ array_size ps + length end
 leads-within [] s end e = let r : length s ≡ length end = ap (λ (v : List ℕ). length v) e in omega arith
 leads-within (p ∷ ps) s end l =
     let r = leads-within ps l.0 end l.2 in
@@ -59,8 +59,8 @@ leads-within (p ∷ ps) s end l =
 -- What is cut up to its end is the whole text.
 pub cut-whole : (s : List ℕ) (at : ℕ) (ts : List Token) → length s ≤ at → CutTo s at (drop at s) ts → CutTo s (length s) [] ts
 cut-whole s at ts h c =
-    let l : length s ≡ extent c.pieces + length (drop at s) = leads-within c.pieces s (drop at s) c.leads in
-    let f : at ≡ extent c.pieces = c.place in
+    let l : length s ≡ array_size c.pieces + length (drop at s) = leads-within c.pieces s (drop at s) c.leads in
+    let f : at ≡ array_size c.pieces = c.place in
     let e : at ≡ length s = omega arith in
     let none : drop at s ≡ [] = rw e (drop-length s) in
     rw (none, e) at c

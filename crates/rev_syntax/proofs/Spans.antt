@@ -7,7 +7,7 @@ use Rattle.std.proofs.Math.Seq.{take-append_seam, drop-append_seam}
 use Rattle.rev_syntax.specs.declared.token.Token.{Token}
 use Rattle.rev_syntax.specs.declared.token.PieceKind.{PieceKind}
 use Rattle.rev_syntax.specs.declared.token.PieceKind.TheVariants as piece
-use Rattle.rev_syntax.specs.Tokens.{Spells, Piece, Leads, extent, token_of, tokens_of, IsTokens, Ascend, IsToken}
+use Rattle.rev_syntax.specs.Tokens.{Spells, Piece, Leads, array_size, token_of, tokens_of, IsTokens, Ascend, IsToken}
 use Rattle.rev_syntax.proofs.PieceKinds.{spells-some}
 
 piece-some : (k : PieceKind) (w : List ℕ) → Spells k w → 0 < length w
@@ -23,18 +23,18 @@ ascend-piece piece.WhiteSpace at end ts to h a = ascend-lower at end ts to (omeg
 ascend-piece piece.Comment at end ts to h a = ascend-lower at end ts to (omega arith) a
 ascend-piece (piece.Token k) at end ts to h a = (omega arith, h, a)
 
-ascend-pieces : (ps : List Piece) (s end : List ℕ) (at : ℕ) → Leads ps s end → Ascend at (tokens_of at ps) (at + extent ps)
+ascend-pieces : (ps : List Piece) (s end : List ℕ) (at : ℕ) → Leads ps s end → Ascend at (tokens_of at ps) (at + array_size ps)
 ascend-pieces [] s end at l = omega arith
 ascend-pieces (p ∷ ps) s end at l =
     let some = piece-some p.kind p.bytes l.1.longest.spells in
     let next = at + length p.bytes in
-    let e : next + extent ps ≡ at + (length p.bytes + extent ps) = omega arith in
+    let e : next + array_size ps ≡ at + (length p.bytes + array_size ps) = omega arith in
     let r = rw e at (ascend-pieces ps l.0 end next l.2) in
-    ascend-piece p.kind at next (tokens_of next ps) (at + (length p.bytes + extent ps)) (omega arith) r
+    ascend-piece p.kind at next (tokens_of next ps) (at + (length p.bytes + array_size ps)) (omega arith) r
 
 pub tokens-ascend : (s : List ℕ) (ts : List Token) → IsTokens s ts → Ascend 0 ts (length s)
 tokens-ascend s ts c =
-    let e : 0 + extent c.pieces ≡ length s = let f : length s ≡ extent c.pieces = c.place in omega arith in
+    let e : 0 + array_size c.pieces ≡ length s = let f : length s ≡ array_size c.pieces = c.place in omega arith in
     let a = rw e at (ascend-pieces c.pieces s [] 0 c.leads) in
     rw c.tokens a
 

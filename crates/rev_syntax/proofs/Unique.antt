@@ -9,7 +9,7 @@ use Rattle.rev_syntax.specs.declared.token.PieceKind.{PieceKind}
 use Rattle.rev_syntax.specs.declared.scan.LexFault.{LexFault}
 use Rattle.rev_syntax.specs.declared.scan.LexFault.TheVariants as fault
 use Rattle.rev_syntax.specs.Bytes.{is_text_byte}
-use Rattle.rev_syntax.specs.Tokens.{Spells, IsQuoted, Piece, IsLongest, IsSound, Next, Leads, extent, token_of, tokens_of, CutTo, IsTokens, BeginsNone, IsBadByte, IsBadNumber, IsOpenText, is_cut_off, Stops, IsFirstFault}
+use Rattle.rev_syntax.specs.Tokens.{Spells, IsQuoted, Piece, IsLongest, IsSound, Next, Leads, array_size, token_of, tokens_of, CutTo, IsTokens, BeginsNone, IsBadByte, IsBadNumber, IsOpenText, is_cut_off, Stops, IsFirstFault}
 use Rattle.rev_syntax.specs.Scan.{scan_from, Scanned, Answers, piece_at}
 use Rattle.rev_syntax.proofs.Lists.{both, off, first_passes, exact-prefix}
 use Rattle.rev_syntax.proofs.PieceKinds.{quote, from-lead, spells-some, one-kind}
@@ -93,7 +93,7 @@ cut-same : (s : List ℕ) (at : ℕ) (a : List ℕ) (ts : List Token) (up : ℕ)
 cut-same s at a ts up b us c x d y =
     let e = leads-same c.pieces d.pieces s a b c.leads x d.leads y in
     record {
-      place = c.place ∙ ap extent e.0 ∙ sym d.place;
+      place = c.place ∙ ap array_size e.0 ∙ sym d.place;
       rest = e.1;
       tokens = c.tokens ∙ ap (tokens_of 0) e.0 ∙ sym d.tokens;
     }
@@ -176,8 +176,8 @@ Reading s = ((ts : List Token) × IsTokens s ts) ⊎ ((f : LexFault) × IsFirstF
 
 cut-end : (s : List ℕ) (at : ℕ) (ts : List Token) → CutTo s at [] ts → IsTokens s ts
 cut-end s at ts c =
-    let l : length s ≡ extent c.pieces + 0 = leads-within c.pieces s [] c.leads in
-    let f : at ≡ extent c.pieces = c.place in
+    let l : length s ≡ array_size c.pieces + 0 = leads-within c.pieces s [] c.leads in
+    let f : at ≡ array_size c.pieces = c.place in
     let e : at ≡ length s = omega arith in
     rw e at c
 

@@ -1,8 +1,8 @@
 -- What a text begins with, worked out from its first byte.
 use Rattle.std.specs.Prelude.{ℕ, ◌≡◌, ◌+◌, ◌<◌, ◌≤◌, ℤ, Bool, false, ◌==◌, nat_eq, if◌then◌else◌, List, [], ◌∷◌, length, take, drop, Option, Some, None, Result, Ok, Err, codes}
-use Rattle.std.specs.Option.{unwrap_or}
 use Rattle.std.specs.List.{prefix_len, find, starts_with}
 use Rattle.rev_num.specs.Decimal.{decimal_in}
+use Rattle.rev_syntax.specs.declared.token.Fixed.{Fixed}
 use Rattle.rev_syntax.specs.declared.token.TokenKind.{TokenKind}
 use Rattle.rev_syntax.specs.declared.token.TokenKind.TheVariants as k
 use Rattle.rev_syntax.specs.declared.token.PieceKind.{PieceKind}
@@ -20,11 +20,15 @@ Scanned = Result Cut LexFault
 abbrev pub cut : PieceKind → ℕ → Cut
 cut f n = record { kind = f; length = n }
 
-abbrev pub reserved_word : List ℕ → Option TokenKind
+abbrev pub reserved_word : List ℕ → Option Fixed
 reserved_word bytes = find (has_spelling bytes) words
 
+abbrev pub fixed_or_name : Option Fixed → TokenKind
+fixed_or_name (Some f) = k.Fixed f
+fixed_or_name None = k.Name
+
 abbrev pub word_kind : List ℕ → TokenKind
-word_kind bytes = unwrap_or (reserved_word bytes) k.Name
+word_kind bytes = fixed_or_name (reserved_word bytes)
 
 abbrev pub word_cut : List ℕ → Cut
 word_cut s = let n = prefix_len is_name_byte s in cut (piece.Token (word_kind (take n s))) n
@@ -35,7 +39,8 @@ number_cut n _ _ at = Err (fault.BadNumber at)
 
 abbrev pub number_scan : ℕ → List ℕ → Scanned
 number_scan at s =
-    let n = prefix_len is_digit s in number_cut n (decimal_in (take n s)) (begins_with_letter (drop n s)) at
+    let n = prefix_len is_digit s in
+    number_cut n (decimal_in (take n s)) (begins_with_letter (drop n s)) at
 
 abbrev pub begins_with_quote : List ℕ → Bool
 begins_with_quote [] = false
@@ -44,13 +49,16 @@ begins_with_quote (b ∷ bs) = b == 34
 -- the text after an opening quote
 abbrev pub text_scan : ℕ → List ℕ → Scanned
 text_scan at s =
-    let n = prefix_len is_text_byte s in if begins_with_quote (drop n s) then Ok (cut (piece.Token k.Text) (n + 2)) else Err (fault.OpenText at)
+    let n = prefix_len is_text_byte s in
+    if begins_with_quote (drop n s)
+    then Ok (cut (piece.Token k.Text) (n + 2))
+    else Err (fault.OpenText at)
 
-abbrev pub first_sign : List ℕ → Option TokenKind
-first_sign s = find (λ kind. starts_with nat_eq s (spelling kind)) signs
+abbrev pub first_sign : List ℕ → Option Fixed
+first_sign s = find (λ f. starts_with nat_eq s (spelling f)) signs
 
-abbrev pub sign_cut : ℕ → Option TokenKind → Scanned
-sign_cut at (Some kind) = Ok (cut (piece.Token kind) (length (spelling kind)))
+abbrev pub sign_cut : ℕ → Option Fixed → Scanned
+sign_cut at (Some f) = Ok (cut (piece.Token (k.Fixed f)) (length (spelling f)))
 sign_cut at None = Err (fault.BadByte at)
 
 -- The text from this byte on, by what the byte is.
@@ -82,7 +90,8 @@ piece_at c s = record { kind = c.kind; bytes = take c.length s }
 
 -- what the answer says of the text, where it stands at this offset
 abbrev pub Answers : ℕ → List ℕ → Scanned → Type 0
-Answers at s (Ok c) = Next s (piece_at c s) (drop c.length s) × (0 < c.length) × (c.length ≤ length s)
+Answers at s (Ok c) =
+    Next s (piece_at c s) (drop c.length s) × (0 < c.length) × (c.length ≤ length s)
 Answers at s (Err (fault.BadByte a)) = (a ≡ at) × IsBadByte s
 Answers at s (Err (fault.BadNumber a)) = (a ≡ at) × IsBadNumber s
 Answers at s (Err (fault.OpenText a)) = (a ≡ at) × IsOpenText s

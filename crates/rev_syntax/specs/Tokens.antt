@@ -3,6 +3,7 @@ use Rattle.std.specs.Prelude.{◌≡◌, ◌≢◌, ℕ, ◌+◌, ◌<◌, ◌�
 use Rattle.std.specs.List.{list_all}
 use Rattle.rev_num.specs.Arith.{fits_i64}
 use Rattle.rev_num.specs.Decimal.{IsUnsigned}
+use Rattle.rev_syntax.specs.declared.token.TokenKind.{TokenKind}
 use Rattle.rev_syntax.specs.declared.token.TokenKind.TheVariants as k
 use Rattle.rev_syntax.specs.declared.token.Token.{Token}
 use Rattle.rev_syntax.specs.declared.token.PieceKind.{PieceKind}
@@ -38,7 +39,7 @@ Spells piece.Comment w = IsComment w
 Spells (piece.Token k.Name) w = IsTrue (is_name w)
 Spells (piece.Token (k.Int n)) w = IsUnsigned w n
 Spells (piece.Token k.Text) w = IsQuoted w
-Spells (piece.Token kind) w = w ≡ spelling kind
+Spells (piece.Token (k.Fixed f)) w = w ≡ spelling f
 
 pub record Piece : Type 0 where
   pub kind : PieceKind
@@ -47,7 +48,9 @@ pub record Piece : Type 0 where
 -- a piece, and none with which the text begins is longer
 pub record IsLongest (s : List ℕ) (p : Piece) : Type 0 where
   pub spells : Spells p.kind p.bytes
-  pub longest : (q : Piece) (more : List ℕ) → Spells q.kind q.bytes → s ≡ q.bytes ++ more → length q.bytes ≤ length p.bytes
+  pub longest :
+      (q : Piece) (more : List ℕ) → Spells q.kind q.bytes → s ≡ q.bytes ++ more →
+      length q.bytes ≤ length p.bytes
 
 abbrev pub begins_with_letter : List ℕ → Bool
 begins_with_letter [] = false
@@ -70,9 +73,9 @@ Leads [] s end = s ≡ end
 Leads (p ∷ ps) s end = (rest : List ℕ) × Next s p rest × Leads ps rest end
 
 -- the number of bytes of the pieces
-abbrev pub extent : List Piece → ℕ
-extent [] = 0
-extent (p ∷ ps) = length p.bytes + extent ps
+abbrev pub array_size : List Piece → ℕ
+array_size [] = 0
+array_size (p ∷ ps) = length p.bytes + array_size ps
 
 -- The tokens among the pieces, where the first piece stands at this offset.
 abbrev pub token_of : PieceKind → ℕ → ℕ → List Token
@@ -81,18 +84,22 @@ token_of _ start end = []
 
 abbrev pub tokens_of : ℕ → List Piece → List Token
 tokens_of at [] = []
-tokens_of at (p ∷ ps) = token_of p.kind at (at + length p.bytes) ++ tokens_of (at + length p.bytes) ps
+tokens_of at (p ∷ ps) =
+    token_of p.kind at (at + length p.bytes) ++ tokens_of (at + length p.bytes) ps
 
 -- The text before the offset `at` is cut into pieces; these are its tokens, and this is the rest.
 pub record CutTo (s : List ℕ) (at : ℕ) (rest : List ℕ) (ts : List Token) : Type 0 where
   pub pieces : List Piece
   pub leads : Leads pieces s rest
-  pub place : at ≡ extent pieces
+  pub place : at ≡ array_size pieces
   pub tokens : ts ≡ tokens_of 0 pieces
 
 -- the tokens of a whole text
 abbrev pub IsTokens : List ℕ → List Token → Type 0
 IsTokens s ts = CutTo s (length s) [] ts
+
+abbrev pub HasTokens : List ℕ → Type 0
+HasTokens s = (ts : List Token) × IsTokens s ts
 
 -- no piece begins the text
 abbrev pub BeginsNone : List ℕ → Type 0
@@ -141,11 +148,18 @@ IsFirstFault s (fault.BadNumber at) = Stops IsBadNumber s at
 IsFirstFault s (fault.OpenText at) = Stops IsOpenText s at
 IsFirstFault s fault.OutOfMemory = ⊥
 
+abbrev pub HasFault : List ℕ → Type 0
+HasFault s = (f : LexFault) × IsFirstFault s f
+
 -- The spans of the tokens ascend, from one offset to another.
 abbrev pub Ascend : ℕ → List Token → ℕ → Type 0
 Ascend from [] to = from ≤ to
 Ascend from (t ∷ ts) to = (from ≤ t.start) × (t.start < t.end) × Ascend t.end ts to
 
+-- the bytes are a token of this kind
+abbrev pub IsOfKind : TokenKind → List ℕ → Type 0
+IsOfKind kind w = Spells (piece.Token kind) w
+
 -- the token's bytes are of its kind
 abbrev pub IsToken : List ℕ → Token → Type 0
-IsToken s t = Spells (piece.Token t.kind) (slice_range s t.start t.end)
+IsToken s t = IsOfKind t.kind (slice_range s t.start t.end)

@@ -1,89 +1,89 @@
 -- Programs as plain data, with no pointer and no room left over.
 --
--- A number before a name, a term or a form is the offset of its first byte.
+-- A number before a name, a expression or a form is the offset of its first byte.
 use Rattle.std.specs.Prelude.{ℕ, ℤ, Bool, List, Option}
 use Rattle.rev_num.specs.declared.value.ValueKind.{ValueKind}
 use Rattle.rev_num.specs.declared.value.Value.{Value}
 use Rattle.rev_syntax.specs.declared.tree.UnaryOp.{UnaryOp}
 use Rattle.rev_syntax.specs.declared.tree.BinaryOp.{BinaryOp}
 
-pub record Word : Type 0 where
+pub record PlacedName : Type 0 where
   pub at : ℕ
   pub text : List ℕ
 
 mutual
   -- an expression, with the place of its first token
-  pub data Term : Type 0 where
-    placed : ℕ → Shape → Term
+  pub data Expression : Type 0 where
+    placed : ℕ → ExpressionForm → Expression
 
-  pub data Shape : Type 0 where
-    int : ℤ → Shape
-    bool : Bool → Shape
-    no_rev : Shape
-    var : Word → Shape
-    cell : Word → Term → Shape
-    apply : Word → Terms → Shape
-    input : ℕ → Term → Shape
-    inputs : ℕ → Shape
-    pick : Term → Term → Term → Shape
-    unary : UnaryOp → Term → Shape
-    chain : Term → Links → Shape
+  pub data ExpressionForm : Type 0 where
+    int : ℤ → ExpressionForm
+    bool : Bool → ExpressionForm
+    no_rev : ExpressionForm
+    var : PlacedName → ExpressionForm
+    cell : PlacedName → Expression → ExpressionForm
+    apply : PlacedName → Expressions → ExpressionForm
+    input : ℕ → Expression → ExpressionForm
+    inputs : ℕ → ExpressionForm
+    pick : Expression → Expression → Expression → ExpressionForm
+    unary : UnaryOp → Expression → ExpressionForm
+    chain : Expression → Links → ExpressionForm
 
-  pub data Terms : Type 0 where
-    no_terms : Terms
-    term : Term → Terms → Terms
+  pub data Expressions : Type 0 where
+    no_expressions : Expressions
+    expression : Expression → Expressions → Expressions
 
   pub data Links : Type 0 where
     no_links : Links
-    link : BinaryOp → Term → Links → Links
+    link : BinaryOp → Expression → Links → Links
 
 -- a right side, with the place of its word
-pub data Right : Type 0 where
-  plain : Term → Right
-  called : ℕ → Word → Terms → Right
-  forked : ℕ → Word → Terms → Right
-  tried : ℕ → Term → Right
+pub data RightSide : Type 0 where
+  plain : Expression → RightSide
+  called : ℕ → PlacedName → Expressions → RightSide
+  forked : ℕ → PlacedName → Expressions → RightSide
+  tried : ℕ → Expression → RightSide
 
 -- an item of a print
-pub data Shown : Type 0 where
-  text : ℕ → List ℕ → Shown
-  shown : Term → Shown
+pub data PrintItem : Type 0 where
+  text : ℕ → List ℕ → PrintItem
+  shown : Expression → PrintItem
 
 mutual
   -- a statement, with the place and the line of its first token
-  pub data Step : Type 0 where
-    step : ℕ → ℕ → Act → Step
+  pub data Statement : Type 0 where
+    statement : ℕ → ℕ → StatementForm → Statement
 
-  pub data Act : Type 0 where
-    bind : Word → Right → Act
-    assign : Word → Right → Act
-    assign_cell : Word → Term → Term → Act
-    choose : Arms → Act
-    choose_or : Arms → Steps → Act
-    repeat : Term → Steps → Act
-    call : Word → Terms → Act
-    return : Option Term → Act
-    fork : Word → Terms → Act
-    join : Term → Act
-    print : List Shown → Act
-    assert : Term → Act
+  pub data StatementForm : Type 0 where
+    bind : PlacedName → RightSide → StatementForm
+    assign : PlacedName → RightSide → StatementForm
+    assign_cell : PlacedName → Expression → Expression → StatementForm
+    choose : Arms → StatementForm
+    choose_or : Arms → Statements → StatementForm
+    repeat : Expression → Statements → StatementForm
+    call : PlacedName → Expressions → StatementForm
+    return : Option Expression → StatementForm
+    fork : PlacedName → Expressions → StatementForm
+    join : Expression → StatementForm
+    print : List PrintItem → StatementForm
+    assert : Expression → StatementForm
 
-  pub data Steps : Type 0 where
-    no_steps : Steps
-    steps : Step → Steps → Steps
+  pub data Statements : Type 0 where
+    no_statements : Statements
+    statements : Statement → Statements → Statements
 
   pub data Arms : Type 0 where
     no_arms : Arms
-    arm : Term → Steps → Arms → Arms
+    arm : Expression → Statements → Arms → Arms
 
 -- a parameter, with the place of its kind
-pub record Binder : Type 0 where
-  pub name : Word
+pub record Parameter : Type 0 where
+  pub name : PlacedName
   pub kind_at : ℕ
   pub kind : ValueKind
 
 -- the cells of an array
-pub record Extent : Type 0 where
+pub record ArraySize : Type 0 where
   pub at : ℕ
   pub cells : ℤ
 
@@ -93,22 +93,22 @@ pub record Constant : Type 0 where
   pub value : Value
 
 -- a shared variable: by which merge, the place of its kind, its kind, its size and its start value
-pub record Variable : Type 0 where
-  pub name : Word
-  pub by : Option Word
+pub record SharedDeclaration : Type 0 where
+  pub name : PlacedName
+  pub by : Option PlacedName
   pub kind_at : ℕ
   pub holds : ValueKind
-  pub size : Option Extent
+  pub size : Option ArraySize
   pub first : Option Constant
 
-pub data Entry : Type 0 where
-  fun : Word → List Binder → ValueKind → Term → Entry
-  merge : Word → Word → Word → Word → Term → Entry
-  shared : Variable → Entry
-  proc : Word → List Binder → Option ValueKind → Steps → Entry
+pub data Declaration : Type 0 where
+  fun : PlacedName → List Parameter → ValueKind → Expression → Declaration
+  merge : PlacedName → PlacedName → PlacedName → PlacedName → Expression → Declaration
+  shared : SharedDeclaration → Declaration
+  proc : PlacedName → List Parameter → Option ValueKind → Statements → Declaration
 
 -- a whole text: its declarations, the place of the word `main`, and its block
-pub record Whole : Type 0 where
-  pub entries : List Entry
+pub record ProgramTree : Type 0 where
+  pub declarations : List Declaration
   pub main_at : ℕ
-  pub main : Steps
+  pub main : Statements

@@ -1,7 +1,7 @@
 -- The plain trees that the program's trees stand for.
 use Rattle.std.specs.Prelude.{List, [], ◌∷◌, map, Option, Some, None, option_map}
 use Rattle.rev_syntax.specs.Trees as t
-use Rattle.rev_syntax.specs.Trees.{Word, Term, Shape, Terms, Links, Right, Shown, Act, Step, Steps, Arms, Binder, Extent, Constant, Entry, Whole}
+use Rattle.rev_syntax.specs.Trees.{PlacedName, Expression, ExpressionForm, Expressions, Links, RightSide, PrintItem, StatementForm, Statement, Statements, Arms, Parameter, ArraySize, Constant, Declaration, ProgramTree}
 use Rattle.rev_syntax.specs.declared.tree.Name.{Name}
 use Rattle.rev_syntax.specs.declared.tree.BinaryOp.{BinaryOp}
 use Rattle.rev_syntax.specs.declared.tree.Node.{Node, fold-Node}
@@ -24,132 +24,167 @@ use Rattle.rev_syntax.specs.declared.tree.Decl.{Decl}
 use Rattle.rev_syntax.specs.declared.tree.Decl.TheVariants as decl
 use Rattle.rev_syntax.specs.declared.tree.Program.{Program}
 
-abbrev pub word : Name → Word
-word n = record { at = n.at; text = n.text.items }
+abbrev pub placed_name : Name → PlacedName
+placed_name n = record { at = n.at; text = n.text.items }
 
-abbrev pub terms_of : List Term → Terms
-terms_of [] = t.no_terms
-terms_of (x ∷ xs) = t.term x (terms_of xs)
+abbrev pub expressions_of : List Expression → Expressions
+expressions_of [] = t.no_expressions
+expressions_of (x ∷ xs) = t.expression x (expressions_of xs)
 
-abbrev pub links_of : List (BinaryOp × Term) → Links
+abbrev pub links_of : List (BinaryOp × Expression) → Links
 links_of [] = t.no_links
 links_of (x ∷ xs) = t.link x.0 x.1 (links_of xs)
 
--- one level of an expression, with the terms of its parts in their places
-abbrev pub node_step : Node-F Shape Term (BinaryOp × Term) → Shape
-node_step (Node-F.Int n) = t.int n
-node_step (Node-F.Bool b) = t.bool b
-node_step Node-F.NoRev = t.no_rev
-node_step (Node-F.Var name) = t.var (word name)
-node_step (Node-F.Cell name index) = t.cell (word name) index.value
-node_step (Node-F.Apply name args) = t.apply (word name) (terms_of args.items)
-node_step (Node-F.Input word_at index) = t.input word_at index.value
-node_step (Node-F.Inputs word_at) = t.inputs word_at
-node_step (Node-F.Pick test a b) = t.pick test.value a.value b.value
-node_step (Node-F.Unary op part) = t.unary op part.value
-node_step (Node-F.Chain first rest) = t.chain first.value (links_of rest.items)
+-- one level of an expression, with the expressions of its parts in their places
+abbrev pub expression_form_level :
+    Node-F ExpressionForm Expression (BinaryOp × Expression) → ExpressionForm
+expression_form_level (Node-F.Int n) = t.int n
+expression_form_level (Node-F.Bool b) = t.bool b
+expression_form_level Node-F.NoRev = t.no_rev
+expression_form_level (Node-F.Var name) = t.var (placed_name name)
+expression_form_level (Node-F.Cell name index) = t.cell (placed_name name) index.value
+expression_form_level (Node-F.Apply name args) =
+    t.apply (placed_name name) (expressions_of args.items)
+expression_form_level (Node-F.Input word_at index) = t.input word_at index.value
+expression_form_level (Node-F.Inputs word_at) = t.inputs word_at
+expression_form_level (Node-F.Pick test a b) = t.pick test.value a.value b.value
+expression_form_level (Node-F.Unary op part) = t.unary op part.value
+expression_form_level (Node-F.Chain first rest) = t.chain first.value (links_of rest.items)
 
-abbrev pub expr_step : Expr-F Shape Term (BinaryOp × Term) → Term
-expr_step e = t.placed e.at e.node
+abbrev pub expression_level : Expr-F ExpressionForm Expression (BinaryOp × Expression) → Expression
+expression_level e = t.placed e.at e.node
 
-abbrev pub link_step : Link-F Shape Term (BinaryOp × Term) → BinaryOp × Term
-link_step l = (l.op, l.part)
+abbrev pub link_level :
+    Link-F ExpressionForm Expression (BinaryOp × Expression) → BinaryOp × Expression
+link_level l = (l.op, l.part)
 
-abbrev pub term : Expr → Term
-term = fold-Expr Shape Term (BinaryOp × Term) node_step expr_step link_step
+abbrev pub expression : Expr → Expression
+expression =
+    fold-Expr ExpressionForm Expression (BinaryOp × Expression) expression_form_level
+    expression_level link_level
 
-abbrev pub shape : Node → Shape
-shape = fold-Node Shape Term (BinaryOp × Term) node_step expr_step link_step
+abbrev pub expression_form : Node → ExpressionForm
+expression_form =
+    fold-Node ExpressionForm Expression (BinaryOp × Expression) expression_form_level
+    expression_level link_level
 
-abbrev pub link : Link → BinaryOp × Term
-link = fold-Link Shape Term (BinaryOp × Term) node_step expr_step link_step
+abbrev pub link : Link → BinaryOp × Expression
+link =
+    fold-Link ExpressionForm Expression (BinaryOp × Expression) expression_form_level
+    expression_level link_level
 
-abbrev pub terms : List Expr → Terms
-terms es = terms_of (map term es)
+abbrev pub expressions : List Expr → Expressions
+expressions es = expressions_of (map expression es)
 
 abbrev pub links : List Link → Links
 links ls = links_of (map link ls)
 
-abbrev pub right : Rhs → Right
-right (rhs.Plain e) = t.plain (term e)
-right (rhs.Call at name args) = t.called at (word name) (terms args.items)
-right (rhs.Fork at name args) = t.forked at (word name) (terms args.items)
-right (rhs.Try at handle) = t.tried at (term handle)
+abbrev pub right_side : Rhs → RightSide
+right_side (rhs.Plain e) = t.plain (expression e)
+right_side (rhs.Call at name args) = t.called at (placed_name name) (expressions args.items)
+right_side (rhs.Fork at name args) = t.forked at (placed_name name) (expressions args.items)
+right_side (rhs.Try at handle) = t.tried at (expression handle)
 
-abbrev pub shown : Item → Shown
-shown (item.Text at bytes) = t.text at bytes.items
-shown (item.Value e) = t.shown (term e)
+abbrev pub print_item : Item → PrintItem
+print_item (item.Text at bytes) = t.text at bytes.items
+print_item (item.Value e) = t.shown (expression e)
 
-abbrev pub steps_of : List Step → Steps
-steps_of [] = t.no_steps
-steps_of (x ∷ xs) = t.steps x (steps_of xs)
+abbrev pub statements_of : List Statement → Statements
+statements_of [] = t.no_statements
+statements_of (x ∷ xs) = t.statements x (statements_of xs)
 
-abbrev pub arms_of : List (Term × Steps) → Arms
+abbrev pub arms_of : List (Expression × Statements) → Arms
 arms_of [] = t.no_arms
 arms_of (x ∷ xs) = t.arm x.0 x.1 (arms_of xs)
 
-abbrev pub choice : Arms → Option Steps → Act
+abbrev pub choice : Arms → Option Statements → StatementForm
 choice arms None = t.choose arms
 choice arms (Some last) = t.choose_or arms last
 
 -- one level of a statement, with the steps of its blocks in their places
-abbrev pub form_step : Form-F Act (Term × Steps) Steps Step → Act
-form_step (Form-F.Let name r) = t.bind (word name) (right r)
-form_step (Form-F.Assign name r) = t.assign (word name) (right r)
-form_step (Form-F.AssignCell name index value) = t.assign_cell (word name) (term index) (term value)
-form_step (Form-F.If arms last) = choice (arms_of arms.items) last
-form_step (Form-F.While test body) = t.repeat (term test) body
-form_step (Form-F.Call name args) = t.call (word name) (terms args.items)
-form_step (Form-F.Return value) = t.return (option_map term value)
-form_step (Form-F.Fork name args) = t.fork (word name) (terms args.items)
-form_step (Form-F.Join handle) = t.join (term handle)
-form_step (Form-F.Print items) = t.print (map shown items.items)
-form_step (Form-F.Assert test) = t.assert (term test)
+abbrev pub statement_form_level :
+    Form-F StatementForm (Expression × Statements) Statements Statement → StatementForm
+statement_form_level (Form-F.Let name r) = t.bind (placed_name name) (right_side r)
+statement_form_level (Form-F.Assign name r) = t.assign (placed_name name) (right_side r)
+statement_form_level (Form-F.AssignCell name index value) =
+    t.assign_cell (placed_name name) (expression index) (expression value)
+statement_form_level (Form-F.If arms last) = choice (arms_of arms.items) last
+statement_form_level (Form-F.While test body) = t.repeat (expression test) body
+statement_form_level (Form-F.Call name args) = t.call (placed_name name) (expressions args.items)
+statement_form_level (Form-F.Return value) = t.return (option_map expression value)
+statement_form_level (Form-F.Fork name args) = t.fork (placed_name name) (expressions args.items)
+statement_form_level (Form-F.Join handle) = t.join (expression handle)
+statement_form_level (Form-F.Print items) = t.print (map print_item items.items)
+statement_form_level (Form-F.Assert test) = t.assert (expression test)
 
-abbrev pub arm_step : Arm-F Act (Term × Steps) Steps Step → Term × Steps
-arm_step a = (term a.test, a.body)
+abbrev pub arm_level :
+    Arm-F StatementForm (Expression × Statements) Statements Statement → Expression × Statements
+arm_level a = (expression a.test, a.body)
 
-abbrev pub block_step : Block-F Act (Term × Steps) Steps Step → Steps
-block_step b = steps_of b.stmts.items
+abbrev pub block_level :
+    Block-F StatementForm (Expression × Statements) Statements Statement → Statements
+block_level b = statements_of b.stmts.items
 
-abbrev pub stmt_step : Stmt-F Act (Term × Steps) Steps Step → Step
-stmt_step s = t.step s.at s.line s.form
+abbrev pub statement_level :
+    Stmt-F StatementForm (Expression × Statements) Statements Statement → Statement
+statement_level s = t.statement s.at s.line s.form
 
-abbrev pub act : Form → Act
-act = fold-Form Act (Term × Steps) Steps Step form_step arm_step block_step stmt_step
+abbrev pub statement_form : Form → StatementForm
+statement_form =
+    fold-Form StatementForm (Expression × Statements) Statements Statement statement_form_level
+    arm_level block_level statement_level
 
-abbrev pub block : Block → Steps
-block = fold-Block Act (Term × Steps) Steps Step form_step arm_step block_step stmt_step
+abbrev pub block : Block → Statements
+block =
+    fold-Block StatementForm (Expression × Statements) Statements Statement statement_form_level
+    arm_level block_level statement_level
 
-abbrev pub stmt : Stmt → Step
-stmt = fold-Stmt Act (Term × Steps) Steps Step form_step arm_step block_step stmt_step
+abbrev pub stmt : Stmt → Statement
+stmt =
+    fold-Stmt StatementForm (Expression × Statements) Statements Statement statement_form_level
+    arm_level block_level statement_level
 
-abbrev pub arm : Arm → Term × Steps
-arm = fold-Arm Act (Term × Steps) Steps Step form_step arm_step block_step stmt_step
+abbrev pub arm : Arm → Expression × Statements
+arm =
+    fold-Arm StatementForm (Expression × Statements) Statements Statement statement_form_level
+    arm_level block_level statement_level
 
-abbrev pub stmts : List Stmt → Steps
-stmts ss = steps_of (map stmt ss)
+abbrev pub stmts : List Stmt → Statements
+stmts ss = statements_of (map stmt ss)
 
 abbrev pub arms : List Arm → Arms
 arms xs = arms_of (map arm xs)
 
-abbrev pub binder : Param → Binder
-binder p = record { name = word p.name; kind_at = p.kind_at; kind = p.kind }
+abbrev pub parameter : Param → Parameter
+parameter p = record { name = placed_name p.name; kind_at = p.kind_at; kind = p.kind }
 
-abbrev pub extent : Size → Extent
-extent s = record { at = s.at; cells = s.cells }
+abbrev pub array_size : Size → ArraySize
+array_size s = record { at = s.at; cells = s.cells }
 
 abbrev pub constant : Const → Constant
 constant c = record { at = c.at; value = c.value }
 
-abbrev pub entry : Decl → Entry
-entry (decl.Fun name params result body) = t.fun (word name) (map binder params.items) result (term body)
-entry (decl.Merge name main join root body) =
-    t.merge (word name) (word main) (word join) (word root) (term body)
-entry (decl.Shared name by kind_at holds size first) =
-    t.shared (record { name = word name; by = option_map word by; kind_at = kind_at; holds = holds; size = option_map extent size; first = option_map constant first })
-entry (decl.Proc name params result body) =
-    t.proc (word name) (map binder params.items) result (block body)
+abbrev pub declaration : Decl → Declaration
+declaration (decl.Fun name params result body) =
+    t.fun (placed_name name) (map parameter params.items) result (expression body)
+declaration (decl.Merge name main join root body) =
+    t.merge (placed_name name) (placed_name main) (placed_name join) (placed_name root)
+    (expression body)
+declaration (decl.Shared name by kind_at holds size first) =
+    t.shared (record {
+      name = placed_name name;
+      by = option_map placed_name by;
+      kind_at = kind_at;
+      holds = holds;
+      size = option_map array_size size;
+      first = option_map constant first;
+    })
+declaration (decl.Proc name params result body) =
+    t.proc (placed_name name) (map parameter params.items) result (block body)
 
-abbrev pub program : Program → Whole
-program p = record { entries = map entry p.decls.items; main_at = p.main_at; main = block p.main }
+abbrev pub program : Program → ProgramTree
+program p = record {
+  declarations = map declaration p.decls.items;
+  main_at = p.main_at;
+  main = block p.main;
+}

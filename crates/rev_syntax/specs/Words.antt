@@ -1,76 +1,90 @@
 -- The reserved words, the signs and the names.
-use Rattle.std.specs.Prelude.{ℕ, Bool, not, ◌&&◌, List, [], ◌∷◌, nat_eq, codes}
+--   spelling: the bytes of a reserved word or a sign
+--   words, signs, fixed: all of them
+--   is_reserved, is_name: bytes that are a reserved word, and those that are a name
+use Rattle.std.specs.Prelude.{ℕ, Bool, not, ◌&&◌, List, [], ◌∷◌, ◌++◌, nat_eq, codes}
 use Rattle.std.specs.List.{list_any}
 use Rattle.std.specs.Cmp.Lexicographic.{pointwise}
-use Rattle.rev_syntax.specs.declared.token.TokenKind.{TokenKind}
-use Rattle.rev_syntax.specs.declared.token.TokenKind.TheVariants as k
+use Rattle.rev_syntax.specs.declared.token.Fixed.{Fixed}
+use Rattle.rev_syntax.specs.declared.token.Fixed.TheVariants as s
 use Rattle.rev_syntax.specs.Bytes.{is_word}
 
 -- the bytes of a reserved word or a sign
-abbrev pub spelling : TokenKind → List ℕ
-spelling k.Fun = codes "fun"
-spelling k.Merge = codes "merge"
-spelling k.Versioned = codes "versioned"
-spelling k.Cumulative = codes "cumulative"
-spelling k.By = codes "by"
-spelling k.Proc = codes "proc"
-spelling k.Main = codes "main"
-spelling k.KindInt = codes "int"
-spelling k.KindBool = codes "bool"
-spelling k.KindRev = codes "rev"
-spelling k.Let = codes "let"
-spelling k.If = codes "if"
-spelling k.Else = codes "else"
-spelling k.While = codes "while"
-spelling k.Call = codes "call"
-spelling k.Return = codes "return"
-spelling k.Fork = codes "rfork"
-spelling k.Join = codes "rjoin"
-spelling k.TryJoin = codes "tryjoin"
-spelling k.Print = codes "print"
-spelling k.Assert = codes "assert"
-spelling k.True = codes "true"
-spelling k.False = codes "false"
-spelling k.NoRev = codes "none"
-spelling k.Input = codes "input"
-spelling k.Inputs = codes "inputs"
-spelling k.Pick = codes "pick"
-spelling k.Equal = codes "=="
-spelling k.NotEqual = codes "!="
-spelling k.LessEqual = codes "<="
-spelling k.GreaterEqual = codes ">="
-spelling k.And = codes "&&"
-spelling k.Or = codes "||"
-spelling k.OpenParen = codes "("
-spelling k.CloseParen = codes ")"
-spelling k.OpenBrace = codes "{"
-spelling k.CloseBrace = codes "}"
-spelling k.OpenBracket = codes "["
-spelling k.CloseBracket = codes "]"
-spelling k.Comma = codes ","
-spelling k.Semicolon = codes ";"
-spelling k.Colon = codes ":"
-spelling k.Assign = codes "="
-spelling k.Plus = codes "+"
-spelling k.Minus = codes "-"
-spelling k.Star = codes "*"
-spelling k.Slash = codes "/"
-spelling k.Percent = codes "%"
-spelling k.Bang = codes "!"
-spelling k.Less = codes "<"
-spelling k.Greater = codes ">"
--- a name, a number and a text have many
-spelling _ = []
+abbrev pub spelling : Fixed → List ℕ
+spelling s.Fun = codes "fun"
+spelling s.Merge = codes "merge"
+spelling s.Versioned = codes "versioned"
+spelling s.Cumulative = codes "cumulative"
+spelling s.By = codes "by"
+spelling s.Proc = codes "proc"
+spelling s.Main = codes "main"
+spelling s.KindInt = codes "int"
+spelling s.KindBool = codes "bool"
+spelling s.KindRev = codes "rev"
+spelling s.Let = codes "let"
+spelling s.If = codes "if"
+spelling s.Else = codes "else"
+spelling s.While = codes "while"
+spelling s.Call = codes "call"
+spelling s.Return = codes "return"
+spelling s.Fork = codes "rfork"
+spelling s.Join = codes "rjoin"
+spelling s.TryJoin = codes "tryjoin"
+spelling s.Print = codes "print"
+spelling s.Assert = codes "assert"
+spelling s.True = codes "true"
+spelling s.False = codes "false"
+spelling s.NoRev = codes "none"
+spelling s.Input = codes "input"
+spelling s.Inputs = codes "inputs"
+spelling s.Pick = codes "pick"
+spelling s.Equal = codes "=="
+spelling s.NotEqual = codes "!="
+spelling s.LessEqual = codes "<="
+spelling s.GreaterEqual = codes ">="
+spelling s.And = codes "&&"
+spelling s.Or = codes "||"
+spelling s.OpenParen = codes "("
+spelling s.CloseParen = codes ")"
+spelling s.OpenBrace = codes "{"
+spelling s.CloseBrace = codes "}"
+spelling s.OpenBracket = codes "["
+spelling s.CloseBracket = codes "]"
+spelling s.Comma = codes ","
+spelling s.Semicolon = codes ";"
+spelling s.Colon = codes ":"
+spelling s.Assign = codes "="
+spelling s.Plus = codes "+"
+spelling s.Minus = codes "-"
+spelling s.Star = codes "*"
+spelling s.Slash = codes "/"
+spelling s.Percent = codes "%"
+spelling s.Bang = codes "!"
+spelling s.Less = codes "<"
+spelling s.Greater = codes ">"
 
-abbrev pub words : List TokenKind
-words = k.Fun ∷ k.Merge ∷ k.Versioned ∷ k.Cumulative ∷ k.By ∷ k.Proc ∷ k.Main ∷ k.KindInt ∷ k.KindBool ∷ k.KindRev ∷ k.Let ∷ k.If ∷ k.Else ∷ k.While ∷ k.Call ∷ k.Return ∷ k.Fork ∷ k.Join ∷ k.TryJoin ∷ k.Print ∷ k.Assert ∷ k.True ∷ k.False ∷ k.NoRev ∷ k.Input ∷ k.Inputs ∷ k.Pick ∷ []
+-- the reserved words
+abbrev pub words : List Fixed
+words =
+    s.Fun ∷ s.Merge ∷ s.Versioned ∷ s.Cumulative ∷ s.By ∷ s.Proc ∷ s.Main ∷ s.KindInt ∷
+    s.KindBool ∷ s.KindRev ∷ s.Let ∷ s.If ∷ s.Else ∷ s.While ∷ s.Call ∷ s.Return ∷ s.Fork ∷
+    s.Join ∷ s.TryJoin ∷ s.Print ∷ s.Assert ∷ s.True ∷ s.False ∷ s.NoRev ∷ s.Input ∷ s.Inputs ∷
+    s.Pick ∷ []
 
--- the longer ones first
-abbrev pub signs : List TokenKind
-signs = k.Equal ∷ k.NotEqual ∷ k.LessEqual ∷ k.GreaterEqual ∷ k.And ∷ k.Or ∷ k.OpenParen ∷ k.CloseParen ∷ k.OpenBrace ∷ k.CloseBrace ∷ k.OpenBracket ∷ k.CloseBracket ∷ k.Comma ∷ k.Semicolon ∷ k.Colon ∷ k.Assign ∷ k.Plus ∷ k.Minus ∷ k.Star ∷ k.Slash ∷ k.Percent ∷ k.Bang ∷ k.Less ∷ k.Greater ∷ []
+-- the signs, the longer ones first
+abbrev pub signs : List Fixed
+signs =
+    s.Equal ∷ s.NotEqual ∷ s.LessEqual ∷ s.GreaterEqual ∷ s.And ∷ s.Or ∷ s.OpenParen ∷
+    s.CloseParen ∷ s.OpenBrace ∷ s.CloseBrace ∷ s.OpenBracket ∷ s.CloseBracket ∷ s.Comma ∷
+    s.Semicolon ∷ s.Colon ∷ s.Assign ∷ s.Plus ∷ s.Minus ∷ s.Star ∷ s.Slash ∷ s.Percent ∷ s.Bang ∷
+    s.Less ∷ s.Greater ∷ []
 
-abbrev pub has_spelling : List ℕ → TokenKind → Bool
-has_spelling bytes kind = pointwise nat_eq (spelling kind) bytes
+-- all of them
+abbrev pub fixed : List Fixed
+fixed = words ++ signs
+
+abbrev pub has_spelling : List ℕ → Fixed → Bool
+has_spelling bytes word = pointwise nat_eq (spelling word) bytes
 
 abbrev pub is_reserved : List ℕ → Bool
 is_reserved bytes = list_any (has_spelling bytes) words

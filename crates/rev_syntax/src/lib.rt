@@ -1,17 +1,21 @@
 //! The tokens and the syntax trees of the language.
+//!
+//! `specs/Words.antt` has the spellings of reserved words and signs, `specs/Tokens.antt` what the tokens of a text
+//! are, `specs/Trees.antt` and `specs/View.antt` the plain trees that contracts speak of.
 #![tactic(auto)]
 
-pub mod laws;
+mod laws;
 mod lex;
 mod place;
 mod scan;
 mod token;
 mod tree;
 
+pub use laws::{one_fault, one_kind, one_list, some_reading};
 pub use lex::tokens;
 pub use place::line_column;
 pub use scan::LexFault;
-pub use token::{Token, TokenKind};
+pub use token::{Fixed, Token, TokenKind};
 pub use tree::{
     Arm, BinaryOp, Block, Const, Decl, Expr, Form, Item, Link, Name, Node, Param, Program, Rhs,
     Size, Stmt, UnaryOp,

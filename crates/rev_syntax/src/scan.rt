@@ -5,7 +5,7 @@ ghost use Rattle.rev_syntax.specs.Bytes as bytes;
 ghost use Rattle.rev_syntax.specs.Tokens.{begins_with_letter};
 ghost use Rattle.rev_syntax.specs.Scan as spec;
 
-use crate::token::{PieceKind, SIGNS, TokenKind, WORDS};
+use crate::token::{Fixed, PieceKind, SIGNS, TokenKind, WORDS};
 use rev_num::read_decimal;
 use std::alloc::AllocFailed;
 
@@ -97,16 +97,19 @@ fn line_bytes(text: &[u8]) -> usize
     text.iter().take_while(|b| **b != b'\n').count()
 }
 
-fn reserved_word(text: &[u8]) -> Option<TokenKind>
+fn reserved_word(text: &[u8]) -> Option<Fixed>
     ensures { result ≡ spec.reserved_word text.now }
 {
-    WORDS.iter().copied().find(|kind| kind.spelling() == text)
+    WORDS.iter().copied().find(|word| word.spelling() == text)
 }
 
 fn word_kind(text: &[u8]) -> TokenKind
     ensures { result ≡ spec.word_kind text.now }
 {
-    reserved_word(text).unwrap_or(TokenKind::Name)
+    match reserved_word(text) {
+        Some(word) => TokenKind::Fixed(word),
+        None => TokenKind::Name,
+    }
 }
 
 fn word(text: &[u8]) -> Cut
@@ -120,13 +123,13 @@ fn word(text: &[u8]) -> Cut
     }
 }
 
-fn first_sign(text: &[u8]) -> Option<TokenKind>
+fn first_sign(text: &[u8]) -> Option<Fixed>
     ensures { result ≡ spec.first_sign text.now }
 {
     SIGNS
         .iter()
         .copied()
-        .find(|kind| text.starts_with(kind.spelling()))
+        .find(|sign| text.starts_with(sign.spelling()))
 }
 
 fn begins_with_letter(text: &[u8]) -> bool
@@ -180,9 +183,9 @@ fn sign(at: u32, text: &[u8]) -> Result<Cut, LexFault>
     ensures { result ≡ spec.sign_cut at (spec.first_sign text.now) }
 {
     match first_sign(text) {
-        Some(kind) => Ok(Cut {
-            kind: PieceKind::Token(kind),
-            length: kind.spelling().len(),
+        Some(sign) => Ok(Cut {
+            kind: PieceKind::Token(TokenKind::Fixed(sign)),
+            length: sign.spelling().len(),
         }),
         None => Err(LexFault::BadByte { at }),
     }

@@ -3,7 +3,7 @@
 use crate::lex::tokens;
 use crate::place::line_column;
 use crate::scan::LexFault;
-use crate::token::{SIGNS, Token, TokenKind, WORDS};
+use crate::token::{Fixed, SIGNS, Token, TokenKind, WORDS};
 use std::alloc::Global;
 use std::test::Fail;
 
@@ -25,14 +25,14 @@ fn reads_each_word_and_sign(rt: HostRuntime) -> Result<(), Fail> {
         b"fun merge versioned cumulative by proc main int bool rev let if else while call return rfork rjoin tryjoin print assert true false none input inputs pick";
     let found = read(rt.alloc(), words)?;
     assert_eq!(rt; found.len(), WORDS.len());
-    for (token, kind) in found.iter().zip(WORDS) {
-        assert_eq!(rt; token.kind, kind, "at {token:?}");
+    for (token, word) in found.iter().zip(WORDS) {
+        assert_eq!(rt; token.kind, TokenKind::Fixed(word), "at {token:?}");
     }
     let signs = b"== != <= >= && || ( ) { } [ ] , ; : = + - * / % ! < >";
     let found = read(rt.alloc(), signs)?;
     assert_eq!(rt; found.len(), SIGNS.len());
-    for (token, kind) in found.iter().zip(SIGNS) {
-        assert_eq!(rt; token.kind, kind, "at {token:?}");
+    for (token, sign) in found.iter().zip(SIGNS) {
+        assert_eq!(rt; token.kind, TokenKind::Fixed(sign), "at {token:?}");
     }
     Ok(())
 }
@@ -42,25 +42,28 @@ fn reads_the_longest_piece(rt: HostRuntime) -> Result<(), Fail> {
     let cases: [(&[u8], &[Token]); 12] = [
         (b"", &[]),
         (b"forx", &[token(TokenKind::Name, 0, 4)]),
-        (b"rjoin", &[token(TokenKind::Join, 0, 5)]),
+        (b"rjoin", &[token(TokenKind::Fixed(Fixed::Join), 0, 5)]),
         (b"_r2", &[token(TokenKind::Name, 0, 3)]),
         (
             b"<==",
             &[
-                token(TokenKind::LessEqual, 0, 2),
-                token(TokenKind::Assign, 2, 3),
+                token(TokenKind::Fixed(Fixed::LessEqual), 0, 2),
+                token(TokenKind::Fixed(Fixed::Assign), 2, 3),
             ],
         ),
         (
             b"===",
             &[
-                token(TokenKind::Equal, 0, 2),
-                token(TokenKind::Assign, 2, 3),
+                token(TokenKind::Fixed(Fixed::Equal), 0, 2),
+                token(TokenKind::Fixed(Fixed::Assign), 2, 3),
             ],
         ),
         (
             b"&&||",
-            &[token(TokenKind::And, 0, 2), token(TokenKind::Or, 2, 4)],
+            &[
+                token(TokenKind::Fixed(Fixed::And), 0, 2),
+                token(TokenKind::Fixed(Fixed::Or), 2, 4),
+            ],
         ),
         (
             b"007 9223372036854775807",
@@ -79,12 +82,15 @@ fn reads_the_longest_piece(rt: HostRuntime) -> Result<(), Fail> {
         ),
         (
             b"/ /\r\n//",
-            &[token(TokenKind::Slash, 0, 1), token(TokenKind::Slash, 2, 3)],
+            &[
+                token(TokenKind::Fixed(Fixed::Slash), 0, 1),
+                token(TokenKind::Fixed(Fixed::Slash), 2, 3),
+            ],
         ),
         (
             b"-12",
             &[
-                token(TokenKind::Minus, 0, 1),
+                token(TokenKind::Fixed(Fixed::Minus), 0, 1),
                 token(TokenKind::Int(12), 1, 3),
             ],
         ),

@@ -1,11 +1,11 @@
 -- The parser of a decided grammar is exact.
-use Rattle.std.proofs.Common.{◌≡◌, ℕ, zero, suc, ◌+◌, ◌≤◌, Bool, true, false, not, cond, option_map, ◌&&◌, ◌||◌, List, [], ◌∷◌, ◌++◌, length, Option, Some, None, refl, sym, ap, ◌∙◌, subst, arith, inl, inr, append_assoc, length-append, append-nil}
-use Rattle.token_grammar.specs.Outcome.{Unexpected, TooDeep, Outcome, Read, Failed, Parser, and_then, next, after, left}
-use Rattle.token_grammar.specs.Form.{Alphabet, Form, nothing, token, level, both, either, many, Lang, Opened, Pair, Many, Derives, Rules, Nested, AnyNested}
-use Rattle.token_grammar.specs.Reader.{nullable, first, passes, next_kind, begins, is_next, taken, inside_of, opened, repeat, read, below, parser, Inside}
-use Rattle.token_grammar.specs.Exact.{all_of, extends, are_apart, is_decided, is_plain}
-use Rattle.token_grammar.proofs.Words.{Inners, null_sound, first_sound, derives_map, derives_free, nested_free, any_free, nested_any, any_inside, many_free, or_left, or_right, both_true, empty_front}
-use Rattle.token_grammar.proofs.Good.{Tokens, IsFree, Reaches, AsFar, Begun, Taken, Refused, Deep, Good, Two, Both, pairs, good_change, Image, image, behind_token}
+use Rattle.std.proofs.Common.{◌≡◌, ℕ, zero, suc, ◌≤◌, Bool, true, false, not, cond, option_map, ◌&&◌, ◌||◌, List, [], ◌∷◌, ◌++◌, length, Option, Some, None, refl, sym, ap, ◌∙◌, subst, arith, inl, inr, append_assoc, length-append, append-nil}
+use Rattle.token_grammar.specs.Outcome.{Unexpected, TooDeep, Outcome, Read, Failed, Parser, and_then, next, left}
+use Rattle.token_grammar.specs.Form.{Alphabet, Form, nothing, token, level, both, either, many, Many, Derives, Rules, Nested, AnyNested}
+use Rattle.token_grammar.specs.Reader.{nullable, first, passes, next_kind, begins, is_next, taken, inside_of, repeat, read, below, parser}
+use Rattle.token_grammar.specs.Exact.{extends, are_apart, is_decided, is_plain, Decided}
+use Rattle.token_grammar.proofs.Words.{Inners, null_sound, first_sound, derives_map, derives_free, nested_free, any_free, any_inside, many_free, both_true}
+use Rattle.token_grammar.proofs.Good.{Tokens, IsFree, Reaches, AsFar, Taken, Good, Two, Both, pairs, good_change, Image, image, behind_token}
 
 -- ---- truth values
 
@@ -37,15 +37,6 @@ clash true e f = cc
 clash false e f = cc
 
 -- ---- the next token
-
--- What a grammar has to keep.
--- kinds: all kinds; Ext: with which kinds an inner rule may be gone on
-pub record Decided (G : Alphabet) (rules : Rules G) (Ext : G.Inner → G.Kind → Bool) (kinds : List G.Kind) : Type 0 where
-  pub complete : (p : G.Kind → Bool) → all_of p kinds ≡ true → (k : G.Kind) → p k ≡ true
-  pub sample : (s : G.Kind) → (t : G.Token) × (G.is s (G.kind t) ≡ true)
-  pub decided : (i : G.Inner) → is_decided G Ext kinds (rules i) ≡ true
-  pub extended : (i : G.Inner) (k : G.Kind) → extends G Ext (rules i) k ≡ true → Ext i k ≡ true
-  pub plain : (i : G.Inner) → is_plain G Ext (rules i) ≡ true
 
 module _ (G : Alphabet) where
   passes_next : (p : G.Kind → Bool) (ts us : Tokens G) → next ts ≡ next us → passes G p (next_kind G ts) ≡ passes G p (next_kind G us)

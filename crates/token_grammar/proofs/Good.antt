@@ -1,8 +1,8 @@
 -- Parsers that are exact, put together.
-use Rattle.std.proofs.Common.{◌≡◌, ℕ, zero, suc, ◌+◌, ◌≤◌, Bool, true, false, ◌&&◌, ◌||◌, List, [], ◌∷◌, ◌++◌, length, Option, Some, None, refl, sym, ap, ◌∙◌, subst, arith, inl, inr, append_assoc, length-append, append-nil}
+use Rattle.std.proofs.Common.{◌≡◌, ℕ, zero, suc, Bool, false, List, [], ◌∷◌, ◌++◌, length, Some, refl, sym, ap, ◌∙◌, subst, arith, append_assoc}
 use Rattle.std.proofs.lemmas.List.{append_cancel_left}
-use Rattle.token_grammar.specs.Outcome.{Stop, Unexpected, TooDeep, Outcome, Read, Failed, Parser, and_then, next, after, left}
-use Rattle.token_grammar.specs.Form.{Alphabet, Lang, Pair}
+use Rattle.token_grammar.specs.Outcome.{Unexpected, TooDeep, Outcome, Read, Failed, Parser, and_then, next, left}
+use Rattle.token_grammar.specs.Form.{Alphabet}
 use Rattle.token_grammar.specs.Reader.{passes, next_kind}
 
 -- ---- tokens that are counted

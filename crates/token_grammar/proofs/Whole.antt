@@ -1,24 +1,18 @@
 -- What the parser's answer says of the whole tokens.
-use Rattle.std.proofs.Common.{◌≡◌, ℕ, zero, suc, ◌+◌, ◌-◌, ◌≤◌, ◌<◌, Bool, true, false, List, [], ◌∷◌, ◌++◌, length, take, drop, Option, Some, None, refl, sym, ap, ◌∙◌, subst, arith, append-nil, length-append, append_assoc, ◌⊎◌, inl, inr}
+use Rattle.std.proofs.Common.{◌≡◌, ℕ, suc, ◌≤◌, Bool, true, List, [], ◌∷◌, ◌++◌, length, take, drop, Some, None, refl, sym, ap, ◌∙◌, subst, arith, append-nil, length-append}
 use Rattle.std.proofs.lemmas.List.{append_cancel_left}
 use Rattle.std.proofs.Math.Seq.{take-append_seam, drop-append_seam}
 use Rattle.token_grammar.specs.Outcome.{Unexpected, TooDeep, Outcome, Read, Failed, next}
-use Rattle.token_grammar.specs.Form.{Alphabet, Form, Rules, Nested, AnyNested, Derives, Stands}
+use Rattle.token_grammar.specs.Form.{Alphabet, Form, Rules, Nested, AnyNested, Stands}
 use Rattle.token_grammar.specs.Reader.{parser}
-use Rattle.token_grammar.specs.Exact.{extends, is_decided}
-use Rattle.token_grammar.specs.First.{IsAny, Begins, IsOnly, IsUnexpected, IsTooDeep}
+use Rattle.token_grammar.specs.Exact.{extends, is_decided, Decided}
+use Rattle.token_grammar.specs.Theorem.{Verdict}
+use Rattle.token_grammar.specs.First.{IsAny, Begins}
 use Rattle.token_grammar.proofs.Words.{derives_map, nested_any}
 use Rattle.token_grammar.proofs.Good.{Tokens, Reaches}
-use Rattle.token_grammar.proofs.Exact.{Decided, Exactly, exact, E, L}
+use Rattle.token_grammar.proofs.Exact.{Exactly, exact, E}
 
 module _ (G : Alphabet) (rules : Rules G) (Ext : G.Inner → G.Kind → Bool) (kinds : List G.Kind) (H : Decided G rules Ext kinds) {A : Type 0} (F : Form G A) (decided : is_decided G Ext kinds F ≡ true) (n : ℕ) (ts : Tokens G) where
-  -- the answer is the one value, or the first fault, at which the tokens left begin
-  abbrev pub Verdict : Outcome G.Token A → Type 0
-  Verdict (Read a []) = IsOnly G rules F n ts a
-  Verdict (Read a (t ∷ rest)) = (at : ℕ) × IsUnexpected G rules F n ts at × (drop at ts ≡ t ∷ rest)
-  Verdict (Failed Unexpected rest) = (at : ℕ) × IsUnexpected G rules F n ts at × (drop at ts ≡ rest)
-  Verdict (Failed TooDeep rest) = (at : ℕ) × IsTooDeep G rules F n ts at × (drop at ts ≡ rest)
-
   wide : (k : ℕ) (w : Tokens G) (x : A) → E G rules Ext kinds H n F k w x → Stands G rules F n k w x
   wide k w x h = derives_map G (Nested G rules (suc n)) (AnyNested G rules) (nested_any G rules (suc n)) F n k w x h
 
@@ -35,7 +29,7 @@ module _ (G : Alphabet) (rules : Rules G) (Ext : G.Inner → G.Kind → Bool) (k
   begun : (used more : Tokens G) (x : A) → E G rules Ext kinds H n F (length used) (used ++ more) x → take (length used) ts ≡ used → Begins G rules F n (take (length used) ts)
   begun used more x h e = subst (Begins G rules F n) (sym e) (record { more = more; value = x; whole = wide (length used) (used ++ more) x h })
 
-  of_answer : (o : Outcome G.Token A) → Exactly G rules Ext kinds H n F (extends G Ext F) ts o → Verdict o
+  of_answer : (o : Outcome G.Token A) → Exactly G rules Ext kinds H n F (extends G Ext F) ts o → Verdict G rules F n ts o
   of_answer (Read a []) g =
       let same : ts ≡ g.used = g.split ∙ append-nil g.used in
       record {
@@ -83,5 +77,5 @@ module _ (G : Alphabet) (rules : Rules G) (Ext : G.Inner → G.Kind → Bool) (k
         s.2,
       )
 
-  pub verdict : Verdict (parser G rules n F ts)
+  pub verdict : Verdict G rules F n ts (parser G rules n F ts)
   verdict = of_answer (parser G rules n F ts) (exact G rules Ext kinds H n A F decided ts)

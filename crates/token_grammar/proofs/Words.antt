@@ -1,7 +1,7 @@
 -- What a form derives, and what its tests say of that.
-use Rattle.std.proofs.Common.{◌≡◌, ℕ, zero, suc, Bool, true, false, ◌&&◌, ◌||◌, List, [], ◌∷◌, ◌++◌, length, Option, Some, None, refl, sym, ap, ◌∙◌, subst, arith, inl, inr}
+use Rattle.std.proofs.Common.{◌≡◌, ℕ, zero, suc, Bool, true, false, ◌&&◌, ◌||◌, List, [], ◌∷◌, ◌++◌, refl, sym, ap, ◌∙◌, subst, inl, inr}
 use Rattle.token_grammar.specs.Outcome.{left}
-use Rattle.token_grammar.specs.Form.{Alphabet, Form, nothing, token, level, both, either, many, Lang, Opened, Pair, Many, Derives, Rules, Nested, AnyNested}
+use Rattle.token_grammar.specs.Form.{Alphabet, Form, nothing, token, level, both, either, many, Lang, Opened, Many, Derives, Rules, Nested, AnyNested}
 use Rattle.token_grammar.specs.Reader.{nullable, first}
 
 pub or_left : (a b : Bool) → a ≡ true → a || b ≡ true

@@ -1,5 +1,5 @@
 -- The one value of the tokens, and the first place where they have none.
-use Rattle.std.specs.Prelude.{ℕ, suc, List, [], ◌∷◌, ◌++◌, ◌≡◌, ◌≤◌, length, take, drop, Option, Some, None}
+use Rattle.std.specs.Prelude.{ℕ, suc, List, ◌∷◌, ◌++◌, ◌≡◌, ◌≤◌, length, take, drop, Some}
 use Rattle.token_grammar.specs.Outcome.{next}
 use Rattle.token_grammar.specs.Form.{Alphabet, Form, Rules, Stands}
 
@@ -24,7 +24,9 @@ module _ (G : Alphabet) (rules : Rules G) {A : Type 0} (F : Form G A) where
   pub record IsUnexpected (n : ℕ) (ts : List G.Token) (at : ℕ) : Type 0 where
     pub inside : at ≤ length ts
     pub begins : Begins n (take at ts)
-    pub none : (more : List G.Token) (x : A) → next more ≡ next (drop at ts) → IsAny (take at ts ++ more) x → ⊥
+    pub none :
+        (more : List G.Token) (x : A) → next more ≡ next (drop at ts) →
+        IsAny (take at ts ++ more) x → ⊥
 
   -- The tokens before this place begin something and open at most n levels. With the next token they begin something
   -- too, but they open more levels.
@@ -35,4 +37,6 @@ module _ (G : Alphabet) (rules : Rules G) {A : Type 0} (F : Form G A) where
     pub more : List G.Token
     pub value : A
     pub goes_on : Stands G rules F n at (take at ts ++ token ∷ more) value
-    pub none : (more : List G.Token) (x : A) → Stands G rules F n (suc at) (take at ts ++ token ∷ more) x → ⊥
+    pub none :
+        (more : List G.Token) (x : A) → Stands G rules F n (suc at) (take at ts ++ token ∷ more) x →
+        ⊥

@@ -1,5 +1,5 @@
 -- Grammars as data: forms, and which tokens each of them derives.
-use Rattle.std.specs.Prelude.{ℕ, zero, suc, List, [], ◌∷◌, ◌++◌, ◌≡◌, ◌⊎◌, Bool, true, false, ◌&&◌, ◌||◌, length}
+use Rattle.std.specs.Prelude.{ℕ, zero, suc, List, [], ◌∷◌, ◌++◌, ◌≡◌, ◌⊎◌, Bool, true}
 use Rattle.token_grammar.specs.Outcome.{left}
 
 -- The grammar's tokens, their kinds, and its inner rules: those that stand behind a token that opens a level.
@@ -36,7 +36,8 @@ module _ (G : Alphabet) where
   Opened P (suc n) (suc k) = P n k
 
   -- one part behind the other
-  pub record Pair {A B C : Type 0} (f : A → B → C) (P : Lang A) (Q : Lang B) (n k : ℕ) (ts : List G.Token) (c : C) : Type 0 where
+  pub record Pair {A B C : Type 0} (f : A → B → C) (P : Lang A) (Q : Lang B) (n k : ℕ)
+      (ts : List G.Token) (c : C) : Type 0 where
     pub front : List G.Token
     pub back : List G.Token
     pub a : A
@@ -50,17 +51,21 @@ module _ (G : Alphabet) where
   abbrev pub Many : {A : Type 0} → Lang A → (A → Bool) → Lang (List A)
   Many P ends n k ts [] = ts ≡ []
   Many P ends n k ts (a ∷ rest) =
-      (u : List G.Token) × (v : List G.Token) × (ts ≡ u ++ v) × P n k u a × Many P ends n (left k u) v rest × (ends a ≡ true → rest ≡ [])
+      (u : List G.Token) × (v : List G.Token) × (ts ≡ u ++ v) × P n k u a ×
+      Many P ends n (left k u) v rest × (ends a ≡ true → rest ≡ [])
 
   -- what a form derives, where the inner rules derive this
   abbrev pub Derives : ((i : G.Inner) → Lang (G.Value i)) → {A : Type 0} → Form A → Lang A
   Derives I (nothing a) n k ts x = (ts ≡ []) × (x ≡ a)
-  Derives I (token s val) n k ts x = (t : G.Token) × (ts ≡ t ∷ []) × (G.is s (G.kind t) ≡ true) × (x ≡ val t)
+  Derives I (token s val) n k ts x =
+      (t : G.Token) × (ts ≡ t ∷ []) × (G.is s (G.kind t) ≡ true) × (x ≡ val t)
   Derives I (level s i val) n k ts x =
-      (t : G.Token) × (v : List G.Token) × (y : G.Value i) × (ts ≡ t ∷ v) × (G.is s (G.kind t) ≡ true) × Opened (λ n k. I i n k v y) n k × (x ≡ val t y)
+      (t : G.Token) × (v : List G.Token) × (y : G.Value i) × (ts ≡ t ∷ v) ×
+      (G.is s (G.kind t) ≡ true) × Opened (λ n k. I i n k v y) n k × (x ≡ val t y)
   Derives I (both f P Q) n k ts x = Pair f (Derives I P) (Derives I Q) n k ts x
   Derives I (either P Q) n k ts x = Derives I P n k ts x ⊎ Derives I Q n k ts x
-  Derives I (many {A = A} f ends P) n k ts x = (xs : List A) × Many (Derives I P) ends n k ts xs × (x ≡ f xs)
+  Derives I (many {A = A} f ends P) n k ts x =
+      (xs : List A) × Many (Derives I P) ends n k ts xs × (x ≡ f xs)
 
   -- the inner rules
   abbrev pub Rules : Type 1

@@ -3,3 +3,4 @@ pub mod Form
 pub mod Reader
 pub mod Exact
 pub mod First
+pub mod Theorem

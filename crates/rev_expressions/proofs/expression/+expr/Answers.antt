@@ -1,35 +1,40 @@
 use Rattle.std.proofs.Common.{◌≡◌, ◌+◌, ◌-◌, ◌∙◌, true, false, Some, None, sym, ap, map, arith, rules}
 use Rattle.std.proofs.lemmas.Grind.{common_steps}
 use Rattle.std.proofs.lemmas.List.{map-append}
-use Rattle.rev_syntax.specs.Trees.{placed, unary as unary_term}
+use Rattle.rev_syntax.specs.Trees.{placed, unary as unary_expression}
 use Rattle.rev_syntax.specs.View as view
 use Rattle.token_grammar.specs.Outcome.{Read, next}
 use Rattle.token_grammar.specs.Reader.{is_next}
-use Rattle.rev_expressions.specs.declared.sort.Sort.TheVariants as s
+use Rattle.rev_syntax.specs.declared.token.Fixed.TheVariants as s
+use Rattle.rev_syntax.specs.declared.token.TokenKind.TheVariants as k
 use Rattle.rev_expressions.specs.Grammar as spec
 use Rattle.rev_expressions.specs.Parse.{IsSign, cell_of, apply_of, expr_begins}
 use Rattle.rev_expressions.proofs.Turns.{links_are, links_go}
 use Rattle.rev_expressions.proofs.Lists.{comma_go}
 use Rattle.rev_expressions.proofs.Expressions.{operand_go, index_go, index_only, arguments_go, parens_go, parts_go, bracketed_no, bracketed_yes, choice_no, choice_yes, named_index, named_arguments, named_alone, named_end, unary_minus, unary_bang, unary_else, unary_end, primary_name, primary_input, primary_pick, primary_parens, listing_no, listing_yes, sign_is}
 use Rattle.rev_expressions.proofs.expression.+expr.Goals as goal
+use Rattle.rev_expressions.proofs.expression.+expr.Goals.{unary-in_default-kind-via-in-Fixed+in_default, unary-in_default-kind-via-in_default, named-in_default-kind-via-in-Fixed+in_default, named-in_default-kind-via-in_default}
+use Rattle.rev_expressions.specs.Classes as class
 
-pub unary-returns-in-Minus : goal.unary-returns-in-Minus
-unary-returns-in-Minus t c =
+pub unary-returns-in-Fixed-Minus : goal.unary-returns-in-Fixed-Minus
+unary-returns-in-Fixed-Minus t c =
     let e : next c.args.cursor.now.rest.now ≡ Some c.in-Some.token = cc in
-    let h = unary_minus c.args.source.now.bytes.now c.args.levels c.in-Some.token c.args.cursor.now.rest.now e c.in-Minus.is in
+    let h = unary_minus c.args.source.now.bytes.now c.args.levels c.in-Some.token c.args.cursor.now.rest.now e (let z : c.in-Some.token.kind ≡ k.Fixed s.Minus = search rules in z) in
     grind (arith, common_steps, h)
 
-pub unary-returns-in-Bang : goal.unary-returns-in-Bang
-unary-returns-in-Bang t c =
+pub unary-returns-in-Fixed-Bang : goal.unary-returns-in-Fixed-Bang
+unary-returns-in-Fixed-Bang t c =
     let e : next c.args.cursor.now.rest.now ≡ Some c.in-Some.token = cc in
-    let h = unary_bang c.args.source.now.bytes.now c.args.levels c.in-Some.token c.args.cursor.now.rest.now e c.in-Bang.is in
+    let h = unary_bang c.args.source.now.bytes.now c.args.levels c.in-Some.token c.args.cursor.now.rest.now e (let z : c.in-Some.token.kind ≡ k.Fixed s.Bang = search rules in z) in
     grind (arith, common_steps, h)
 
 pub unary-returns-in_default-kind : goal.unary-returns-in_default-kind
 unary-returns-in_default-kind t c =
     let e : next c.args.cursor.now.rest.now ≡ Some c.in-Some.token = cc in
-    let h = unary_else c.args.source.now.bytes.now c.args.levels c.in-Some.token c.args.cursor.now.rest.now e c.in_default-kind.not-Minus c.in_default-kind.not-Bang in
-    grind (arith, common_steps, h)
+    elim c.in_default-kind.branch [
+      | unary-in_default-kind-via-in-Fixed+in_default w ↦ grind (arith, common_steps, unary_else c.args.source.now.bytes.now c.args.levels c.in-Some.token c.args.cursor.now.rest.now e (λ z. search rules) (λ z. search rules))
+      | unary-in_default-kind-via-in_default w ↦ grind (arith, common_steps, unary_else c.args.source.now.bytes.now c.args.levels c.in-Some.token c.args.cursor.now.rest.now e (λ z. search rules) (λ z. search rules))
+    ]
 
 pub unary-returns-in_default : goal.unary-returns-in_default
 unary-returns-in_default t c =
@@ -39,12 +44,12 @@ unary-returns-in_default t c =
 
 pub prefixed-returns-in_err-part : goal.prefixed-returns-in_err-part
 prefixed-returns-in_err-part t c =
-    let h = operand_go c.args.source.now.bytes.now c.args.levels (λ e. placed c.args.at (unary_term c.args.op e)) c.in_ok-inner.inner c.args.cursor.now.rest.now c.in_ok-inner.ensures in
+    let h = operand_go c.args.source.now.bytes.now c.args.levels (λ e. placed c.args.at (unary_expression c.args.op e)) c.in_ok-inner.inner c.args.cursor.now.rest.now c.in_ok-inner.ensures in
     grind (arith, common_steps, h)
 
 pub prefixed-returns : goal.prefixed-returns
 prefixed-returns t c =
-    let h = operand_go c.args.source.now.bytes.now c.args.levels (λ e. placed c.args.at (unary_term c.args.op e)) c.in_ok-inner.inner c.args.cursor.now.rest.now c.in_ok-inner.ensures in
+    let h = operand_go c.args.source.now.bytes.now c.args.levels (λ e. placed c.args.at (unary_expression c.args.op e)) c.in_ok-inner.inner c.args.cursor.now.rest.now c.in_ok-inner.ensures in
     grind (arith, common_steps, h)
 
 pub parenthesized-returns-in_err-e : goal.parenthesized-returns-in_err-e
@@ -64,105 +69,107 @@ parenthesized-returns t c =
 
 pub indexed-returns-in_err-index : goal.indexed-returns-in_err-index
 indexed-returns-in_err-index t c =
-    let h = index_go c.args.source.now.bytes.now c.args.levels (cell_of (view.word c.args.name)) c.in_ok-inner.inner c.args.cursor.now.rest.now c.in_ok-inner.ensures in
+    let h = index_go c.args.source.now.bytes.now c.args.levels (cell_of (view.placed_name c.args.name)) c.in_ok-inner.inner c.args.cursor.now.rest.now c.in_ok-inner.ensures in
     grind (arith, common_steps, h)
 
 pub indexed-returns : goal.indexed-returns
 indexed-returns t c =
-    let h = index_go c.args.source.now.bytes.now c.args.levels (cell_of (view.word c.args.name)) c.in_ok-inner.inner c.args.cursor.now.rest.now c.in_ok-inner.ensures in
+    let h = index_go c.args.source.now.bytes.now c.args.levels (cell_of (view.placed_name c.args.name)) c.in_ok-inner.inner c.args.cursor.now.rest.now c.in_ok-inner.ensures in
     grind (arith, common_steps, h)
 
 pub called-returns-in_err-args : goal.called-returns-in_err-args
 called-returns-in_err-args t c =
-    let h = arguments_go c.args.source.now.bytes.now c.args.levels (apply_of (view.word c.args.name)) c.in_ok-inner.inner c.args.cursor.now.rest.now c.in_ok-inner.ensures in
+    let h = arguments_go c.args.source.now.bytes.now c.args.levels (apply_of (view.placed_name c.args.name)) c.in_ok-inner.inner c.args.cursor.now.rest.now c.in_ok-inner.ensures in
     grind (arith, common_steps, h)
 
 pub called-returns : goal.called-returns
 called-returns t c =
-    let h = arguments_go c.args.source.now.bytes.now c.args.levels (apply_of (view.word c.args.name)) c.in_ok-inner.inner c.args.cursor.now.rest.now c.in_ok-inner.ensures in
+    let h = arguments_go c.args.source.now.bytes.now c.args.levels (apply_of (view.placed_name c.args.name)) c.in_ok-inner.inner c.args.cursor.now.rest.now c.in_ok-inner.ensures in
     grind (arith, common_steps, h)
 
 pub named-returns-in_default : goal.named-returns-in_default
 named-returns-in_default t c =
     let e : next c.args.cursor.now.rest.now ≡ None = search rules in
-    let h = named_end c.args.source.now.bytes.now c.args.levels (view.word c.args.name) c.args.cursor.now.rest.now e in
+    let h = named_end c.args.source.now.bytes.now c.args.levels (view.placed_name c.args.name) c.args.cursor.now.rest.now e in
     h ∙ ap (λ x. Read x c.args.cursor.now.rest.now) (sym c.variable.ensures)
 
 pub named-returns-in_default-kind : goal.named-returns-in_default-kind
 named-returns-in_default-kind t c =
     let e : next c.args.cursor.now.rest.now ≡ Some c.in-Some.token = cc in
-    let h = named_alone c.args.source.now.bytes.now c.args.levels (view.word c.args.name) c.in-Some.token c.args.cursor.now.rest.now e c.in_default-kind.not-OpenBracket c.in_default-kind.not-OpenParen in
-    h ∙ ap (λ x. Read x c.args.cursor.now.rest.now) (sym c.variable-in_default-kind.ensures)
+    elim c.in_default-kind.branch [
+      | named-in_default-kind-via-in-Fixed+in_default w ↦ named_alone c.args.source.now.bytes.now c.args.levels (view.placed_name c.args.name) c.in-Some.token c.args.cursor.now.rest.now e (λ z. search rules) (λ z. search rules) ∙ ap (λ x. Read x c.args.cursor.now.rest.now) (sym c.variable-in_default-kind.ensures)
+      | named-in_default-kind-via-in_default w ↦ named_alone c.args.source.now.bytes.now c.args.levels (view.placed_name c.args.name) c.in-Some.token c.args.cursor.now.rest.now e (λ z. search rules) (λ z. search rules) ∙ ap (λ x. Read x c.args.cursor.now.rest.now) (sym c.variable-in_default-kind.ensures)
+    ]
 
-pub named-returns-in-OpenBracket : goal.named-returns-in-OpenBracket
-named-returns-in-OpenBracket t c =
+pub named-returns-in-Fixed-OpenBracket : goal.named-returns-in-Fixed-OpenBracket
+named-returns-in-Fixed-OpenBracket t c =
     let e : next c.args.cursor.now.rest.now ≡ Some c.in-Some.token = cc in
-    let h = named_index c.args.source.now.bytes.now c.args.levels (view.word c.args.name) c.in-Some.token c.args.cursor.now.rest.now e c.in-OpenBracket.is in
+    let h = named_index c.args.source.now.bytes.now c.args.levels (view.placed_name c.args.name) c.in-Some.token c.args.cursor.now.rest.now e (let z : c.in-Some.token.kind ≡ k.Fixed s.OpenBracket = search rules in z) in
     grind (arith, common_steps, h)
 
-pub named-returns-in-OpenParen : goal.named-returns-in-OpenParen
-named-returns-in-OpenParen t c =
+pub named-returns-in-Fixed-OpenParen : goal.named-returns-in-Fixed-OpenParen
+named-returns-in-Fixed-OpenParen t c =
     let e : next c.args.cursor.now.rest.now ≡ Some c.in-Some.token = cc in
-    let h = named_arguments c.args.source.now.bytes.now c.args.levels (view.word c.args.name) c.in-Some.token c.args.cursor.now.rest.now e c.in-OpenParen.is in
+    let h = named_arguments c.args.source.now.bytes.now c.args.levels (view.placed_name c.args.name) c.in-Some.token c.args.cursor.now.rest.now e (let z : c.in-Some.token.kind ≡ k.Fixed s.OpenParen = search rules in z) in
     grind (arith, common_steps, h)
 
 pub bracketed-returns-then-not-is_at : goal.bracketed-returns-then-not-is_at
 bracketed-returns-then-not-is_at t c =
-    let e : is_next spec.alphabet s.OpenBracket c.args.cursor.now.rest.now ≡ false = search rules in
+    let e : is_next spec.alphabet (class.fixed s.OpenBracket) c.args.cursor.now.rest.now ≡ false = search rules in
     let h = bracketed_no c.args.source.now.bytes.now c.args.levels c.args.cursor.now.rest.now e in
     grind (arith, common_steps, h)
 
 pub bracketed-returns : goal.bracketed-returns
 bracketed-returns t c =
-    let e : is_next spec.alphabet s.OpenBracket c.args.cursor.now.rest.now ≡ true = search rules in
+    let e : is_next spec.alphabet (class.fixed s.OpenBracket) c.args.cursor.now.rest.now ≡ true = search rules in
     let h = bracketed_yes c.args.source.now.bytes.now c.args.levels c.args.cursor.now.rest.now e ∙ index_only c.args.source.now.bytes.now c.args.levels c.in_ok-inner.inner c.args.cursor.now.rest.now c.in_ok-inner.ensures in
     grind (arith, common_steps, h)
 
 pub pick-returns-then-not-is_at : goal.pick-returns-then-not-is_at
 pick-returns-then-not-is_at t c =
-    let e : is_next spec.alphabet s.OpenParen c.args.cursor.now.rest.now ≡ false = search rules in
+    let e : is_next spec.alphabet (class.fixed s.OpenParen) c.args.cursor.now.rest.now ≡ false = search rules in
     let h = choice_no c.args.source.now.bytes.now c.args.levels c.args.at c.args.cursor.now.rest.now e in
     grind (arith, common_steps, h)
 
 pub pick-returns-in_err-test : goal.pick-returns-in_err-test
 pick-returns-in_err-test t c =
-    let e : is_next spec.alphabet s.OpenParen c.args.cursor.now.rest.now ≡ true = search rules in
+    let e : is_next spec.alphabet (class.fixed s.OpenParen) c.args.cursor.now.rest.now ≡ true = search rules in
     let h = choice_yes c.args.source.now.bytes.now c.args.levels c.args.at c.args.cursor.now.rest.now e ∙ parts_go c.args.source.now.bytes.now c.args.levels c.args.at c.in_ok-inner.inner c.args.cursor.now.rest.now c.in_ok-inner.ensures in
     grind (arith, common_steps, h)
 
 pub pick-returns-in_err-expect : goal.pick-returns-in_err-expect
 pick-returns-in_err-expect t c =
-    let e : is_next spec.alphabet s.OpenParen c.args.cursor.now.rest.now ≡ true = search rules in
+    let e : is_next spec.alphabet (class.fixed s.OpenParen) c.args.cursor.now.rest.now ≡ true = search rules in
     let h = choice_yes c.args.source.now.bytes.now c.args.levels c.args.at c.args.cursor.now.rest.now e ∙ parts_go c.args.source.now.bytes.now c.args.levels c.args.at c.in_ok-inner.inner c.args.cursor.now.rest.now c.in_ok-inner.ensures in
     grind (arith, common_steps, h)
 
 pub pick-returns-in_err-yes : goal.pick-returns-in_err-yes
 pick-returns-in_err-yes t c =
-    let e : is_next spec.alphabet s.OpenParen c.args.cursor.now.rest.now ≡ true = search rules in
+    let e : is_next spec.alphabet (class.fixed s.OpenParen) c.args.cursor.now.rest.now ≡ true = search rules in
     let h = choice_yes c.args.source.now.bytes.now c.args.levels c.args.at c.args.cursor.now.rest.now e ∙ parts_go c.args.source.now.bytes.now c.args.levels c.args.at c.in_ok-inner.inner c.args.cursor.now.rest.now c.in_ok-inner.ensures in
     grind (arith, common_steps, h)
 
 pub pick-returns-in_err-expect-2 : goal.pick-returns-in_err-expect-2
 pick-returns-in_err-expect-2 t c =
-    let e : is_next spec.alphabet s.OpenParen c.args.cursor.now.rest.now ≡ true = search rules in
+    let e : is_next spec.alphabet (class.fixed s.OpenParen) c.args.cursor.now.rest.now ≡ true = search rules in
     let h = choice_yes c.args.source.now.bytes.now c.args.levels c.args.at c.args.cursor.now.rest.now e ∙ parts_go c.args.source.now.bytes.now c.args.levels c.args.at c.in_ok-inner.inner c.args.cursor.now.rest.now c.in_ok-inner.ensures in
     grind (arith, common_steps, h)
 
 pub pick-returns-in_err-no : goal.pick-returns-in_err-no
 pick-returns-in_err-no t c =
-    let e : is_next spec.alphabet s.OpenParen c.args.cursor.now.rest.now ≡ true = search rules in
+    let e : is_next spec.alphabet (class.fixed s.OpenParen) c.args.cursor.now.rest.now ≡ true = search rules in
     let h = choice_yes c.args.source.now.bytes.now c.args.levels c.args.at c.args.cursor.now.rest.now e ∙ parts_go c.args.source.now.bytes.now c.args.levels c.args.at c.in_ok-inner.inner c.args.cursor.now.rest.now c.in_ok-inner.ensures in
     grind (arith, common_steps, h)
 
 pub pick-returns-in_err-expect-3 : goal.pick-returns-in_err-expect-3
 pick-returns-in_err-expect-3 t c =
-    let e : is_next spec.alphabet s.OpenParen c.args.cursor.now.rest.now ≡ true = search rules in
+    let e : is_next spec.alphabet (class.fixed s.OpenParen) c.args.cursor.now.rest.now ≡ true = search rules in
     let h = choice_yes c.args.source.now.bytes.now c.args.levels c.args.at c.args.cursor.now.rest.now e ∙ parts_go c.args.source.now.bytes.now c.args.levels c.args.at c.in_ok-inner.inner c.args.cursor.now.rest.now c.in_ok-inner.ensures in
     grind (arith, common_steps, h)
 
 pub pick-returns : goal.pick-returns
 pick-returns t c =
-    let e : is_next spec.alphabet s.OpenParen c.args.cursor.now.rest.now ≡ true = search rules in
+    let e : is_next spec.alphabet (class.fixed s.OpenParen) c.args.cursor.now.rest.now ≡ true = search rules in
     let h = choice_yes c.args.source.now.bytes.now c.args.levels c.args.at c.args.cursor.now.rest.now e ∙ parts_go c.args.source.now.bytes.now c.args.levels c.args.at c.in_ok-inner.inner c.args.cursor.now.rest.now c.in_ok-inner.ensures in
     grind (arith, common_steps, h)
 
@@ -172,28 +179,28 @@ primary-returns-in_ok-name-in-Name t c =
     let h = primary_name c.args.source.now.bytes.now c.args.levels c.in-Some.token c.args.cursor.now.rest.now e c.in-Name.is in
     grind (arith, common_steps, h)
 
-pub primary-returns-in-Pick : goal.primary-returns-in-Pick
-primary-returns-in-Pick t c =
+pub primary-returns-in-Fixed-Pick : goal.primary-returns-in-Fixed-Pick
+primary-returns-in-Fixed-Pick t c =
     let e : next c.args.cursor.now.rest.now ≡ Some c.in-Some.token = cc in
-    let h = primary_pick c.args.source.now.bytes.now c.args.levels c.in-Some.token c.args.cursor.now.rest.now e c.in-Pick.is in
+    let h = primary_pick c.args.source.now.bytes.now c.args.levels c.in-Some.token c.args.cursor.now.rest.now e (let z : c.in-Some.token.kind ≡ k.Fixed s.Pick = search rules in z) in
     grind (arith, common_steps, h)
 
-pub primary-returns-in-OpenParen : goal.primary-returns-in-OpenParen
-primary-returns-in-OpenParen t c =
+pub primary-returns-in-Fixed-OpenParen : goal.primary-returns-in-Fixed-OpenParen
+primary-returns-in-Fixed-OpenParen t c =
     let e : next c.args.cursor.now.rest.now ≡ Some c.in-Some.token = cc in
-    let h = primary_parens c.args.source.now.bytes.now c.args.levels c.in-Some.token c.args.cursor.now.rest.now e c.in-OpenParen.is in
+    let h = primary_parens c.args.source.now.bytes.now c.args.levels c.in-Some.token c.args.cursor.now.rest.now e (let z : c.in-Some.token.kind ≡ k.Fixed s.OpenParen = search rules in z) in
     grind (arith, common_steps, h)
 
-pub primary-returns-in_ok-input-in-Input : goal.primary-returns-in_ok-input-in-Input
-primary-returns-in_ok-input-in-Input t c =
+pub primary-returns-in_ok-input-in-Fixed-Input : goal.primary-returns-in_ok-input-in-Fixed-Input
+primary-returns-in_ok-input-in-Fixed-Input t c =
     let e : next c.args.cursor.now.rest.now ≡ Some c.in-Some.token = cc in
-    let h = primary_input c.args.source.now.bytes.now c.args.levels c.in-Some.token c.args.cursor.now.rest.now e c.in-Input.is in
+    let h = primary_input c.args.source.now.bytes.now c.args.levels c.in-Some.token c.args.cursor.now.rest.now e (let z : c.in-Some.token.kind ≡ k.Fixed s.Input = search rules in z) in
     grind (arith, common_steps, h)
 
-pub primary-returns-in_err-index-in-Input : goal.primary-returns-in_err-index-in-Input
-primary-returns-in_err-index-in-Input t c =
+pub primary-returns-in_err-index-in-Fixed-Input : goal.primary-returns-in_err-index-in-Fixed-Input
+primary-returns-in_err-index-in-Fixed-Input t c =
     let e : next c.args.cursor.now.rest.now ≡ Some c.in-Some.token = cc in
-    let h = primary_input c.args.source.now.bytes.now c.args.levels c.in-Some.token c.args.cursor.now.rest.now e c.in-Input.is in
+    let h = primary_input c.args.source.now.bytes.now c.args.levels c.in-Some.token c.args.cursor.now.rest.now e (let z : c.in-Some.token.kind ≡ k.Fixed s.Input = search rules in z) in
     grind (arith, common_steps, h)
 
 pub some_arguments-returns-then-not-begins_expr : goal.some_arguments-returns-then-not-begins_expr
@@ -216,14 +223,14 @@ some_arguments-returns t c =
 
 pub more_arguments-loop-turn-preserved : goal.more_arguments-loop-turn-preserved
 more_arguments-loop-turn-preserved t c =
-    let e : is_next spec.alphabet s.Comma c.loop-turn.cursor.rest.now ≡ true = search rules in
-    let h = comma_go c.args.source.now.bytes.now c.args.levels (spec.expr c.args.source.now.bytes.now) (c.left-turn-end.result - c.loop-turn._turn) (c.left-turn-end.result - (c.loop-turn._turn + 1)) (map view.term c.loop-turn.args.items) c.loop-turn.cursor.rest.now (omega arith) e in
+    let e : is_next spec.alphabet (class.fixed s.Comma) c.loop-turn.cursor.rest.now ≡ true = search rules in
+    let h = comma_go c.args.source.now.bytes.now c.args.levels (spec.expr c.args.source.now.bytes.now) (c.left-turn-end.result - c.loop-turn._turn) (c.left-turn-end.result - (c.loop-turn._turn + 1)) (map view.expression c.loop-turn.args.items) c.loop-turn.cursor.rest.now (omega arith) e in
     grind (arith, common_steps, map-append, h)
 
 pub more_arguments-returns-in_err-arg : goal.more_arguments-returns-in_err-arg
 more_arguments-returns-in_err-arg t c =
-    let e : is_next spec.alphabet s.Comma c.loop-turn.cursor.rest.now ≡ true = search rules in
-    let h = comma_go c.args.source.now.bytes.now c.args.levels (spec.expr c.args.source.now.bytes.now) (c.left-turn-end.result - c.loop-turn._turn) (c.left-turn-end.result - (c.loop-turn._turn + 1)) (map view.term c.loop-turn.args.items) c.loop-turn.cursor.rest.now (omega arith) e in
+    let e : is_next spec.alphabet (class.fixed s.Comma) c.loop-turn.cursor.rest.now ≡ true = search rules in
+    let h = comma_go c.args.source.now.bytes.now c.args.levels (spec.expr c.args.source.now.bytes.now) (c.left-turn-end.result - c.loop-turn._turn) (c.left-turn-end.result - (c.loop-turn._turn + 1)) (map view.expression c.loop-turn.args.items) c.loop-turn.cursor.rest.now (omega arith) e in
     grind (arith, common_steps, h)
 
 pub links-loop-turn-preserved : goal.links-loop-turn-preserved

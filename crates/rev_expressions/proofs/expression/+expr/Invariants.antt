@@ -70,5 +70,5 @@ invariant-links-loop-turn l =
 
 abbrev pub invariant-more_arguments-loop-turn : goal.invariant-more_arguments-loop-turn
 invariant-more_arguments-loop-turn l =
-    more_listed l.source.bytes.now l.levels (spec.expr l.source.bytes.now) l._turn-end (map view.term l.initial.args.items) l.initial.cursor.rest.now
-    ≡ more_listed l.source.bytes.now l.levels (spec.expr l.source.bytes.now) (l._turn-end - l._turn) (map view.term l.args.items) l.cursor.rest.now
+    more_listed l.source.bytes.now l.levels (spec.expr l.source.bytes.now) l._turn-end (map view.expression l.initial.args.items) l.initial.cursor.rest.now
+    ≡ more_listed l.source.bytes.now l.levels (spec.expr l.source.bytes.now) (l._turn-end - l._turn) (map view.expression l.args.items) l.cursor.rest.now

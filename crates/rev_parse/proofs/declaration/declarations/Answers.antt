@@ -11,15 +11,15 @@ use Rattle.rev_parse.proofs.declaration.declarations.Goals as goal
 pub returns-in_err-decl : goal.returns-in_err-decl
 returns-in_err-decl c =
     let e : declaration_begins c.loop-turn.cursor.rest.now ≡ true = search rules in
-    let h = declarations_go c.args.source.now.bytes.now c.args.levels (c.left-turn-end.result - c.loop-turn._turn) (c.left-turn-end.result - (c.loop-turn._turn + 1)) (map view.entry c.loop-turn.found.items) c.loop-turn.cursor.rest.now (omega arith) e in
+    let h = declarations_go c.args.source.now.bytes.now c.args.levels (c.left-turn-end.result - c.loop-turn._turn) (c.left-turn-end.result - (c.loop-turn._turn + 1)) (map view.declaration c.loop-turn.found.items) c.loop-turn.cursor.rest.now (omega arith) e in
     let start = declarations_are c.args.source.now.bytes.now c.args.levels c.args.cursor.now.rest.now in
     grind (arith, common_steps, h, start)
 
 pub loop-turn-preserved : goal.loop-turn-preserved
 loop-turn-preserved c = record {
-  natural = natural_rest c.args.source.now.bytes.now c.args.levels (spec.declaration c.args.source.now.bytes.now) c.loop-turn.cursor.rest.now c.declaration.new.cursor.rest.now (view.entry c.in_ok-decl.decl) c.in_ok-decl.ensures c.loop-turn.invariant.natural;
+  natural = natural_rest c.args.source.now.bytes.now c.args.levels (spec.declaration c.args.source.now.bytes.now) c.loop-turn.cursor.rest.now c.declaration.new.cursor.rest.now (view.declaration c.in_ok-decl.decl) c.in_ok-decl.ensures c.loop-turn.invariant.natural;
   same =
       let e : declaration_begins c.loop-turn.cursor.rest.now ≡ true = search rules in
-      let h = declarations_go c.args.source.now.bytes.now c.args.levels (c.left-turn-end.result - c.loop-turn._turn) (c.left-turn-end.result - (c.loop-turn._turn + 1)) (map view.entry c.loop-turn.found.items) c.loop-turn.cursor.rest.now (omega arith) e in
+      let h = declarations_go c.args.source.now.bytes.now c.args.levels (c.left-turn-end.result - c.loop-turn._turn) (c.left-turn-end.result - (c.loop-turn._turn + 1)) (map view.declaration c.loop-turn.found.items) c.loop-turn.cursor.rest.now (omega arith) e in
       grind (arith, common_steps, map-append, h);
 }

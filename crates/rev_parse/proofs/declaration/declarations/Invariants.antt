@@ -10,5 +10,5 @@ invariant-loop-turn l = record {
   natural : AreNatural l.cursor.rest.now;
   same :
       more_of l.source.bytes.now l.levels (spec.declaration l.source.bytes.now) l._turn-end [] l.initial.cursor.rest.now
-      ≡ more_of l.source.bytes.now l.levels (spec.declaration l.source.bytes.now) (l._turn-end - l._turn) (map view.entry l.found.items) l.cursor.rest.now;
+      ≡ more_of l.source.bytes.now l.levels (spec.declaration l.source.bytes.now) (l._turn-end - l._turn) (map view.declaration l.found.items) l.cursor.rest.now;
 }

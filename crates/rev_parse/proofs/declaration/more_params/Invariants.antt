@@ -6,5 +6,5 @@ use Rattle.rev_parse.proofs.declaration.more_params.Given as goal
 
 abbrev pub invariant-loop-turn : goal.invariant-loop-turn
 invariant-loop-turn l =
-    more_listed l.source.bytes.now l.levels (spec.param l.source.bytes.now) l._turn-end (pieces.binders l.initial.params.items) l.initial.cursor.rest.now
-    ≡ more_listed l.source.bytes.now l.levels (spec.param l.source.bytes.now) (l._turn-end - l._turn) (pieces.binders l.params.items) l.cursor.rest.now
+    more_listed l.source.bytes.now l.levels (spec.param l.source.bytes.now) l._turn-end (pieces.parameters l.initial.params.items) l.initial.cursor.rest.now
+    ≡ more_listed l.source.bytes.now l.levels (spec.param l.source.bytes.now) (l._turn-end - l._turn) (pieces.parameters l.params.items) l.cursor.rest.now

@@ -1,25 +1,26 @@
 use Rattle.std.proofs.Common.{◌≡◌, true, false, arith, rules}
 use Rattle.std.proofs.lemmas.Grind.{common_steps}
 use Rattle.token_grammar.specs.Reader.{is_next}
-use Rattle.rev_expressions.specs.declared.sort.Sort.TheVariants as s
+use Rattle.rev_syntax.specs.declared.token.Fixed.TheVariants as s
 use Rattle.rev_expressions.specs.Grammar.{alphabet}
 use Rattle.rev_parse.proofs.DeclarationRules.{params_no, params_yes}
 use Rattle.rev_parse.proofs.declaration.some_params.Goals as goal
+use Rattle.rev_expressions.specs.Classes as class
 
-pub returns-then-not-is_at : goal.returns-then-not-is_at
-returns-then-not-is_at c =
-    let e : is_next alphabet s.Name c.args.cursor.now.rest.now ≡ false = search rules in
+pub returns-then-not-is_at_name : goal.returns-then-not-is_at_name
+returns-then-not-is_at_name c =
+    let e : is_next alphabet class.name c.args.cursor.now.rest.now ≡ false = search rules in
     let h = params_no c.args.source.now.bytes.now c.args.levels c.args.cursor.now.rest.now e in
     grind (arith, common_steps, h)
 
 pub returns-in_err-first : goal.returns-in_err-first
 returns-in_err-first c =
-    let e : is_next alphabet s.Name c.args.cursor.now.rest.now ≡ true = search rules in
+    let e : is_next alphabet class.name c.args.cursor.now.rest.now ≡ true = search rules in
     let h = params_yes c.args.source.now.bytes.now c.args.levels c.args.cursor.now.rest.now e in
     grind (arith, common_steps, h)
 
 pub returns : goal.returns
 returns c =
-    let e : is_next alphabet s.Name c.args.cursor.now.rest.now ≡ true = search rules in
+    let e : is_next alphabet class.name c.args.cursor.now.rest.now ≡ true = search rules in
     let h = params_yes c.args.source.now.bytes.now c.args.levels c.args.cursor.now.rest.now e in
     grind (arith, common_steps, h)

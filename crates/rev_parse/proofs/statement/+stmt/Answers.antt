@@ -4,22 +4,23 @@ use Rattle.std.proofs.lemmas.List.{map-append}
 use Rattle.rev_syntax.specs.View as view
 use Rattle.token_grammar.specs.Outcome.{after, next}
 use Rattle.token_grammar.specs.Reader.{begins, is_next}
-use Rattle.rev_expressions.specs.declared.sort.Sort.TheVariants as s
+use Rattle.rev_syntax.specs.declared.token.Fixed.TheVariants as s
 use Rattle.rev_expressions.specs.Grammar as spec
 use Rattle.rev_expressions.specs.Statements as st
 use Rattle.rev_expressions.proofs.Lists.{all_go, all_stop}
 use Rattle.rev_parse.proofs.StatementRules as rule
 use Rattle.rev_parse.proofs.statement.+stmt.Goals as goal
+use Rattle.rev_expressions.specs.Classes as class
 
 pub block-returns-then-not-is_at : goal.block-returns-then-not-is_at
 block-returns-then-not-is_at t c =
-    let e : is_next spec.alphabet s.OpenBrace c.args.cursor.now.rest.now ≡ false = search rules in
+    let e : is_next spec.alphabet (class.fixed s.OpenBrace) c.args.cursor.now.rest.now ≡ false = search rules in
     let h = rule.block_no c.args.source.now.bytes.now c.args.levels c.args.cursor.now.rest.now e in
     grind (arith, common_steps, h)
 
 pub block-returns : goal.block-returns
 block-returns t c =
-    let e : is_next spec.alphabet s.OpenBrace c.args.cursor.now.rest.now ≡ true = search rules in
+    let e : is_next spec.alphabet (class.fixed s.OpenBrace) c.args.cursor.now.rest.now ≡ true = search rules in
     let h = rule.block_yes c.args.source.now.bytes.now c.args.levels c.args.cursor.now.rest.now e ∙ rule.body_only c.args.source.now.bytes.now c.args.levels c.in_ok-inner.inner c.args.cursor.now.rest.now c.in_ok-inner.ensures in
     grind (arith, common_steps, h)
 
@@ -77,34 +78,34 @@ if_form-returns t c =
 
 pub else_parts-loop-turn-preserved : goal.else_parts-loop-turn-preserved
 else_parts-loop-turn-preserved t c =
-    let e : is_next spec.alphabet s.Else c.loop-turn.cursor.rest.now ≡ true = search rules in
-    let i : is_next spec.alphabet s.If (after c.loop-turn.cursor.rest.now) ≡ true = search rules in
+    let e : is_next spec.alphabet (class.fixed s.Else) c.loop-turn.cursor.rest.now ≡ true = search rules in
+    let i : is_next spec.alphabet (class.fixed s.If) (after c.loop-turn.cursor.rest.now) ≡ true = search rules in
     let h = rule.parts_test c.args.source.now.bytes.now c.args.levels (c.left-turn-end.result - c.loop-turn._turn) (c.left-turn-end.result - (c.loop-turn._turn + 1)) (map st.Test (map view.arm c.loop-turn.arms.items)) c.loop-turn.cursor.rest.now (omega arith) e i in
     grind (arith, common_steps, map-append, h)
 
 pub else_parts-returns-in_err-next : goal.else_parts-returns-in_err-next
 else_parts-returns-in_err-next t c =
-    let e : is_next spec.alphabet s.Else c.loop-turn.cursor.rest.now ≡ true = search rules in
-    let i : is_next spec.alphabet s.If (after c.loop-turn.cursor.rest.now) ≡ true = search rules in
+    let e : is_next spec.alphabet (class.fixed s.Else) c.loop-turn.cursor.rest.now ≡ true = search rules in
+    let i : is_next spec.alphabet (class.fixed s.If) (after c.loop-turn.cursor.rest.now) ≡ true = search rules in
     let h = rule.parts_test c.args.source.now.bytes.now c.args.levels (c.left-turn-end.result - c.loop-turn._turn) (c.left-turn-end.result - (c.loop-turn._turn + 1)) (map st.Test (map view.arm c.loop-turn.arms.items)) c.loop-turn.cursor.rest.now (omega arith) e i in
     grind (arith, common_steps, h)
 
 pub else_parts-returns-in_err-last : goal.else_parts-returns-in_err-last
 else_parts-returns-in_err-last t c =
-    let e : is_next spec.alphabet s.Else c.loop-turn.cursor.rest.now ≡ true = search rules in
-    let i : is_next spec.alphabet s.If (after c.loop-turn.cursor.rest.now) ≡ false = search rules in
+    let e : is_next spec.alphabet (class.fixed s.Else) c.loop-turn.cursor.rest.now ≡ true = search rules in
+    let i : is_next spec.alphabet (class.fixed s.If) (after c.loop-turn.cursor.rest.now) ≡ false = search rules in
     let h = rule.parts_last c.args.source.now.bytes.now c.args.levels (c.left-turn-end.result - c.loop-turn._turn) (c.left-turn-end.result - (c.loop-turn._turn + 1)) (map st.Test (map view.arm c.loop-turn.arms.items)) c.loop-turn.cursor.rest.now (omega arith) e i in
     grind (arith, common_steps, h)
 
 pub else_parts-returns-then-not-is_at-2 : goal.else_parts-returns-then-not-is_at-2
 else_parts-returns-then-not-is_at-2 t c =
-    let e : is_next spec.alphabet s.Else c.loop-turn.cursor.rest.now ≡ true = search rules in
-    let i : is_next spec.alphabet s.If (after c.loop-turn.cursor.rest.now) ≡ false = search rules in
+    let e : is_next spec.alphabet (class.fixed s.Else) c.loop-turn.cursor.rest.now ≡ true = search rules in
+    let i : is_next spec.alphabet (class.fixed s.If) (after c.loop-turn.cursor.rest.now) ≡ false = search rules in
     let h = rule.parts_last c.args.source.now.bytes.now c.args.levels (c.left-turn-end.result - c.loop-turn._turn) (c.left-turn-end.result - (c.loop-turn._turn + 1)) (map st.Test (map view.arm c.loop-turn.arms.items)) c.loop-turn.cursor.rest.now (omega arith) e i in
     grind (arith, common_steps, h)
 
 pub else_parts-returns-then-not-is_at : goal.else_parts-returns-then-not-is_at
 else_parts-returns-then-not-is_at t c =
-    let e : is_next spec.alphabet s.Else c.loop-turn.cursor.rest.now ≡ false = search rules in
+    let e : is_next spec.alphabet (class.fixed s.Else) c.loop-turn.cursor.rest.now ≡ false = search rules in
     let h = rule.parts_stop c.args.source.now.bytes.now c.args.levels (c.left-turn-end.result - c.loop-turn._turn) (map st.Test (map view.arm c.loop-turn.arms.items)) c.loop-turn.cursor.rest.now e in
     grind (arith, common_steps, h)
