@@ -1,11 +1,11 @@
 -- Lists that grow at their ends.
 use Rattle.std.proofs.Common.{◌≡◌, ◌∙◌, ℕ, List, [], ◌∷◌, ◌++◌, length, refl, ap, sym, arith}
 use Rattle.rev_syntax.specs.Trees as t
-use Rattle.rev_syntax.specs.Trees.{Word, Term, Terms, Links, Shape}
+use Rattle.rev_syntax.specs.Trees.{PlacedName, Expression, Expressions, Links, ExpressionForm}
 use Rattle.rev_syntax.specs.declared.tree.Expr.{Expr}
-use Rattle.rev_syntax.specs.View.{terms}
+use Rattle.rev_syntax.specs.View.{expressions}
 use Rattle.merge_decl.specs.declared.uses.Use as held
-use Rattle.merge_decl.specs.FunRules.{Use, count, term_uses, terms_uses, links_uses, shape_uses}
+use Rattle.merge_decl.specs.FunRules.{Use, count, expression_uses, expressions_uses, links_uses, expression_form_uses}
 use Rattle.merge_decl.specs.Uses.{use_of, uses_of}
 
 -- what is appended part by part is appended whole
@@ -14,9 +14,9 @@ appends [] b c = refl
 appends (x ∷ a) b c = ap (λ r. x ∷ r) (appends a b c)
 
 -- the number of arguments
-pub count_terms : (es : List Expr) → count (terms es) ≡ length es
-count_terms [] = refl
-count_terms (e ∷ es) = let rest = count_terms es in omega arith
+pub count_expressions : (es : List Expr) → count (expressions es) ≡ length es
+count_expressions [] = refl
+count_expressions (e ∷ es) = let rest = count_expressions es in omega arith
 
 -- two parts in turn
 pub two : {A : Type 0} (a b c x y : List A) → b ≡ a ++ x → c ≡ b ++ y → c ≡ a ++ (x ++ y)
@@ -24,22 +24,22 @@ two a b c x y p q = q ∙ ap (λ r. r ++ y) p ∙ appends a x y
 
 -- ---- the parts of an expression in turn
 
-pub chain_added : (n : ℕ) (s : Shape) (first f : Term) (rest r : Links) (u u1 u2 : List Use) → s ≡ t.chain first rest → f ≡ first → r ≡ rest
-    → u1 ≡ u ++ term_uses n f → u2 ≡ u1 ++ links_uses n r → u2 ≡ u ++ shape_uses n s
+pub chain_added : (n : ℕ) (s : ExpressionForm) (first f : Expression) (rest r : Links) (u u1 u2 : List Use) → s ≡ t.chain first rest → f ≡ first → r ≡ rest
+    → u1 ≡ u ++ expression_uses n f → u2 ≡ u1 ++ links_uses n r → u2 ≡ u ++ expression_form_uses n s
 chain_added n s first f rest r u u1 u2 h p q a b =
-    two u u1 u2 (term_uses n f) (links_uses n r) a b ∙ (λ i. u ++ (term_uses n (p i) ++ links_uses n (q i))) ∙ ap (λ x. u ++ shape_uses n x) (sym h)
+    two u u1 u2 (expression_uses n f) (links_uses n r) a b ∙ (λ i. u ++ (expression_uses n (p i) ++ links_uses n (q i))) ∙ ap (λ x. u ++ expression_form_uses n x) (sym h)
 
-pub pick_added : (n : ℕ) (s : Shape) (x x' y y' z z' : Term) (u u1 u2 u3 : List Use) → s ≡ t.pick x y z → x' ≡ x → y' ≡ y → z' ≡ z
-    → u1 ≡ u ++ term_uses n x' → u2 ≡ u1 ++ term_uses n y' → u3 ≡ u2 ++ term_uses n z' → u3 ≡ u ++ shape_uses n s
+pub pick_added : (n : ℕ) (s : ExpressionForm) (x x' y y' z z' : Expression) (u u1 u2 u3 : List Use) → s ≡ t.pick x y z → x' ≡ x → y' ≡ y → z' ≡ z
+    → u1 ≡ u ++ expression_uses n x' → u2 ≡ u1 ++ expression_uses n y' → u3 ≡ u2 ++ expression_uses n z' → u3 ≡ u ++ expression_form_uses n s
 pick_added n s x x' y y' z z' u u1 u2 u3 h p q r a b c =
-    two u u2 u3 (term_uses n x' ++ term_uses n y') (term_uses n z') (two u u1 u2 (term_uses n x') (term_uses n y') a b) c
-    ∙ (λ i. u ++ (term_uses n (p i) ++ term_uses n (q i) ++ term_uses n (r i))) ∙ ap (λ x. u ++ shape_uses n x) (sym h)
+    two u u2 u3 (expression_uses n x' ++ expression_uses n y') (expression_uses n z') (two u u1 u2 (expression_uses n x') (expression_uses n y') a b) c
+    ∙ (λ i. u ++ (expression_uses n (p i) ++ expression_uses n (q i) ++ expression_uses n (r i))) ∙ ap (λ x. u ++ expression_form_uses n x) (sym h)
 
-pub apply_added : (n : ℕ) (s : Shape) (w : Word) (args args' : Terms) (k : ℕ) (u u1 u2 : List Use) → s ≡ t.apply w args → args' ≡ args → k ≡ count args
-    → u1 ≡ u ++ record { name = w; args = k; within = n } ∷ [] → u2 ≡ u1 ++ terms_uses n args' → u2 ≡ u ++ shape_uses n s
+pub apply_added : (n : ℕ) (s : ExpressionForm) (w : PlacedName) (args args' : Expressions) (k : ℕ) (u u1 u2 : List Use) → s ≡ t.apply w args → args' ≡ args → k ≡ count args
+    → u1 ≡ u ++ record { name = w; args = k; within = n } ∷ [] → u2 ≡ u1 ++ expressions_uses n args' → u2 ≡ u ++ expression_form_uses n s
 apply_added n s w args args' k u u1 u2 h p q a b =
-    two u u1 u2 (record { name = w; args = k; within = n } ∷ []) (terms_uses n args') a b
-    ∙ (λ i. u ++ (record { name = w; args = q i; within = n } ∷ terms_uses n (p i))) ∙ ap (λ x. u ++ shape_uses n x) (sym h)
+    two u u1 u2 (record { name = w; args = k; within = n } ∷ []) (expressions_uses n args') a b
+    ∙ (λ i. u ++ (record { name = w; args = q i; within = n } ∷ expressions_uses n (p i))) ∙ ap (λ x. u ++ expression_form_uses n x) (sym h)
 
 pub uses_of-push : (us : List held.Use) (u : held.Use) → uses_of (us ++ u ∷ []) ≡ uses_of us ++ use_of u ∷ []
 uses_of-push [] u = refl

@@ -3,49 +3,49 @@ use Rattle.std.proofs.Common.{◌≡◌, ◌∙◌, ℕ, ℤ, pos, Bool, List, [
 use Rattle.rev_num.specs.declared.value.Value.{Value}
 use Rattle.rev_num.specs.declared.value.Value.TheVariants as v
 use Rattle.rev_syntax.specs.Trees as t
-use Rattle.rev_syntax.specs.Trees.{Word, Term, Shape, Terms, Links, Entry}
+use Rattle.rev_syntax.specs.Trees.{PlacedName, Expression, ExpressionForm, Expressions, Links, Declaration}
 use Rattle.rev_syntax.specs.declared.tree.BinaryOp.{BinaryOp}
 use Rattle.std.specs.Result.{IsErrAnd}
 use Rattle.merge_decl.specs.declared.flat.Flat.{Flat}
 use Rattle.merge_decl.specs.Flat.{answer}
 use Rattle.merge_decl.specs.Names.{Name}
 use Rattle.merge_decl.specs.Value.{Answer, and_then, bind, bind_all, nothing, read, unknown, flag, linked, short, values_by, value_by, closed}
-use Rattle.merge_decl.specs.Evaluation.{Values, funs_before, value_within, shape_within, chained_within, link_within, value_of_body, applied_within, given_within}
+use Rattle.merge_decl.specs.Evaluation.{Values, funs_before, value_within, expression_form_within, chained_within, link_within, value_of_body, applied_within, given_within}
 use Rattle.rev_num.specs.declared.outcome.Cause.{Cause}
 
-module _ (es : List Entry) (n : ℕ) (local : Values) where
+module _ (es : List Declaration) (n : ℕ) (local : Values) where
   -- ---- forms
 
   -- each says what the form's value is, where its parts have these answers
 
-  pub at_placed : (e : Term) (at : ℕ) (s : Shape) (r : Answer) → e ≡ t.placed at s → r ≡ shape_within es n local s → r ≡ value_within es n local e
-  unfolding shape_within value_within
+  pub at_placed : (e : Expression) (at : ℕ) (s : ExpressionForm) (r : Answer) → e ≡ t.placed at s → r ≡ expression_form_within es n local s → r ≡ value_within es n local e
+  unfolding expression_form_within value_within
   at_placed e at s r is h = h ∙ ap (value_within es n local) (sym is)
 
-  pub at_int : (s : Shape) (z : ℤ) → s ≡ t.int z → Ok (v.Int z) ≡ shape_within es n local s
-  unfolding shape_within
-  at_int s z is = ap (shape_within es n local) (sym is)
+  pub at_int : (s : ExpressionForm) (z : ℤ) → s ≡ t.int z → Ok (v.Int z) ≡ expression_form_within es n local s
+  unfolding expression_form_within
+  at_int s z is = ap (expression_form_within es n local) (sym is)
 
-  pub at_bool : (s : Shape) (b : Bool) (r : Answer) → s ≡ t.bool b → r ≡ flag b → r ≡ shape_within es n local s
-  unfolding shape_within
-  at_bool s b r is h = h ∙ ap (shape_within es n local) (sym is)
+  pub at_bool : (s : ExpressionForm) (b : Bool) (r : Answer) → s ≡ t.bool b → r ≡ flag b → r ≡ expression_form_within es n local s
+  unfolding expression_form_within
+  at_bool s b r is h = h ∙ ap (expression_form_within es n local) (sym is)
 
-  pub at_no_rev : (s : Shape) → s ≡ t.no_rev → Ok (v.Rev None) ≡ shape_within es n local s
-  unfolding shape_within
-  at_no_rev s is = ap (shape_within es n local) (sym is)
+  pub at_no_rev : (s : ExpressionForm) → s ≡ t.no_rev → Ok (v.Rev None) ≡ expression_form_within es n local s
+  unfolding expression_form_within
+  at_no_rev s is = ap (expression_form_within es n local) (sym is)
 
-  pub at_var : (s : Shape) (w : Word) (r : Answer) → s ≡ t.var w → r ≡ read (local w.text) unknown → r ≡ shape_within es n local s
-  unfolding shape_within
-  at_var s w r is h = h ∙ ap (shape_within es n local) (sym is)
+  pub at_var : (s : ExpressionForm) (w : PlacedName) (r : Answer) → s ≡ t.var w → r ≡ read (local w.text) unknown → r ≡ expression_form_within es n local s
+  unfolding expression_form_within
+  at_var s w r is h = h ∙ ap (expression_form_within es n local) (sym is)
 
-  pub at_inputs : (s : Shape) (at : ℕ) → s ≡ t.inputs at → Ok (v.Int (pos 0)) ≡ shape_within es n local s
-  unfolding shape_within
-  at_inputs s at is = ap (shape_within es n local) (sym is)
+  pub at_inputs : (s : ExpressionForm) (at : ℕ) → s ≡ t.inputs at → Ok (v.Int (pos 0)) ≡ expression_form_within es n local s
+  unfolding expression_form_within
+  at_inputs s at is = ap (expression_form_within es n local) (sym is)
 
   -- ---- links
 
   -- a left operand that decides
-  pub link_decided : (op : BinaryOp) (part : Term) (x z : Value) → Some z ≡ short op x → Ok z ≡ link_within es n local x (op, part)
+  pub link_decided : (op : BinaryOp) (part : Expression) (x z : Value) → Some z ≡ short op x → Ok z ≡ link_within es n local x (op, part)
   unfolding link_within
   link_decided op part x z h = ap (linked op x (value_within es n local part)) h
 
@@ -55,7 +55,7 @@ module _ (es : List Entry) (n : ℕ) (local : Values) where
   unfolding chained_within
   chained_none x = refl
 
-  pub chained_step : (x : Value) (op : BinaryOp) (part : Term) (rest : Links) (a : Answer) → a ≡ link_within es n local x (op, part)
+  pub chained_step : (x : Value) (op : BinaryOp) (part : Expression) (rest : Links) (a : Answer) → a ≡ link_within es n local x (op, part)
       → and_then a (λ z. chained_within es n local z rest) ≡ chained_within es n local x (t.link op part rest)
   unfolding chained_within link_within value_within
   chained_step x op part rest a h = ap (λ y. and_then y (λ z. chained_within es n local z rest)) h
@@ -68,22 +68,22 @@ prepended (Ok y) (Ok ys) f = refl
 prepended (Ok y) (Err c) f = refl
 prepended (Err c) rest f = refl
 
-module _ (es : List Entry) (n : ℕ) (local : Values) where
-  pub applied-none : (f : Option ℕ) (params : List Name) (bound : Values) → value_of_body es f bound ≡ applied_within es n local t.no_terms f params bound
+module _ (es : List Declaration) (n : ℕ) (local : Values) where
+  pub applied-none : (f : Option ℕ) (params : List Name) (bound : Values) → value_of_body es f bound ≡ applied_within es n local t.no_expressions f params bound
   unfolding applied_within
   applied-none f [] bound = refl
   applied-none f (p ∷ ps) bound = refl
 
-module _ (es : List Entry) (n : ℕ) (local : Values) (x : Term) (args : Terms) (f : Option ℕ) where
+module _ (es : List Declaration) (n : ℕ) (local : Values) (x : Expression) (args : Expressions) (f : Option ℕ) where
   -- an argument that faults
   pub applied-fault : (c : Cause) (params : List Name) (bound : Values) → Err c ≡ value_within es n local x
-      → Err c ≡ applied_within es n local (t.term x args) f params bound
+      → Err c ≡ applied_within es n local (t.expression x args) f params bound
   unfolding applied_within value_within
   applied-fault c params bound h =
       ap (λ r. and_then r (λ z. and_then (values_by (funs_before es n) (closed local) args) (λ zs. value_of_body es f (bind_all bound params (z ∷ zs))))) h
       ∙ prepended (value_by (funs_before es n) (closed local) x) (values_by (funs_before es n) (closed local) args) (λ zs. value_of_body es f (bind_all bound params zs))
 
-module _ (es : List Entry) (n : ℕ) (local : Values) (rest : Terms) (f : Option ℕ) where
+module _ (es : List Declaration) (n : ℕ) (local : Values) (rest : Expressions) (f : Option ℕ) where
   -- a value that is bound to a parameter, and one that has none
   pub given-bound : (x : Value) (p : Name) (params : List Name) (earlier : Values)
       → applied_within es n local rest f params (bind earlier p x) ≡ given_within es n local x rest f (p ∷ params) earlier
@@ -95,8 +95,8 @@ module _ (es : List Entry) (n : ℕ) (local : Values) (rest : Terms) (f : Option
   given-unbound x earlier = refl
 
   -- an argument that has a value
-  pub applied-given : (arg : Term) (x : Value) (params : List Name) (earlier : Values) → Ok x ≡ value_within es n local arg
-      → given_within es n local x rest f params earlier ≡ applied_within es n local (t.term arg rest) f params earlier
+  pub applied-given : (arg : Expression) (x : Value) (params : List Name) (earlier : Values) → Ok x ≡ value_within es n local arg
+      → given_within es n local x rest f params earlier ≡ applied_within es n local (t.expression arg rest) f params earlier
   unfolding applied_within given_within value_within
   applied-given arg x params earlier h =
       ap (λ r. and_then r (λ z. and_then (values_by (funs_before es n) (closed local) rest) (λ zs. value_of_body es f (bind_all earlier params (z ∷ zs))))) h

@@ -1,8 +1,8 @@
 -- The loops over the applications and the funs of a program, a turn each.
 use Rattle.std.proofs.Common.{◌≡◌, ◌∙◌, ℕ, ◌+◌, ◌<◌, List, ◌∷◌, Option, Some, length, get_or, map, if◌then◌else◌, Vec, Global, drop, drop-cons, add-one, suc, refl, sym, ap}
 use Rattle.rev_num.specs.declared.value.ValueKind.{ValueKind}
-use Rattle.rev_syntax.specs.Trees.{Entry}
-use Rattle.rev_syntax.specs.View.{entry, binder}
+use Rattle.rev_syntax.specs.Trees.{Declaration}
+use Rattle.rev_syntax.specs.View.{declaration, parameter}
 use Rattle.rev_syntax.specs.declared.tree.Name.{Name as RName}
 use Rattle.rev_syntax.specs.declared.tree.Param.{Param}
 use Rattle.rev_syntax.specs.declared.tree.Expr.{Expr}
@@ -37,35 +37,35 @@ broken_step named us i u best b b' all h e p q r =
     ∙ r
 
 -- a declaration that is no fun
-other_decl : (d : Decl) → ((x : RName) (ps : Vec Param Global) (r : ValueKind) (b : Expr) → d ≡ decl.Fun x ps r b → ⊥) → (i k : ℕ) (rest : List Entry) (name : Name)
-    → rule.first_fun i k (entry d ∷ rest) name ≡ rule.first_fun (i + 1) k rest name
+other_decl : (d : Decl) → ((x : RName) (ps : Vec Param Global) (r : ValueKind) (b : Expr) → d ≡ decl.Fun x ps r b → ⊥) → (i k : ℕ) (rest : List Declaration) (name : Name)
+    → rule.first_fun i k (declaration d ∷ rest) name ≡ rule.first_fun (i + 1) k rest name
 other_decl (decl.Fun x ps r b) h i k rest name = absurd (h x ps r b refl)
 other_decl (decl.Merge x m j r b) h i k rest name = refl
 other_decl (decl.Shared x by at holds size first) h i k rest name = refl
 other_decl (decl.Proc x ps r b) h i k rest name = refl
 
 abbrev found_from : Table FunHead → ℕ → ℕ → List Decl → Name → Option FunHead
-found_from t i k ds name = or_else (find name t) (rule.first_fun i k (map entry ds) name)
+found_from t i k ds name = or_else (find name t) (rule.first_fun i k (map declaration ds) name)
 
 pub other_turn : (ds : List Decl) (i k k' : ℕ) (d : Decl) (t t' : Table FunHead) (name : Name) (all : Option FunHead) → i < length ds → d ≡ get_or ds i d
     → ((x : RName) (ps : Vec Param Global) (r : ValueKind) (b : Expr) → d ≡ decl.Fun x ps r b → ⊥) → t' ≡ t → k' ≡ k
     → found_from t i k (drop i ds) name ≡ all → found_from t' (i + 1) k' (drop (i + 1) ds) name ≡ all
 other_turn ds i k k' d t t' name all h e n p q r =
     (λ j. found_from (p j) (i + 1) (q j) (drop (i + 1) ds) name)
-    ∙ ap (λ x. or_else (find name t) x) (sym (other_decl d n i k (map entry (drop (i + 1) ds)) name))
+    ∙ ap (λ x. or_else (find name t) x) (sym (other_decl d n i k (map declaration (drop (i + 1) ds)) name))
     ∙ ap (λ l. found_from t i k l name) (sym (drop_at ds i d h e))
     ∙ r
 
 pub fun_turn : (ds : List Decl) (i k k' : ℕ) (d : Decl) (t t' : Table FunHead) (name : Name) (all : Option FunHead) (x : RName) (ps : Vec Param Global) (r : ValueKind) (b : Expr) (key : Name) (params : ℕ)
-    → i < length ds → d ≡ get_or ds i d → d ≡ decl.Fun x ps r b → key ≡ x.text.items → params ≡ length (map binder ps.items)
+    → i < length ds → d ≡ get_or ds i d → d ≡ decl.Fun x ps r b → key ≡ x.text.items → params ≡ length (map parameter ps.items)
     → t' ≡ added t key (rule.head i k params) → k' ≡ k + 1
     → found_from t i k (drop i ds) name ≡ all → found_from t' (i + 1) k' (drop (i + 1) ds) name ≡ all
 fun_turn ds i k k' d t t' name all x ps r b key params h e is p l a q goes =
-    let rest = rule.first_fun (i + 1) (k + 1) (map entry (drop (i + 1) ds)) name in
+    let rest = rule.first_fun (i + 1) (k + 1) (map declaration (drop (i + 1) ds)) name in
     (λ j. found_from (a j) (i + 1) (q j) (drop (i + 1) ds) name)
     ∙ ap (λ o. or_else o rest) (find-added name key (rule.head i k params) t)
     ∙ or_else-step (find name t) (same name key) (rule.head i k params) rest
     ∙ (λ j. or_else (find name t) (if same name (p j) then Some (rule.head i k (l j)) else rest))
-    ∙ ap (λ y. or_else (find name t) (rule.first_fun i k (entry y ∷ map entry (drop (i + 1) ds)) name)) (sym is)
+    ∙ ap (λ y. or_else (find name t) (rule.first_fun i k (declaration y ∷ map declaration (drop (i + 1) ds)) name)) (sym is)
     ∙ ap (λ l. found_from t i k l name) (sym (drop_at ds i d h e))
     ∙ goes

@@ -1,7 +1,7 @@
 -- The locals that arguments are bound to.
 use Rattle.std.proofs.Common.{◌≡◌, ◌∙◌, ℕ, zero, suc, ◌+◌, ◌<◌, ◌≤◌, Bool, true, false, if◌then◌else◌, List, [], ◌∷◌, map, drop, length, get_or, Option, Some, None, refl, sym, ap, arith}
 use Rattle.rev_num.specs.declared.value.Value.{Value}
-use Rattle.rev_syntax.specs.View.{binder}
+use Rattle.rev_syntax.specs.View.{parameter}
 use Rattle.rev_syntax.specs.declared.tree.Param.{Param}
 use Rattle.merge_decl.specs.Names.{Name, same}
 use Rattle.merge_decl.specs.Definitions.{names_of}
@@ -45,7 +45,7 @@ no_value l [] name = refl
 no_value l (p ∷ ps) name = refl
 
 abbrev left_at : Option Value → List Param → List Flat → Name → Option Value
-left_at o ps xs name = bind_all (λ n. o) (names_of (map binder ps)) (map flat xs) name
+left_at o ps xs name = bind_all (λ n. o) (names_of (map parameter ps)) (map flat xs) name
 
 drop-all : {A : Type 0} (xs : List A) (i : ℕ) → length xs ≤ i → drop i xs ≡ []
 drop-all [] zero h = refl
@@ -60,7 +60,7 @@ module _ (params : List Param) (values : List Flat) (name : Name) (i : ℕ) (p :
       → left_at o (drop i params) (drop i values) name ≡ all → left_at o' (drop (i + 1) params) (drop (i + 1) values) name ≡ all
   passed_turn o o' x all b h e h' e' s k goes =
       ap (λ n. left_at n (drop (i + 1) params) (drop (i + 1) values) name) k
-      ∙ sym (bound_by o p.name.text.items (names_of (map binder (drop (i + 1) params))) (flat x) (map flat (drop (i + 1) values)) name b s)
+      ∙ sym (bound_by o p.name.text.items (names_of (map parameter (drop (i + 1) params))) (flat x) (map flat (drop (i + 1) values)) name b s)
       ∙ (λ j. left_at o (sym (drop_at params i p h e) j) (sym (drop_at values i x h' e') j) name)
       ∙ goes
 
@@ -70,7 +70,7 @@ module _ (params : List Param) (values : List Flat) (name : Name) (i : ℕ) (p :
   unpassed_turn o o' all g k goes =
       ap (λ n. left_at n (drop (i + 1) params) (drop (i + 1) values) name) k
       ∙ ap (λ xs. left_at o (drop (i + 1) params) xs name) (drop-all values (i + 1) (omega arith))
-      ∙ no_value (λ n. o) (names_of (map binder (drop (i + 1) params))) name
-      ∙ sym (no_value (λ n. o) (names_of (map binder (drop i params))) name)
+      ∙ no_value (λ n. o) (names_of (map parameter (drop (i + 1) params))) name
+      ∙ sym (no_value (λ n. o) (names_of (map parameter (drop i params))) name)
       ∙ ap (λ xs. left_at o (drop i params) xs name) (sym (drop-all values i g))
       ∙ goes

@@ -1,36 +1,22 @@
--- Tables as lists, and the maps that keep them.
-use Rattle.std.proofs.Common.{◌≡◌, ◌∙◌, ℕ, Bool, true, false, cond, List, [], ◌∷◌, ◌++◌, Option, None, Some, nat_eq, refl, sym, ap, Vec, is_some, if◌then◌else◌, ◌&&◌, arith, true≢false}
+-- Tables as lists, and the maps that find their names.
+use Rattle.std.proofs.Common.{◌≡◌, ◌∙◌, ℕ, Bool, true, false, cond, List, [], ◌∷◌, ◌++◌, Option, None, Some, nat_eq, refl, sym, ap, Vec, is_some, if◌then◌else◌, ◌&&◌, arith, true≢false, length, take, ◌<◌, ◌-◌}
+use Rattle.std.proofs.lemmas.List.{take-map, take-take}
 use Rattle.std.proofs.lemmas.Bool.Decides.{nat_tests}
+use Rattle.std.proofs.lemmas.Map.Text.{is_eq-slice_cmp}
 use Rattle.std.specs.declared.alloc.Global.{Global}
-use Rattle.std.specs.Cmp.Lexicographic.{pointwise}
-use Rattle.std.specs.Map.{lookup}
-use Rattle.indexmap.specs.IndexMap.{insert_entry}
+use Rattle.std.specs.Cmp.Lexicographic.{pointwise, slice_cmp}
+use Rattle.std.specs.Ordering.{nat_cmp, is_eq}
+use Rattle.std.specs.BTreeMap.{BTreeMap, get_by, UpdatesBy}
+use Rattle.std.specs.Map.{AreApart, IsKeyTest, KeepsOthers, lookup}
+use Rattle.std.specs.Cmp.{eq_by_cmp_equiv}
+use Rattle.std.specs.Cmp.Lexicographic.{nat_list_cmp_total}
 use Rattle.merge_decl.specs.Names.{Name, same}
-use Rattle.merge_decl.specs.Table.{Table, find, added, rows}
+use Rattle.merge_decl.specs.Table.{IsIndexed, IsOnce, Table, against, find, added, rows}
 
-abbrev Key : Type 0
+abbrev pub Key : Type 0
 Key = Vec ℕ Global
 
-abbrev same_key : Key → Key → Bool
-same_key a b = pointwise nat_eq a.items b.items
-
 module _ {V : Type 0} where
-  -- a look-up by the bytes of a name
-  pub found : (name : Name) (es : List (Key × V)) → lookup (λ k. pointwise nat_eq name k.items) es ≡ find name (rows es)
-  found name [] = refl
-  found name (e ∷ es) = ap (λ r. cond (pointwise nat_eq name e.0.items) (Some e.1) r) (found name es)
-
-  -- a new key goes last
-  pub entered : (k : Key) (x : V) (es : List (Key × V)) → find k.items (rows es) ≡ None → rows (insert_entry same_key es k x) ≡ rows es ++ (k.items, x) ∷ []
-  entered k x [] h = refl
-  entered k x (e ∷ es) h = by (pointwise nat_eq k.items e.0.items) h (entered k x es)
-    where
-      by : (b : Bool) → cond b (Some e.1) (find k.items (rows es)) ≡ None
-          → (find k.items (rows es) ≡ None → rows (insert_entry same_key es k x) ≡ rows es ++ (k.items, x) ∷ [])
-          → rows (cond b ((e.0, x) ∷ es) (e ∷ insert_entry same_key es k x)) ≡ (e.0.items, e.1) ∷ rows es ++ (k.items, x) ∷ []
-      by true p rest = cc
-      by false p rest = ap (λ r. (e.0.items, e.1) ∷ r) (rest p)
-
   -- a name that is there changes nothing
   pub kept : (t : Table V) (name : Name) (x : V) → is_some (find name t) ≡ true → t ≡ added t name x
   kept t name x h = ap (λ b. cond b t (t ++ (name, x) ∷ [])) (sym h)
@@ -42,12 +28,6 @@ module _ {V : Type 0} where
   pub not_there : (o : Option V) → is_some o ≡ false → o ≡ None
   not_there None h = refl
   not_there (Some x) h = cc
-
-  -- a new key, whose bytes are the name's, goes last in the table
-  pub entered_new : (k : Key) (name : Name) (x : V) (es : List (Key × V)) (t : Table V) → k.items ≡ name → rows es ≡ t → find name t ≡ None
-      → rows (insert_entry same_key es k x) ≡ added t name x
-  entered_new k name x es t p q h =
-      entered k x es ((λ i. find (p i) (q i)) ∙ h) ∙ (λ i. q i ++ (p i, x) ∷ []) ∙ grown t name x h
 
 -- ---- names
 
@@ -105,3 +85,110 @@ pub or_else-step : {A : Type 0} (o : Option A) (b : Bool) (h : A) (r : Option A)
 or_else-step None true h r = refl
 or_else-step None false h r = refl
 or_else-step (Some x) b h r = refl
+
+-- ---- a table that a map indexes
+
+same-sym : (a b : Name) → same a b ≡ same b a
+same-sym [] [] = refl
+same-sym [] (y ∷ b) = refl
+same-sym (x ∷ a) [] = refl
+same-sym (x ∷ a) (y ∷ b) = let e = same-sym a b in grind (arith, nat_tests)
+
+-- a key that has a name's bytes has not another's
+apart_keys : (w name k : Name) → same name w ≡ false → is_eq (slice_cmp nat_cmp w k) ≡ true → is_eq (slice_cmp nat_cmp name k) ≡ false
+apart_keys w name k h e =
+    is_eq-slice_cmp name k ∙ ap (λ x. same name x) (sym (same_equal w k (sym (is_eq-slice_cmp w k) ∙ e))) ∙ h
+
+-- what another query finds
+others : {K X : Type 0} (eq : K → K → Bool) (test : K → Bool) (old new : List (K × X)) → KeepsOthers eq test old new
+    → (other : K → Bool) → IsKeyTest eq other → AreApart test other → lookup other new ≡ lookup other old
+unfolding KeepsOthers
+others eq test old new h = h
+
+-- one more row
+pub rows_push : {V : Type 0} (es : List (Key × V)) (key : Key) (x : V) → rows (es ++ (key, x) ∷ []) ≡ rows es ++ (key.items, x) ∷ []
+rows_push [] key x = refl
+rows_push (e ∷ es) key x = ap (λ t. (e.0.items, e.1) ∷ t) (rows_push es key x)
+
+-- without the last entry the first ones are the same
+pub shorter : {V : Type 0} (len : ℕ) (es new : List (Key × V)) → new ≡ take (length es - 1) es → len < length es → take len (rows new) ≡ take len (rows es)
+shorter len es new e h =
+    ap (λ l. take len (rows l)) e ∙ ap (λ l. take len l) (sym (take-map _ (length es - 1) es))
+    ∙ take-take len (length es - 1) (rows es) (omega arith)
+
+module _ {V : Type 0} where
+  cond_none : (b : Bool) (x : V) (o : Option V) → cond b (Some x) o ≡ None → (b ≡ false) × (o ≡ None)
+  cond_none true x o h = cc
+  cond_none false x o h = (refl, h)
+
+  or_else_none : (o : Option V) (b : Bool) (x : V) → or_else o (if b then Some x else None) ≡ None → (b ≡ false) × (o ≡ None)
+  or_else_none None true x h = cc
+  or_else_none None false x h = (refl, refl)
+  or_else_none (Some y) b x h = cc
+
+  none_or_else : (o : Option V) (b : Bool) (x : V) → b ≡ false → o ≡ None → or_else o (if b then Some x else None) ≡ None
+  none_or_else None true x h k = absurd (true≢false h)
+  none_or_else None false x h k = refl
+  none_or_else (Some y) b x h k = cc
+
+  -- a new name goes last
+  once_push : (w : Name) (x : V) (t : Table V) → IsOnce t → find w t ≡ None → IsOnce (t ++ (w, x) ∷ [])
+  once_push w x [] h k = (refl, tt)
+  once_push w x (e ∷ t) h k =
+      let parts = cond_none (same w e.0) e.1 (find w t) k in
+      (find-push e.0 w x t ∙ none_or_else (find e.0 t) (same e.0 w) x (same-sym e.0 w ∙ parts.0) h.0, once_push w x t h.1 parts.1)
+
+  -- without the last entry, whose name is then not there
+  once_pop : (w : Name) (x : V) (t : Table V) → IsOnce (t ++ (w, x) ∷ []) → IsOnce t × (find w t ≡ None)
+  once_pop w x [] h = (tt, refl)
+  once_pop w x (e ∷ t) h =
+      let parts = or_else_none (find e.0 t) (same e.0 w) x (sym (find-push e.0 w x t) ∙ h.0) in
+      let rest = once_pop w x t h.1 in
+      ((parts.1, rest.0), ap (λ b. cond b (Some e.1) (find w t)) (same-sym w e.0 ∙ parts.0) ∙ rest.1)
+
+  push_found : (name w : Name) (x : V) (t : Table V) (b : Bool) → same name w ≡ b → find w t ≡ None
+      → cond b (Some x) (find name t) ≡ or_else (find name t) (if b then Some x else None)
+  push_found name w x t true h k = ap (λ o. or_else o (Some x)) (sym (ap (λ n. find n t) (same_equal name w h) ∙ k))
+  push_found name w x t false h k = sym (or_else-none (find name t))
+
+  pop_found : (name w : Name) (x : V) (t : Table V) (b : Bool) → same name w ≡ b → find w t ≡ None
+      → cond b None (or_else (find name t) (if b then Some x else None)) ≡ find name t
+  pop_found name w x t true h k = sym (ap (λ n. find n t) (same_equal name w h) ∙ k)
+  pop_found name w x t false h k = or_else-none (find name t)
+
+  -- a map that gives a name this value, or none
+  given_by : (m n : BTreeMap Key V) (key : Key) (o : Option V) (name : Name) (b : Bool) → same name key.items ≡ b
+      → UpdatesBy (λ (a b : Key). slice_cmp nat_cmp a.items b.items) (against key.items) m n o
+      → get_by (against name) n ≡ cond b o (get_by (against name) m)
+  given_by m n key o name true e h = ap (λ w. get_by (against w) n) (same_equal name key.items e) ∙ h.1
+  given_by m n key o name false e h =
+      others _ _ m.entries n.entries h.3 (λ k. is_eq (against name k))
+      (λ x y. (eq_by_cmp_equiv nat_list_cmp_total).congr name x.items y.items)
+      (λ k. apart_keys key.items name k.items e)
+
+  given : (m n : BTreeMap Key V) (key : Key) (o : Option V) (name : Name)
+      → UpdatesBy (λ (a b : Key). slice_cmp nat_cmp a.items b.items) (against key.items) m n o
+      → get_by (against name) n ≡ cond (same name key.items) o (get_by (against name) m)
+  given m n key o name h = given_by m n key o name (same name key.items) refl h
+
+  -- a new name, in the map and last in the table
+  pub indexed_push : (m n : BTreeMap Key V) (key : Key) (x : V) (t : Table V)
+      → UpdatesBy (λ (a b : Key). slice_cmp nat_cmp a.items b.items) (against key.items) m n (Some x)
+      → IsIndexed m t → find key.items t ≡ None → IsIndexed n (t ++ (key.items, x) ∷ [])
+  indexed_push m n key x t h i k = record {
+    finds = λ name. given m n key (Some x) name h ∙ ap (λ o. cond (same name key.items) (Some x) o) (i.finds name)
+        ∙ push_found name key.items x t (same name key.items) refl k ∙ sym (find-push name key.items x t);
+    once = once_push key.items x t i.once k;
+  }
+
+  -- the last entry goes, and its name goes from the map
+  pub indexed_pop : (m n : BTreeMap Key V) (key : Key) (x : V) (t : Table V)
+      → UpdatesBy (λ (a b : Key). slice_cmp nat_cmp a.items b.items) (against key.items) m n None
+      → IsIndexed m (t ++ (key.items, x) ∷ []) → IsIndexed n t
+  indexed_pop m n key x t h i =
+      let parts = once_pop key.items x t i.once in
+      record {
+        finds = λ name. given m n key None name h ∙ ap (λ o. cond (same name key.items) None o) (i.finds name ∙ find-push name key.items x t)
+            ∙ pop_found name key.items x t (same name key.items) refl parts.1;
+        once = parts.0;
+      }

@@ -5,10 +5,10 @@ use Rattle.std.proofs.lemmas.List.{length-map, length-reverse, reverse-append}
 use Rattle.rev_num.specs.declared.value.Value.{Value}
 use Rattle.rev_num.specs.declared.outcome.Cause.{Cause}
 use Rattle.rev_num.specs.declared.outcome.Cause.TheVariants as cause
-use Rattle.rev_syntax.specs.Trees.{Word, Entry, Term, Terms, Shape, Links}
+use Rattle.rev_syntax.specs.Trees.{PlacedName, Declaration, Expression, Expressions, ExpressionForm, Links}
 use Rattle.rev_syntax.specs.Trees as t
-use Rattle.rev_syntax.specs.Small.{term_count, shape_count}
-use Rattle.rev_syntax.specs.View.{binder, term, terms, shape, links, word}
+use Rattle.rev_syntax.specs.Small.{expression_count, expression_form_count}
+use Rattle.rev_syntax.specs.View.{parameter, expression, expressions, expression_form, links, placed_name}
 use Rattle.rev_syntax.specs.declared.tree.Link.{Link}
 use Rattle.rev_syntax.specs.declared.tree.Name.{Name as RName}
 use Rattle.merge_decl.specs.declared.flat.Flat.{Flat}
@@ -18,11 +18,11 @@ use Rattle.rev_syntax.specs.declared.tree.Expr.{Expr}
 use Rattle.rev_syntax.specs.declared.tree.BinaryOp.{BinaryOp}
 use Rattle.merge_decl.specs.Names.{Name}
 use Rattle.merge_decl.specs.Table.{Table}
-use Rattle.merge_decl.specs.Weights.{term_weight, shape_weight, links_weight}
+use Rattle.merge_decl.specs.Weights.{expression_weight, expression_form_weight, links_weight}
 use Rattle.merge_decl.specs.Value.{Answer, and_then, bind, bind_all, nothing, called, values_by, value_by, closed, linked, number_of, operated, read_input, reversed, short, some_value, truth_of}
 use Rattle.rev_syntax.specs.declared.tree.UnaryOp.{UnaryOp}
 use Rattle.std.specs.Result.{IsErrAnd}
-use Rattle.merge_decl.specs.Evaluation.{Values, IsMeant, funs_before, value_within, shape_within, chained_within, value_of_body, params_at, applied_within, given_within}
+use Rattle.merge_decl.specs.Evaluation.{Values, IsMeant, funs_before, value_within, expression_form_within, chained_within, value_of_body, params_at, applied_within, given_within}
 use Rattle.merge_decl.specs.Flat.{flat, local}
 use Rattle.merge_decl.specs.Definitions.{names_of}
 use Rattle.rev_syntax.specs.declared.tree.Param.{Param}
@@ -34,7 +34,7 @@ use Rattle.merge_decl.specs.declared.work.Pending.{Pending}
 use Rattle.merge_decl.specs.declared.work.Next.TheVariants as next
 use Rattle.merge_decl.proofs.Appends.{appends}
 use Rattle.merge_decl.proofs.Evaluations.{at_placed, prepended, chained_step, chained_none, link_decided}
-use Rattle.merge_decl.proofs.Shapes.{links-first, term-placed, local-Empty}
+use Rattle.merge_decl.proofs.Shapes.{links-first, expression-placed, local-Empty}
 
 -- ---- lists
 
@@ -91,7 +91,7 @@ take-map f (suc k) (x ∷ xs) = ap (λ r. f x ∷ r) (take-map f k xs)
 
 -- ---- what comes of the rest
 
-module _ (es : List Entry) (n : ℕ) (local : Values) where
+module _ (es : List Declaration) (n : ℕ) (local : Values) where
   -- a fault is handed on
   pub ended-fault : (ps : List Pending) (vs : List Value) (c : Cause) → ended es n local ps vs (Err c) ≡ Err c
   unfolding ended
@@ -105,11 +105,11 @@ module _ (es : List Entry) (n : ℕ) (local : Values) where
 
   -- a part whose value is awaited
   pub awaited : (ps : List Pending) (p : Pending) (part : Bor Expr) (vs : List Value) (a : Answer)
-      → and_then (value_within es n local (term part.now)) (continued es n local p vs) ≡ a
+      → and_then (value_within es n local (expression part.now)) (continued es n local p vs) ≡ a
       → comes_to es n local (p ∷ ps) vs (next.Part part) ≡ ended es n local ps (kept_behind p vs) a
   unfolding comes_to
   awaited ps p part vs a r =
-      ended-step p ps vs (value_within es n local (term part.now))
+      ended-step p ps vs (value_within es n local (expression part.now))
       ∙ ap (ended es n local ps (kept_behind p vs)) r
 
   -- a value behind which a part waits
@@ -126,7 +126,7 @@ module _ (es : List Entry) (n : ℕ) (local : Values) where
   unfolding comes_to
   at-value ps vs x a h = ap (ended es n local ps vs) h
 
-  pub at-part : (ps : List Pending) (vs : List Value) (e : Bor Expr) (a : Answer) → value_within es n local (term e.now) ≡ a → comes_to es n local ps vs (next.Part e) ≡ ended es n local ps vs a
+  pub at-part : (ps : List Pending) (vs : List Value) (e : Bor Expr) (a : Answer) → value_within es n local (expression e.now) ≡ a → comes_to es n local ps vs (next.Part e) ≡ ended es n local ps vs a
   unfolding comes_to
   at-part ps vs e a h = ap (ended es n local ps vs) h
 
@@ -139,13 +139,13 @@ module _ (es : List Entry) (n : ℕ) (local : Values) where
 
   -- ---- applications
 
-  pub application-apply : (w : Word) (ts : Terms) → application es n local w.text [] ts ≡ shape_within es n local (t.apply w ts)
-  unfolding application shape_within
+  pub application-apply : (w : PlacedName) (ts : Expressions) → application es n local w.text [] ts ≡ expression_form_within es n local (t.apply w ts)
+  unfolding application expression_form_within
   application-apply w ts = refl
 
   -- an argument is evaluated, and then the others
-  pub argument-step : (name : Name) (xs : List Value) (arg : Term) (rest : Terms)
-      → and_then (value_within es n local arg) (λ x. application es n local name (xs ++ x ∷ []) rest) ≡ application es n local name xs (t.term arg rest)
+  pub argument-step : (name : Name) (xs : List Value) (arg : Expression) (rest : Expressions)
+      → and_then (value_within es n local arg) (λ x. application es n local name (xs ++ x ∷ []) rest) ≡ application es n local name xs (t.expression arg rest)
   unfolding application value_within
   argument-step name xs arg rest =
       (λ i. and_then (value_by (funs_before es n) (closed local) arg) (λ x. and_then (values_by (funs_before es n) (closed local) rest) (λ ys. called (funs_before es n name) (appends xs (x ∷ []) ys i))))
@@ -158,7 +158,7 @@ module _ (es : List Entry) (n : ℕ) (local : Values) where
   in_turn (Err c) f g = refl
 
   -- a right operand that is wanted, and then the other links
-  pub operand-step : (op : BinaryOp) (x : Value) (part : Term) (rest : Links) → None ≡ short op x
+  pub operand-step : (op : BinaryOp) (x : Value) (part : Expression) (rest : Links) → None ≡ short op x
       → and_then (value_within es n local part) (λ y. and_then (operated op x y) (λ z. chained_within es n local z rest)) ≡ chained_within es n local x (t.link op part rest)
   unfolding value_within chained_within
   operand-step op x part rest h =
@@ -181,23 +181,23 @@ remains-waits None ps = omega arith
 
 -- ---- the first turn of an application
 
-module _ (es : List Entry) (n : ℕ) (local : Values) where
+module _ (es : List Declaration) (n : ℕ) (local : Values) where
   pub apply-begun : (name : Bor RName) (arg : Bor Expr) (rest : Bor (List Expr)) (vs : List Value)
-      → and_then (value_within es n local (term arg.now)) (continued es n local (wait.Argument name 0 rest) vs)
-      ≡ shape_within es n local (t.apply (word name.now) (t.term (term arg.now) (terms rest.now)))
+      → and_then (value_within es n local (expression arg.now)) (continued es n local (wait.Argument name 0 rest) vs)
+      ≡ expression_form_within es n local (t.apply (placed_name name.now) (t.expression (expression arg.now) (expressions rest.now)))
   unfolding continued
   apply-begun name arg rest vs =
-      (λ i. and_then (value_within es n local (term arg.now)) (λ x. application es n local name.now.text.items (lasts-none vs i ++ x ∷ []) (terms rest.now)))
-      ∙ argument-step es n local name.now.text.items [] (term arg.now) (terms rest.now)
-      ∙ application-apply es n local (word name.now) (t.term (term arg.now) (terms rest.now))
+      (λ i. and_then (value_within es n local (expression arg.now)) (λ x. application es n local name.now.text.items (lasts-none vs i ++ x ∷ []) (expressions rest.now)))
+      ∙ argument-step es n local name.now.text.items [] (expression arg.now) (expressions rest.now)
+      ∙ application-apply es n local (placed_name name.now) (t.expression (expression arg.now) (expressions rest.now))
 
   pub apply-none : (ps : List Pending) (vs : List Value) (name : Bor RName) (args : Bor (List Expr))
       → comes_to es n local ps vs (next.Call (record { name = name; before = 0; value = None; rest = args }))
-      ≡ ended es n local ps vs (shape_within es n local (t.apply (word name.now) (terms args.now)))
+      ≡ ended es n local ps vs (expression_form_within es n local (t.apply (placed_name name.now) (expressions args.now)))
   unfolding comes_to
   apply-none ps vs name args =
-      (λ i. ended es n local ps (without-none vs i) (application es n local name.now.text.items (nothing_kept vs i) (terms args.now)))
-      ∙ ap (ended es n local ps vs) (application-apply es n local (word name.now) (terms args.now))
+      (λ i. ended es n local ps (without-none vs i) (application es n local name.now.text.items (nothing_kept vs i) (expressions args.now)))
+      ∙ ap (ended es n local ps vs) (application-apply es n local (placed_name name.now) (expressions args.now))
     where
       nothing_kept : (vs : List Value) → lasts 0 vs ++ [] ≡ []
       nothing_kept vs = ap (λ xs. xs ++ []) (lasts-none vs)
@@ -206,26 +206,26 @@ module _ (es : List Entry) (n : ℕ) (local : Values) where
 
   pub argument-kept : (ps : List Pending) (vs : List Value) (name : Bor RName) (k : ℕ) (x : Flat) (args : Bor (List Expr))
       → comes_to es n local ps vs (next.Call (record { name = name; before = k; value = Some x; rest = args }))
-      ≡ ended es n local ps (without k vs) (application es n local name.now.text.items (lasts k vs ++ flat x ∷ []) (terms args.now))
+      ≡ ended es n local ps (without k vs) (application es n local name.now.text.items (lasts k vs ++ flat x ∷ []) (expressions args.now))
   unfolding comes_to
   argument-kept ps vs name k x args = refl
 
   pub argument-next : (name : Bor RName) (k : ℕ) (x : Value) (arg : Bor Expr) (rest : Bor (List Expr)) (vs : List Value)
-      → and_then (value_within es n local (term arg.now)) (continued es n local (wait.Argument name (suc k) rest) (vs ++ x ∷ []))
-      ≡ application es n local name.now.text.items (lasts k vs ++ x ∷ []) (t.term (term arg.now) (terms rest.now))
+      → and_then (value_within es n local (expression arg.now)) (continued es n local (wait.Argument name (suc k) rest) (vs ++ x ∷ []))
+      ≡ application es n local name.now.text.items (lasts k vs ++ x ∷ []) (t.expression (expression arg.now) (expressions rest.now))
   unfolding continued
   argument-next name k x arg rest vs =
-      (λ i. and_then (value_within es n local (term arg.now)) (λ y. application es n local name.now.text.items (lasts-push k vs x i ++ y ∷ []) (terms rest.now)))
-      ∙ argument-step es n local name.now.text.items (lasts k vs ++ x ∷ []) (term arg.now) (terms rest.now)
+      (λ i. and_then (value_within es n local (expression arg.now)) (λ y. application es n local name.now.text.items (lasts-push k vs x i ++ y ∷ []) (expressions rest.now)))
+      ∙ argument-step es n local name.now.text.items (lasts k vs ++ x ∷ []) (expression arg.now) (expressions rest.now)
 
   -- ---- the turns of a chain
 
-  pub left-decided : (op : BinaryOp) (part : Term) (left : Value) (z : Value) (vs : List Value) (rest : Bor (List Link)) → Some z ≡ short op left
+  pub left-decided : (op : BinaryOp) (part : Expression) (left : Value) (z : Value) (vs : List Value) (rest : Bor (List Link)) → Some z ≡ short op left
       → continued es n local (wait.Left rest) vs z ≡ chained_within es n local left (t.link op part (links rest.now))
   unfolding continued
   left-decided op part left z vs rest h = chained_step es n local left op part (links rest.now) (Ok z) (link_decided es n local op part left z h)
 
-  pub left-wanted : (op : BinaryOp) (part : Term) (left : Flat) (vs : List Value) (rest : Bor (List Link)) → None ≡ short op (flat left)
+  pub left-wanted : (op : BinaryOp) (part : Expression) (left : Flat) (vs : List Value) (rest : Bor (List Link)) → None ≡ short op (flat left)
       → and_then (value_within es n local part) (continued es n local (wait.Right op left rest) vs) ≡ chained_within es n local (flat left) (t.link op part (links rest.now))
   unfolding continued
   left-wanted op part left vs rest h = operand-step es n local op (flat left) part (links rest.now) h
@@ -274,9 +274,9 @@ module _ (es : List Entry) (n : ℕ) (local : Values) where
       → comes_to es n local ps vs (next.Part e) ≡ ended es n local ps vs (continued es n local (wait.Pick a b) vs x)
   unfolding continued
   give-pick ps vs a b e x true h k =
-      at-part es n local ps vs e _ (ap (λ d. value_within es n local (term d.now)) k ∙ ap (λ s. if s then value_within es n local (term a.now) else value_within es n local (term b.now)) (sym h))
+      at-part es n local ps vs e _ (ap (λ d. value_within es n local (expression d.now)) k ∙ ap (λ s. if s then value_within es n local (expression a.now) else value_within es n local (expression b.now)) (sym h))
   give-pick ps vs a b e x false h k =
-      at-part es n local ps vs e _ (ap (λ d. value_within es n local (term d.now)) k ∙ ap (λ s. if s then value_within es n local (term a.now) else value_within es n local (term b.now)) (sym h))
+      at-part es n local ps vs e _ (ap (λ d. value_within es n local (expression d.now)) k ∙ ap (λ s. if s then value_within es n local (expression a.now) else value_within es n local (expression b.now)) (sym h))
 
   pub give-behind : (ps : List Pending) (vs : List Value) (rest : Bor (List Link)) (x : Value) (r : Answer) → r ≡ ended es n local ps vs (chained_within es n local x (links rest.now))
       → r ≡ ended es n local ps (kept_behind (wait.Left rest) vs) (continued es n local (wait.Left rest) vs x)
@@ -297,7 +297,7 @@ module _ (es : List Entry) (n : ℕ) (local : Values) where
       at-fault es n local ps vs c (and_then (operated op (flat left) x) (λ y. chained_within es n local y (links rest.now))) (ap (λ r. and_then r (λ y. chained_within es n local y (links rest.now))) h)
 
   pub give-argument : (ps : List Pending) (vs : List Value) (name : Bor RName) (k : ℕ) (rest : Bor (List Expr)) (x : Value) (r : Answer)
-      → r ≡ ended es n local ps (without k vs) (application es n local name.now.text.items (lasts k vs ++ x ∷ []) (terms rest.now))
+      → r ≡ ended es n local ps (without k vs) (application es n local name.now.text.items (lasts k vs ++ x ∷ []) (expressions rest.now))
       → r ≡ ended es n local ps (kept_behind (wait.Argument name k rest) vs) (continued es n local (wait.Argument name k rest) vs x)
   unfolding continued
   give-argument ps vs name k rest x r h = h
@@ -305,37 +305,37 @@ module _ (es : List Entry) (n : ℕ) (local : Values) where
   -- ---- the turn at a part, by its form
 
   -- an expression has the value of its form
-  pub of_form : (e : Expr) (r : Answer) → r ≡ shape_within es n local (shape e.node) → r ≡ value_within es n local (term e)
-  of_form e r h = at_placed es n local (term e) e.at (shape e.node) r (term-placed e) h
+  pub of_form : (e : Expr) (r : Answer) → r ≡ expression_form_within es n local (expression_form e.node) → r ≡ value_within es n local (expression e)
+  of_form e r h = at_placed es n local (expression e) e.at (expression_form e.node) r (expression-placed e) h
 
-  pub wait-cell : (s : Shape) (w : Word) (index : Bor Expr) (vs : List Value) → s ≡ t.cell w (term index.now)
-      → and_then (value_within es n local (term index.now)) (continued es n local wait.Cell vs) ≡ shape_within es n local s
-  unfolding continued shape_within value_within
-  wait-cell s w index vs is = ap (shape_within es n local) (sym is)
+  pub wait-cell : (s : ExpressionForm) (w : PlacedName) (index : Bor Expr) (vs : List Value) → s ≡ t.cell w (expression index.now)
+      → and_then (value_within es n local (expression index.now)) (continued es n local wait.Cell vs) ≡ expression_form_within es n local s
+  unfolding continued expression_form_within value_within
+  wait-cell s w index vs is = ap (expression_form_within es n local) (sym is)
 
-  pub wait-input : (s : Shape) (at : ℕ) (index : Bor Expr) (vs : List Value) → s ≡ t.input at (term index.now)
-      → and_then (value_within es n local (term index.now)) (continued es n local wait.Input vs) ≡ shape_within es n local s
-  unfolding continued shape_within value_within
-  wait-input s at index vs is = ap (shape_within es n local) (sym is)
+  pub wait-input : (s : ExpressionForm) (at : ℕ) (index : Bor Expr) (vs : List Value) → s ≡ t.input at (expression index.now)
+      → and_then (value_within es n local (expression index.now)) (continued es n local wait.Input vs) ≡ expression_form_within es n local s
+  unfolding continued expression_form_within value_within
+  wait-input s at index vs is = ap (expression_form_within es n local) (sym is)
 
-  pub wait-unary : (s : Shape) (op : UnaryOp) (part : Bor Expr) (vs : List Value) → s ≡ t.unary op (term part.now)
-      → and_then (value_within es n local (term part.now)) (continued es n local (wait.Unary op) vs) ≡ shape_within es n local s
-  unfolding continued shape_within value_within
-  wait-unary s op part vs is = ap (shape_within es n local) (sym is)
+  pub wait-unary : (s : ExpressionForm) (op : UnaryOp) (part : Bor Expr) (vs : List Value) → s ≡ t.unary op (expression part.now)
+      → and_then (value_within es n local (expression part.now)) (continued es n local (wait.Unary op) vs) ≡ expression_form_within es n local s
+  unfolding continued expression_form_within value_within
+  wait-unary s op part vs is = ap (expression_form_within es n local) (sym is)
 
-  pub wait-pick : (s : Shape) (test a b : Bor Expr) (vs : List Value) → s ≡ t.pick (term test.now) (term a.now) (term b.now)
-      → and_then (value_within es n local (term test.now)) (continued es n local (wait.Pick a b) vs) ≡ shape_within es n local s
-  unfolding continued shape_within value_within
-  wait-pick s test a b vs is = ap (shape_within es n local) (sym is)
+  pub wait-pick : (s : ExpressionForm) (test a b : Bor Expr) (vs : List Value) → s ≡ t.pick (expression test.now) (expression a.now) (expression b.now)
+      → and_then (value_within es n local (expression test.now)) (continued es n local (wait.Pick a b) vs) ≡ expression_form_within es n local s
+  unfolding continued expression_form_within value_within
+  wait-pick s test a b vs is = ap (expression_form_within es n local) (sym is)
 
-  pub wait-left : (s : Shape) (first : Bor Expr) (rest : Bor (List Link)) (vs : List Value) → s ≡ t.chain (term first.now) (links rest.now)
-      → and_then (value_within es n local (term first.now)) (continued es n local (wait.Left rest) vs) ≡ shape_within es n local s
-  unfolding continued shape_within value_within chained_within
-  wait-left s first rest vs is = ap (shape_within es n local) (sym is)
+  pub wait-left : (s : ExpressionForm) (first : Bor Expr) (rest : Bor (List Link)) (vs : List Value) → s ≡ t.chain (expression first.now) (links rest.now)
+      → and_then (value_within es n local (expression first.now)) (continued es n local (wait.Left rest) vs) ≡ expression_form_within es n local s
+  unfolding continued expression_form_within value_within chained_within
+  wait-left s first rest vs is = ap (expression_form_within es n local) (sym is)
 
 -- an expression has one part more than its form
-pub count_of : (e : Expr) (s : Shape) → shape e.node ≡ s → term_count (term e) ≡ 1 + shape_count s
-count_of e s h = ap term_count (term-placed e) ∙ ap (λ x. 1 + shape_count x) h
+pub count_of : (e : Expr) (s : ExpressionForm) → expression_form e.node ≡ s → expression_count (expression e) ≡ 1 + expression_form_count s
+count_of e s h = ap expression_count (expression-placed e) ∙ ap (λ x. 1 + expression_form_count x) h
 
 -- ---- the application of a fun
 
@@ -346,7 +346,7 @@ bound-split l [] (x ∷ xs) ys = refl
 bound-split l (p ∷ ps) [] ys = refl
 bound-split l (p ∷ ps) (x ∷ xs) ys = bound-split (bind l p x) ps xs ys
 
-module _ (es : List Entry) (n : ℕ) (local : Values) (name : Name) (f : Option ℕ) (params : List Name) where
+module _ (es : List Declaration) (n : ℕ) (local : Values) (name : Name) (f : Option ℕ) (params : List Name) where
   meant-split : IsMeant es n name f → params ≡ params_at es f → (xs ys : List Value)
       → value_of_body es f (bind_all (bind_all nothing params xs) (drop (length xs) params) ys) ≡ called (funs_before es n name) (xs ++ ys)
   meant-split h k xs ys =
@@ -354,7 +354,7 @@ module _ (es : List Entry) (n : ℕ) (local : Values) (name : Name) (f : Option 
       ∙ ap (λ ps. value_of_body es f (bind_all nothing ps (xs ++ ys))) k
       ∙ sym (h (xs ++ ys))
 
-  pub applied-application : IsMeant es n name f → params ≡ params_at es f → (xs : List Value) (rest : Terms)
+  pub applied-application : IsMeant es n name f → params ≡ params_at es f → (xs : List Value) (rest : Expressions)
       → applied_within es n local rest f (drop (length xs) params) (bind_all nothing params xs) ≡ application es n local name (xs ++ []) rest
   unfolding applied_within application
   applied-application h k xs rest =
@@ -364,7 +364,7 @@ module _ (es : List Entry) (n : ℕ) (local : Values) (name : Name) (f : Option 
       nothing_behind : (xs ys : List Value) → xs ++ ys ≡ (xs ++ []) ++ ys
       nothing_behind xs ys = sym (appends xs [] ys)
 
-  pub given-application : IsMeant es n name f → params ≡ params_at es f → (xs : List Value) (x : Value) (rest : Terms)
+  pub given-application : IsMeant es n name f → params ≡ params_at es f → (xs : List Value) (x : Value) (rest : Expressions)
       → given_within es n local x rest f (drop (length xs) params) (bind_all nothing params xs) ≡ application es n local name (xs ++ x ∷ []) rest
   unfolding given_within application
   given-application h k xs x rest =
@@ -373,9 +373,9 @@ module _ (es : List Entry) (n : ℕ) (local : Values) (name : Name) (f : Option 
 
 -- ---- the loop
 
-module _ (es : List Entry) (n : ℕ) (local : Values) where
+module _ (es : List Declaration) (n : ℕ) (local : Values) where
   -- at the start nothing waits
-  pub starts : (e : Bor Expr) → comes_to es n local [] [] (next.Part e) ≡ value_within es n local (term e.now)
+  pub starts : (e : Bor Expr) → comes_to es n local [] [] (next.Part e) ≡ value_within es n local (expression e.now)
   unfolding comes_to ended
   starts e = refl
 
@@ -385,28 +385,28 @@ module _ (es : List Entry) (n : ℕ) (local : Values) where
   ends vs x a k = k
 
   -- a part that faults, and one that has a value
-  pub part-fault : (ps : List Pending) (vs : List Value) (e : Bor Expr) (c : Cause) (a : Answer) → Err c ≡ value_within es n local (term e.now) → comes_to es n local ps vs (next.Part e) ≡ a → Err c ≡ a
+  pub part-fault : (ps : List Pending) (vs : List Value) (e : Bor Expr) (c : Cause) (a : Answer) → Err c ≡ value_within es n local (expression e.now) → comes_to es n local ps vs (next.Part e) ≡ a → Err c ≡ a
   unfolding comes_to
-  part-fault ps vs e c a h k = at-fault es n local ps vs c (value_within es n local (term e.now)) h ∙ k
+  part-fault ps vs e c a h k = at-fault es n local ps vs c (value_within es n local (expression e.now)) h ∙ k
 
-  pub part-value : (ps : List Pending) (vs : List Value) (e : Bor Expr) (x : Flat) (a : Answer) → Ok (flat x) ≡ value_within es n local (term e.now) → comes_to es n local ps vs (next.Part e) ≡ a → comes_to es n local ps vs (next.Value x) ≡ a
+  pub part-value : (ps : List Pending) (vs : List Value) (e : Bor Expr) (x : Flat) (a : Answer) → Ok (flat x) ≡ value_within es n local (expression e.now) → comes_to es n local ps vs (next.Part e) ≡ a → comes_to es n local ps vs (next.Value x) ≡ a
   unfolding comes_to
   part-value ps vs e x a h k = ap (ended es n local ps vs) h ∙ k
 
   -- a part that is begun
-  pub part-begun : (ps qs : List Pending) (vs : List Value) (e : Bor Expr) (t : Turn) (a : Answer) → after es n local ps vs t ≡ ended es n local ps vs (value_within es n local (term e.now))
+  pub part-begun : (ps qs : List Pending) (vs : List Value) (e : Bor Expr) (t : Turn) (a : Answer) → after es n local ps vs t ≡ ended es n local ps vs (value_within es n local (expression e.now))
       → t.keep ≡ None → qs ≡ waits t.wait ps → comes_to es n local ps vs (next.Part e) ≡ a → comes_to es n local qs vs t.next ≡ a
   unfolding comes_to
   part-begun ps qs vs e t a h k q g =
       (λ i. comes_to es n local (q i) (keeps (sym k i) vs) t.next) ∙ h ∙ g
 
   -- an application that faults, and one that has a value
-  pub call-fault : (ps : List Pending) (vs : List Value) (d : Call) (c : Cause) (a : Answer) → Err c ≡ application es n local d.name.now.text.items (lasts d.before vs ++ passed d.value) (terms d.rest.now)
+  pub call-fault : (ps : List Pending) (vs : List Value) (d : Call) (c : Cause) (a : Answer) → Err c ≡ application es n local d.name.now.text.items (lasts d.before vs ++ passed d.value) (expressions d.rest.now)
       → comes_to es n local ps vs (next.Call d) ≡ a → Err c ≡ a
   unfolding comes_to
-  call-fault ps vs d c a h k = at-fault es n local ps (without d.before vs) c (application es n local d.name.now.text.items (lasts d.before vs ++ passed d.value) (terms d.rest.now)) h ∙ k
+  call-fault ps vs d c a h k = at-fault es n local ps (without d.before vs) c (application es n local d.name.now.text.items (lasts d.before vs ++ passed d.value) (expressions d.rest.now)) h ∙ k
 
-  pub call-value : (ps : List Pending) (vs ws : List Value) (d : Call) (x : Flat) (a : Answer) → Ok (flat x) ≡ application es n local d.name.now.text.items (lasts d.before vs ++ passed d.value) (terms d.rest.now)
+  pub call-value : (ps : List Pending) (vs ws : List Value) (d : Call) (x : Flat) (a : Answer) → Ok (flat x) ≡ application es n local d.name.now.text.items (lasts d.before vs ++ passed d.value) (expressions d.rest.now)
       → ws ≡ without d.before vs → comes_to es n local ps vs (next.Call d) ≡ a → comes_to es n local ps ws (next.Value x) ≡ a
   unfolding comes_to
   call-value ps vs ws d x a h q k = (λ i. ended es n local ps (q i) (h i)) ∙ k
@@ -455,12 +455,12 @@ remains-some (p ∷ ps) h = let e = remains-step p ps in let k = pending-some p 
 
 -- ---- the parameters behind values
 
-pub others : (xs : List Flat) (ps qs : List Param) → qs ≡ drop (length xs) ps → names_of (map binder qs) ≡ drop (length (map flat xs)) (names_of (map binder ps))
+pub others : (xs : List Flat) (ps qs : List Param) → qs ≡ drop (length xs) ps → names_of (map parameter qs) ≡ drop (length (map flat xs)) (names_of (map parameter ps))
 others xs ps qs h =
-    ap (λ l. names_of (map binder l)) h
-    ∙ ap names_of (drop-map binder (length xs) ps)
-    ∙ drop-map (λ b. b.name.text) (length xs) (map binder ps)
-    ∙ ap (λ m. drop m (names_of (map binder ps))) (sym (length-map xs flat))
+    ap (λ l. names_of (map parameter l)) h
+    ∙ ap names_of (drop-map parameter (length xs) ps)
+    ∙ drop-map (λ b. b.name.text) (length xs) (map parameter ps)
+    ∙ ap (λ m. drop m (names_of (map parameter ps))) (sym (length-map xs flat))
 
 pub earlier : (l e : Values) (ps : List Name) (xs : List Value) → e ≡ local locals.Empty → l ≡ bind_all e ps xs → l ≡ bind_all nothing ps xs
 earlier l e ps xs h k = k ∙ ap (λ m. bind_all m ps xs) (h ∙ local-Empty)
@@ -502,8 +502,8 @@ remains-full ps k h p = remains-some (waiting ps k) (let l = length-reverse (tak
 
 -- ---- how much it costs
 
-pub weight_of_node : (ws : Table ℕ) (e : Expr) (s : Shape) → shape e.node ≡ s → term_weight ws (term e) ≡ shape_weight ws s
-weight_of_node ws e s h = ap (term_weight ws) (term-placed e) ∙ ap (shape_weight ws) h
+pub weight_of_node : (ws : Table ℕ) (e : Expr) (s : ExpressionForm) → expression_form e.node ≡ s → expression_weight ws (expression e) ≡ expression_form_weight ws s
+weight_of_node ws e s h = ap (expression_weight ws) (expression-placed e) ∙ ap (expression_form_weight ws) h
 
 pub cost_none : (ls : List Link) → (length ls == 0) ≡ true → 0 ≡ link_cost (links ls)
 cost_none [] h = refl

@@ -1,6 +1,6 @@
 -- What the numbering of the applications of a program answers.
 use Rattle.std.specs.Prelude.{◌≢◌, ℕ, List, map, Option}
-use Rattle.rev_syntax.specs.Trees.{Whole}
+use Rattle.rev_syntax.specs.Trees.{ProgramTree}
 use Rattle.merge_decl.specs.FunRules.{Use, broken_in, fun_faults, place, rank}
 use Rattle.merge_decl.specs.Least.{IsFirst}
 use Rattle.merge_decl.specs.Names.{Name}
@@ -17,7 +17,7 @@ abbrev pub decls_of_merges : List MergeRef → List ℕ
 decls_of_merges ms = map (λ m. m.decl) ms
 
 -- the refusal of a program: the first rule on funs that it breaks. Want of memory says nothing.
-abbrev pub Refuses : Whole → MergeFault → Type 0
+abbrev pub Refuses : ProgramTree → MergeFault → Type 0
 Refuses p f = f ≢ OutOfMemory → IsFirst place rank (fun_faults p) f
 
 -- where names mean these funs: no rule is broken, or the first that is

@@ -4,7 +4,7 @@ use Rattle.rev_num.specs.declared.value.Value.{Value}
 use Rattle.rev_num.specs.declared.value.Value.TheVariants as v
 use Rattle.rev_num.specs.declared.outcome.Cause.{Cause}
 use Rattle.merge_decl.specs.Names.{Name}
-use Rattle.rev_syntax.specs.View.{binder}
+use Rattle.rev_syntax.specs.View.{parameter}
 use Rattle.merge_decl.specs.Definitions.{names_of}
 use Rattle.merge_decl.specs.Value.{Answer, bind, bind_all, nothing}
 use Rattle.merge_decl.specs.declared.flat.Flat.{Flat}
@@ -30,7 +30,7 @@ abbrev pub locals_step : Locals-F (Name → Option Value) → Name → Option Va
 locals_step Locals-F.Empty = nothing
 locals_step (Locals-F.Bound name value rest) = bind rest.now name.now (flat value)
 locals_step (Locals-F.Passed params values rest) =
-    bind_all rest.now (names_of (map binder params.now)) (map flat values.now)
+    bind_all rest.now (names_of (map parameter params.now)) (map flat values.now)
 
 abbrev pub local : Locals → Name → Option Value
 local = fold-Locals (Name → Option Value) locals_step

@@ -1,6 +1,6 @@
 -- The rules on applications of funs: which funs may be applied where, and to how many arguments.
 use Rattle.std.specs.Prelude.{ℕ, ◌+◌, if◌then◌else◌, nat_eq, nat_le, length, map, Option, Some, None, List, [], ◌∷◌, ◌++◌}
-use Rattle.rev_syntax.specs.Trees.{Word, Term, placed, Shape, Terms, Links, int, bool, no_rev, var, cell, apply, input, inputs, pick, unary, chain, no_terms, term, no_links, link, Right, plain, called, forked, tried, Shown, text, shown, Step, step, Act, bind, assign, assign_cell, choose, choose_or, repeat, call, return, fork, join, print, assert, Steps, no_steps, steps, Arms, no_arms, arm, Entry, fun, merge, shared, proc, Whole}
+use Rattle.rev_syntax.specs.Trees.{PlacedName, Expression, placed, ExpressionForm, Expressions, Links, int, bool, no_rev, var, cell, apply, input, inputs, pick, unary, chain, no_expressions, expression, no_links, link, RightSide, plain, called, forked, tried, PrintItem, text, shown, Statement, statement, StatementForm, bind, assign, assign_cell, choose, choose_or, repeat, call, return, fork, join, print, assert, Statements, no_statements, statements, Arms, no_arms, arm, Declaration, fun, merge, shared, proc, ProgramTree}
 use Rattle.merge_decl.specs.Names.{Name, same}
 use Rattle.merge_decl.specs.declared.expand.MergeFault.{MergeFault}
 use Rattle.merge_decl.specs.declared.expand.MergeFault.TheVariants.{UnknownFun, LaterFun, Arity, OutOfMemory}
@@ -11,101 +11,101 @@ use Rattle.merge_decl.specs.declared.expand.FunHead.{FunHead}
 -- an application: the name, how many arguments it has, and how many of the program's first
 -- declarations it may use
 pub record Use : Type 0 where
-  pub name : Word
+  pub name : PlacedName
   pub args : ℕ
   pub within : ℕ
 
-abbrev pub count : Terms → ℕ
-count no_terms = 0
-count (term x xs) = 1 + count xs
+abbrev pub count : Expressions → ℕ
+count no_expressions = 0
+count (expression x xs) = 1 + count xs
 
 abbrev mutual
   -- the applications in an expression, in the order of their names' places
-  pub term_uses : ℕ → Term → List Use
-  term_uses n (placed at s) = shape_uses n s
+  pub expression_uses : ℕ → Expression → List Use
+  expression_uses n (placed at s) = expression_form_uses n s
 
-  pub shape_uses : ℕ → Shape → List Use
-  shape_uses n (cell w index) = term_uses n index
-  shape_uses n (apply w args) = record { name = w; args = count args; within = n } ∷ terms_uses n args
-  shape_uses n (input at index) = term_uses n index
-  shape_uses n (pick test a b) = term_uses n test ++ term_uses n a ++ term_uses n b
-  shape_uses n (unary op part) = term_uses n part
-  shape_uses n (chain first rest) = term_uses n first ++ links_uses n rest
-  shape_uses n (int z) = []
-  shape_uses n (bool b) = []
-  shape_uses n no_rev = []
-  shape_uses n (var w) = []
-  shape_uses n (inputs at) = []
+  pub expression_form_uses : ℕ → ExpressionForm → List Use
+  expression_form_uses n (cell w index) = expression_uses n index
+  expression_form_uses n (apply w args) = record { name = w; args = count args; within = n } ∷ expressions_uses n args
+  expression_form_uses n (input at index) = expression_uses n index
+  expression_form_uses n (pick test a b) = expression_uses n test ++ expression_uses n a ++ expression_uses n b
+  expression_form_uses n (unary op part) = expression_uses n part
+  expression_form_uses n (chain first rest) = expression_uses n first ++ links_uses n rest
+  expression_form_uses n (int z) = []
+  expression_form_uses n (bool b) = []
+  expression_form_uses n no_rev = []
+  expression_form_uses n (var w) = []
+  expression_form_uses n (inputs at) = []
 
-  pub terms_uses : ℕ → Terms → List Use
-  terms_uses n no_terms = []
-  terms_uses n (term x xs) = term_uses n x ++ terms_uses n xs
+  pub expressions_uses : ℕ → Expressions → List Use
+  expressions_uses n no_expressions = []
+  expressions_uses n (expression x xs) = expression_uses n x ++ expressions_uses n xs
 
   pub links_uses : ℕ → Links → List Use
   links_uses n no_links = []
-  links_uses n (link op part rest) = term_uses n part ++ links_uses n rest
+  links_uses n (link op part rest) = expression_uses n part ++ links_uses n rest
 
-abbrev pub right_uses : ℕ → Right → List Use
-right_uses n (plain e) = term_uses n e
-right_uses n (called at w args) = terms_uses n args
-right_uses n (forked at w args) = terms_uses n args
-right_uses n (tried at handle) = term_uses n handle
+abbrev pub right_side_uses : ℕ → RightSide → List Use
+right_side_uses n (plain e) = expression_uses n e
+right_side_uses n (called at w args) = expressions_uses n args
+right_side_uses n (forked at w args) = expressions_uses n args
+right_side_uses n (tried at handle) = expression_uses n handle
 
-abbrev pub item_uses : ℕ → Shown → List Use
+abbrev pub item_uses : ℕ → PrintItem → List Use
 item_uses n (text at bytes) = []
-item_uses n (shown e) = term_uses n e
+item_uses n (shown e) = expression_uses n e
 
-abbrev pub items_uses : ℕ → List Shown → List Use
+abbrev pub items_uses : ℕ → List PrintItem → List Use
 items_uses n [] = []
 items_uses n (x ∷ xs) = item_uses n x ++ items_uses n xs
 
-abbrev pub value_uses : ℕ → Option Term → List Use
+abbrev pub value_uses : ℕ → Option Expression → List Use
 value_uses n None = []
-value_uses n (Some e) = term_uses n e
+value_uses n (Some e) = expression_uses n e
 
 abbrev mutual
   -- the applications in a statement
-  pub step_uses : ℕ → Step → List Use
-  step_uses n (step at line act) = act_uses n act
+  pub statement_uses : ℕ → Statement → List Use
+  statement_uses n (statement at line form) = statement_form_uses n form
 
-  pub act_uses : ℕ → Act → List Use
-  act_uses n (bind w r) = right_uses n r
-  act_uses n (assign w r) = right_uses n r
-  act_uses n (assign_cell w index value) = term_uses n index ++ term_uses n value
-  act_uses n (choose arms) = arms_uses n arms
-  act_uses n (choose_or arms last) = arms_uses n arms ++ steps_uses n last
-  act_uses n (repeat test body) = term_uses n test ++ steps_uses n body
-  act_uses n (call w args) = terms_uses n args
-  act_uses n (return value) = value_uses n value
-  act_uses n (fork w args) = terms_uses n args
-  act_uses n (join handle) = term_uses n handle
-  act_uses n (print items) = items_uses n items
-  act_uses n (assert test) = term_uses n test
+  pub statement_form_uses : ℕ → StatementForm → List Use
+  statement_form_uses n (bind w r) = right_side_uses n r
+  statement_form_uses n (assign w r) = right_side_uses n r
+  statement_form_uses n (assign_cell w index value) = expression_uses n index ++ expression_uses n value
+  statement_form_uses n (choose arms) = arms_uses n arms
+  statement_form_uses n (choose_or arms last) = arms_uses n arms ++ statements_uses n last
+  statement_form_uses n (repeat test body) = expression_uses n test ++ statements_uses n body
+  statement_form_uses n (call w args) = expressions_uses n args
+  statement_form_uses n (return value) = value_uses n value
+  statement_form_uses n (fork w args) = expressions_uses n args
+  statement_form_uses n (join handle) = expression_uses n handle
+  statement_form_uses n (print items) = items_uses n items
+  statement_form_uses n (assert test) = expression_uses n test
 
-  pub steps_uses : ℕ → Steps → List Use
-  steps_uses n no_steps = []
-  steps_uses n (steps s rest) = step_uses n s ++ steps_uses n rest
+  pub statements_uses : ℕ → Statements → List Use
+  statements_uses n no_statements = []
+  statements_uses n (statements s rest) = statement_uses n s ++ statements_uses n rest
 
   pub arms_uses : ℕ → Arms → List Use
   arms_uses n no_arms = []
-  arms_uses n (arm test body rest) = term_uses n test ++ steps_uses n body ++ arms_uses n rest
+  arms_uses n (arm test body rest) = expression_uses n test ++ statements_uses n body ++ arms_uses n rest
 
 -- the applications in the declaration of this number, in a program of n declarations: the body of a
 -- fun or a merge may use those before it, and a procedure may use all
-abbrev pub entry_uses : ℕ → ℕ → Entry → List Use
-entry_uses n d (fun w params result body) = term_uses d body
-entry_uses n d (merge w m j r body) = term_uses d body
-entry_uses n d (shared x) = []
-entry_uses n d (proc w params result body) = steps_uses n body
+abbrev pub declaration_uses : ℕ → ℕ → Declaration → List Use
+declaration_uses n d (fun w params result body) = expression_uses d body
+declaration_uses n d (merge w m j r body) = expression_uses d body
+declaration_uses n d (shared x) = []
+declaration_uses n d (proc w params result body) = statements_uses n body
 
-abbrev pub entries_uses : ℕ → ℕ → List Entry → List Use
-entries_uses n d [] = []
-entries_uses n d (e ∷ es) = entry_uses n d e ++ entries_uses n (d + 1) es
+abbrev pub declarations_uses : ℕ → ℕ → List Declaration → List Use
+declarations_uses n d [] = []
+declarations_uses n d (e ∷ es) = declaration_uses n d e ++ declarations_uses n (d + 1) es
 
-abbrev pub uses_in : Whole → List Use
+abbrev pub uses_in : ProgramTree → List Use
 uses_in p =
-    let n = length p.entries in
-    entries_uses n 0 p.entries ++ steps_uses n p.main
+    let n = length p.declarations in
+    declarations_uses n 0 p.declarations ++ statements_uses n p.main
 
 -- ---- the funs of a program
 
@@ -113,7 +113,7 @@ abbrev pub head : ℕ → ℕ → ℕ → FunHead
 head decl number params = record { decl = decl; number = number; params = params }
 
 -- the first fun of a name, in declarations that begin with this number, with this many funs before
-abbrev pub first_fun : ℕ → ℕ → List Entry → Name → Option FunHead
+abbrev pub first_fun : ℕ → ℕ → List Declaration → Name → Option FunHead
 first_fun d k [] name = None
 first_fun d k (fun w params result body ∷ es) name =
     if same name w.text then Some (head d k (length params)) else first_fun (d + 1) (k + 1) es name
@@ -122,18 +122,18 @@ first_fun d k (shared x ∷ es) name = first_fun (d + 1) k es name
 first_fun d k (proc w params result body ∷ es) name = first_fun (d + 1) k es name
 
 -- with two funs of one name the first counts
-abbrev pub fun_named : Whole → Name → Option FunHead
-fun_named p name = first_fun 0 0 p.entries name
+abbrev pub fun_named : ProgramTree → Name → Option FunHead
+fun_named p name = first_fun 0 0 p.declarations name
 
 -- the numbers of the declarations that are funs, and of those that are merges
-abbrev pub fun_decls : ℕ → List Entry → List ℕ
+abbrev pub fun_decls : ℕ → List Declaration → List ℕ
 fun_decls d [] = []
 fun_decls d (fun w params result body ∷ es) = d ∷ fun_decls (d + 1) es
 fun_decls d (merge w m j r body ∷ es) = fun_decls (d + 1) es
 fun_decls d (shared x ∷ es) = fun_decls (d + 1) es
 fun_decls d (proc w params result body ∷ es) = fun_decls (d + 1) es
 
-abbrev pub merge_decls : ℕ → List Entry → List ℕ
+abbrev pub merge_decls : ℕ → List Declaration → List ℕ
 merge_decls d [] = []
 merge_decls d (fun w params result body ∷ es) = merge_decls (d + 1) es
 merge_decls d (merge w m j r body ∷ es) = d ∷ merge_decls (d + 1) es
@@ -173,7 +173,7 @@ abbrev pub broken_in : (Name → Option FunHead) → List Use → List MergeFaul
 broken_in named [] = []
 broken_in named (u ∷ us) = broken_by u (named u.name.text) ++ broken_in named us
 
-abbrev pub fun_faults : Whole → List MergeFault
+abbrev pub fun_faults : ProgramTree → List MergeFault
 fun_faults p = broken_in (fun_named p) (uses_in p)
 
 -- ---- the numbers of the applied funs

@@ -11,7 +11,7 @@ use Rattle.rev_num.specs.declared.value.NumFault.TheVariants as fault
 use Rattle.rev_num.specs.declared.outcome.Cause.{Cause}
 use Rattle.rev_num.specs.declared.outcome.Cause.TheVariants as cause
 use Rattle.rev_num.specs.Arith.{sum_of, difference_of, product_of, quotient_of, remainder_of, negation_of}
-use Rattle.rev_syntax.specs.Trees.{Term, placed, Shape, Terms, Links, int, bool, no_rev, var, cell, apply, input, inputs, pick, unary, chain, no_terms, term, no_links, link}
+use Rattle.rev_syntax.specs.Trees.{Expression, placed, ExpressionForm, Expressions, Links, int, bool, no_rev, var, cell, apply, input, inputs, pick, unary, chain, no_expressions, expression, no_links, link}
 use Rattle.rev_syntax.specs.declared.tree.UnaryOp.{UnaryOp}
 use Rattle.rev_syntax.specs.declared.tree.UnaryOp.TheVariants as u
 use Rattle.rev_syntax.specs.declared.tree.BinaryOp.{BinaryOp}
@@ -163,27 +163,27 @@ called None args = some_value
 
 abbrev mutual
   -- where these funs can be applied
-  pub value_by : Funs → Env → Term → Answer
-  value_by fs e (placed at s) = shape_value fs e s
+  pub value_by : Funs → Env → Expression → Answer
+  value_by fs e (placed at s) = expression_form_value fs e s
 
-  pub shape_value : Funs → Env → Shape → Answer
-  shape_value fs e (int n) = Ok (v.Int n)
-  shape_value fs e (bool b) = flag b
-  shape_value fs e no_rev = Ok (v.Rev None)
-  shape_value fs e (var w) = read (e.local w.text) (e.shared w.text)
-  shape_value fs e (cell w index) = and_then (value_by fs e index) (λ i. read_cell (e.shared w.text) (number_of i))
-  shape_value fs e (apply w args) = and_then (values_by fs e args) (called (fs w.text))
-  shape_value fs e (input at index) = and_then (value_by fs e index) (λ i. read_input e.inputs (number_of i))
-  shape_value fs e (inputs at) = Ok (v.Int (pos (length e.inputs)))
-  shape_value fs e (pick test a b) =
+  pub expression_form_value : Funs → Env → ExpressionForm → Answer
+  expression_form_value fs e (int n) = Ok (v.Int n)
+  expression_form_value fs e (bool b) = flag b
+  expression_form_value fs e no_rev = Ok (v.Rev None)
+  expression_form_value fs e (var w) = read (e.local w.text) (e.shared w.text)
+  expression_form_value fs e (cell w index) = and_then (value_by fs e index) (λ i. read_cell (e.shared w.text) (number_of i))
+  expression_form_value fs e (apply w args) = and_then (values_by fs e args) (called (fs w.text))
+  expression_form_value fs e (input at index) = and_then (value_by fs e index) (λ i. read_input e.inputs (number_of i))
+  expression_form_value fs e (inputs at) = Ok (v.Int (pos (length e.inputs)))
+  expression_form_value fs e (pick test a b) =
       and_then (value_by fs e test) (λ c. if truth_of c then value_by fs e a else value_by fs e b)
-  shape_value fs e (unary op part) = and_then (value_by fs e part) (reversed op)
-  shape_value fs e (chain first rest) = and_then (value_by fs e first) (λ x. chained fs e x rest)
+  expression_form_value fs e (unary op part) = and_then (value_by fs e part) (reversed op)
+  expression_form_value fs e (chain first rest) = and_then (value_by fs e first) (λ x. chained fs e x rest)
 
   -- the values of arguments, from left to right
-  pub values_by : Funs → Env → Terms → Result (List Value) Cause
-  values_by fs e no_terms = Ok []
-  values_by fs e (term x xs) = and_then (value_by fs e x) (λ y. and_then (values_by fs e xs) (λ ys. Ok (y ∷ ys)))
+  pub values_by : Funs → Env → Expressions → Result (List Value) Cause
+  values_by fs e no_expressions = Ok []
+  values_by fs e (expression x xs) = and_then (value_by fs e x) (λ y. and_then (values_by fs e xs) (λ ys. Ok (y ∷ ys)))
 
   -- a chain is worked link by link
   pub chained : Funs → Env → Value → Links → Answer
@@ -197,7 +197,7 @@ abbrev mutual
 pub record FunDef : Type 0 where
   pub name : Name
   pub params : List Name
-  pub body : Term
+  pub body : Expression
 
 -- these locals, and this value by this name, which hides an earlier one
 abbrev pub bind : (Name → Option Value) → Name → Value → Name → Option Value
@@ -235,8 +235,8 @@ funs_of (f ∷ before) name =
     earlier_of (funs_of before name) (if same name f.name then Some (fun_value (funs_of before) f) else None)
 
 -- the value of an expression where all these funs, from the last declared to the first, may be applied
-abbrev pub value : List FunDef → Env → Term → Answer
+abbrev pub value : List FunDef → Env → Expression → Answer
 value funs e t = value_by (funs_of funs) e t
 
-abbrev pub values : List FunDef → Env → Terms → Result (List Value) Cause
+abbrev pub values : List FunDef → Env → Expressions → Result (List Value) Cause
 values funs e ts = values_by (funs_of funs) e ts

@@ -2,16 +2,16 @@
 use Rattle.std.specs.Prelude.{ℕ, ◌+◌, ◌-◌, ◌*◌, List, [], ◌∷◌, ◌++◌, map, reverse, take, drop, length, Option, Some, None, if◌then◌else◌, Result, Ok, Err}
 use Rattle.rev_num.specs.declared.value.Value.{Value}
 use Rattle.rev_num.specs.declared.outcome.Cause.{Cause}
-use Rattle.rev_syntax.specs.Small.{term_count, terms_count, links_count}
+use Rattle.rev_syntax.specs.Small.{expression_count, expressions_count, links_count}
 use Rattle.rev_syntax.specs.Trees as t
-use Rattle.rev_syntax.specs.Trees.{Terms, Shape, Links}
-use Rattle.rev_syntax.specs.View.{term, terms, links}
+use Rattle.rev_syntax.specs.Trees.{Expressions, ExpressionForm, Links}
+use Rattle.rev_syntax.specs.View.{expression, expressions, links}
 use Rattle.merge_decl.specs.Names.{Name}
 use Rattle.merge_decl.specs.Table.{Table, find}
-use Rattle.merge_decl.specs.Weights.{known_weight, term_weight, terms_weight, links_weight}
+use Rattle.merge_decl.specs.Weights.{known_weight, expression_weight, expressions_weight, links_weight}
 use Rattle.merge_decl.specs.Value.{Answer, and_then, called, values_by, closed, read_cell, read_input, unknown, number_of, truth_of, reversed, operated}
 use Rattle.merge_decl.specs.Evaluation.{Values, funs_before, value_within, chained_within}
-use Rattle.rev_syntax.specs.Trees.{Entry}
+use Rattle.rev_syntax.specs.Trees.{Declaration}
 use Rattle.merge_decl.specs.Flat.{flat}
 use Rattle.merge_decl.specs.declared.flat.Flat.{Flat}
 use Rattle.merge_decl.specs.declared.work.Pending.{Pending}
@@ -64,10 +64,10 @@ abbrev pub kept_behind : Pending → List Value → List Value
 kept_behind (wait.Argument name before rest) vs = without before vs
 kept_behind p vs = vs
 
-module _ (es : List Entry) (n : ℕ) (local : Values) where
+module _ (es : List Declaration) (n : ℕ) (local : Values) where
   -- the value of an application whose first arguments have these values, and whose other arguments are
   -- evaluated
-  unfoldable pub application : Name → List Value → Terms → Answer
+  unfoldable pub application : Name → List Value → Expressions → Answer
   application name xs rest =
       and_then (values_by (funs_before es n) (closed local) rest) (λ ys. called (funs_before es n name) (xs ++ ys))
 
@@ -77,12 +77,12 @@ module _ (es : List Entry) (n : ℕ) (local : Values) where
   continued wait.Input vs x = read_input [] (number_of x)
   continued (wait.Unary op) vs x = reversed op x
   continued (wait.Pick first second) vs x =
-      if truth_of x then value_within es n local (term first.now) else value_within es n local (term second.now)
+      if truth_of x then value_within es n local (expression first.now) else value_within es n local (expression second.now)
   continued (wait.Left rest) vs x = chained_within es n local x (links rest.now)
   continued (wait.Right op left rest) vs x =
       and_then (operated op (flat left) x) (λ z. chained_within es n local z (links rest.now))
   continued (wait.Argument name before rest) vs x =
-      application name.now.text.items (lasts before vs ++ x ∷ []) (terms rest.now)
+      application name.now.text.items (lasts before vs ++ x ∷ []) (expressions rest.now)
 
   -- what the parts that wait make of a value or a fault
   unfoldable pub ended : List Pending → List Value → Answer → Answer
@@ -91,10 +91,10 @@ module _ (es : List Entry) (n : ℕ) (local : Values) where
 
   -- to what all the rest comes
   unfoldable pub comes_to : List Pending → List Value → Next → Answer
-  comes_to ps vs (next.Part e) = ended ps vs (value_within es n local (term e.now))
+  comes_to ps vs (next.Part e) = ended ps vs (value_within es n local (expression e.now))
   comes_to ps vs (next.Value x) = ended ps vs (Ok (flat x))
   comes_to ps vs (next.Call c) =
-      ended ps (without c.before vs) (application c.name.now.text.items (lasts c.before vs ++ passed c.value) (terms c.rest.now))
+      ended ps (without c.before vs) (application c.name.now.text.items (lasts c.before vs ++ passed c.value) (expressions c.rest.now))
 
   -- after a turn
   abbrev pub after : List Pending → List Value → Turn → Answer
@@ -110,19 +110,19 @@ abbrev pub pending_size : Pending → ℕ
 pending_size wait.Cell = 1
 pending_size wait.Input = 1
 pending_size (wait.Unary op) = 1
-pending_size (wait.Pick first second) = 1 + 3 * (term_count (term first.now) + term_count (term second.now))
+pending_size (wait.Pick first second) = 1 + 3 * (expression_count (expression first.now) + expression_count (expression second.now))
 pending_size (wait.Left rest) = 1 + 3 * links_count (links rest.now)
 pending_size (wait.Right op left rest) = 2 + 3 * links_count (links rest.now)
-pending_size (wait.Argument name before rest) = 2 + 3 * terms_count (terms rest.now)
+pending_size (wait.Argument name before rest) = 2 + 3 * expressions_count (expressions rest.now)
 
 abbrev pub wait_size : Option Pending → ℕ
 wait_size (Some p) = pending_size p
 wait_size None = 0
 
 abbrev pub next_size : Next → ℕ
-next_size (next.Part e) = 3 * term_count (term e.now)
+next_size (next.Part e) = 3 * expression_count (expression e.now)
 next_size (next.Value x) = 1
-next_size (next.Call c) = 2 + 3 * terms_count (terms c.rest.now)
+next_size (next.Call c) = 2 + 3 * expressions_count (expressions c.rest.now)
 
 abbrev pub turn_size : Turn → ℕ
 turn_size t = wait_size t.wait + next_size t.next
@@ -138,19 +138,19 @@ module _ (ws : Table ℕ) where
   pending_weight wait.Cell = 0
   pending_weight wait.Input = 0
   pending_weight (wait.Unary op) = 0
-  pending_weight (wait.Pick first second) = term_weight ws (term first.now) + term_weight ws (term second.now)
+  pending_weight (wait.Pick first second) = expression_weight ws (expression first.now) + expression_weight ws (expression second.now)
   pending_weight (wait.Left rest) = links_weight ws (links rest.now)
   pending_weight (wait.Right op left rest) = links_weight ws (links rest.now)
-  pending_weight (wait.Argument name before rest) = known_weight (find name.now.text.items ws) + terms_weight ws (terms rest.now)
+  pending_weight (wait.Argument name before rest) = known_weight (find name.now.text.items ws) + expressions_weight ws (expressions rest.now)
 
   abbrev pub wait_weight : Option Pending → ℕ
   wait_weight (Some p) = pending_weight p
   wait_weight None = 0
 
   abbrev pub next_weight : Next → ℕ
-  next_weight (next.Part e) = term_weight ws (term e.now)
+  next_weight (next.Part e) = expression_weight ws (expression e.now)
   next_weight (next.Value x) = 0
-  next_weight (next.Call c) = known_weight (find c.name.now.text.items ws) + terms_weight ws (terms c.rest.now)
+  next_weight (next.Call c) = known_weight (find c.name.now.text.items ws) + expressions_weight ws (expressions c.rest.now)
 
   abbrev pub turn_weight : Turn → ℕ
   turn_weight t = wait_weight t.wait + next_weight t.next
@@ -160,7 +160,7 @@ module _ (ws : Table ℕ) where
   waiting_weight (p ∷ ps) = pending_weight p + waiting_weight ps
 
 -- a part counts 1 where it is begun; a chain counts where a link is
-abbrev pub part_cost : Shape → ℕ
+abbrev pub part_cost : ExpressionForm → ℕ
 part_cost (t.chain first rest) = 0
 part_cost s = 1
 

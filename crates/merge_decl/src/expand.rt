@@ -3,7 +3,7 @@
 ghost use Rattle.std.specs.Prelude.{◌≡◌, ◌<◌, ◌^◌, ℕ, List, [], IfErr, IfOk, OnOk, length, map};
 ghost use Rattle.std.specs.declared.alloc.AllocError.{AllocError};
 ghost use Rattle.rev_syntax.specs.Small.{IsSmall};
-ghost use Rattle.rev_syntax.specs.View.{entry, program as whole};
+ghost use Rattle.rev_syntax.specs.View.{declaration, program as whole};
 ghost use Rattle.merge_decl.specs.FunRules as rule;
 ghost use Rattle.merge_decl.specs.Least.{first_of, is_less, least};
 ghost use Rattle.merge_decl.specs.Names.{Name};
@@ -71,8 +71,8 @@ pub struct Expanded {
     ghost small: { IsSmall (whole program) },
     ghost few: { length program.decls.items < 2 ^ 32 },
     ghost keeps_rules: { rule.fun_faults (whole program) ≡ [] },
-    ghost funs_listed: { decls_of_funs funs ≡ rule.fun_decls 0 (map entry program.decls.items) },
-    ghost merges_listed: { decls_of_merges merges ≡ rule.merge_decls 0 (map entry program.decls.items) },
+    ghost funs_listed: { decls_of_funs funs ≡ rule.fun_decls 0 (map declaration program.decls.items) },
+    ghost merges_listed: { decls_of_merges merges ≡ rule.merge_decls 0 (map declaration program.decls.items) },
     ghost uses_numbered: { uses ≡ rule.numbers_of (rule.fun_named (whole program)) (rule.uses_in (whole program)) },
     ghost funs_found: { (name : Name) → find name table ≡ rule.fun_named (whole program) name },
 }
@@ -143,7 +143,9 @@ fn broken(u: &Use, head: Option<FunHead>) -> Option<MergeFault>
 /// The first rule that the applications break.
 #[tactic(auto, using(crate::proofs::Leasts::leasts))]
 fn first_broken(table: &NameTable<FunHead>, uses: &[Use]) -> Option<MergeFault>
-    ensures { result ≡ least rule.place rule.rank (rule.broken_in (λ name. find name table.now) (uses_of uses.now)) }
+    ensures { result
+        ≡ least rule.place rule.rank
+        (rule.broken_in (λ name. find name table.now) (uses_of uses.now)) }
 {
     let mut best = None;
     for u in uses {
@@ -155,7 +157,8 @@ fn first_broken(table: &NameTable<FunHead>, uses: &[Use]) -> Option<MergeFault>
 /// The first fun of each name.
 fn fun_table(alloc: Global, decls: &[Decl]) -> Result<NameTable<FunHead>, AllocError>
     requires { length decls.now < 2 ^ 32 }
-    ensures { IfOk result (λ t. (name : Name) → find name t ≡ rule.first_fun 0 0 (map entry decls.now) name) }
+    ensures { IfOk result
+        (λ t. (name : Name) → find name t ≡ rule.first_fun 0 0 (map declaration decls.now) name) }
 {
     let mut table = NameTable::new(alloc);
     let mut number = 0u32;
@@ -181,7 +184,8 @@ fn fun_table(alloc: Global, decls: &[Decl]) -> Result<NameTable<FunHead>, AllocE
 
 fn fun_list(alloc: Global, decls: &[Decl]) -> Result<Vec<FunDef>, AllocError>
     requires { length decls.now < 2 ^ 32 }
-    ensures { IfOk result (λ fs. decls_of_funs fs.items ≡ rule.fun_decls 0 (map entry decls.now)) }
+    ensures { IfOk result
+        (λ fs. decls_of_funs fs.items ≡ rule.fun_decls 0 (map declaration decls.now)) }
 {
     let mut funs = Vec::new(alloc);
     for (decl, d) in decls.iter().enumerate() {
@@ -200,7 +204,8 @@ fn fun_list(alloc: Global, decls: &[Decl]) -> Result<Vec<FunDef>, AllocError>
 
 fn merge_list(alloc: Global, decls: &[Decl]) -> Result<Vec<MergeRef>, AllocError>
     requires { length decls.now < 2 ^ 32 }
-    ensures { IfOk result (λ ms. decls_of_merges ms.items ≡ rule.merge_decls 0 (map entry decls.now)) }
+    ensures { IfOk result
+        (λ ms. decls_of_merges ms.items ≡ rule.merge_decls 0 (map declaration decls.now)) }
 {
     let mut merges = Vec::new(alloc);
     for (decl, d) in decls.iter().enumerate() {
@@ -228,7 +233,8 @@ fn number_at(head: Option<FunHead>) -> u32
 }
 
 fn numbers(alloc: Global, table: &NameTable<FunHead>, uses: &[Use]) -> Result<Vec<u32>, AllocError>
-    ensures { IfOk result (λ ns. ns.items ≡ rule.numbers_of (λ name. find name table.now) (uses_of uses.now)) }
+    ensures { IfOk result
+        (λ ns. ns.items ≡ rule.numbers_of (λ name. find name table.now) (uses_of uses.now)) }
 {
     let mut all = Vec::with_capacity(alloc, uses.len())?;
     for u in uses {
@@ -243,9 +249,13 @@ fn resolved(
     table: &NameTable<FunHead>,
     program: &Program,
 ) -> Result<Vec<u32>, MergeFault>
-    ensures keeps { OnOk result (rule.broken_in (λ name. find name table.now) (rule.uses_in (whole program.now)) ≡ []) }
-    ensures numbers { IfOk result (λ ns. ns.items ≡ rule.numbers_of (λ name. find name table.now) (rule.uses_in (whole program.now))) }
-    ensures err { IfErr result (IsFirstBroken (λ name. find name table.now) (rule.uses_in (whole program.now))) }
+    ensures keeps { OnOk result
+        (rule.broken_in (λ name. find name table.now) (rule.uses_in (whole program.now)) ≡ []) }
+    ensures numbers { IfOk result
+        (λ ns. ns.items
+        ≡ rule.numbers_of (λ name. find name table.now) (rule.uses_in (whole program.now))) }
+    ensures err { IfErr result
+        (IsFirstBroken (λ name. find name table.now) (rule.uses_in (whole program.now))) }
 {
     let uses = uses_in(alloc, program)?;
     if let Some(fault) = first_broken(table, &uses) {
@@ -266,8 +276,8 @@ fn assembled(
     requires few { length program.decls.items < 2 ^ 32 }
     requires found { (name : Name) → find name table ≡ rule.fun_named (whole program) name }
     requires keeps { rule.broken_in (λ name. find name table) (rule.uses_in (whole program)) ≡ [] }
-    requires funs_listed { decls_of_funs funs.items ≡ rule.fun_decls 0 (map entry program.decls.items) }
-    requires merges_listed { decls_of_merges merges.items ≡ rule.merge_decls 0 (map entry program.decls.items) }
+    requires funs_listed { decls_of_funs funs.items ≡ rule.fun_decls 0 (map declaration program.decls.items) }
+    requires merges_listed { decls_of_merges merges.items ≡ rule.merge_decls 0 (map declaration program.decls.items) }
     requires numbered { uses.items ≡ rule.numbers_of (λ name. find name table) (rule.uses_in (whole program)) }
     ensures same { whole result.program ≡ whole program }
     ensures kept { rule.fun_faults (whole program) ≡ [] }

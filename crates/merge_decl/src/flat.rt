@@ -1,7 +1,7 @@
 //! Values inside a fun or a merge, their locals, and the operators.
 
 ghost use Rattle.std.specs.Prelude.{◌≡◌, map};
-ghost use Rattle.rev_syntax.specs.View.{binder};
+ghost use Rattle.rev_syntax.specs.View.{parameter};
 ghost use Rattle.merge_decl.specs.Definitions.{names_of};
 ghost use Rattle.merge_decl.specs.Flat.{answer, flat, flat_option, local};
 ghost use Rattle.merge_decl.specs.Value as spec;
@@ -65,7 +65,9 @@ impl Locals<'_> {
 
 /// The value of a name among these parameters with these values; a later one hides an earlier one.
 pub fn passed(params: &[Param], values: &[Flat], name: &[u8]) -> Option<Flat>
-    ensures { flat_option result ≡ spec.bind_all spec.nothing (names_of (map binder params.now)) (map flat values.now) name.now }
+    ensures { flat_option result
+        ≡ spec.bind_all spec.nothing (names_of (map parameter params.now))
+        (map flat values.now) name.now }
 {
     let mut found = None;
     for (i, param) in params.iter().enumerate() {
@@ -93,7 +95,9 @@ pub fn bound<'a>(name: &'a Name, value: Flat, rest: &'a Locals<'a>) -> Locals<'a
 /// These locals, and the first of these parameters with the first of these values, and so on.
 #[tactic(auto, using(crate::proofs::Shapes::local_values))]
 pub fn arguments<'a>(params: &'a [Param], values: &'a [Flat], rest: &'a Locals<'a>) -> Locals<'a>
-    ensures { local result ≡ spec.bind_all (local rest.now) (names_of (map binder params.now)) (map flat values.now) }
+    ensures { local result
+        ≡ spec.bind_all (local rest.now) (names_of (map parameter params.now))
+        (map flat values.now) }
 {
     Locals::Passed {
         params,

@@ -1,9 +1,13 @@
 //! Pure functions and merges: the value of an expression, and which fun each application means.
 #![tactic(auto)]
 
-pub mod expand;
+mod expand;
 mod flat;
-pub mod table;
-pub mod uses;
-pub mod value;
+mod table;
+mod uses;
+mod value;
 mod work;
+
+pub use expand::{Expanded, FunDef, FunHead, MergeFault, MergeRef, expand_funs};
+pub use table::NameTable;
+pub use value::{counted_merge_value, merge_value};

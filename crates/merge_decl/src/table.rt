@@ -1,25 +1,30 @@
 //! Tables from names, in the order in which the names came.
 
-ghost use Rattle.std.specs.Prelude.{◌≡◌, [], length, take, OnOk, OnErr};
-ghost use Rattle.merge_decl.specs.Table.{added, find};
+ghost use Rattle.std.specs.Prelude.{◌≡◌, ◌-◌, ◌++◌, ◌∷◌, [], None, length, take, OnOk, OnErr};
+ghost use Rattle.merge_decl.specs.Table.{IsIndexed, added, find, rows};
 
-use indexmap::IndexMap;
 use std::alloc::{AllocError, Global};
+use std::collections::BTreeMap;
 use std::marker::Model;
 
 /// A table from names to values. Contracts see the list of its entries, in the order in which they
 /// came.
+///
+/// A look-up goes through an ordered map, so that no choice of names makes it slow.
 #[derive(Drop)]
 pub struct NameTable<V> {
-    index: IndexMap<Vec<u8>, V>,
+    entries: Vec<(Vec<u8>, V)>,
+    index: BTreeMap<Vec<u8>, V>,
 }
 
 impl<V> Model for NameTable<V> {
-    ghost use Rattle.merge_decl.specs.Table.{Table, rows};
+    ghost use Rattle.merge_decl.specs.Table.{Table, IsIndexed, rows};
 
     ghost Value = { Table V };
 
-    ghost view = { λ t. rows t.index.entries };
+    ghost view = { λ t. rows t.entries.items };
+
+    ghost invariant = { λ t. IsIndexed t.index (rows t.entries.items) };
 }
 
 impl<V: Copy + Drop> NameTable<V> {
@@ -28,7 +33,8 @@ impl<V: Copy + Drop> NameTable<V> {
         ensures { result ≡ [] }
     {
         NameTable {
-            index: IndexMap::new(alloc),
+            entries: Vec::new(alloc),
+            index: BTreeMap::new(alloc),
         }
     }
 
@@ -36,7 +42,7 @@ impl<V: Copy + Drop> NameTable<V> {
     pub fn len(&self) -> usize
         ensures { result ≡ length self.now }
     {
-        self.index.len()
+        self.entries.len()
     }
 
     /// The value of the name.
@@ -54,14 +60,50 @@ impl<V: Copy + Drop> NameTable<V> {
         if self.index.contains_key(name) {
             return Ok(());
         }
-        self.index.insert(Vec::from_slice(alloc, name)?, value)?;
-        Ok(())
+        let key = Vec::from_slice(alloc, name)?;
+        let again = Vec::from_slice(alloc, name)?;
+        entered(&mut self.entries, &mut self.index, key, again, value)
     }
 
     /// Takes out all entries but the first `len`.
     pub fn truncate(&mut self, len: usize)
         ensures { self.new ≡ take len self.old }
     {
-        self.index.truncate(len);
+        while self.entries.len() > len {
+            last_out(&mut self.entries, &mut self.index);
+        }
+    }
+}
+
+/// Enters a name, of which there are two copies, that the table does not have.
+fn entered<V: Copy + Drop>(
+    entries: &mut Vec<(Vec<u8>, V)>,
+    index: &mut BTreeMap<Vec<u8>, V>,
+    key: Vec<u8>,
+    again: Vec<u8>,
+    value: V,
+) -> Result<(), AllocError>
+    requires indexed { IsIndexed index.old (rows entries.old.items) }
+    requires same { again.items ≡ key.items }
+    requires absent { find key.items (rows entries.old.items) ≡ None }
+    ensures indexed { IsIndexed index.new (rows entries.new.items) }
+    ensures ok { OnOk result
+        (rows entries.new.items ≡ rows entries.old.items ++ (key.items, value) ∷ []) }
+    ensures err { OnErr result (entries.new.items ≡ entries.old.items) }
+{
+    entries.reserve(1)?;
+    index.insert(key, value)?;
+    entries.push((again, value))?;
+    Ok(())
+}
+
+/// Takes out the last entry.
+fn last_out<V: Copy + Drop>(entries: &mut Vec<(Vec<u8>, V)>, index: &mut BTreeMap<Vec<u8>, V>)
+    requires { IsIndexed index.old (rows entries.old.items) }
+    ensures indexed { IsIndexed index.new (rows entries.new.items) }
+    ensures rest { entries.new.items ≡ take (length entries.old.items - 1) entries.old.items }
+{
+    if let Some((name, _)) = entries.pop() {
+        index.remove(name.as_slice());
     }
 }

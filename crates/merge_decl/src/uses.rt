@@ -1,7 +1,7 @@
 //! The applications of funs in a program.
 
 ghost use Rattle.std.specs.Prelude.{◌≡◌, ◌++◌, OnOk, IfOk, map};
-ghost use Rattle.rev_syntax.specs.View.{act, arms, block, entry, links, program as whole, right, shape, shown, term, terms};
+ghost use Rattle.rev_syntax.specs.View.{statement_form, arms, block, declaration, links, program as whole, right_side, expression_form, print_item, expression, expressions};
 ghost use Rattle.merge_decl.specs.FunRules as rule;
 ghost use Rattle.merge_decl.specs.Uses.{uses_of};
 
@@ -18,46 +18,50 @@ pub struct Use<'a> {
 }
 
 /// Appends the applications of an expression that may use the first `within` declarations.
-#[cycle(term)]
-fn add_term<'a>(
+#[cycle(expression)]
+fn add_expression<'a>(
     uses: &mut Vec<Use<'a>>,
     within: usize,
     e: &'a Expr,
 ) -> Result<(), AllocFailed<Use<'a>>>
-    ensures { OnOk result (uses_of uses.new.items ≡ uses_of uses.old.items ++ rule.term_uses within (term e.now)) }
+    ensures { OnOk result
+        (uses_of uses.new.items
+        ≡ uses_of uses.old.items ++ rule.expression_uses within (expression e.now)) }
 {
     add_node(uses, within, &e.node)
 }
 
-#[cycle(term)]
+#[cycle(expression)]
 fn add_node<'a>(
     uses: &mut Vec<Use<'a>>,
     within: usize,
     node: &'a Node,
 ) -> Result<(), AllocFailed<Use<'a>>>
-    ensures { OnOk result (uses_of uses.new.items ≡ uses_of uses.old.items ++ rule.shape_uses within (shape node.now)) }
+    ensures { OnOk result
+        (uses_of uses.new.items
+        ≡ uses_of uses.old.items ++ rule.expression_form_uses within (expression_form node.now)) }
 {
     match node {
-        Node::Cell { name: _, index } => add_term(uses, within, index),
+        Node::Cell { name: _, index } => add_expression(uses, within, index),
         Node::Apply { name, args } => {
             uses.push(Use {
                 name,
                 args: args.len(),
                 within,
             })?;
-            add_terms(uses, within, args)?;
+            add_expressions(uses, within, args)?;
             Ok(())
         }
-        Node::Input { word_at: _, index } => add_term(uses, within, index),
+        Node::Input { word_at: _, index } => add_expression(uses, within, index),
         Node::Pick { test, yes, no } => {
-            add_term(uses, within, test)?;
-            add_term(uses, within, yes)?;
-            add_term(uses, within, no)?;
+            add_expression(uses, within, test)?;
+            add_expression(uses, within, yes)?;
+            add_expression(uses, within, no)?;
             Ok(())
         }
-        Node::Unary { op: _, part } => add_term(uses, within, part),
+        Node::Unary { op: _, part } => add_expression(uses, within, part),
         Node::Chain { first, rest } => {
-            add_term(uses, within, first)?;
+            add_expression(uses, within, first)?;
             add_links(uses, within, rest)?;
             Ok(())
         }
@@ -69,30 +73,33 @@ fn add_node<'a>(
     }
 }
 
-#[cycle(term)]
-fn add_terms<'a>(
+#[cycle(expression)]
+fn add_expressions<'a>(
     uses: &mut Vec<Use<'a>>,
     within: usize,
     args: &'a [Expr],
 ) -> Result<(), AllocFailed<Use<'a>>>
-    ensures { OnOk result (uses_of uses.new.items ≡ uses_of uses.old.items ++ rule.terms_uses within (terms args.now)) }
+    ensures { OnOk result
+        (uses_of uses.new.items
+        ≡ uses_of uses.old.items ++ rule.expressions_uses within (expressions args.now)) }
 {
     for arg in args {
-        add_term(uses, within, arg)?;
+        add_expression(uses, within, arg)?;
     }
     Ok(())
 }
 
-#[cycle(term)]
+#[cycle(expression)]
 fn add_links<'a>(
     uses: &mut Vec<Use<'a>>,
     within: usize,
     rest: &'a [Link],
 ) -> Result<(), AllocFailed<Use<'a>>>
-    ensures { OnOk result (uses_of uses.new.items ≡ uses_of uses.old.items ++ rule.links_uses within (links rest.now)) }
+    ensures { OnOk result
+        (uses_of uses.new.items ≡ uses_of uses.old.items ++ rule.links_uses within (links rest.now)) }
 {
     for link in rest {
-        add_term(uses, within, &link.part)?;
+        add_expression(uses, within, &link.part)?;
     }
     Ok(())
 }
@@ -103,21 +110,23 @@ fn add_right<'a>(
     within: usize,
     rhs: &'a Rhs,
 ) -> Result<(), AllocFailed<Use<'a>>>
-    ensures { OnOk result (uses_of uses.new.items ≡ uses_of uses.old.items ++ rule.right_uses within (right rhs.now)) }
+    ensures { OnOk result
+        (uses_of uses.new.items
+        ≡ uses_of uses.old.items ++ rule.right_side_uses within (right_side rhs.now)) }
 {
     match rhs {
-        Rhs::Plain(e) => add_term(uses, within, e),
+        Rhs::Plain(e) => add_expression(uses, within, e),
         Rhs::Call {
             at: _,
             name: _,
             args,
-        } => add_terms(uses, within, args),
+        } => add_expressions(uses, within, args),
         Rhs::Fork {
             at: _,
             name: _,
             args,
-        } => add_terms(uses, within, args),
-        Rhs::Try { at: _, handle } => add_term(uses, within, handle),
+        } => add_expressions(uses, within, args),
+        Rhs::Try { at: _, handle } => add_expression(uses, within, handle),
     }
 }
 
@@ -127,11 +136,13 @@ fn add_items<'a>(
     within: usize,
     items: &'a [Item],
 ) -> Result<(), AllocFailed<Use<'a>>>
-    ensures { OnOk result (uses_of uses.new.items ≡ uses_of uses.old.items ++ rule.items_uses within (map shown items.now)) }
+    ensures { OnOk result
+        (uses_of uses.new.items
+        ≡ uses_of uses.old.items ++ rule.items_uses within (map print_item items.now)) }
 {
     for it in items {
         if let Item::Value(e) = it {
-            add_term(uses, within, e)?;
+            add_expression(uses, within, e)?;
         }
     }
     Ok(())
@@ -145,7 +156,9 @@ fn add_form<'a>(
     within: usize,
     form: &'a Form,
 ) -> Result<(), AllocFailed<Use<'a>>>
-    ensures { OnOk result (uses_of uses.new.items ≡ uses_of uses.old.items ++ rule.act_uses within (act form.now)) }
+    ensures { OnOk result
+        (uses_of uses.new.items
+        ≡ uses_of uses.old.items ++ rule.statement_form_uses within (statement_form form.now)) }
 {
     match form {
         Form::Let { name: _, rhs } => add_right(uses, within, rhs),
@@ -155,8 +168,8 @@ fn add_form<'a>(
             index,
             value,
         } => {
-            add_term(uses, within, index)?;
-            add_term(uses, within, value)
+            add_expression(uses, within, index)?;
+            add_expression(uses, within, value)
         }
         Form::If { arms, last } => {
             add_arms(uses, within, arms)?;
@@ -166,18 +179,18 @@ fn add_form<'a>(
             }
         }
         Form::While { test, body } => {
-            add_term(uses, within, test)?;
+            add_expression(uses, within, test)?;
             add_block(uses, within, body)
         }
-        Form::Call { name: _, args } => add_terms(uses, within, args),
+        Form::Call { name: _, args } => add_expressions(uses, within, args),
         Form::Return { value } => match value {
-            Some(e) => add_term(uses, within, e),
+            Some(e) => add_expression(uses, within, e),
             None => Ok(()),
         },
-        Form::Fork { name: _, args } => add_terms(uses, within, args),
-        Form::Join { handle } => add_term(uses, within, handle),
+        Form::Fork { name: _, args } => add_expressions(uses, within, args),
+        Form::Join { handle } => add_expression(uses, within, handle),
         Form::Print { items } => add_items(uses, within, items),
-        Form::Assert { test } => add_term(uses, within, test),
+        Form::Assert { test } => add_expression(uses, within, test),
     }
 }
 
@@ -188,10 +201,11 @@ fn add_arms<'a>(
     within: usize,
     all: &'a [Arm],
 ) -> Result<(), AllocFailed<Use<'a>>>
-    ensures { OnOk result (uses_of uses.new.items ≡ uses_of uses.old.items ++ rule.arms_uses within (arms all.now)) }
+    ensures { OnOk result
+        (uses_of uses.new.items ≡ uses_of uses.old.items ++ rule.arms_uses within (arms all.now)) }
 {
     for arm in all {
-        add_term(uses, within, &arm.test)?;
+        add_expression(uses, within, &arm.test)?;
         add_block(uses, within, &arm.body)?;
     }
     Ok(())
@@ -204,7 +218,9 @@ fn add_block<'a>(
     within: usize,
     body: &'a Block,
 ) -> Result<(), AllocFailed<Use<'a>>>
-    ensures { OnOk result (uses_of uses.new.items ≡ uses_of uses.old.items ++ rule.steps_uses within (block body.now)) }
+    ensures { OnOk result
+        (uses_of uses.new.items
+        ≡ uses_of uses.old.items ++ rule.statements_uses within (block body.now)) }
 {
     for stmt in &body.stmts {
         add_form(uses, within, &stmt.form)?;
@@ -219,7 +235,9 @@ fn add_decl<'a>(
     number: usize,
     decl: &'a Decl,
 ) -> Result<(), AllocFailed<Use<'a>>>
-    ensures { OnOk result (uses_of uses.new.items ≡ uses_of uses.old.items ++ rule.entry_uses all number (entry decl.now)) }
+    ensures { OnOk result
+        (uses_of uses.new.items
+        ≡ uses_of uses.old.items ++ rule.declaration_uses all number (declaration decl.now)) }
 {
     match decl {
         Decl::Fun {
@@ -227,14 +245,14 @@ fn add_decl<'a>(
             params: _,
             result: _,
             body,
-        } => add_term(uses, number, body),
+        } => add_expression(uses, number, body),
         Decl::Merge {
             name: _,
             main: _,
             join: _,
             root: _,
             body,
-        } => add_term(uses, number, body),
+        } => add_expression(uses, number, body),
         Decl::Shared {
             name: _,
             by: _,

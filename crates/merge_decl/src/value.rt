@@ -3,27 +3,29 @@
 ghost use Rattle.std.specs.Prelude.{◌≡◌, ◌<◌, ◌≤◌, ◌+◌, map, length, IfSome, option_map, slice_get, drop, ◌++◌};
 ghost use Rattle.std.specs.Option.{option_copied};
 ghost use Rattle.rev_num.specs.declared.value.Value.TheVariants as v;
-ghost use Rattle.rev_syntax.specs.View.{binder, entry, program as whole, term, terms};
+ghost use Rattle.rev_syntax.specs.View.{parameter, declaration, program as whole, expression, expressions};
 ghost use Rattle.merge_decl.specs.Definitions.{merge_value_of, names_of};
 ghost use Rattle.merge_decl.specs.Evaluation as meant;
 ghost use Rattle.merge_decl.specs.Flat.{answer, flat, local};
-ghost use Rattle.merge_decl.specs.Weights.{args_within, entry_weight, greatest_weight, merge_weight, name_within, weight_of, weight_within, weights_before};
+ghost use Rattle.rev_report.specs.Limits.{most};
+ghost use Rattle.rev_report.specs.declared.limit.Limit.TheVariants as limits;
+ghost use Rattle.merge_decl.specs.Weights.{args_within, declaration_weight, merge_weight, name_within, weight_of, weight_within, weights_before};
 ghost use Rattle.merge_decl.specs.Work.{application, passed};
 
 use crate::expand::Expanded;
 use crate::flat::{Flat, Locals, arguments, bound, number};
 use crate::work::{Call, Next, Pending, ROOM, begin, give, keep, wait};
 use rev_num::{Cause, NumFault};
+use rev_report::Limit;
 use rev_syntax::{Decl, Expr, Name, Param};
-
-/// The greatest weight of a fun or a merge.
-pub const GREATEST_WEIGHT: u32 = 65_536;
 
 /// The declaration of the fun that a name means among the program's first `within` declarations.
 fn fun_before(expanded: &Expanded, within: usize, name: &Name) -> Option<usize>
     ensures earlier { IfSome result (λ d. d < within) }
-    ensures lighter { weight_of (map entry expanded.now.program.decls.items) result ≤ name_within (map entry expanded.now.program.decls.items) within name.now.text.items }
-    ensures meaning { meant.IsMeant (map entry expanded.now.program.decls.items) within name.now.text.items result }
+    ensures lighter { weight_of (map declaration expanded.now.program.decls.items) result ≤ name_within
+        (map declaration expanded.now.program.decls.items) within name.now.text.items }
+    ensures meaning { meant.IsMeant
+        (map declaration expanded.now.program.decls.items) within name.now.text.items result }
 {
     let head = expanded.table.find(&name.text)?;
     let decl = head.decl as usize;
@@ -33,14 +35,15 @@ fn fun_before(expanded: &Expanded, within: usize, name: &Name) -> Option<usize>
 /// The declaration of this number.
 #[tactic(auto, using(crate::proofs::Declared::slice_get_mapped))]
 fn declared(expanded: &Expanded, number: usize) -> Option<&Decl>
-    ensures { option_map entry (option_copied result) ≡ slice_get (map entry expanded.now.program.decls.items) number }
+    ensures { option_map declaration (option_copied result)
+        ≡ slice_get (map declaration expanded.now.program.decls.items) number }
 {
     expanded.program.decls.get(number)
 }
 
 /// The parameters of a declared fun.
 fn fun_params(decl: &Decl) -> &[Param]
-    ensures { names_of (map binder result.now) ≡ meant.fun_params (entry decl.now) }
+    ensures { names_of (map parameter result.now) ≡ meant.fun_params (declaration decl.now) }
 {
     match decl {
         Decl::Fun {
@@ -55,7 +58,7 @@ fn fun_params(decl: &Decl) -> &[Param]
 
 /// The body of a declared fun.
 fn fun_body(decl: &Decl) -> Option<&Expr>
-    ensures { option_map term (option_copied result) ≡ meant.fun_body (entry decl.now) }
+    ensures { option_map expression (option_copied result) ≡ meant.fun_body (declaration decl.now) }
 {
     match decl {
         Decl::Fun {
@@ -70,7 +73,8 @@ fn fun_body(decl: &Decl) -> Option<&Expr>
 
 /// The parameters of the fun that is declared at this number.
 fn params_at(expanded: &Expanded, fun: Option<usize>) -> &[Param]
-    ensures { names_of (map binder result.now) ≡ meant.params_at (map entry expanded.now.program.decls.items) fun }
+    ensures { names_of (map parameter result.now)
+        ≡ meant.params_at (map declaration expanded.now.program.decls.items) fun }
 {
     match fun {
         Some(number) => match declared(expanded, number) {
@@ -83,7 +87,8 @@ fn params_at(expanded: &Expanded, fun: Option<usize>) -> &[Param]
 
 /// The body of the fun that is declared at this number.
 fn body_at(expanded: &Expanded, number: usize) -> Option<&Expr>
-    ensures { option_map term (option_copied result) ≡ meant.body_at (map entry expanded.now.program.decls.items) number }
+    ensures { option_map expression (option_copied result)
+        ≡ meant.body_at (map declaration expanded.now.program.decls.items) number }
 {
     match declared(expanded, number) {
         Some(decl) => fun_body(decl),
@@ -111,9 +116,16 @@ struct Scope<'a> {
 /// and where too many parts wait.
 #[cycle(value)]
 fn evaluate(scope: &Scope, e: &Expr, left: &mut u32) -> Result<Flat, Cause>
-    requires { weight_within (map entry scope.now.expanded.now.program.decls.items) scope.now.within (term e.now) ≤ left.old }
-    ensures work { left.old ≤ left.new + weight_within (map entry scope.now.expanded.now.program.decls.items) scope.now.within (term e.now) }
-    ensures answer { answer result ≡ meant.value_within (map entry scope.now.expanded.now.program.decls.items) scope.now.within (local scope.now.locals.now) (term e.now) }
+    requires { weight_within
+        (map declaration scope.now.expanded.now.program.decls.items) scope.now.within
+        (expression e.now) ≤ left.old }
+    ensures work { left.old ≤ left.new + weight_within
+        (map declaration scope.now.expanded.now.program.decls.items) scope.now.within
+        (expression e.now) }
+    ensures answer { answer result
+        ≡ meant.value_within
+        (map declaration scope.now.expanded.now.program.decls.items) scope.now.within
+        (local scope.now.locals.now) (expression e.now) }
 {
     let mut pending = [Pending::Cell; ROOM];
     let mut depth = 0usize;
@@ -154,9 +166,21 @@ fn evaluate(scope: &Scope, e: &Expr, left: &mut u32) -> Result<Flat, Cause>
 /// The value of an application some of whose arguments have these values.
 #[cycle(value)]
 fn called(scope: &Scope, values: &[Flat], call: Call, left: &mut u32) -> Result<Flat, Cause>
-    requires { name_within (map entry scope.now.expanded.now.program.decls.items) scope.now.within call.name.now.text.items + args_within (map entry scope.now.expanded.now.program.decls.items) scope.now.within (terms call.rest.now) ≤ left.old }
-    ensures work { left.old ≤ left.new + (name_within (map entry scope.now.expanded.now.program.decls.items) scope.now.within call.entry.name.now.text.items + args_within (map entry scope.now.expanded.now.program.decls.items) scope.now.within (terms call.entry.rest.now)) }
-    ensures answer { answer result ≡ application (map entry scope.now.expanded.now.program.decls.items) scope.now.within (local scope.now.locals.now) call.entry.name.now.text.items (map flat values.now ++ passed call.entry.value) (terms call.entry.rest.now) }
+    requires { name_within
+        (map declaration scope.now.expanded.now.program.decls.items) scope.now.within
+        call.name.now.text.items + args_within
+        (map declaration scope.now.expanded.now.program.decls.items) scope.now.within
+        (expressions call.rest.now) ≤ left.old }
+    ensures work { left.old ≤ left.new +
+        (name_within
+        (map declaration scope.now.expanded.now.program.decls.items) scope.now.within
+        call.entry.name.now.text.items + args_within
+        (map declaration scope.now.expanded.now.program.decls.items) scope.now.within
+        (expressions call.entry.rest.now)) }
+    ensures answer { answer result
+        ≡ application (map declaration scope.now.expanded.now.program.decls.items) scope.now.within
+        (local scope.now.locals.now) call.entry.name.now.text.items
+        (map flat values.now ++ passed call.entry.value) (expressions call.entry.rest.now) }
 {
     let fun = fun_before(scope.expanded, scope.within, call.name);
     let params = params_at(scope.expanded, fun);
@@ -182,9 +206,18 @@ fn given(
     left: &mut u32,
 ) -> Result<Flat, Cause>
     requires before { IfSome fun (λ d. d < scope.now.within) }
-    requires enough { weight_of (map entry scope.now.expanded.now.program.decls.items) fun + args_within (map entry scope.now.expanded.now.program.decls.items) scope.now.within (terms more.now) ≤ left.old }
-    ensures work { left.old ≤ left.new + (weight_of (map entry scope.now.expanded.now.program.decls.items) fun + args_within (map entry scope.now.expanded.now.program.decls.items) scope.now.within (terms more.now)) }
-    ensures answer { answer result ≡ meant.given_within (map entry scope.now.expanded.now.program.decls.items) scope.now.within (local scope.now.locals.now) (flat value) (terms more.now) fun (names_of (map binder params.now)) (local earlier.now) }
+    requires enough { weight_of (map declaration scope.now.expanded.now.program.decls.items) fun + args_within
+        (map declaration scope.now.expanded.now.program.decls.items) scope.now.within
+        (expressions more.now) ≤ left.old }
+    ensures work { left.old ≤ left.new +
+        (weight_of (map declaration scope.now.expanded.now.program.decls.items) fun + args_within
+        (map declaration scope.now.expanded.now.program.decls.items) scope.now.within
+        (expressions more.now)) }
+    ensures answer { answer result
+        ≡ meant.given_within
+        (map declaration scope.now.expanded.now.program.decls.items) scope.now.within
+        (local scope.now.locals.now) (flat value) (expressions more.now) fun
+        (names_of (map parameter params.now)) (local earlier.now) }
 {
     match params.split_first() {
         Some((param, others)) => {
@@ -207,9 +240,18 @@ fn applied(
     left: &mut u32,
 ) -> Result<Flat, Cause>
     requires before { IfSome fun (λ d. d < scope.now.within) }
-    requires enough { weight_of (map entry scope.now.expanded.now.program.decls.items) fun + args_within (map entry scope.now.expanded.now.program.decls.items) scope.now.within (terms args.now) ≤ left.old }
-    ensures work { left.old ≤ left.new + (weight_of (map entry scope.now.expanded.now.program.decls.items) fun + args_within (map entry scope.now.expanded.now.program.decls.items) scope.now.within (terms args.now)) }
-    ensures answer { answer result ≡ meant.applied_within (map entry scope.now.expanded.now.program.decls.items) scope.now.within (local scope.now.locals.now) (terms args.now) fun (names_of (map binder params.now)) (local earlier.now) }
+    requires enough { weight_of (map declaration scope.now.expanded.now.program.decls.items) fun + args_within
+        (map declaration scope.now.expanded.now.program.decls.items) scope.now.within
+        (expressions args.now) ≤ left.old }
+    ensures work { left.old ≤ left.new +
+        (weight_of (map declaration scope.now.expanded.now.program.decls.items) fun + args_within
+        (map declaration scope.now.expanded.now.program.decls.items) scope.now.within
+        (expressions args.now)) }
+    ensures answer { answer result
+        ≡ meant.applied_within
+        (map declaration scope.now.expanded.now.program.decls.items) scope.now.within
+        (local scope.now.locals.now) (expressions args.now) fun
+        (names_of (map parameter params.now)) (local earlier.now) }
 {
     match args.split_first() {
         Some((arg, more)) => {
@@ -228,9 +270,12 @@ fn body_value(
     locals: &Locals,
     left: &mut u32,
 ) -> Result<Flat, Cause>
-    requires { weight_of (map entry expanded.now.program.decls.items) fun ≤ left.old }
-    ensures work { left.old ≤ left.new + weight_of (map entry expanded.now.program.decls.items) fun }
-    ensures answer { answer result ≡ meant.value_of_body (map entry expanded.now.program.decls.items) fun (local locals.now) }
+    requires { weight_of (map declaration expanded.now.program.decls.items) fun ≤ left.old }
+    ensures work { left.old ≤ left.new + weight_of
+        (map declaration expanded.now.program.decls.items) fun }
+    ensures answer { answer result
+        ≡ meant.value_of_body (map declaration expanded.now.program.decls.items) fun
+        (local locals.now) }
 {
     let Some(number) = fun else {
         return Ok(Flat::Int(0));
@@ -270,9 +315,15 @@ fn merged(
     root: i64,
     left: &mut u32,
 ) -> Result<i64, NumFault>
-    requires { entry_weight (weights_before (map entry expanded.now.program.decls.items) number) (entry decl.now) ≤ left.old }
-    ensures work { left.old ≤ left.new + entry_weight (weights_before (map entry expanded.now.program.decls.items) number) (entry decl.now) }
-    ensures answer { result ≡ meant.merge_answer (meant.entry_value (map entry expanded.now.program.decls.items) number (entry decl.now) (v.Int main) (v.Int join) (v.Int root)) }
+    requires { declaration_weight
+        (weights_before (map declaration expanded.now.program.decls.items) number)
+        (declaration decl.now) ≤ left.old }
+    ensures work { left.old ≤ left.new + declaration_weight
+        (weights_before (map declaration expanded.now.program.decls.items) number)
+        (declaration decl.now) }
+    ensures answer { result ≡ meant.merge_answer
+        (meant.declaration_value (map declaration expanded.now.program.decls.items) number
+        (declaration decl.now) (v.Int main) (v.Int join) (v.Int root)) }
 {
     match decl {
         Decl::Merge {
@@ -312,7 +363,8 @@ pub fn counted_merge_value(
     requires declared { merge < length expanded.now.merges }
     requires enough { merge_weight (whole expanded.now.program) merge ≤ left.old }
     ensures work { left.old ≤ left.new + merge_weight (whole expanded.now.program) merge }
-    ensures answer { result ≡ meant.merge_answer (merge_value_of (whole expanded.now.program) merge (v.Int main) (v.Int join) (v.Int root)) }
+    ensures answer { result ≡ meant.merge_answer
+        (merge_value_of (whole expanded.now.program) merge (v.Int main) (v.Int join) (v.Int root)) }
 {
     let merges = expanded.merges.as_slice();
     let number = merges[merge as usize].decl as usize;
@@ -337,9 +389,11 @@ pub fn merge_value(
     root: i64,
 ) -> Result<i64, NumFault>
     requires declared { merge < length expanded.now.merges }
-    requires light { merge_weight (whole expanded.now.program) merge ≤ greatest_weight }
-    ensures { result ≡ meant.merge_answer (merge_value_of (whole expanded.now.program) merge (v.Int main) (v.Int join) (v.Int root)) }
+    requires light { merge_weight (whole expanded.now.program) merge ≤ most limits.Weight }
+    ensures { result
+        ≡ meant.merge_answer
+        (merge_value_of (whole expanded.now.program) merge (v.Int main) (v.Int join) (v.Int root)) }
 {
-    let mut left = GREATEST_WEIGHT;
+    let mut left = Limit::Weight.most();
     counted_merge_value(expanded, merge, main, join, root, &mut left)
 }

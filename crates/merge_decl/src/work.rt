@@ -2,14 +2,14 @@
 
 ghost use Rattle.std.specs.Prelude.{◌≡◌, ◌<◌, ◌≤◌, ◌+◌, ◌*◌, ◌∷◌, ◌++◌, [], ℕ, List, None, Ok, true, IfOk, IfSome, length};
 ghost use Rattle.rev_num.specs.declared.value.Value.{Value};
-ghost use Rattle.rev_syntax.specs.Trees.{Entry, apply};
-ghost use Rattle.rev_syntax.specs.View.{links, shape, term, terms, word};
-ghost use Rattle.rev_syntax.specs.Small.{links_count, term_count, terms_count};
-ghost use Rattle.merge_decl.specs.Evaluation.{Values, chained_within, shape_within, value_within};
+ghost use Rattle.rev_syntax.specs.Trees.{Declaration, apply};
+ghost use Rattle.rev_syntax.specs.View.{links, expression_form, expression, expressions, placed_name};
+ghost use Rattle.rev_syntax.specs.Small.{links_count, expression_count, expressions_count};
+ghost use Rattle.merge_decl.specs.Evaluation.{Values, chained_within, expression_form_within, value_within};
 ghost use Rattle.merge_decl.specs.Flat.{flat, flat_option, local};
 ghost use Rattle.merge_decl.specs.Work.{after, application, call_turn, continued, ended, goes_on, kept, kept_behind, keeps, lasts, link_cost, part_cost, part_turn, pending_cost, pending_size, pending_weight, turn_size, turn_weight, value_turn, waiting, waits, without};
 ghost use Rattle.merge_decl.specs.Table.{Table, find};
-ghost use Rattle.merge_decl.specs.Weights.{known_weight, links_weight, term_weight, terms_weight};
+ghost use Rattle.merge_decl.specs.Weights.{known_weight, links_weight, expression_weight, expressions_weight};
 ghost use Rattle.merge_decl.specs.Value as spec;
 ghost use Rattle.merge_decl.specs.declared.work.Pending.{Pending as Waits};
 ghost use Rattle.merge_decl.specs.declared.work.Pending.TheVariants as on;
@@ -121,7 +121,7 @@ impl<'a> Turn<'a> {
 
 /// What a part counts where it is begun: a chain counts with its links.
 fn part_cost(node: &Node) -> u32
-    ensures { result ≡ part_cost (shape node.now) }
+    ensures { result ≡ part_cost (expression_form node.now) }
 {
     match node {
         Node::Chain { first: _, rest: _ } => 0,
@@ -157,12 +157,17 @@ fn pending_cost(what: &Pending) -> u32
 
 /// What comes first in a part, which takes what the part counts from what is left.
 pub fn begin<'a>(locals: &Locals, e: &'a Expr, left: &mut u32) -> Turn<'a>
-    requires { part_cost (shape e.now.node) ≤ left.old }
-    ensures paid { left.old ≡ left.new + part_cost (shape e.now.node) }
-    ensures meaning { (es : List Entry) (n : ℕ) (ps : List Waits) (vs : List Value) → after es n (local locals.now) ps vs result ≡ ended es n (local locals.now) ps vs (value_within es n (local locals.now) (term e.now)) }
+    requires { part_cost (expression_form e.now.node) ≤ left.old }
+    ensures paid { left.old ≡ left.new + part_cost (expression_form e.now.node) }
+    ensures meaning { (es : List Declaration) (n : ℕ) (ps : List Waits) (vs : List Value)
+        → after es n (local locals.now) ps vs result
+        ≡ ended es n (local locals.now) ps vs
+        (value_within es n (local locals.now) (expression e.now)) }
     ensures keeps_nothing { result.keep ≡ None }
-    ensures smaller { turn_size result < 3 * term_count (term e.now) }
-    ensures lighter { (ws : Table ℕ) → turn_weight ws result + part_cost (shape e.now.node) ≤ term_weight ws (term e.now) }
+    ensures smaller { turn_size result < 3 * expression_count (expression e.now) }
+    ensures lighter { (ws : Table ℕ)
+        → turn_weight ws result + part_cost (expression_form e.now.node) ≤ expression_weight ws
+        (expression e.now) }
 {
     *left -= part_cost(&e.node);
     match &e.node {
@@ -182,10 +187,15 @@ pub fn begin<'a>(locals: &Locals, e: &'a Expr, left: &mut u32) -> Turn<'a>
 
 /// The arguments of an application come first, from left to right.
 fn begin_application<'a>(name: &'a Name, args: &'a [Expr]) -> Turn<'a>
-    ensures meaning { (es : List Entry) (n : ℕ) (l : Values) (ps : List Waits) (vs : List Value) → after es n l ps vs result ≡ ended es n l ps vs (shape_within es n l (apply (word name.now) (terms args.now))) }
+    ensures meaning { (es : List Declaration) (n : ℕ) (l : Values) (ps : List Waits) (vs : List Value)
+        → after es n l ps vs result
+        ≡ ended es n l ps vs
+        (expression_form_within es n l (apply (placed_name name.now) (expressions args.now))) }
     ensures keeps_nothing { result.keep ≡ None }
-    ensures smaller { turn_size result < 3 * (1 + terms_count (terms args.now)) }
-    ensures lighter { (ws : Table ℕ) → turn_weight ws result ≤ known_weight (find name.now.text.items ws) + terms_weight ws (terms args.now) }
+    ensures smaller { turn_size result < 3 * (1 + expressions_count (expressions args.now)) }
+    ensures lighter { (ws : Table ℕ)
+        → turn_weight ws result ≤ known_weight (find name.now.text.items ws) + expressions_weight ws
+        (expressions args.now) }
 {
     match args.split_first() {
         Some((arg, rest)) => Turn::part(
@@ -210,10 +220,14 @@ fn begin_application<'a>(name: &'a Name, args: &'a [Expr]) -> Turn<'a>
 pub fn give<'a>(what: Pending<'a>, x: Flat, room: bool, left: &mut u32) -> Result<Turn<'a>, Cause>
     requires { pending_cost what ≤ left.old }
     ensures paid { left.old ≡ left.new + pending_cost what.entry }
-    ensures meaning { (es : List Entry) (n : ℕ) (l : Values) (ps : List Waits) (vs : List Value) → goes_on es n l ps vs result ≡ ended es n l ps (kept_behind what.entry vs) (continued es n l what.entry vs (flat x)) }
+    ensures meaning { (es : List Declaration) (n : ℕ) (l : Values) (ps : List Waits) (vs : List Value)
+        → goes_on es n l ps vs result
+        ≡ ended es n l ps (kept_behind what.entry vs) (continued es n l what.entry vs (flat x)) }
     ensures kept { IfOk result (λ t. IfSome t.keep (λ y. room ≡ true)) }
     ensures smaller { IfOk result (λ t. turn_size t < 1 + pending_size what.entry) }
-    ensures lighter { (ws : Table ℕ) → IfOk result (λ t. turn_weight ws t + pending_cost what.entry ≤ pending_weight ws what.entry) }
+    ensures lighter { (ws : Table ℕ)
+        → IfOk result
+        (λ t. turn_weight ws t + pending_cost what.entry ≤ pending_weight ws what.entry) }
 {
     *left -= pending_cost(&what);
     match what {
@@ -235,10 +249,15 @@ pub fn give<'a>(what: Pending<'a>, x: Flat, room: bool, left: &mut u32) -> Resul
 
 /// The expression that a test chooses comes next.
 fn chosen<'a>(test: Flat, yes: &'a Expr, no: &'a Expr) -> Turn<'a>
-    ensures meaning { (es : List Entry) (n : ℕ) (l : Values) (ps : List Waits) (vs : List Value) → after es n l ps vs result ≡ ended es n l ps vs (continued es n l (on.Pick yes.entry no.entry) vs (flat test)) }
+    ensures meaning { (es : List Declaration) (n : ℕ) (l : Values) (ps : List Waits) (vs : List Value)
+        → after es n l ps vs result
+        ≡ ended es n l ps vs (continued es n l (on.Pick yes.entry no.entry) vs (flat test)) }
     ensures keeps_nothing { result.keep ≡ None }
-    ensures smaller { turn_size result < 2 + 3 * (term_count (term yes.now) + term_count (term no.now)) }
-    ensures lighter { (ws : Table ℕ) → turn_weight ws result ≤ term_weight ws (term yes.now) + term_weight ws (term no.now) }
+    ensures smaller { turn_size result < 2 + 3 *
+        (expression_count (expression yes.now) + expression_count (expression no.now)) }
+    ensures lighter { (ws : Table ℕ)
+        → turn_weight ws result ≤ expression_weight ws (expression yes.now) + expression_weight ws
+        (expression no.now) }
 {
     Turn {
         keep: None,
@@ -249,10 +268,14 @@ fn chosen<'a>(test: Flat, yes: &'a Expr, no: &'a Expr) -> Turn<'a>
 
 /// What comes after a left operand, which may decide without the right one.
 fn give_left<'a>(left: Flat, behind: &'a [Link]) -> Turn<'a>
-    ensures meaning { (es : List Entry) (n : ℕ) (l : Values) (ps : List Waits) (vs : List Value) → after es n l ps vs result ≡ ended es n l ps vs (chained_within es n l (flat left) (links behind.now)) }
+    ensures meaning { (es : List Declaration) (n : ℕ) (l : Values) (ps : List Waits) (vs : List Value)
+        → after es n l ps vs result
+        ≡ ended es n l ps vs (chained_within es n l (flat left) (links behind.now)) }
     ensures keeps_nothing { result.keep ≡ None }
     ensures smaller { turn_size result < 2 + 3 * links_count (links behind.now) }
-    ensures lighter { (ws : Table ℕ) → turn_weight ws result + link_cost (links behind.now) ≤ links_weight ws (links behind.now) }
+    ensures lighter { (ws : Table ℕ)
+        → turn_weight ws result + link_cost (links behind.now) ≤ links_weight ws
+        (links behind.now) }
 {
     let Some((link, rest)) = behind.split_first() else {
         return Turn::value(left);
@@ -283,10 +306,16 @@ fn give_argument<'a>(
     args: &'a [Expr],
     room: bool,
 ) -> Turn<'a>
-    ensures meaning { (es : List Entry) (n : ℕ) (l : Values) (ps : List Waits) (vs : List Value) → after es n l ps vs result ≡ ended es n l ps (without before vs) (application es n l name.now.text.items (lasts before vs ++ flat x ∷ []) (terms args.now)) }
+    ensures meaning { (es : List Declaration) (n : ℕ) (l : Values) (ps : List Waits) (vs : List Value)
+        → after es n l ps vs result
+        ≡ ended es n l ps (without before vs)
+        (application es n l name.now.text.items (lasts before vs ++ flat x ∷ [])
+        (expressions args.now)) }
     ensures kept { IfSome result.keep (λ y. room ≡ true) }
-    ensures smaller { turn_size result < 3 + 3 * terms_count (terms args.now) }
-    ensures lighter { (ws : Table ℕ) → turn_weight ws result ≤ known_weight (find name.now.text.items ws) + terms_weight ws (terms args.now) }
+    ensures smaller { turn_size result < 3 + 3 * expressions_count (expressions args.now) }
+    ensures lighter { (ws : Table ℕ)
+        → turn_weight ws result ≤ known_weight (find name.now.text.items ws) + expressions_weight ws
+        (expressions args.now) }
 {
     match args.split_first() {
         Some((arg, rest)) if room && before < ROOM => Turn {

@@ -1,28 +1,14 @@
--- The limits of the language, and the places and the numbers of the static rules and limits.
+-- The places and the numbers of the static rules and limits.
 use Rattle.std.specs.Prelude.{◌≡◌, ℕ, ◌+◌}
-use Rattle.merge_decl.specs.Weights.{greatest_weight}
-use Rattle.rev_kinds.specs.declared.fault.Which.{Which}
-use Rattle.rev_kinds.specs.declared.fault.Which.TheVariants.{Locations, Procedures, Funs, Parameters, Locals, Items, Weight}
+use Rattle.rev_report.specs.Limits.{most}
+use Rattle.rev_report.specs.declared.limit.Limit.{Limit}
+use Rattle.rev_report.specs.declared.limit.Limit.TheVariants.{Locations, Procedures, Funs, Parameters, Locals, Items, Weight}
 use Rattle.rev_kinds.specs.declared.fault.TypeFault.{TypeFault}
 use Rattle.rev_kinds.specs.declared.fault.TypeFault.TheVariants.{UnknownName, Redeclared, WrongType, WrongCount, NoReturn, LimitOf, OutOfMemory}
 
--- the limits of the language
-abbrev pub limit_of : Which → ℕ
-limit_of Locations = 4096
-limit_of Procedures = 256
-limit_of Funs = 256
-limit_of Parameters = 8
-limit_of Locals = 64
-limit_of Items = 64
-limit_of Weight = greatest_weight
-
--- how many there are up to and with the first past a limit
-abbrev pub first_past : Which → ℕ
-first_past which = limit_of which + 1
-
 -- the fault of what goes over a limit at a place, with the number of that limit
-abbrev pub exceeded : ℕ → Which → TypeFault
-exceeded at which = LimitOf at which (limit_of which)
+abbrev pub exceeded : ℕ → Limit → TypeFault
+exceeded at which = LimitOf at which (most which)
 
 abbrev pub place : TypeFault → ℕ
 place (UnknownName at) = at
@@ -34,7 +20,7 @@ place (LimitOf at which limit) = at
 place OutOfMemory = 0
 
 -- limits have the number 6; of two at one place the earlier in the list of limits counts
-abbrev pub order : Which → ℕ
+abbrev pub order : Limit → ℕ
 order Locations = 6
 order Procedures = 7
 order Funs = 8
@@ -65,7 +51,7 @@ IsLimit OutOfMemory = ⊥
 
 -- if this is a fault of a limit, its number is that of the limit
 abbrev pub HasLimit : TypeFault → Type 0
-HasLimit (LimitOf at which limit) = limit ≡ limit_of which
+HasLimit (LimitOf at which limit) = limit ≡ most which
 HasLimit (UnknownName at) = Unit {0}
 HasLimit (Redeclared at) = Unit {0}
 HasLimit (WrongType at) = Unit {0}

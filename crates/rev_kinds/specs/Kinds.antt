@@ -2,7 +2,7 @@
 use Rattle.std.specs.Prelude.{ℕ, Bool, true, false, Option, Some, None, List}
 use Rattle.rev_num.specs.declared.value.ValueKind.{ValueKind}
 use Rattle.rev_num.specs.declared.value.ValueKind.TheVariants as k
-use Rattle.rev_syntax.specs.Trees.{Binder, Term, placed, Shape, Links, int, bool, no_rev, var, cell, apply, input, inputs, pick, unary, chain, no_links, link, Right, plain, called, forked, tried}
+use Rattle.rev_syntax.specs.Trees.{Parameter, Expression, placed, ExpressionForm, Links, int, bool, no_rev, var, cell, apply, input, inputs, pick, unary, chain, no_links, link, RightSide, plain, called, forked, tried}
 use Rattle.rev_syntax.specs.declared.tree.UnaryOp.{UnaryOp}
 use Rattle.rev_syntax.specs.declared.tree.UnaryOp.TheVariants as u
 use Rattle.rev_syntax.specs.declared.tree.BinaryOp.{BinaryOp}
@@ -13,7 +13,7 @@ use Rattle.rev_kinds.specs.declared.names.Holder.{Holder}
 
 -- a fun's or a procedure's parameters, and the kind of its result, if it has one
 pub record Callee : Type 0 where
-  pub params : List Binder
+  pub params : List Parameter
   pub result : Option ValueKind
 
 -- what a name means as a shared variable, after `call` or `rfork`, and in an application; and
@@ -69,34 +69,34 @@ links_kind no_links = None
 links_kind (link op e rest) = Some (given_kind op)
 
 abbrev mutual
-  pub kind_in : Names → Locals → Term → Option ValueKind
-  kind_in c l (placed at s) = shape_kind c l s
+  pub kind_in : Names → Locals → Expression → Option ValueKind
+  kind_in c l (placed at s) = expression_form_kind c l s
 
-  pub shape_kind : Names → Locals → Shape → Option ValueKind
-  shape_kind c l (int n) = Some k.Int
-  shape_kind c l (bool x) = Some k.Bool
-  shape_kind c l no_rev = Some k.Rev
-  shape_kind c l (var w) = name_kind (find w.text l) (c.shared w.text)
-  shape_kind c l (cell w index) = name_kind (find w.text l) (c.shared w.text)
-  shape_kind c l (apply w args) = result_of (c.funs w.text)
-  shape_kind c l (input at index) = Some k.Int
-  shape_kind c l (inputs at) = Some k.Int
-  shape_kind c l (pick test x y) = kind_in c l x
-  shape_kind c l (unary op part) = Some (operand_kind op)
-  shape_kind c l (chain first rest) = links_kind rest
+  pub expression_form_kind : Names → Locals → ExpressionForm → Option ValueKind
+  expression_form_kind c l (int n) = Some k.Int
+  expression_form_kind c l (bool x) = Some k.Bool
+  expression_form_kind c l no_rev = Some k.Rev
+  expression_form_kind c l (var w) = name_kind (find w.text l) (c.shared w.text)
+  expression_form_kind c l (cell w index) = name_kind (find w.text l) (c.shared w.text)
+  expression_form_kind c l (apply w args) = result_of (c.funs w.text)
+  expression_form_kind c l (input at index) = Some k.Int
+  expression_form_kind c l (inputs at) = Some k.Int
+  expression_form_kind c l (pick test x y) = kind_in c l x
+  expression_form_kind c l (unary op part) = Some (operand_kind op)
+  expression_form_kind c l (chain first rest) = links_kind rest
 
 -- the kind of a right side
-abbrev pub right_kind : Names → Locals → Right → Option ValueKind
-right_kind c l (plain e) = kind_in c l e
-right_kind c l (called at w args) = result_of (c.procs w.text)
-right_kind c l (forked at w args) = Some k.Rev
-right_kind c l (tried at handle) = Some k.Bool
+abbrev pub right_side_kind : Names → Locals → RightSide → Option ValueKind
+right_side_kind c l (plain e) = kind_in c l e
+right_side_kind c l (called at w args) = result_of (c.procs w.text)
+right_side_kind c l (forked at w args) = Some k.Rev
+right_side_kind c l (tried at handle) = Some k.Bool
 
-abbrev pub term_place : Term → ℕ
-term_place (placed at s) = at
+abbrev pub expression_place : Expression → ℕ
+expression_place (placed at s) = at
 
-abbrev pub right_place : Right → ℕ
-right_place (plain e) = term_place e
-right_place (called at w args) = at
-right_place (forked at w args) = at
-right_place (tried at handle) = at
+abbrev pub right_side_place : RightSide → ℕ
+right_side_place (plain e) = expression_place e
+right_side_place (called at w args) = at
+right_side_place (forked at w args) = at
+right_side_place (tried at handle) = at

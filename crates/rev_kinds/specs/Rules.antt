@@ -5,7 +5,7 @@
 use Rattle.std.specs.Prelude.{ℕ, ◌+◌, Bool, if◌then◌else◌, nat_eq, Option, Some, None, List, [], slice_get, length}
 use Rattle.rev_num.specs.declared.value.ValueKind.{ValueKind}
 use Rattle.rev_num.specs.declared.value.ValueKind.TheVariants as k
-use Rattle.rev_syntax.specs.Trees.{Word, Binder, Term, placed, Shape, Terms, Links, int, bool, no_rev, var, cell, apply, input, inputs, pick, unary, chain, no_terms, term, no_links, link, Right, plain, called, forked, tried}
+use Rattle.rev_syntax.specs.Trees.{PlacedName, Parameter, Expression, placed, ExpressionForm, Expressions, Links, int, bool, no_rev, var, cell, apply, input, inputs, pick, unary, chain, no_expressions, expression, no_links, link, RightSide, plain, called, forked, tried}
 use Rattle.rev_syntax.specs.declared.tree.BinaryOp.{BinaryOp}
 use Rattle.rev_syntax.specs.declared.tree.BinaryOp.TheVariants as b
 use Rattle.merge_decl.specs.FunRules.{count}
@@ -13,7 +13,7 @@ use Rattle.merge_decl.specs.Table.{find}
 use Rattle.rev_kinds.specs.declared.names.Holder.{Holder}
 use Rattle.rev_kinds.specs.declared.fault.TypeFault.{TypeFault}
 use Rattle.rev_kinds.specs.declared.fault.TypeFault.TheVariants.{UnknownName, WrongType, WrongCount}
-use Rattle.rev_kinds.specs.Kinds.{Callee, Names, Locals, same_kind, operand_kind, kind_in, term_place}
+use Rattle.rev_kinds.specs.Kinds.{Callee, Names, Locals, same_kind, operand_kind, kind_in, expression_place}
 
 module _ {M : Type 0} (none : M) (one : TypeFault → M) (both : M → M → M) where
   -- this kind is wanted; what has no kind violates no rule on kinds
@@ -32,18 +32,18 @@ module _ {M : Type 0} (none : M) (one : TypeFault → M) (both : M → M → M) 
   alike at (Some wanted) found = wants at found wanted
 
   -- a parameter's kind is wanted, where there is a parameter
-  abbrev pub fits : ℕ → Option ValueKind → Option Binder → M
+  abbrev pub fits : ℕ → Option ValueKind → Option Parameter → M
   fits at found None = none
   fits at found (Some p) = wants at found p.kind
 
   -- a name that is used as a scalar
-  abbrev pub scalar_use : Word → Option (Option ValueKind) → Option Holder → M
+  abbrev pub scalar_use : PlacedName → Option (Option ValueKind) → Option Holder → M
   scalar_use w (Some found) h = none
   scalar_use w None (Some h) = if h.array then one (WrongType w.at) else none
   scalar_use w None None = one (UnknownName w.at)
 
   -- a name that is used as an array
-  abbrev pub array_use : Word → Option (Option ValueKind) → Option Holder → M
+  abbrev pub array_use : PlacedName → Option (Option ValueKind) → Option Holder → M
   array_use w (Some found) h = one (WrongType w.at)
   array_use w None (Some h) = if h.array then none else one (WrongType w.at)
   array_use w None None = one (UnknownName w.at)
@@ -88,58 +88,58 @@ module _ {M : Type 0} (none : M) (one : TypeFault → M) (both : M → M → M) 
   first_operand no_links at found = none
   first_operand (link op e rest) at found = left_operand op at found
 
-  abbrev pub params_of : Option Callee → List Binder
+  abbrev pub params_of : Option Callee → List Parameter
   params_of None = []
   params_of (Some f) = f.params
 
   abbrev mutual
-    pub term_by : Names → Locals → Term → M
-    term_by c l (placed at s) = shape_by c l s
+    pub broken_in_expression : Names → Locals → Expression → M
+    broken_in_expression c l (placed at s) = broken_in_expression_form c l s
 
-    pub shape_by : Names → Locals → Shape → M
-    shape_by c l (int n) = none
-    shape_by c l (bool x) = none
-    shape_by c l no_rev = none
-    shape_by c l (var w) = scalar_use w (find w.text l) (c.shared w.text)
-    shape_by c l (cell w index) =
-        both (array_use w (find w.text l) (c.shared w.text)) (both (term_by c l index) (wants (term_place index) (kind_in c l index) k.Int))
-    shape_by c l (apply w args) = args_by c l (params_of (c.funs w.text)) 0 none args
-    shape_by c l (input at index) =
-        both (input_use c.inside at) (both (term_by c l index) (wants (term_place index) (kind_in c l index) k.Int))
-    shape_by c l (inputs at) = input_use c.inside at
-    shape_by c l (pick test x y) =
-        both (both (term_by c l test) (wants (term_place test) (kind_in c l test) k.Bool))
-        (both (both (term_by c l x) (term_by c l y)) (alike (term_place y) (kind_in c l x) (kind_in c l y)))
-    shape_by c l (unary op part) = both (term_by c l part) (wants (term_place part) (kind_in c l part) (operand_kind op))
-    shape_by c l (chain first rest) =
-        links_by c l (kind_in c l first) (both (term_by c l first) (first_operand rest (term_place first) (kind_in c l first))) rest
+    pub broken_in_expression_form : Names → Locals → ExpressionForm → M
+    broken_in_expression_form c l (int n) = none
+    broken_in_expression_form c l (bool x) = none
+    broken_in_expression_form c l no_rev = none
+    broken_in_expression_form c l (var w) = scalar_use w (find w.text l) (c.shared w.text)
+    broken_in_expression_form c l (cell w index) =
+        both (array_use w (find w.text l) (c.shared w.text)) (both (broken_in_expression c l index) (wants (expression_place index) (kind_in c l index) k.Int))
+    broken_in_expression_form c l (apply w args) = args_by c l (params_of (c.funs w.text)) 0 none args
+    broken_in_expression_form c l (input at index) =
+        both (input_use c.inside at) (both (broken_in_expression c l index) (wants (expression_place index) (kind_in c l index) k.Int))
+    broken_in_expression_form c l (inputs at) = input_use c.inside at
+    broken_in_expression_form c l (pick test x y) =
+        both (both (broken_in_expression c l test) (wants (expression_place test) (kind_in c l test) k.Bool))
+        (both (both (broken_in_expression c l x) (broken_in_expression c l y)) (alike (expression_place y) (kind_in c l x) (kind_in c l y)))
+    broken_in_expression_form c l (unary op part) = both (broken_in_expression c l part) (wants (expression_place part) (kind_in c l part) (operand_kind op))
+    broken_in_expression_form c l (chain first rest) =
+        broken_in_links c l (kind_in c l first) (both (broken_in_expression c l first) (first_operand rest (expression_place first) (kind_in c l first))) rest
 
     -- the arguments from number n on, where these faults were found before
-    pub args_by : Names → Locals → List Binder → ℕ → M → Terms → M
-    args_by c l ps n found no_terms = found
-    args_by c l ps n found (term x xs) =
-        args_by c l ps (n + 1) (both found (both (term_by c l x) (fits (term_place x) (kind_in c l x) (slice_get ps n)))) xs
+    pub args_by : Names → Locals → List Parameter → ℕ → M → Expressions → M
+    args_by c l ps n found no_expressions = found
+    args_by c l ps n found (expression x xs) =
+        args_by c l ps (n + 1) (both found (both (broken_in_expression c l x) (fits (expression_place x) (kind_in c l x) (slice_get ps n)))) xs
 
     -- the links of a chain whose first operand has this kind, where these faults were found before
-    pub links_by : Names → Locals → Option ValueKind → M → Links → M
-    links_by c l left found no_links = found
-    links_by c l left found (link op x rest) =
-        links_by c l left (both found (both (term_by c l x) (right_operand op left (term_place x) (kind_in c l x)))) rest
+    pub broken_in_links : Names → Locals → Option ValueKind → M → Links → M
+    broken_in_links c l left found no_links = found
+    broken_in_links c l left found (link op x rest) =
+        broken_in_links c l left (both found (both (broken_in_expression c l x) (right_operand op left (expression_place x) (kind_in c l x)))) rest
 
   -- an expression where this kind is wanted
-  abbrev pub part_by : Names → Locals → Term → ValueKind → M
-  part_by c l e wanted = both (term_by c l e) (wants (term_place e) (kind_in c l e) wanted)
+  abbrev pub part_by : Names → Locals → Expression → ValueKind → M
+  part_by c l e wanted = both (broken_in_expression c l e) (wants (expression_place e) (kind_in c l e) wanted)
 
   -- argument number n for these parameters
-  abbrev pub arg_by : Names → Locals → List Binder → ℕ → Term → M
-  arg_by c l ps n e = both (term_by c l e) (fits (term_place e) (kind_in c l e) (slice_get ps n))
+  abbrev pub arg_by : Names → Locals → List Parameter → ℕ → Expression → M
+  arg_by c l ps n e = both (broken_in_expression c l e) (fits (expression_place e) (kind_in c l e) (slice_get ps n))
 
   -- a name after `call` or `rfork`, with this many arguments
-  abbrev pub callee_use : Word → ℕ → Option Callee → M
+  abbrev pub callee_use : PlacedName → ℕ → Option Callee → M
   callee_use w n None = one (UnknownName w.at)
   callee_use w n (Some p) = if nat_eq n (length p.params) then none else one (WrongCount w.at)
 
-  abbrev pub call_by : Names → Locals → Word → Terms → M
+  abbrev pub call_by : Names → Locals → PlacedName → Expressions → M
   call_by c l w args =
       both (callee_use w (count args) (c.procs w.text)) (args_by c l (params_of (c.procs w.text)) 0 none args)
 
@@ -153,8 +153,8 @@ module _ {M : Type 0} (none : M) (one : TypeFault → M) (both : M → M → M) 
   result_use at None = none
   result_use at (Some p) = has_result at p.result
 
-  abbrev pub right_by : Names → Locals → Right → M
-  right_by c l (plain e) = term_by c l e
-  right_by c l (called at w args) = both (result_use w.at (c.procs w.text)) (call_by c l w args)
-  right_by c l (forked at w args) = call_by c l w args
-  right_by c l (tried at handle) = part_by c l handle k.Rev
+  abbrev pub broken_in_right_side : Names → Locals → RightSide → M
+  broken_in_right_side c l (plain e) = broken_in_expression c l e
+  broken_in_right_side c l (called at w args) = both (result_use w.at (c.procs w.text)) (call_by c l w args)
+  broken_in_right_side c l (forked at w args) = call_by c l w args
+  broken_in_right_side c l (tried at handle) = part_by c l handle k.Rev

@@ -2,7 +2,7 @@
 use Rattle.std.specs.Prelude.{◌≡◌, ◌≢◌, ℕ, ◌+◌, true, false, Option, Some, None, List, [], ◌∷◌, ◌++◌, slice_get, length}
 use Rattle.rev_num.specs.declared.value.ValueKind.{ValueKind}
 use Rattle.rev_num.specs.declared.value.ValueKind.TheVariants as k
-use Rattle.rev_syntax.specs.Trees.{Binder, Term, placed, Shape, Terms, Links, int, bool, no_rev, var, cell, apply, input, inputs, pick, unary, chain, no_terms, term, no_links, link}
+use Rattle.rev_syntax.specs.Trees.{Parameter, Expression, placed, ExpressionForm, Expressions, Links, int, bool, no_rev, var, cell, apply, input, inputs, pick, unary, chain, no_expressions, expression, no_links, link}
 use Rattle.rev_syntax.specs.declared.tree.BinaryOp.{BinaryOp}
 use Rattle.rev_syntax.specs.declared.tree.BinaryOp.TheVariants as b
 use Rattle.merge_decl.specs.FunRules.{count}
@@ -42,58 +42,58 @@ TakesLeft b.And t = t ≡ k.Bool
 TakesLeft b.Or t = t ≡ k.Bool
 
 -- an operator with a left operand of the first kind takes a right operand of the second
-abbrev pub TakesRight : BinaryOp → ValueKind → ValueKind → Type 0
-TakesRight b.Add left t = t ≡ k.Int
-TakesRight b.Sub left t = t ≡ k.Int
-TakesRight b.Mul left t = t ≡ k.Int
-TakesRight b.Div left t = t ≡ k.Int
-TakesRight b.Rem left t = t ≡ k.Int
-TakesRight b.Eq left t = t ≡ left
-TakesRight b.Ne left t = t ≡ left
-TakesRight b.Lt left t = (t ≡ k.Int) × (t ≡ left)
-TakesRight b.Le left t = (t ≡ k.Int) × (t ≡ left)
-TakesRight b.Gt left t = (t ≡ k.Int) × (t ≡ left)
-TakesRight b.Ge left t = (t ≡ k.Int) × (t ≡ left)
-TakesRight b.And left t = t ≡ k.Bool
-TakesRight b.Or left t = t ≡ k.Bool
+abbrev pub TakesRightSide : BinaryOp → ValueKind → ValueKind → Type 0
+TakesRightSide b.Add left t = t ≡ k.Int
+TakesRightSide b.Sub left t = t ≡ k.Int
+TakesRightSide b.Mul left t = t ≡ k.Int
+TakesRightSide b.Div left t = t ≡ k.Int
+TakesRightSide b.Rem left t = t ≡ k.Int
+TakesRightSide b.Eq left t = t ≡ left
+TakesRightSide b.Ne left t = t ≡ left
+TakesRightSide b.Lt left t = (t ≡ k.Int) × (t ≡ left)
+TakesRightSide b.Le left t = (t ≡ k.Int) × (t ≡ left)
+TakesRightSide b.Gt left t = (t ≡ k.Int) × (t ≡ left)
+TakesRightSide b.Ge left t = (t ≡ k.Int) × (t ≡ left)
+TakesRightSide b.And left t = t ≡ k.Bool
+TakesRightSide b.Or left t = t ≡ k.Bool
 
 abbrev pub TakesFirst : Links → ValueKind → Type 0
 TakesFirst no_links t = ⊥
 TakesFirst (link op x rest) t = TakesLeft op t
 
 -- a parameter of this kind
-abbrev pub IsOfKind : Option Binder → ValueKind → Type 0
+abbrev pub IsOfKind : Option Parameter → ValueKind → Type 0
 IsOfKind None t = Unit {0}
 IsOfKind (Some p) t = t ≡ p.kind
 
 abbrev mutual
   -- with these locals an expression has this kind
-  pub HasKind : Names → Locals → Term → ValueKind → Type 0
-  HasKind c l (placed at s) t = ShapeHas c l s t
+  pub HasKind : Names → Locals → Expression → ValueKind → Type 0
+  HasKind c l (placed at s) t = ExpressionFormHas c l s t
 
-  pub ShapeHas : Names → Locals → Shape → ValueKind → Type 0
-  ShapeHas c l (int n) t = t ≡ k.Int
-  ShapeHas c l (bool x) t = t ≡ k.Bool
-  ShapeHas c l no_rev t = t ≡ k.Rev
-  ShapeHas c l (var w) t = ScalarHas (find w.text l) (c.shared w.text) t
-  ShapeHas c l (cell w index) t = ArrayHas (find w.text l) (c.shared w.text) t × HasKind c l index k.Int
-  ShapeHas c l (apply w args) t = (f : Callee) × (c.funs w.text ≡ Some f) × (f.result ≡ Some t) × (count args ≡ length f.params) × ArgsHave c l f.params 0 args
-  ShapeHas c l (input at index) t = (t ≡ k.Int) × (c.inside ≡ false) × HasKind c l index k.Int
-  ShapeHas c l (inputs at) t = (t ≡ k.Int) × (c.inside ≡ false)
-  ShapeHas c l (pick test x y) t = HasKind c l test k.Bool × HasKind c l x t × HasKind c l y t
-  ShapeHas c l (unary op e) t = (t ≡ operand_kind op) × HasKind c l e (operand_kind op)
-  ShapeHas c l (chain first rest) t =
+  pub ExpressionFormHas : Names → Locals → ExpressionForm → ValueKind → Type 0
+  ExpressionFormHas c l (int n) t = t ≡ k.Int
+  ExpressionFormHas c l (bool x) t = t ≡ k.Bool
+  ExpressionFormHas c l no_rev t = t ≡ k.Rev
+  ExpressionFormHas c l (var w) t = ScalarHas (find w.text l) (c.shared w.text) t
+  ExpressionFormHas c l (cell w index) t = ArrayHas (find w.text l) (c.shared w.text) t × HasKind c l index k.Int
+  ExpressionFormHas c l (apply w args) t = (f : Callee) × (c.funs w.text ≡ Some f) × (f.result ≡ Some t) × (count args ≡ length f.params) × ArgsHave c l f.params 0 args
+  ExpressionFormHas c l (input at index) t = (t ≡ k.Int) × (c.inside ≡ false) × HasKind c l index k.Int
+  ExpressionFormHas c l (inputs at) t = (t ≡ k.Int) × (c.inside ≡ false)
+  ExpressionFormHas c l (pick test x y) t = HasKind c l test k.Bool × HasKind c l x t × HasKind c l y t
+  ExpressionFormHas c l (unary op e) t = (t ≡ operand_kind op) × HasKind c l e (operand_kind op)
+  ExpressionFormHas c l (chain first rest) t =
       (left : ValueKind) × HasKind c l first left × TakesFirst rest left × LinksHave c l left rest × (links_kind rest ≡ Some t)
 
   -- the arguments from number n on have the kinds of these parameters
-  pub ArgsHave : Names → Locals → List Binder → ℕ → Terms → Type 0
-  ArgsHave c l ps n no_terms = Unit {0}
-  ArgsHave c l ps n (term x xs) = ((t : ValueKind) × HasKind c l x t × IsOfKind (slice_get ps n) t) × ArgsHave c l ps (n + 1) xs
+  pub ArgsHave : Names → Locals → List Parameter → ℕ → Expressions → Type 0
+  ArgsHave c l ps n no_expressions = Unit {0}
+  ArgsHave c l ps n (expression x xs) = ((t : ValueKind) × HasKind c l x t × IsOfKind (slice_get ps n) t) × ArgsHave c l ps (n + 1) xs
 
   -- the operands of a chain whose first operand has this kind
   pub LinksHave : Names → Locals → ValueKind → Links → Type 0
   LinksHave c l left no_links = Unit {0}
-  LinksHave c l left (link op x rest) = ((t : ValueKind) × HasKind c l x t × TakesRight op left t) × LinksHave c l left rest
+  LinksHave c l left (link op x rest) = ((t : ValueKind) × HasKind c l x t × TakesRightSide op left t) × LinksHave c l left rest
 
 -- ---- what the law needs
 
@@ -108,25 +108,25 @@ IsKnown n (Some f) = (n ≡ length f.params) × ((t : ValueKind) × (f.result �
 
 abbrev mutual
   -- each application is that of a fun with this many parameters, and each chain has a link
-  pub Applies : Names → Term → Type 0
-  Applies c (placed at s) = ShapeApplies c s
+  pub Applies : Names → Expression → Type 0
+  Applies c (placed at s) = ExpressionFormApplies c s
 
-  pub ShapeApplies : Names → Shape → Type 0
-  ShapeApplies c (int n) = Unit {0}
-  ShapeApplies c (bool x) = Unit {0}
-  ShapeApplies c no_rev = Unit {0}
-  ShapeApplies c (var w) = Unit {0}
-  ShapeApplies c (inputs at) = Unit {0}
-  ShapeApplies c (cell w index) = Applies c index
-  ShapeApplies c (apply w args) = IsKnown (count args) (c.funs w.text) × TermsApply c args
-  ShapeApplies c (input at index) = Applies c index
-  ShapeApplies c (pick test x y) = Applies c test × Applies c x × Applies c y
-  ShapeApplies c (unary op e) = Applies c e
-  ShapeApplies c (chain first rest) = Applies c first × HasLink rest × LinksApply c rest
+  pub ExpressionFormApplies : Names → ExpressionForm → Type 0
+  ExpressionFormApplies c (int n) = Unit {0}
+  ExpressionFormApplies c (bool x) = Unit {0}
+  ExpressionFormApplies c no_rev = Unit {0}
+  ExpressionFormApplies c (var w) = Unit {0}
+  ExpressionFormApplies c (inputs at) = Unit {0}
+  ExpressionFormApplies c (cell w index) = Applies c index
+  ExpressionFormApplies c (apply w args) = IsKnown (count args) (c.funs w.text) × ExpressionsApply c args
+  ExpressionFormApplies c (input at index) = Applies c index
+  ExpressionFormApplies c (pick test x y) = Applies c test × Applies c x × Applies c y
+  ExpressionFormApplies c (unary op e) = Applies c e
+  ExpressionFormApplies c (chain first rest) = Applies c first × HasLink rest × LinksApply c rest
 
-  pub TermsApply : Names → Terms → Type 0
-  TermsApply c no_terms = Unit {0}
-  TermsApply c (term x xs) = Applies c x × TermsApply c xs
+  pub ExpressionsApply : Names → Expressions → Type 0
+  ExpressionsApply c no_expressions = Unit {0}
+  ExpressionsApply c (expression x xs) = Applies c x × ExpressionsApply c xs
 
   pub LinksApply : Names → Links → Type 0
   LinksApply c no_links = Unit {0}
@@ -137,17 +137,17 @@ abbrev mutual
   HasLink (link op x rest) = Unit {0}
 
 -- the rules that an expression breaks
-abbrev pub term_faults : Names → Locals → Term → List TypeFault
-term_faults c l e = r.term_by [] (λ f. f ∷ []) (λ xs ys. xs ++ ys) c l e
+abbrev pub expression_faults : Names → Locals → Expression → List TypeFault
+expression_faults c l e = r.broken_in_expression [] (λ f. f ∷ []) (λ xs ys. xs ++ ys) c l e
 
 -- what breaks no rule has the kind that the rules give
 abbrev pub Sound : Type 0
-Sound = (c : Names) (l : Locals) (e : Term) → AllKinded l → Applies c e → term_faults c l e ≡ [] → (t : ValueKind) × (kind_in c l e ≡ Some t) × HasKind c l e t
+Sound = (c : Names) (l : Locals) (e : Expression) → AllKinded l → Applies c e → expression_faults c l e ≡ [] → (t : ValueKind) × (kind_in c l e ≡ Some t) × HasKind c l e t
 
 -- what has a kind by the rules breaks none, and the kind is the one that its outermost form fixes
 abbrev pub Complete : Type 0
-Complete = (c : Names) (l : Locals) (e : Term) (t : ValueKind) → HasKind c l e t → (term_faults c l e ≡ []) × (kind_in c l e ≡ Some t)
+Complete = (c : Names) (l : Locals) (e : Expression) (t : ValueKind) → HasKind c l e t → (expression_faults c l e ≡ []) × (kind_in c l e ≡ Some t)
 
 -- an expression has no two kinds
 abbrev pub Only : Type 0
-Only = (c : Names) (l : Locals) (e : Term) (t u : ValueKind) → HasKind c l e t → HasKind c l e u → t ≡ u
+Only = (c : Names) (l : Locals) (e : Expression) (t u : ValueKind) → HasKind c l e t → HasKind c l e u → t ≡ u

@@ -1,8 +1,8 @@
 -- The rules on expressions gathered by the first of two faults, and what a contract sees of a checker.
 use Rattle.std.specs.Prelude.{ℕ, Bool, if◌then◌else◌, Option, Some, None, option_map, List, map}
 use Rattle.rev_num.specs.declared.value.ValueKind.{ValueKind}
-use Rattle.rev_syntax.specs.Trees.{Word, Binder, Term, Shape, Terms, Links, Right}
-use Rattle.rev_syntax.specs.View.{binder}
+use Rattle.rev_syntax.specs.Trees.{PlacedName, Parameter, Expression, ExpressionForm, Expressions, Links, RightSide}
+use Rattle.rev_syntax.specs.View.{parameter}
 use Rattle.rev_syntax.specs.declared.tree.BinaryOp.{BinaryOp}
 use Rattle.merge_decl.specs.Least.{first_of}
 use Rattle.merge_decl.specs.Table.{find}
@@ -17,7 +17,7 @@ use Rattle.rev_kinds.specs.Rules as r
 -- ---- views
 
 abbrev pub callee : held.Callee → Callee
-callee f = record { params = map binder f.params.now; result = f.result }
+callee f = record { params = map parameter f.params.now; result = f.result }
 
 -- what names mean to a checker
 abbrev pub names_of : held_checker.Checker → Names
@@ -45,13 +45,13 @@ not_rev = r.not_rev None Some both
 abbrev pub alike : ℕ → Option ValueKind → Option ValueKind → Fault
 alike = r.alike None Some both
 
-abbrev pub fits : ℕ → Option ValueKind → Option Binder → Fault
+abbrev pub fits : ℕ → Option ValueKind → Option Parameter → Fault
 fits = r.fits None Some both
 
-abbrev pub scalar_use : Word → Option (Option ValueKind) → Option Holder → Fault
+abbrev pub scalar_use : PlacedName → Option (Option ValueKind) → Option Holder → Fault
 scalar_use = r.scalar_use None Some both
 
-abbrev pub array_use : Word → Option (Option ValueKind) → Option Holder → Fault
+abbrev pub array_use : PlacedName → Option (Option ValueKind) → Option Holder → Fault
 array_use = r.array_use None Some both
 
 abbrev pub input_use : Bool → ℕ → Fault
@@ -66,35 +66,35 @@ right_operand = r.right_operand None Some both
 abbrev pub first_operand : Links → ℕ → Option ValueKind → Fault
 first_operand = r.first_operand None Some both
 
-abbrev pub params_of : Option Callee → List Binder
+abbrev pub params_of : Option Callee → List Parameter
 params_of = r.params_of None Some both
 
-abbrev pub term_by : Names → Locals → Term → Fault
-term_by = r.term_by None Some both
+abbrev pub broken_in_expression : Names → Locals → Expression → Fault
+broken_in_expression = r.broken_in_expression None Some both
 
-abbrev pub shape_by : Names → Locals → Shape → Fault
-shape_by = r.shape_by None Some both
+abbrev pub broken_in_expression_form : Names → Locals → ExpressionForm → Fault
+broken_in_expression_form = r.broken_in_expression_form None Some both
 
-abbrev pub args_by : Names → Locals → List Binder → ℕ → Fault → Terms → Fault
+abbrev pub args_by : Names → Locals → List Parameter → ℕ → Fault → Expressions → Fault
 args_by = r.args_by None Some both
 
-abbrev pub arg_by : Names → Locals → List Binder → ℕ → Term → Fault
+abbrev pub arg_by : Names → Locals → List Parameter → ℕ → Expression → Fault
 arg_by = r.arg_by None Some both
 
-abbrev pub links_by : Names → Locals → Option ValueKind → Fault → Links → Fault
-links_by = r.links_by None Some both
+abbrev pub broken_in_links : Names → Locals → Option ValueKind → Fault → Links → Fault
+broken_in_links = r.broken_in_links None Some both
 
-abbrev pub part_by : Names → Locals → Term → ValueKind → Fault
+abbrev pub part_by : Names → Locals → Expression → ValueKind → Fault
 part_by = r.part_by None Some both
 
-abbrev pub callee_use : Word → ℕ → Option Callee → Fault
+abbrev pub callee_use : PlacedName → ℕ → Option Callee → Fault
 callee_use = r.callee_use None Some both
 
-abbrev pub call_by : Names → Locals → Word → Terms → Fault
+abbrev pub call_by : Names → Locals → PlacedName → Expressions → Fault
 call_by = r.call_by None Some both
 
 abbrev pub result_use : ℕ → Option Callee → Fault
 result_use = r.result_use None Some both
 
-abbrev pub right_by : Names → Locals → Right → Fault
-right_by = r.right_by None Some both
+abbrev pub broken_in_right_side : Names → Locals → RightSide → Fault
+broken_in_right_side = r.broken_in_right_side None Some both

@@ -5,55 +5,8 @@ ghost use Rattle.merge_decl.specs.Least.{is_less, first_of};
 ghost use Rattle.rev_kinds.specs.Faults as rule;
 ghost use Rattle.rev_kinds.specs.declared.fault.TypeFault.TheVariants.{OutOfMemory};
 
-use merge_decl::value::GREATEST_WEIGHT;
+use rev_report::Limit;
 use std::alloc::AllocError;
-
-/// What a limit is on.
-#[derive(Clone, Copy, PartialEq, Eq, Debug, Drop)]
-pub enum Which {
-    Locations,
-    Procedures,
-    Funs,
-    Parameters,
-    Locals,
-    Items,
-    Weight,
-}
-
-impl Which {
-    /// The limit of the language.
-    pub fn limit(self) -> u32
-        ensures { result ≡ rule.limit_of self }
-    {
-        match self {
-            Which::Locations => 4096,
-            Which::Procedures => 256,
-            Which::Funs => 256,
-            Which::Parameters => 8,
-            Which::Locals => 64,
-            Which::Items => 64,
-            Which::Weight => GREATEST_WEIGHT,
-        }
-    }
-
-    /// How many there are up to and with the first past the limit.
-    pub fn first_past(self) -> usize
-        ensures { result ≡ rule.first_past self }
-    {
-        self.limit() as usize + 1
-    }
-
-    /// The fault of what goes over the limit here.
-    pub fn exceeded(self, at: u32) -> TypeFault
-        ensures { result ≡ rule.exceeded at self }
-    {
-        TypeFault::LimitOf {
-            at,
-            which: self,
-            limit: self.limit(),
-        }
-    }
-}
 
 /// A static rule or a limit that a program breaks, with its place.
 #[derive(Clone, Copy, PartialEq, Eq, Debug, Drop)]
@@ -63,8 +16,21 @@ pub enum TypeFault {
     WrongType { at: u32 },
     WrongCount { at: u32 },
     NoReturn { at: u32 },
-    LimitOf { at: u32, which: Which, limit: u32 },
+    LimitOf { at: u32, which: Limit, limit: u32 },
     OutOfMemory,
+}
+
+impl TypeFault {
+    /// The fault of what goes over a limit here.
+    pub fn exceeded(limit: Limit, at: u32) -> TypeFault
+        ensures { result ≡ rule.exceeded at limit }
+    {
+        TypeFault::LimitOf {
+            at,
+            which: limit,
+            limit: limit.most(),
+        }
+    }
 }
 
 impl From<AllocError> for TypeFault {
@@ -93,17 +59,17 @@ fn place(fault: TypeFault) -> u32
     }
 }
 
-fn order(which: Which) -> u8
+fn order(which: Limit) -> u8
     ensures { result ≡ rule.order which }
 {
     match which {
-        Which::Locations => 6,
-        Which::Procedures => 7,
-        Which::Funs => 8,
-        Which::Parameters => 9,
-        Which::Locals => 10,
-        Which::Items => 11,
-        Which::Weight => 12,
+        Limit::Locations => 6,
+        Limit::Procedures => 7,
+        Limit::Funs => 8,
+        Limit::Parameters => 9,
+        Limit::Locals => 10,
+        Limit::Items => 11,
+        Limit::Weight => 12,
     }
 }
 

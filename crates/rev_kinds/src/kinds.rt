@@ -2,7 +2,7 @@
 
 ghost use Rattle.std.specs.Prelude.{◌≡◌, map, option_map};
 ghost use Rattle.std.specs.Option.{option_copied};
-ghost use Rattle.rev_syntax.specs.View.{binder, links, word};
+ghost use Rattle.rev_syntax.specs.View.{parameter, links, placed_name};
 ghost use Rattle.rev_kinds.specs.Kinds as kind;
 ghost use Rattle.rev_kinds.specs.Walk as rule;
 
@@ -112,7 +112,7 @@ pub fn alike(at: u32, wanted: Option<ValueKind>, found: Option<ValueKind>) -> Op
 
 /// A parameter's kind is wanted, where there is a parameter.
 pub fn fits(at: u32, found: Option<ValueKind>, param: Option<&Param>) -> Option<TypeFault>
-    ensures { result ≡ rule.fits at found (option_map binder (option_copied param.entry)) }
+    ensures { result ≡ rule.fits at found (option_map parameter (option_copied param.entry)) }
 {
     match param {
         None => None,
@@ -126,7 +126,7 @@ pub fn scalar_use(
     local: Option<Option<ValueKind>>,
     shared: Option<Holder>,
 ) -> Option<TypeFault>
-    ensures { result ≡ rule.scalar_use (word name.now) local shared }
+    ensures { result ≡ rule.scalar_use (placed_name name.now) local shared }
 {
     let at = name.at;
     match (local, shared) {
@@ -142,7 +142,7 @@ pub fn array_use(
     local: Option<Option<ValueKind>>,
     shared: Option<Holder>,
 ) -> Option<TypeFault>
-    ensures { result ≡ rule.array_use (word name.now) local shared }
+    ensures { result ≡ rule.array_use (placed_name name.now) local shared }
 {
     let at = name.at;
     match (local, shared) {
@@ -213,7 +213,8 @@ pub fn first_operand(rest: &[Link], at: u32, found: Option<ValueKind>) -> Option
 
 /// A name after `call` or `rfork`, with this many arguments.
 pub fn callee_use(name: &Name, args: usize, callee: Option<Callee>) -> Option<TypeFault>
-    ensures { result ≡ rule.callee_use (word name.now) args (option_map rule.callee callee.entry) }
+    ensures { result
+        ≡ rule.callee_use (placed_name name.now) args (option_map rule.callee callee.entry) }
 {
     let at = name.at;
     match callee {
@@ -253,7 +254,7 @@ pub fn result_of(callee: Option<Callee>) -> Option<ValueKind>
 
 /// The parameters of a fun or a procedure.
 pub fn params_of<'a>(callee: Option<Callee<'a>>) -> &'a [Param]
-    ensures { map binder result.now ≡ rule.params_of (option_map rule.callee callee.entry) }
+    ensures { map parameter result.now ≡ rule.params_of (option_map rule.callee callee.entry) }
 {
     match callee {
         None => &[],

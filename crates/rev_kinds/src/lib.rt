@@ -1,8 +1,14 @@
 //! The rules on names and kinds of expressions, and what a fault of the static rules is.
 #![tactic(auto)]
 
-pub mod fault;
-pub mod kinds;
-pub mod laws;
-pub mod names;
-pub mod terms;
+mod expressions;
+mod fault;
+mod kinds;
+mod laws;
+mod names;
+
+pub use expressions::{Seen, right_side_place};
+pub use fault::{TypeFault, first};
+pub use kinds::{alike, array_use, name_kind, not_rev, same_kind, scalar_use, wants};
+pub use laws::typing_laws;
+pub use names::{Callee, Checker, Holder, Locals};

@@ -1,6 +1,6 @@
 //! What the names of a program mean.
 
-use merge_decl::table::NameTable;
+use merge_decl::NameTable;
 use rev_num::ValueKind;
 use rev_syntax::Param;
 

@@ -1,6 +1,6 @@
 -- A small program is accepted exactly where it is well typed.
 use Rattle.std.proofs.Common.{◌≡◌, [], subst}
-use Rattle.rev_syntax.specs.Trees.{Whole}
+use Rattle.rev_syntax.specs.Trees.{ProgramTree}
 use Rattle.rev_syntax.specs.Small.{IsSmall}
 use Rattle.merge_decl.specs.FunRules.{fun_faults}
 use Rattle.merge_decl.specs.Least.{Among}
@@ -18,9 +18,9 @@ pub accepts : Accepts
 accepts p h = program_accepts p h.typed h.within
 
 -- what breaks a rule is not well typed
-pub not_typed : (p : Whole) (f : TypeFault) → Refuses p f → IsNotTyped p f
+pub not_typed : (p : ProgramTree) (f : TypeFault) → Refuses p f → IsNotTyped p f
 not_typed p f refused other h = subst (λ fs. Among fs f) (accepts p h) (refused other).among
 
 -- what is accepted is well typed, if it is small
-pub kept_typed : (p : Whole) → fun_faults p ≡ [] → faults p ≡ [] → IsSmall p → IsWellTyped p
+pub kept_typed : (p : ProgramTree) → fun_faults p ≡ [] → faults p ≡ [] → IsSmall p → IsWellTyped p
 kept_typed p u h small = well_typed p small u h

@@ -9,7 +9,8 @@ mod LightMerges
 pub mod Named
 pub mod Namings
 pub mod OwnLimits
-pub mod StepsFaults
-pub mod StepsSound
-pub mod StepsWithin
+pub mod Returning
+pub mod StatementsFaults
+pub mod StatementsSound
+pub mod StatementsWithin
 pub mod Weights

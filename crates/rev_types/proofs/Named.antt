@@ -1,44 +1,45 @@
 -- Tables of names find the first declaration of each name.
 use Rattle.std.proofs.Common.{◌≡◌, ◌∙◌, ℕ, Bool, true, false, cond, if◌then◌else◌, Option, Some, None, option_map, is_some, List, [], ◌∷◌, ◌++◌, refl, sym, ap}
-use Rattle.rev_syntax.specs.Trees.{Entry, fun, merge, shared, proc, Whole}
+use Rattle.rev_syntax.specs.Trees.{Declaration, fun, merge, shared, proc, ProgramTree}
 use Rattle.merge_decl.specs.Names.{Name, same}
 use Rattle.merge_decl.specs.Table.{Table, find, added}
 use Rattle.merge_decl.proofs.Tables.{or_else, or_else-step, find-added, or_else-none}
-use Rattle.rev_kinds.specs.declared.fault.Which.TheVariants as which
+use Rattle.rev_report.specs.declared.limit.Limit.TheVariants as limits
 use Rattle.rev_kinds.specs.declared.names.Holder.{Holder}
 use Rattle.rev_kinds.specs.declared.names.Callee as held
 use Rattle.rev_kinds.specs.declared.names.Checker as held_checker
-use Rattle.rev_kinds.specs.Faults.{first_past}
+use Rattle.rev_report.specs.Limits.{first_past}
 use Rattle.rev_kinds.specs.Kinds.{Callee, Locals}
 use Rattle.rev_kinds.specs.Walk.{Fault, both, callee, names_of}
 use Rattle.rev_types.specs.Program as p
+use Rattle.rev_types.specs.Scopes as scopes
 use Rattle.rev_types.specs.Tables.{shared_table, proc_table, fun_table, callees}
-use Rattle.rev_types.specs.Walk.{entries_by, program_by, steps_by}
+use Rattle.rev_types.specs.Walk.{broken_in_declarations, broken_in_program, broken_in_statements}
 
 module _ {V : Type 0} where
   -- a further entry, and then what is behind it
   turn : (name w : Name) (x : V) (t : Table V) (rest : Option V) → or_else (find name (added t w x)) rest ≡ or_else (find name t) (if same name w then Some x else rest)
   turn name w x t rest = ap (λ o. or_else o rest) (find-added name w x t) ∙ or_else-step (find name t) (same name w) x rest
 
-shared_found : (name : Name) (t : Table Holder) (es : List Entry) → find name (shared_table t es) ≡ or_else (find name t) (p.shared_named es name)
+shared_found : (name : Name) (t : Table Holder) (es : List Declaration) → find name (shared_table t es) ≡ or_else (find name t) (scopes.shared_named es name)
 shared_found name t [] = sym (or_else-none (find name t))
-shared_found name t (shared x ∷ es) = shared_found name (added t x.name.text (p.holder x)) es ∙ turn name x.name.text (p.holder x) t (p.shared_named es name)
+shared_found name t (shared x ∷ es) = shared_found name (added t x.name.text (scopes.holder x)) es ∙ turn name x.name.text (scopes.holder x) t (scopes.shared_named es name)
 shared_found name t (fun w ps r body ∷ es) = shared_found name t es
 shared_found name t (merge w m j r body ∷ es) = shared_found name t es
 shared_found name t (proc w ps r body ∷ es) = shared_found name t es
 
-proc_found : (name : Name) (t : Table Callee) (es : List Entry) → find name (proc_table t es) ≡ or_else (find name t) (p.proc_named es name)
+proc_found : (name : Name) (t : Table Callee) (es : List Declaration) → find name (proc_table t es) ≡ or_else (find name t) (scopes.proc_named es name)
 proc_found name t [] = sym (or_else-none (find name t))
 proc_found name t (proc w ps r body ∷ es) =
-    proc_found name (added t w.text (record { params = ps; result = r })) es ∙ turn name w.text (record { params = ps; result = r }) t (p.proc_named es name)
+    proc_found name (added t w.text (record { params = ps; result = r })) es ∙ turn name w.text (record { params = ps; result = r }) t (scopes.proc_named es name)
 proc_found name t (fun w ps r body ∷ es) = proc_found name t es
 proc_found name t (merge w m j r body ∷ es) = proc_found name t es
 proc_found name t (shared x ∷ es) = proc_found name t es
 
-fun_found : (name : Name) (t : Table Callee) (es : List Entry) → find name (fun_table t es) ≡ or_else (find name t) (p.fun_named es name)
+fun_found : (name : Name) (t : Table Callee) (es : List Declaration) → find name (fun_table t es) ≡ or_else (find name t) (scopes.fun_named es name)
 fun_found name t [] = sym (or_else-none (find name t))
 fun_found name t (fun w ps r body ∷ es) =
-    fun_found name (added t w.text (record { params = ps; result = Some r })) es ∙ turn name w.text (record { params = ps; result = Some r }) t (p.fun_named es name)
+    fun_found name (added t w.text (record { params = ps; result = Some r })) es ∙ turn name w.text (record { params = ps; result = Some r }) t (scopes.fun_named es name)
 fun_found name t (merge w m j r body ∷ es) = fun_found name t es
 fun_found name t (shared x ∷ es) = fun_found name t es
 fun_found name t (proc w ps r body ∷ es) = fun_found name t es
@@ -70,8 +71,8 @@ callees_added t name x =
     by false = callees_push t name x
 
 -- what names mean to a checker with these tables, outside of funs and merges
-pub outer_names : (c : held_checker.Checker) (es : List Entry) → c.inside ≡ false → c.shared.now ≡ shared_table [] es → callees c.procs.now ≡ proc_table [] es → callees c.funs.now ≡ fun_table [] es
-    → names_of c ≡ p.outside es
+pub outer_names : (c : held_checker.Checker) (es : List Declaration) → c.inside ≡ false → c.shared.now ≡ shared_table [] es → callees c.procs.now ≡ proc_table [] es → callees c.funs.now ≡ fun_table [] es
+    → names_of c ≡ scopes.outside es
 outer_names c es o s q f = λ i. record {
   shared = λ name. ((λ j. if o j then None else find name (s j)) ∙ shared_found name [] es) i;
   procs = λ name. (sym (callees_found name c.procs.now) ∙ ap (λ t. find name t) q ∙ proc_found name [] es) i;
@@ -80,8 +81,8 @@ outer_names c es o s q f = λ i. record {
 }
 
 -- and inside of them
-pub inner_names : (c : held_checker.Checker) (es : List Entry) → c.inside ≡ true → callees c.procs.now ≡ proc_table [] es → callees c.funs.now ≡ fun_table [] es
-    → names_of c ≡ p.within es
+pub inner_names : (c : held_checker.Checker) (es : List Declaration) → c.inside ≡ true → callees c.procs.now ≡ proc_table [] es → callees c.funs.now ≡ fun_table [] es
+    → names_of c ≡ scopes.within es
 inner_names c es o q f = λ i. record {
   shared = λ name. if o i then None else find name c.shared.now;
   procs = λ name. (sym (callees_found name c.procs.now) ∙ ap (λ t. find name t) q ∙ proc_found name [] es) i;
@@ -90,13 +91,13 @@ inner_names c es o q f = λ i. record {
 }
 
 -- the first fault of a program is that of its declarations or of `main`, by checkers with its tables
-pub program_found : (q : Whole) (o i : held_checker.Checker) (e1 e2 e3 e4 : List Entry) (l : Locals) (left : ℕ) (d m x : Fault)
-    → e1 ≡ q.entries → e2 ≡ q.entries → e3 ≡ q.entries → e4 ≡ q.entries → l ≡ [] → left ≡ first_past which.Locals
+pub program_found : (q : ProgramTree) (o i : held_checker.Checker) (e1 e2 e3 e4 : List Declaration) (l : Locals) (left : ℕ) (d m x : Fault)
+    → e1 ≡ q.declarations → e2 ≡ q.declarations → e3 ≡ q.declarations → e4 ≡ q.declarations → l ≡ [] → left ≡ first_past limits.Locals
     → o.inside ≡ false → o.shared.now ≡ shared_table [] e1 → callees o.procs.now ≡ proc_table [] e2 → callees o.funs.now ≡ fun_table [] e3
     → i.inside ≡ true → callees i.procs.now ≡ proc_table [] e2 → callees i.funs.now ≡ fun_table [] e3
-    → d ≡ entries_by (names_of o) (names_of i) p.nothing_passed None e4 → m ≡ steps_by (names_of o) None l left None q.main → x ≡ both d m
-    → x ≡ program_by q
+    → d ≡ broken_in_declarations (names_of o) (names_of i) p.nothing_passed None e4 → m ≡ broken_in_statements (names_of o) None l left None q.main → x ≡ both d m
+    → x ≡ broken_in_program q
 program_found q o i e1 e2 e3 e4 l left d m x p1 p2 p3 p4 pl pn oi os op of ii ip if' hd hm hx =
-    let outer = outer_names o q.entries oi (os ∙ ap (λ es. shared_table [] es) p1) (op ∙ ap (λ es. proc_table [] es) p2) (of ∙ ap (λ es. fun_table [] es) p3) in
-    let inner = inner_names i q.entries ii (ip ∙ ap (λ es. proc_table [] es) p2) (if' ∙ ap (λ es. fun_table [] es) p3) in
-    hx ∙ (λ j. both ((hd ∙ (λ k. entries_by (outer k) (inner k) p.nothing_passed None (p4 k))) j) ((hm ∙ (λ k. steps_by (outer k) None (pl k) (pn k) None q.main)) j))
+    let outer = outer_names o q.declarations oi (os ∙ ap (λ es. shared_table [] es) p1) (op ∙ ap (λ es. proc_table [] es) p2) (of ∙ ap (λ es. fun_table [] es) p3) in
+    let inner = inner_names i q.declarations ii (ip ∙ ap (λ es. proc_table [] es) p2) (if' ∙ ap (λ es. fun_table [] es) p3) in
+    hx ∙ (λ j. both ((hd ∙ (λ k. broken_in_declarations (outer k) (inner k) p.nothing_passed None (p4 k))) j) ((hm ∙ (λ k. broken_in_statements (outer k) None (pl k) (pn k) None q.main)) j))

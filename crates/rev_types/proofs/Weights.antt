@@ -1,11 +1,11 @@
 -- A weight that stops at one past the limit is the least of the weight and that.
 use Rattle.std.proofs.Common.{◌≡◌, ◌∙◌, ℕ, ◌+◌, min, Bool, true, false, if◌then◌else◌, Option, Some, None, option_map, [], refl, sym, ap, arith}
-use Rattle.rev_syntax.specs.Trees.{Term, placed, Shape, Terms, Links, int, bool, no_rev, var, cell, apply, input, inputs, pick, unary, chain, no_terms, term, no_links, link}
+use Rattle.rev_syntax.specs.Trees.{Expression, placed, ExpressionForm, Expressions, Links, int, bool, no_rev, var, cell, apply, input, inputs, pick, unary, chain, no_expressions, expression, no_links, link}
 use Rattle.merge_decl.specs.Names.{Name, same}
 use Rattle.merge_decl.specs.Table.{Table, find, added}
 use Rattle.merge_decl.proofs.Tables.{or_else, find-added}
 use Rattle.rev_types.specs.Program as p
-use Rattle.merge_decl.specs.Weights.{known_weight, term_weight, shape_weight, terms_weight, links_weight}
+use Rattle.merge_decl.specs.Weights.{known_weight, expression_weight, expression_form_weight, expressions_weight, links_weight}
 
 -- one past the limit
 abbrev pub cap : ℕ → ℕ
@@ -43,32 +43,32 @@ known_caps (Some n) = refl
 
 module _ (ws vs : Table ℕ) (c : Caps ws vs) where
   mutual
-    pub term_caps : (e : Term) → p.weight vs e ≡ cap (term_weight ws e)
-    term_caps (placed at s) = shape_caps s
+    pub expression_caps : (e : Expression) → p.weight vs e ≡ cap (expression_weight ws e)
+    expression_caps (placed at s) = shape_caps s
 
-    shape_caps : (s : Shape) → p.shape_weight vs s ≡ cap (shape_weight ws s)
+    shape_caps : (s : ExpressionForm) → p.expression_form_weight vs s ≡ cap (expression_form_weight ws s)
     shape_caps (int n) = refl
     shape_caps (bool x) = refl
     shape_caps no_rev = refl
     shape_caps (var w) = refl
     shape_caps (inputs at) = refl
-    shape_caps (cell w index) = plus_one _ _ (term_caps index)
-    shape_caps (input at index) = plus_one _ _ (term_caps index)
+    shape_caps (cell w index) = plus_one _ _ (expression_caps index)
+    shape_caps (input at index) = plus_one _ _ (expression_caps index)
     shape_caps (apply w args) =
-        terms_caps _ (1 + known_weight (find w.text ws)) args (plus_one _ _ (ap known_weight (c w.text) ∙ known_caps (find w.text ws)))
+        expressions_caps _ (1 + known_weight (find w.text ws)) args (plus_one _ _ (ap known_weight (c w.text) ∙ known_caps (find w.text ws)))
     shape_caps (pick x y z) =
-        plus_caps _ _ (1 + term_weight ws x + term_weight ws y) _ (plus_caps _ _ (1 + term_weight ws x) _ (plus_one _ _ (term_caps x)) (term_caps y)) (term_caps z)
-    shape_caps (unary op e) = plus_one _ _ (term_caps e)
-    shape_caps (chain e rest) = links_caps _ (term_weight ws e) rest (term_caps e)
+        plus_caps _ _ (1 + expression_weight ws x + expression_weight ws y) _ (plus_caps _ _ (1 + expression_weight ws x) _ (plus_one _ _ (expression_caps x)) (expression_caps y)) (expression_caps z)
+    shape_caps (unary op e) = plus_one _ _ (expression_caps e)
+    shape_caps (chain e rest) = links_caps _ (expression_weight ws e) rest (expression_caps e)
 
-    terms_caps : (x n : ℕ) (ts : Terms) → x ≡ cap n → p.terms_weight vs x ts ≡ cap (n + terms_weight ws ts)
-    terms_caps x n no_terms h = h ∙ ap cap (let e : n ≡ n + 0 = omega arith in e)
-    terms_caps x n (term e es) h =
-        terms_caps _ (n + term_weight ws e) es (plus_caps _ _ n _ h (term_caps e))
-        ∙ ap cap (let d : n + term_weight ws e + terms_weight ws es ≡ n + (term_weight ws e + terms_weight ws es) = omega arith in d)
+    expressions_caps : (x n : ℕ) (ts : Expressions) → x ≡ cap n → p.expressions_weight vs x ts ≡ cap (n + expressions_weight ws ts)
+    expressions_caps x n no_expressions h = h ∙ ap cap (let e : n ≡ n + 0 = omega arith in e)
+    expressions_caps x n (expression e es) h =
+        expressions_caps _ (n + expression_weight ws e) es (plus_caps _ _ n _ h (expression_caps e))
+        ∙ ap cap (let d : n + expression_weight ws e + expressions_weight ws es ≡ n + (expression_weight ws e + expressions_weight ws es) = omega arith in d)
 
     links_caps : (x n : ℕ) (ls : Links) → x ≡ cap n → p.links_weight vs x ls ≡ cap (n + links_weight ws ls)
     links_caps x n no_links h = h ∙ ap cap (let e : n ≡ n + 0 = omega arith in e)
     links_caps x n (link op e rest) h =
-        links_caps _ (n + (1 + term_weight ws e)) rest (plus_caps _ _ n _ h (plus_one _ _ (term_caps e)))
-        ∙ ap cap (let d : n + (1 + term_weight ws e) + links_weight ws rest ≡ n + (1 + term_weight ws e + links_weight ws rest) = omega arith in d)
+        links_caps _ (n + (1 + expression_weight ws e)) rest (plus_caps _ _ n _ h (plus_one _ _ (expression_caps e)))
+        ∙ ap cap (let d : n + (1 + expression_weight ws e) + links_weight ws rest ≡ n + (1 + expression_weight ws e + links_weight ws rest) = omega arith in d)

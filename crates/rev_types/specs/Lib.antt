@@ -5,6 +5,7 @@ pub mod Limits
 pub mod Naming
 pub mod Passing
 pub mod Program
-pub mod Steps
+pub mod Statements
 pub mod Tables
 pub mod Walk
+pub mod Scopes

@@ -1,51 +1,51 @@
 -- A name means the first declaration of it, anywhere in the text.
 use Rattle.std.specs.Prelude.{◌≡◌, Option, Some, None, List, ◌∷◌, ◌++◌}
-use Rattle.rev_syntax.specs.Trees.{Entry, fun, merge, shared, proc}
+use Rattle.rev_syntax.specs.Trees.{Declaration, fun, merge, shared, proc}
 use Rattle.merge_decl.specs.Least.{Among}
 use Rattle.merge_decl.specs.Names.{Name}
 use Rattle.rev_kinds.specs.declared.names.Holder.{Holder}
 use Rattle.rev_kinds.specs.Kinds.{Callee}
-use Rattle.rev_types.specs.Program.{holder, shared_named, proc_named, fun_named}
+use Rattle.rev_types.specs.Scopes.{holder, shared_named, proc_named, fun_named}
 
 -- a declaration declares this name as this shared variable, as this procedure, as this fun
 
-abbrev pub DeclaresShared : Name → Entry → Holder → Type 0
+abbrev pub DeclaresShared : Name → Declaration → Holder → Type 0
 DeclaresShared name (shared x) h = (x.name.text ≡ name) × (h ≡ holder x)
 DeclaresShared name (fun w ps r body) h = ⊥
 DeclaresShared name (merge w m j r body) h = ⊥
 DeclaresShared name (proc w ps r body) h = ⊥
 
-abbrev pub DeclaresProc : Name → Entry → Callee → Type 0
+abbrev pub DeclaresProc : Name → Declaration → Callee → Type 0
 DeclaresProc name (proc w ps r body) f = (w.text ≡ name) × (f ≡ record { params = ps; result = r })
 DeclaresProc name (fun w ps r body) f = ⊥
 DeclaresProc name (merge w m j r body) f = ⊥
 DeclaresProc name (shared x) f = ⊥
 
-abbrev pub DeclaresFun : Name → Entry → Callee → Type 0
+abbrev pub DeclaresFun : Name → Declaration → Callee → Type 0
 DeclaresFun name (fun w ps r body) f = (w.text ≡ name) × (f ≡ record { params = ps; result = Some r })
 DeclaresFun name (merge w m j r body) f = ⊥
 DeclaresFun name (shared x) f = ⊥
 DeclaresFun name (proc w ps r body) f = ⊥
 
 -- of the declarations that declare something the first declares this
-pub record IsFirstOf {V : Type 0} (declares : Entry → V → Type 0) (es : List Entry) (x : V) : Type 0 where
-  pub before : List Entry
-  pub entry : Entry
-  pub behind : List Entry
-  pub parts : es ≡ before ++ entry ∷ behind
-  pub declared : declares entry x
-  pub first : (e : Entry) (y : V) → Among before e → declares e y → ⊥
+pub record IsFirstOf {V : Type 0} (declares : Declaration → V → Type 0) (es : List Declaration) (x : V) : Type 0 where
+  pub before : List Declaration
+  pub declaration : Declaration
+  pub behind : List Declaration
+  pub parts : es ≡ before ++ declaration ∷ behind
+  pub declared : declares declaration x
+  pub first : (e : Declaration) (y : V) → Among before e → declares e y → ⊥
 
 -- what the first declares, or nothing where none does
-abbrev pub Means : {V : Type 0} → (Entry → V → Type 0) → List Entry → Option V → Type 0
+abbrev pub Means : {V : Type 0} → (Declaration → V → Type 0) → List Declaration → Option V → Type 0
 Means {V} declares es (Some x) = IsFirstOf declares es x
-Means {V} declares es None = (e : Entry) (y : V) → Among es e → declares e y → ⊥
+Means {V} declares es None = (e : Declaration) (y : V) → Among es e → declares e y → ⊥
 
-pub record FirstDeclarations (es : List Entry) (name : Name) : Type 0 where
+pub record FirstDeclarations (es : List Declaration) (name : Name) : Type 0 where
   pub shared : Means (DeclaresShared name) es (shared_named es name)
   pub procs : Means (DeclaresProc name) es (proc_named es name)
   pub funs : Means (DeclaresFun name) es (fun_named es name)
 
 -- with two declarations of one name the first counts
 abbrev pub FirstCounts : Type 0
-FirstCounts = (es : List Entry) (name : Name) → FirstDeclarations es name
+FirstCounts = (es : List Declaration) (name : Name) → FirstDeclarations es name

@@ -1,6 +1,6 @@
 -- The names of a program as tables.
 use Rattle.std.specs.Prelude.{◌≢◌, Some, List, [], ◌∷◌, map}
-use Rattle.rev_syntax.specs.Trees.{Entry, fun, merge, shared, proc, Whole}
+use Rattle.rev_syntax.specs.Trees.{Declaration, fun, merge, shared, proc, ProgramTree}
 use Rattle.merge_decl.specs.Least.{IsFirst}
 use Rattle.merge_decl.specs.Table.{Table, added}
 use Rattle.rev_kinds.specs.declared.fault.TypeFault.{TypeFault}
@@ -10,10 +10,11 @@ use Rattle.rev_kinds.specs.declared.names.Callee as held
 use Rattle.rev_kinds.specs.Faults.{place, rank}
 use Rattle.rev_kinds.specs.Kinds.{Callee}
 use Rattle.rev_kinds.specs.Walk.{callee}
-use Rattle.rev_types.specs.Program.{holder, faults}
+use Rattle.rev_types.specs.Program.{faults}
+use Rattle.rev_types.specs.Scopes.{holder}
 
 -- the first shared variable of each name, after those of a table
-abbrev pub shared_table : Table Holder → List Entry → Table Holder
+abbrev pub shared_table : Table Holder → List Declaration → Table Holder
 shared_table t [] = t
 shared_table t (shared x ∷ es) = shared_table (added t x.name.text (holder x)) es
 shared_table t (fun w ps r body ∷ es) = shared_table t es
@@ -21,26 +22,26 @@ shared_table t (merge w m j r body ∷ es) = shared_table t es
 shared_table t (proc w ps r body ∷ es) = shared_table t es
 
 -- the table after a declaration, if it is a procedure
-abbrev pub with_proc : Table Callee → Entry → Table Callee
+abbrev pub with_proc : Table Callee → Declaration → Table Callee
 with_proc t (proc w ps r body) = added t w.text (record { params = ps; result = r })
 with_proc t (fun w ps r body) = t
 with_proc t (merge w m j r body) = t
 with_proc t (shared x) = t
 
 -- the first procedure of each name, after those of a table
-abbrev pub proc_table : Table Callee → List Entry → Table Callee
+abbrev pub proc_table : Table Callee → List Declaration → Table Callee
 proc_table t [] = t
 proc_table t (e ∷ es) = proc_table (with_proc t e) es
 
 -- the table after a declaration, if it is a fun
-abbrev pub with_fun : Table Callee → Entry → Table Callee
+abbrev pub with_fun : Table Callee → Declaration → Table Callee
 with_fun t (fun w ps r body) = added t w.text (record { params = ps; result = Some r })
 with_fun t (merge w m j r body) = t
 with_fun t (shared x) = t
 with_fun t (proc w ps r body) = t
 
 -- the first fun of each name, after those of a table
-abbrev pub fun_table : Table Callee → List Entry → Table Callee
+abbrev pub fun_table : Table Callee → List Declaration → Table Callee
 fun_table t [] = t
 fun_table t (e ∷ es) = fun_table (with_fun t e) es
 
@@ -49,5 +50,5 @@ abbrev pub callees : Table held.Callee → Table Callee
 callees t = map (λ e. (e.0, callee e.1)) t
 
 -- the refusal of a program: the first of all rules and limits that it breaks. Want of memory says nothing.
-abbrev pub Refuses : Whole → TypeFault → Type 0
+abbrev pub Refuses : ProgramTree → TypeFault → Type 0
 Refuses p f = f ≢ OutOfMemory → IsFirst place rank (faults p) f

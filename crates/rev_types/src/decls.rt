@@ -3,23 +3,23 @@
 ghost use Rattle.std.specs.Prelude.{◌≡◌, ◌-◌, true, ℕ, Some, None, [], map, option_map, IfOk, OnOk};
 ghost use Rattle.std.specs.declared.option.Option.{Option};
 ghost use Rattle.rev_num.specs.declared.value.ValueKind.TheVariants as k;
-ghost use Rattle.rev_syntax.specs.View.{act, arms, binder, block, constant, entry, extent, stmt, stmts, term, word};
+ghost use Rattle.rev_syntax.specs.View.{statement_form, arms, parameter, block, constant, declaration, array_size, stmt, stmts, expression, placed_name};
 ghost use Rattle.merge_decl.specs.Table.{added, find};
-ghost use Rattle.rev_kinds.specs.declared.fault.Which.TheVariants as which;
-ghost use Rattle.rev_kinds.specs.Faults.{first_past};
+ghost use Rattle.rev_report.specs.declared.limit.Limit.TheVariants as limits;
+ghost use Rattle.rev_report.specs.Limits.{first_past};
 ghost use Rattle.rev_kinds.specs.Walk.{both, names_of};
 ghost use Rattle.rev_types.specs.Passing.{passed_of};
 ghost use Rattle.rev_types.specs.Program as program;
-ghost use Rattle.rev_types.specs.Steps as steps;
+ghost use Rattle.rev_types.specs.Scopes as scopes;
+ghost use Rattle.rev_types.specs.Statements as statements;
 ghost use Rattle.rev_types.specs.Walk as rule;
 
 use crate::passed::{Passed, cells_in, located_after, weight};
-use crate::steps::{Body, block, new_local, one_more_local};
-use merge_decl::table::NameTable;
-use rev_kinds::fault::{TypeFault, Which, first};
-use rev_kinds::kinds::{not_rev, same_kind, wants};
-use rev_kinds::names::{Checker, Locals};
+use crate::statements::{Body, block, new_local, one_more_local};
+use merge_decl::NameTable;
+use rev_kinds::{Checker, Locals, TypeFault, first, not_rev, same_kind, wants};
 use rev_num::ValueKind;
+use rev_report::Limit;
 use rev_syntax::{Arm, Block, Const, Decl, Expr, Form, Name, Param, Size, Stmt};
 use std::alloc::{AllocError, Global};
 
@@ -27,14 +27,14 @@ use std::alloc::{AllocError, Global};
 
 #[cycle(returns)]
 fn stmt_returns(s: &Stmt) -> bool
-    ensures { result ≡ steps.step_returns (stmt s.now) }
+    ensures { result ≡ statements.statement_returns (stmt s.now) }
 {
     form_returns(&s.form)
 }
 
 #[cycle(returns)]
 fn form_returns(form: &Form) -> bool
-    ensures { result ≡ steps.act_returns (act form.now) }
+    ensures { result ≡ statements.statement_form_returns (statement_form form.now) }
 {
     match form {
         Form::Return { value: _ } => true,
@@ -62,7 +62,7 @@ fn form_returns(form: &Form) -> bool
 /// blocks all return.
 #[cycle(returns)]
 pub fn returns(b: &Block) -> bool
-    ensures { result ≡ steps.returns (block b.now) }
+    ensures { result ≡ statements.returns (block b.now) }
 {
     let mut last = false;
     for s in &b.stmts {
@@ -73,7 +73,7 @@ pub fn returns(b: &Block) -> bool
 
 #[cycle(returns)]
 fn arms_return(all: &[Arm]) -> bool
-    ensures { result ≡ steps.arms_return true (arms all.now) }
+    ensures { result ≡ statements.arms_return true (arms all.now) }
 {
     let mut every = true;
     for arm in all {
@@ -86,7 +86,7 @@ fn arms_return(all: &[Arm]) -> bool
 
 /// A name that no declaration before has.
 fn new_name(name: &Name, names: &NameTable<u32>) -> Option<TypeFault>
-    ensures { result ≡ rule.new_name (word name.now) names.now }
+    ensures { result ≡ rule.new_name (placed_name name.now) names.now }
 {
     if names.find(&name.text).is_some() {
         Some(TypeFault::Redeclared { at: name.at })
@@ -96,11 +96,11 @@ fn new_name(name: &Name, names: &NameTable<u32>) -> Option<TypeFault>
 }
 
 /// The first past a limit, where this many are left up to and with it.
-fn limit_at(at: u32, which: Which, left: usize) -> Option<TypeFault>
+fn limit_at(at: u32, which: Limit, left: usize) -> Option<TypeFault>
     ensures { result ≡ rule.limit_at at which left }
 {
     if left == 1 {
-        Some(which.exceeded(at))
+        Some(TypeFault::exceeded(which, at))
     } else {
         None
     }
@@ -108,7 +108,7 @@ fn limit_at(at: u32, which: Which, left: usize) -> Option<TypeFault>
 
 /// A parameter that no earlier one has the name of.
 fn new_param(name: &Name, locals: &Locals) -> Option<TypeFault>
-    ensures { result ≡ rule.new_param (word name.now) locals.now }
+    ensures { result ≡ rule.new_param (placed_name name.now) locals.now }
 {
     if locals.find(&name.text).is_some() {
         Some(TypeFault::Redeclared { at: name.at })
@@ -119,10 +119,10 @@ fn new_param(name: &Name, locals: &Locals) -> Option<TypeFault>
 
 /// A weight within the limit.
 fn weight_of(name: &Name, weight: u32) -> Option<TypeFault>
-    ensures { result ≡ rule.weight_of (word name.now) weight }
+    ensures { result ≡ rule.weight_of (placed_name name.now) weight }
 {
-    if weight > Which::Weight.limit() {
-        Some(Which::Weight.exceeded(name.at))
+    if weight > Limit::Weight.most() {
+        Some(TypeFault::exceeded(Limit::Weight, name.at))
     } else {
         None
     }
@@ -130,7 +130,7 @@ fn weight_of(name: &Name, weight: u32) -> Option<TypeFault>
 
 /// A fun's parameter, which is no handle.
 fn no_rev_param(param: &Param) -> Option<TypeFault>
-    ensures { result ≡ program.no_rev_param None Some both (binder param.now) }
+    ensures { result ≡ program.no_rev_param None Some both (parameter param.now) }
 {
     if same_kind(param.kind, ValueKind::Rev) {
         Some(TypeFault::WrongType { at: param.kind_at })
@@ -141,7 +141,7 @@ fn no_rev_param(param: &Param) -> Option<TypeFault>
 
 /// The result of a fun, which is no handle.
 fn fun_result(name: &Name, result_kind: ValueKind) -> Option<TypeFault>
-    ensures { result ≡ rule.fun_result (word name.now) result_kind }
+    ensures { result ≡ rule.fun_result (placed_name name.now) result_kind }
 {
     if same_kind(result_kind, ValueKind::Rev) {
         Some(TypeFault::WrongType { at: name.at })
@@ -154,9 +154,9 @@ fn fun_result(name: &Name, result_kind: ValueKind) -> Option<TypeFault>
 
 /// One parameter of a fun.
 fn fun_param(locals: &Locals, left: usize, param: &Param) -> Option<TypeFault>
-    ensures { result ≡ program.fun_param None Some both locals.now left (binder param.now) }
+    ensures { result ≡ program.fun_param None Some both locals.now left (parameter param.now) }
 {
-    let limit = limit_at(param.name.at, Which::Parameters, left);
+    let limit = limit_at(param.name.at, Limit::Parameters, left);
     first(
         new_param(&param.name, locals),
         first(no_rev_param(param), limit),
@@ -169,10 +169,12 @@ fn fun_params(
     locals: &mut Locals,
     params: &[Param],
 ) -> Result<Option<TypeFault>, AllocError>
-    ensures fault { IfOk result (λ f. f ≡ rule.fun_params locals.old (first_past which.Parameters) None (map binder params.now)) }
-    ensures locals { OnOk result (locals.new ≡ program.with_params locals.old (map binder params.now)) }
+    ensures fault { IfOk result
+        (λ f. f ≡ rule.fun_params locals.old (first_past limits.Parameters) None
+        (map parameter params.now)) }
+    ensures locals { OnOk result (locals.new ≡ scopes.with_params locals.old (map parameter params.now)) }
 {
-    let mut left = Which::Parameters.first_past();
+    let mut left = Limit::Parameters.first_past();
     let mut found = None;
     for param in params {
         found = first(found, fun_param(locals, left, param));
@@ -184,11 +186,13 @@ fn fun_params(
 
 /// One parameter of a procedure.
 fn proc_param(outer: &Checker, body: &Body, left: usize, param: &Param) -> Option<TypeFault>
-    ensures { result ≡ program.proc_param None Some both (names_of outer.now) body.now.locals left body.now.left (binder param.now) }
+    ensures { result
+        ≡ program.proc_param None Some both (names_of outer.now) body.now.locals left body.now.left
+        (parameter param.now) }
 {
     let name = &param.name;
     let taken = new_local(name, body.locals.find(&name.text), outer.holder(name));
-    let limit = limit_at(name.at, Which::Parameters, left);
+    let limit = limit_at(name.at, Limit::Parameters, left);
     first(taken, first(limit, one_more_local(name, body.left)))
 }
 
@@ -199,11 +203,15 @@ fn proc_params(
     body: &mut Body,
     params: &[Param],
 ) -> Result<Option<TypeFault>, AllocError>
-    ensures fault { IfOk result (λ f. f ≡ rule.proc_params (names_of outer.now) body.old.locals (first_past which.Parameters) body.old.left None (map binder params.now)) }
-    ensures locals { OnOk result (body.new.locals ≡ program.with_params body.old.locals (map binder params.now)) }
-    ensures left { OnOk result (body.new.left ≡ program.left_params body.old.left (map binder params.now)) }
+    ensures fault { IfOk result
+        (λ f. f ≡ rule.proc_params (names_of outer.now) body.old.locals
+        (first_past limits.Parameters) body.old.left None (map parameter params.now)) }
+    ensures locals { OnOk result
+        (body.new.locals ≡ scopes.with_params body.old.locals (map parameter params.now)) }
+    ensures left { OnOk result
+        (body.new.left ≡ program.left_params body.old.left (map parameter params.now)) }
 {
-    let mut left = Which::Parameters.first_past();
+    let mut left = Limit::Parameters.first_past();
     let mut found = None;
     for param in params {
         found = first(found, proc_param(outer, body, left, param));
@@ -223,9 +231,10 @@ fn fun_body(
     result_kind: ValueKind,
     body: &Expr,
 ) -> Option<TypeFault>
-    ensures { result ≡ rule.fun_body (names_of inner.now) locals.now result_kind (term body.now) }
+    ensures { result
+        ≡ rule.fun_body (names_of inner.now) locals.now result_kind (expression body.now) }
 {
-    let seen = inner.term(locals, body);
+    let seen = inner.expression(locals, body);
     let wanted = wants(body.at, seen.kind, result_kind);
     first(first(seen.fault, wanted), not_rev(body.at, seen.kind))
 }
@@ -240,12 +249,14 @@ fn fun_decl(
     result_kind: ValueKind,
     body: &Expr,
 ) -> Result<Option<TypeFault>, AllocError>
-    ensures { IfOk result (λ f. f ≡ program.fun_by None Some both (names_of inner.now) (passed_of passed.now) (word name.now) (map binder params.now) result_kind (term body.now)) }
+    ensures { IfOk result
+        (λ f. f ≡ program.broken_in_fun None Some both (names_of inner.now) (passed_of passed.now)
+        (placed_name name.now) (map parameter params.now) result_kind (expression body.now)) }
 {
     let mut locals = NameTable::new(alloc);
     let named = first(
         new_name(name, &passed.names),
-        limit_at(name.at, Which::Funs, passed.funs_left),
+        limit_at(name.at, Limit::Funs, passed.funs_left),
     );
     let params = fun_params(alloc, &mut locals, params)?;
     let head = first(params, fun_result(name, result_kind));
@@ -261,8 +272,12 @@ fn merge_locals(
     join: &Name,
     root: &Name,
 ) -> Result<(Option<TypeFault>, Locals), AllocError>
-    ensures fault { IfOk result (λ r. r.0 ≡ rule.merge_params (word main.now) (word join.now) (word root.now)) }
-    ensures locals { IfOk result (λ r. r.1 ≡ program.merge_locals (word main.now) (word join.now) (word root.now)) }
+    ensures fault { IfOk result
+        (λ r. r.0
+        ≡ rule.merge_params (placed_name main.now) (placed_name join.now) (placed_name root.now)) }
+    ensures locals { IfOk result
+        (λ r. r.1
+        ≡ scopes.merge_locals (placed_name main.now) (placed_name join.now) (placed_name root.now)) }
 {
     let mut locals = NameTable::new(alloc);
     locals.add(alloc, &main.text, Some(ValueKind::Int))?;
@@ -282,11 +297,14 @@ fn merge_decl(
     params: (&Name, &Name, &Name),
     body: &Expr,
 ) -> Result<Option<TypeFault>, AllocError>
-    ensures { IfOk result (λ f. f ≡ program.merge_by None Some both (names_of inner.now) (passed_of passed.now) (word name.now) (word params.entry.0.now) (word params.entry.1.now) (word params.entry.2.now) (term body.now)) }
+    ensures { IfOk result
+        (λ f. f ≡ program.broken_in_merge None Some both (names_of inner.now) (passed_of passed.now)
+        (placed_name name.now) (placed_name params.entry.0.now) (placed_name params.entry.1.now)
+        (placed_name params.entry.2.now) (expression body.now)) }
 {
     let named = first(
         new_name(name, &passed.names),
-        limit_at(name.at, Which::Funs, passed.funs_left),
+        limit_at(name.at, Limit::Funs, passed.funs_left),
     );
     let (params, locals) = merge_locals(alloc, params.0, params.1, params.2)?;
     let weight = weight_of(name, weight(&passed.weights, body));
@@ -296,7 +314,7 @@ fn merge_decl(
 
 /// The name after `by`, which is that of a merge that is declared before.
 fn by_use(merges: &NameTable<u32>, by: &Option<Name>) -> Option<TypeFault>
-    ensures { result ≡ rule.by_use merges.now (option_map word by.now) }
+    ensures { result ≡ rule.by_use merges.now (option_map placed_name by.now) }
 {
     match by {
         None => None,
@@ -312,7 +330,7 @@ fn by_use(merges: &NameTable<u32>, by: &Option<Name>) -> Option<TypeFault>
 
 /// The kind of a cumulative variable, which is int.
 fn cumulative_kind(by: &Option<Name>, at: u32, found: ValueKind) -> Option<TypeFault>
-    ensures { result ≡ rule.cumulative_kind (option_map word by.now) at found }
+    ensures { result ≡ rule.cumulative_kind (option_map placed_name by.now) at found }
 {
     match by {
         None => None,
@@ -328,7 +346,7 @@ fn cumulative_kind(by: &Option<Name>, at: u32, found: ValueKind) -> Option<TypeF
 
 /// The size of an array, which is not 0.
 fn size_use(size: Option<Size>) -> Option<TypeFault>
-    ensures { result ≡ rule.size_use (option_map extent size) }
+    ensures { result ≡ rule.size_use (option_map array_size size) }
 {
     match size {
         None => None,
@@ -354,21 +372,21 @@ fn first_value(value: &Option<Const>, wanted: ValueKind) -> Option<TypeFault>
 
 /// The variable with which there are too many locations.
 fn location_limit(name: &Name, before: u32, after: u32) -> Option<TypeFault>
-    ensures { result ≡ rule.location_limit (word name.now) before after }
+    ensures { result ≡ rule.location_limit (placed_name name.now) before after }
 {
-    let limit = Which::Locations.limit();
+    let limit = Limit::Locations.most();
     if before > limit {
         return None;
     }
     if after > limit {
-        return Some(Which::Locations.exceeded(name.at));
+        return Some(TypeFault::exceeded(Limit::Locations, name.at));
     }
     None
 }
 
 /// A procedure with a result, which returns.
 fn return_use(name: &Name, result_kind: Option<ValueKind>, returns: bool) -> Option<TypeFault>
-    ensures { result ≡ rule.return_use (word name.now) result_kind returns }
+    ensures { result ≡ rule.return_use (placed_name name.now) result_kind returns }
 {
     match result_kind {
         None => None,
@@ -392,12 +410,14 @@ fn proc_decl(
     result_kind: Option<ValueKind>,
     body: &Block,
 ) -> Result<Option<TypeFault>, AllocError>
-    ensures { IfOk result (λ f. f ≡ program.proc_by None Some both (names_of outer.now) (passed_of passed.now) (word name.now) (map binder params.now) result_kind (block body.now)) }
+    ensures { IfOk result
+        (λ f. f ≡ program.broken_in_proc None Some both (names_of outer.now) (passed_of passed.now)
+        (placed_name name.now) (map parameter params.now) result_kind (block body.now)) }
 {
     let mut inside = Body::new(alloc);
     let named = first(
         new_name(name, &passed.names),
-        limit_at(name.at, Which::Procedures, passed.procs_left),
+        limit_at(name.at, Limit::Procedures, passed.procs_left),
     );
     let params = proc_params(alloc, outer, &mut inside, params)?;
     let head = first(params, return_use(name, result_kind, returns(body)));
@@ -414,7 +434,16 @@ fn shared_decl(
     size: Option<Size>,
     start: &Option<Const>,
 ) -> Option<TypeFault>
-    ensures { result ≡ program.shared_by None Some both (passed_of passed.now) (record { name = word name.now; by = option_map word by.now; kind_at = kind.0; holds = kind.1; size = option_map extent size; first = option_map constant start.now }) }
+    ensures { result
+        ≡ program.broken_in_shared None Some both (passed_of passed.now)
+        (record {
+          name = placed_name name.now;
+          by = option_map placed_name by.now;
+          kind_at = kind.0;
+          holds = kind.1;
+          size = option_map array_size size;
+          first = option_map constant start.now;
+        }) }
 {
     let after = located_after(passed.located, cells_in(size));
     let named = first(
@@ -437,7 +466,9 @@ pub fn decl(
     passed: &Passed,
     d: &Decl,
 ) -> Result<Option<TypeFault>, AllocError>
-    ensures { IfOk result (λ f. f ≡ rule.entry_by (names_of outer.now) (names_of inner.now) (passed_of passed.now) (entry d.now)) }
+    ensures { IfOk result
+        (λ f. f ≡ rule.broken_in_declaration (names_of outer.now) (names_of inner.now)
+        (passed_of passed.now) (declaration d.now)) }
 {
     match d {
         Decl::Fun {

@@ -1,11 +1,16 @@
 //! The static rules on statements and declarations, and the limits.
 #![tactic(auto)]
 
-pub mod check;
-pub mod decls;
-pub mod laws;
-pub mod lookup;
-pub mod passed;
-pub mod steps;
-pub mod tables;
-pub mod typed;
+mod checker;
+mod decls;
+mod laws;
+mod lookup;
+mod passed;
+mod statements;
+mod tables;
+mod typed;
+
+pub use checker::check;
+pub use laws::{name_laws, program_laws};
+pub use tables::SharedInfo;
+pub use typed::Typed;

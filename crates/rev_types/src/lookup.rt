@@ -1,17 +1,17 @@
 //! Tables of what the names of a program mean.
 
 ghost use Rattle.std.specs.Prelude.{◌≡◌, Some, [], map, IfOk, OnOk};
-ghost use Rattle.rev_syntax.specs.View.{entry};
+ghost use Rattle.rev_syntax.specs.View.{declaration};
 ghost use Rattle.rev_types.specs.Tables as spec;
 
-use merge_decl::table::NameTable;
-use rev_kinds::names::{Callee, Holder};
+use merge_decl::NameTable;
+use rev_kinds::{Callee, Holder};
 use rev_syntax::Decl;
 use std::alloc::{AllocError, Global};
 
 /// The first shared variable of each name.
 pub fn shared_table(alloc: Global, decls: &[Decl]) -> Result<NameTable<Holder>, AllocError>
-    ensures { IfOk result (λ t. t ≡ spec.shared_table [] (map entry decls.now)) }
+    ensures { IfOk result (λ t. t ≡ spec.shared_table [] (map declaration decls.now)) }
 {
     let mut table = NameTable::new(alloc);
     for d in decls {
@@ -41,7 +41,8 @@ fn add_proc<'a>(
     table: &mut NameTable<Callee<'a>>,
     d: &'a Decl,
 ) -> Result<(), AllocError>
-    ensures { OnOk result (spec.callees table.new ≡ spec.with_proc (spec.callees table.old) (entry d.now)) }
+    ensures { OnOk result
+        (spec.callees table.new ≡ spec.with_proc (spec.callees table.old) (declaration d.now)) }
 {
     match d {
         Decl::Proc {
@@ -82,7 +83,7 @@ fn add_proc<'a>(
 
 /// The first procedure of each name.
 pub fn proc_table(alloc: Global, decls: &[Decl]) -> Result<NameTable<Callee<'_>>, AllocError>
-    ensures { IfOk result (λ t. spec.callees t ≡ spec.proc_table [] (map entry decls.now)) }
+    ensures { IfOk result (λ t. spec.callees t ≡ spec.proc_table [] (map declaration decls.now)) }
 {
     let mut table = NameTable::new(alloc);
     for d in decls {
@@ -98,7 +99,8 @@ fn add_fun<'a>(
     table: &mut NameTable<Callee<'a>>,
     d: &'a Decl,
 ) -> Result<(), AllocError>
-    ensures { OnOk result (spec.callees table.new ≡ spec.with_fun (spec.callees table.old) (entry d.now)) }
+    ensures { OnOk result
+        (spec.callees table.new ≡ spec.with_fun (spec.callees table.old) (declaration d.now)) }
 {
     match d {
         Decl::Fun {
@@ -139,7 +141,7 @@ fn add_fun<'a>(
 
 /// The first fun of each name.
 pub fn fun_table(alloc: Global, decls: &[Decl]) -> Result<NameTable<Callee<'_>>, AllocError>
-    ensures { IfOk result (λ t. spec.callees t ≡ spec.fun_table [] (map entry decls.now)) }
+    ensures { IfOk result (λ t. spec.callees t ≡ spec.fun_table [] (map declaration decls.now)) }
 {
     let mut table = NameTable::new(alloc);
     for d in decls {

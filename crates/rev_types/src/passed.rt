@@ -1,16 +1,17 @@
 //! What the declarations before a place declare.
 
 ghost use Rattle.std.specs.Prelude.{◌≡◌, ◌+◌, ◌<◌, ◌≤◌, ◌^◌, OnOk, min, option_map};
-ghost use Rattle.rev_syntax.specs.View.{entry, extent, links, shape, term, terms};
+ghost use Rattle.rev_syntax.specs.View.{declaration, array_size, links, expression_form, expression, expressions};
 ghost use Rattle.merge_decl.specs.Table.{find};
 ghost use Rattle.rev_types.specs.Passing.{passed_of};
 ghost use Rattle.merge_decl.specs.Weights.{known_weight};
-ghost use Rattle.rev_kinds.specs.Faults.{first_past};
-ghost use Rattle.rev_kinds.specs.declared.fault.Which.TheVariants as which;
+ghost use Rattle.rev_report.specs.Limits.{first_past};
+ghost use Rattle.rev_report.specs.declared.limit.Limit.TheVariants as limits;
 ghost use Rattle.rev_types.specs.Program as program;
+ghost use Rattle.rev_types.specs.Scopes as scopes;
 
-use merge_decl::table::NameTable;
-use rev_kinds::fault::Which;
+use merge_decl::NameTable;
+use rev_report::Limit;
 use rev_syntax::{Decl, Expr, Link, Name, Node, Size};
 use std::alloc::{AllocError, Global};
 
@@ -34,7 +35,7 @@ pub struct Passed {
 fn plus(a: u32, b: u32) -> u32
     ensures { result ≡ program.plus a b }
 {
-    a.saturating_add(b).min(Which::Weight.limit() + 1)
+    a.saturating_add(b).min(Limit::Weight.most() + 1)
 }
 
 /// The weight of a fun of this name.
@@ -47,14 +48,14 @@ fn known_weight(weights: &NameTable<u32>, name: &Name) -> u32
 /// The weight of an expression, where the funs have these weights.
 #[cycle(weight)]
 pub fn weight(weights: &NameTable<u32>, e: &Expr) -> u32
-    ensures { result ≡ program.weight weights.now (term e.now) }
+    ensures { result ≡ program.weight weights.now (expression e.now) }
 {
     node_weight(weights, &e.node)
 }
 
 #[cycle(weight)]
 fn node_weight(weights: &NameTable<u32>, node: &Node) -> u32
-    ensures { result ≡ program.shape_weight weights.now (shape node.now) }
+    ensures { result ≡ program.expression_form_weight weights.now (expression_form node.now) }
 {
     match node {
         Node::Int(_) => 1,
@@ -80,7 +81,7 @@ fn node_weight(weights: &NameTable<u32>, node: &Node) -> u32
 /// The weight of arguments, with this weight before.
 #[cycle(weight)]
 fn args_weight(weights: &NameTable<u32>, before: u32, args: &[Expr]) -> u32
-    ensures { result ≡ program.terms_weight weights.now before (terms args.now) }
+    ensures { result ≡ program.expressions_weight weights.now before (expressions args.now) }
 {
     let mut sum = before;
     for arg in args {
@@ -103,7 +104,7 @@ fn links_weight(weights: &NameTable<u32>, before: u32, rest: &[Link]) -> u32
 
 /// The locations of a variable of this size, up to one past the limit.
 pub fn cells_in(size: Option<Size>) -> u32
-    ensures { result ≡ program.cells_in (option_map extent size) }
+    ensures { result ≡ program.cells_in (option_map array_size size) }
 {
     match size {
         None => 1,
@@ -112,9 +113,9 @@ pub fn cells_in(size: Option<Size>) -> u32
 }
 
 fn capped_cells(cells: i64) -> u32
-    ensures { result ≡ min (program.size_cells cells) (first_past which.Locations) }
+    ensures { result ≡ min (scopes.size_cells cells) (first_past limits.Locations) }
 {
-    let limit = Which::Locations.limit();
+    let limit = Limit::Locations.most();
     if cells < 0 {
         0
     } else if cells > limit as i64 {
@@ -130,7 +131,7 @@ pub fn located_after(before: u32, cells: u32) -> u32
 {
     before
         .saturating_add(cells)
-        .min(Which::Locations.limit() + 1)
+        .min(Limit::Locations.most() + 1)
 }
 
 impl Passed {
@@ -145,8 +146,8 @@ impl Passed {
             merge_count: 0,
             weights: NameTable::new(alloc),
             located: 0,
-            procs_left: Which::Procedures.first_past(),
-            funs_left: Which::Funs.first_past(),
+            procs_left: Limit::Procedures.first_past(),
+            funs_left: Limit::Funs.first_past(),
         }
     }
 
@@ -154,7 +155,8 @@ impl Passed {
     pub fn pass(&mut self, alloc: Global, decl: &Decl) -> Result<(), AllocError>
         requires fits { self.old.number + 1 < 2 ^ 32 }
         requires counted { self.old.merge_count ≤ self.old.number }
-        ensures passed { OnOk result (passed_of self.new ≡ program.passed_with (passed_of self.old) (entry decl.now)) }
+        ensures passed { OnOk result
+            (passed_of self.new ≡ program.passed_with (passed_of self.old) (declaration decl.now)) }
         ensures number { OnOk result (self.new.number ≡ self.old.number + 1) }
         ensures counts { OnOk result (self.new.merge_count ≤ self.new.number) }
     {

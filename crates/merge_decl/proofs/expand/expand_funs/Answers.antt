@@ -1,6 +1,6 @@
 use Rattle.std.proofs.Common.{◌≡◌, ◌∙◌, ap, sym, subst, Result, Ok, Err, IfErr, map}
 use Rattle.std.specs.Result.{IsErrAnd}
-use Rattle.rev_syntax.specs.View.{entry, program as whole}
+use Rattle.rev_syntax.specs.View.{declaration, program as whole}
 use Rattle.merge_decl.specs.FunRules as rule
 use Rattle.merge_decl.specs.Least.{IsFirst}
 use Rattle.merge_decl.specs.Expands.{Refuses}
@@ -17,5 +17,5 @@ pub returns-in_err-uses-clause-first : goal.returns-in_err-uses-clause-first
 returns-in_err-uses-clause-first c =
     leaves (Refuses (whole c.args.program)) c.in_err-uses.field-0.0 c.from_residual-in_err-uses.result c.from_residual-in_err-uses.ensures.1
     (λ other. subst (λ named. IsFirst rule.place rule.rank (rule.broken_in named (rule.uses_in (whole c.args.program))) c.in_err-uses.field-0.0)
-    (λ i name. (c.in_ok-table.ensures name ∙ ap (λ ds. rule.first_fun 0 0 (map entry ds) name) c.deref.ensures.value) i)
+    (λ i name. (c.in_ok-table.ensures name ∙ ap (λ ds. rule.first_fun 0 0 (map declaration ds) name) c.deref.ensures.value) i)
     (c.in_err-uses.ensures.err other))

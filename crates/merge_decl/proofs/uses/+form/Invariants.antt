@@ -11,5 +11,5 @@ invariant-add_arms-loop-arm l =
 
 abbrev pub invariant-add_block-loop-stmt : goal.invariant-add_block-loop-stmt
 invariant-add_block-loop-stmt l =
-    uses_of l.uses.items ++ rule.steps_uses l.within (stmts (drop l.stmt-index l.stmt-items))
-    ≡ uses_of l.initial.uses.items ++ rule.steps_uses l.within (stmts l.stmt-items)
+    uses_of l.uses.items ++ rule.statements_uses l.within (stmts (drop l.stmt-index l.stmt-items))
+    ≡ uses_of l.initial.uses.items ++ rule.statements_uses l.within (stmts l.stmt-items)

@@ -1,5 +1,5 @@
 use Rattle.std.proofs.Common.{◌∙◌, ◌-◌, ◌++◌, get_or, map, refl, sym, ap, arith}
-use Rattle.rev_syntax.specs.View.{binder, entry, term, terms}
+use Rattle.rev_syntax.specs.View.{parameter, declaration, expression, expressions}
 use Rattle.merge_decl.specs.Definitions.{names_of}
 use Rattle.merge_decl.specs.Evaluation as meant
 use Rattle.merge_decl.specs.Flat.{flat, local}
@@ -8,7 +8,7 @@ use Rattle.merge_decl.specs.Weights.{args_within, weight_of, weights_before}
 use Rattle.merge_decl.proofs.Weighed.{body_weight}
 use Rattle.merge_decl.specs.Work.{application, comes_to, kept, next_size, next_weight, passed, remains, waiting, waiting_weight}
 use Rattle.merge_decl.specs.declared.work.Next.TheVariants as next
-use Rattle.merge_decl.proofs.Counts.{bodies_to, bodies_to-body, bodies_to-before, term_count-positive}
+use Rattle.merge_decl.proofs.Counts.{bodies_to, bodies_to-body, bodies_to-before, expression_count-positive}
 use Rattle.merge_decl.proofs.Declared.{no_elements}
 use Rattle.merge_decl.proofs.Evaluations.{applied-none, applied-fault, applied-given, given-bound, given-unbound, on_fault}
 use Rattle.merge_decl.proofs.Works as w
@@ -16,35 +16,35 @@ use Rattle.merge_decl.proofs.value.+value.Goals as goal
 
 pub applied-body_value-requires : goal.applied-body_value-requires
 applied-body_value-requires t c =
-    (let b = bodies_to-before (map entry c.args.scope.now.expanded.now.program.decls.items) c.args.fun c.args.scope.now.within c.requires.before in omega arith, (let e = c.requires.enough in omega arith))
+    (let b = bodies_to-before (map declaration c.args.scope.now.expanded.now.program.decls.items) c.args.fun c.args.scope.now.within c.requires.before in omega arith, (let e = c.requires.enough in omega arith))
 
 pub applied-returns-in-None : goal.applied-returns-in-None
 applied-returns-in-None t c =
     record {
       work = (let u = c.body_value.ensures.work in omega arith);
       answer =
-          c.body_value.ensures.answer ∙ applied-none (map entry c.args.scope.now.expanded.now.program.decls.items) c.args.scope.now.within (local c.args.scope.now.locals.now) c.args.fun (names_of (map binder c.args.params.now)) (local c.args.earlier.now)
-          ∙ ap (λ es. meant.applied_within (map entry c.args.scope.now.expanded.now.program.decls.items) c.args.scope.now.within (local c.args.scope.now.locals.now) (terms es) c.args.fun (names_of (map binder c.args.params.now)) (local c.args.earlier.now)) (sym (no_elements c.args.args.now c.in-None.ensures.cases));
+          c.body_value.ensures.answer ∙ applied-none (map declaration c.args.scope.now.expanded.now.program.decls.items) c.args.scope.now.within (local c.args.scope.now.locals.now) c.args.fun (names_of (map parameter c.args.params.now)) (local c.args.earlier.now)
+          ∙ ap (λ es. meant.applied_within (map declaration c.args.scope.now.expanded.now.program.decls.items) c.args.scope.now.within (local c.args.scope.now.locals.now) (expressions es) c.args.fun (names_of (map parameter c.args.params.now)) (local c.args.earlier.now)) (sym (no_elements c.args.args.now c.in-None.ensures.cases));
     }
 
 pub applied-returns-in_err-value-in-Some : goal.applied-returns-in_err-value-in-Some
 applied-returns-in_err-value-in-Some t c =
     record {
-      work = (let k = ap (λ es. args_within (map entry c.args.scope.now.expanded.now.program.decls.items) c.args.scope.now.within (terms es)) c.in-Some.ensures.cases.0 in let w = c.evaluate.ensures.work in omega arith);
+      work = (let k = ap (λ es. args_within (map declaration c.args.scope.now.expanded.now.program.decls.items) c.args.scope.now.within (expressions es)) c.in-Some.ensures.cases.0 in let w = c.evaluate.ensures.work in omega arith);
       answer =
           on_fault _ _ _ c.from_residual.ensures.1
-          (applied-fault (map entry c.args.scope.now.expanded.now.program.decls.items) c.args.scope.now.within (local c.args.scope.now.locals.now) (term c.in-Some.arg.now) (terms c.in-Some.more.now) c.args.fun _ (names_of (map binder c.args.params.now)) (local c.args.earlier.now) c.in_err-value-in-Some.ensures.answer
-          ∙ ap (λ es. meant.applied_within (map entry c.args.scope.now.expanded.now.program.decls.items) c.args.scope.now.within (local c.args.scope.now.locals.now) (terms es) c.args.fun (names_of (map binder c.args.params.now)) (local c.args.earlier.now)) (sym c.in-Some.ensures.cases.0));
+          (applied-fault (map declaration c.args.scope.now.expanded.now.program.decls.items) c.args.scope.now.within (local c.args.scope.now.locals.now) (expression c.in-Some.arg.now) (expressions c.in-Some.more.now) c.args.fun _ (names_of (map parameter c.args.params.now)) (local c.args.earlier.now) c.in_err-value-in-Some.ensures.answer
+          ∙ ap (λ es. meant.applied_within (map declaration c.args.scope.now.expanded.now.program.decls.items) c.args.scope.now.within (local c.args.scope.now.locals.now) (expressions es) c.args.fun (names_of (map parameter c.args.params.now)) (local c.args.earlier.now)) (sym c.in-Some.ensures.cases.0));
     }
 
 pub applied-returns-in_ok-value-in-Some : goal.applied-returns-in_ok-value-in-Some
 applied-returns-in_ok-value-in-Some t c =
     record {
-      work = (let k = ap (λ es. args_within (map entry c.args.scope.now.expanded.now.program.decls.items) c.args.scope.now.within (terms es)) c.in-Some.ensures.cases.0 in let w = c.evaluate.ensures.work in let u = c.given.ensures.work in omega arith);
+      work = (let k = ap (λ es. args_within (map declaration c.args.scope.now.expanded.now.program.decls.items) c.args.scope.now.within (expressions es)) c.in-Some.ensures.cases.0 in let w = c.evaluate.ensures.work in let u = c.given.ensures.work in omega arith);
       answer =
           c.given.ensures.answer
-          ∙ applied-given (map entry c.args.scope.now.expanded.now.program.decls.items) c.args.scope.now.within (local c.args.scope.now.locals.now) (terms c.in-Some.more.now) c.args.fun (term c.in-Some.arg.now) _ (names_of (map binder c.args.params.now)) (local c.args.earlier.now) c.in_ok-value-in-Some.ensures.answer
-          ∙ ap (λ es. meant.applied_within (map entry c.args.scope.now.expanded.now.program.decls.items) c.args.scope.now.within (local c.args.scope.now.locals.now) (terms es) c.args.fun (names_of (map binder c.args.params.now)) (local c.args.earlier.now)) (sym c.in-Some.ensures.cases.0);
+          ∙ applied-given (map declaration c.args.scope.now.expanded.now.program.decls.items) c.args.scope.now.within (local c.args.scope.now.locals.now) (expressions c.in-Some.more.now) c.args.fun (expression c.in-Some.arg.now) _ (names_of (map parameter c.args.params.now)) (local c.args.earlier.now) c.in_ok-value-in-Some.ensures.answer
+          ∙ ap (λ es. meant.applied_within (map declaration c.args.scope.now.expanded.now.program.decls.items) c.args.scope.now.within (local c.args.scope.now.locals.now) (expressions es) c.args.fun (names_of (map parameter c.args.params.now)) (local c.args.earlier.now)) (sym c.in-Some.ensures.cases.0);
     }
 
 pub body_value-returns-in_default : goal.body_value-returns-in_default
@@ -53,25 +53,25 @@ body_value-returns-in_default t c =
     record {
       work = omega arith;
       answer =
-          ap (λ f. meant.value_of_body (map entry c.args.expanded.now.program.decls.items) f (local c.args.locals.now)) (sym c.in_default.is);
+          ap (λ f. meant.value_of_body (map declaration c.args.expanded.now.program.decls.items) f (local c.args.locals.now)) (sym c.in_default.is);
     }
 
 pub body_value-evaluate-requires : goal.body_value-evaluate-requires
 body_value-evaluate-requires t c = (
-  let b = bodies_to-body (map entry c.args.expanded.now.program.decls.items) c.in-Some.number (term c.in-Some-body_at.body.now) (sym c.in-Some-body_at.ensures) in
-      let e = ap (bodies_to (map entry c.args.expanded.now.program.decls.items)) c.in-Some.is in omega arith,
-  (let k = body_weight (map entry c.args.expanded.now.program.decls.items) c.in-Some.number (term c.in-Some-body_at.body.now) (sym c.in-Some-body_at.ensures) in
-      let f = ap (weight_of (map entry c.args.expanded.now.program.decls.items)) c.in-Some.is in let e = c.requires in omega arith),
+  let b = bodies_to-body (map declaration c.args.expanded.now.program.decls.items) c.in-Some.number (expression c.in-Some-body_at.body.now) (sym c.in-Some-body_at.ensures) in
+      let e = ap (bodies_to (map declaration c.args.expanded.now.program.decls.items)) c.in-Some.is in omega arith,
+  (let k = body_weight (map declaration c.args.expanded.now.program.decls.items) c.in-Some.number (expression c.in-Some-body_at.body.now) (sym c.in-Some-body_at.ensures) in
+      let f = ap (weight_of (map declaration c.args.expanded.now.program.decls.items)) c.in-Some.is in let e = c.requires in omega arith),
 )
 
 pub body_value-returns-in-Some-body_at : goal.body_value-returns-in-Some-body_at
 unfolding meant.value_of_body
 body_value-returns-in-Some-body_at t c =
     record {
-      work = (let k = body_weight (map entry c.args.expanded.now.program.decls.items) c.in-Some.number (term c.in-Some-body_at.body.now) (sym c.in-Some-body_at.ensures) in let f = ap (weight_of (map entry c.args.expanded.now.program.decls.items)) c.in-Some.is in let w = c.evaluate.ensures.work in omega arith);
+      work = (let k = body_weight (map declaration c.args.expanded.now.program.decls.items) c.in-Some.number (expression c.in-Some-body_at.body.now) (sym c.in-Some-body_at.ensures) in let f = ap (weight_of (map declaration c.args.expanded.now.program.decls.items)) c.in-Some.is in let w = c.evaluate.ensures.work in omega arith);
       answer =
-          c.evaluate.ensures.answer ∙ ap (meant.body_within (map entry c.args.expanded.now.program.decls.items) c.in-Some.number (local c.args.locals.now)) c.in-Some-body_at.ensures
-          ∙ ap (λ f. meant.value_of_body (map entry c.args.expanded.now.program.decls.items) f (local c.args.locals.now)) (sym c.in-Some.is);
+          c.evaluate.ensures.answer ∙ ap (meant.body_within (map declaration c.args.expanded.now.program.decls.items) c.in-Some.number (local c.args.locals.now)) c.in-Some-body_at.ensures
+          ∙ ap (λ f. meant.value_of_body (map declaration c.args.expanded.now.program.decls.items) f (local c.args.locals.now)) (sym c.in-Some.is);
     }
 
 pub body_value-returns-in-None : goal.body_value-returns-in-None
@@ -80,38 +80,38 @@ body_value-returns-in-None t c =
     record {
       work = omega arith;
       answer =
-          ap (meant.body_within (map entry c.args.expanded.now.program.decls.items) c.in-Some.number (local c.args.locals.now)) c.in-None.ensures
-          ∙ ap (λ f. meant.value_of_body (map entry c.args.expanded.now.program.decls.items) f (local c.args.locals.now)) (sym c.in-Some.is);
+          ap (meant.body_within (map declaration c.args.expanded.now.program.decls.items) c.in-Some.number (local c.args.locals.now)) c.in-None.ensures
+          ∙ ap (λ f. meant.value_of_body (map declaration c.args.expanded.now.program.decls.items) f (local c.args.locals.now)) (sym c.in-Some.is);
     }
 
 -- ---- the values of arguments before an application
 
 pub called-returns-in-Some : goal.called-returns-in-Some
 called-returns-in-Some t c =
-    let es = map entry c.args.scope.now.expanded.now.program.decls.items in
+    let es = map declaration c.args.scope.now.expanded.now.program.decls.items in
     record {
       work = (let l = c.fun_before-fun.ensures.lighter in let u = c.given.ensures.work in omega arith);
       answer =
           c.given.ensures.answer
-          ∙ (λ i. meant.given_within es c.args.scope.now.within (local c.args.scope.now.locals.now) (flat c.in-Some.value) (terms c.args.call.rest.now) c.fun_before-fun.result
-          (w.others c.args.values.now c.params_at-params.result.now c.behind-others.result.now c.behind-others.ensures i) (w.earlier _ (local locals.Empty) (names_of (map binder c.params_at-params.result.now)) (map flat c.args.values.now) refl c.arguments-earlier.ensures i))
-          ∙ w.given-application es c.args.scope.now.within (local c.args.scope.now.locals.now) c.args.call.name.now.text.items c.fun_before-fun.result (names_of (map binder c.params_at-params.result.now))
-          c.fun_before-fun.ensures.meaning c.params_at-params.ensures (map flat c.args.values.now) (flat c.in-Some.value) (terms c.args.call.rest.now)
-          ∙ ap (λ o. application es c.args.scope.now.within (local c.args.scope.now.locals.now) c.args.call.name.now.text.items (map flat c.args.values.now ++ passed o) (terms c.args.call.rest.now)) (sym c.in-Some.is);
+          ∙ (λ i. meant.given_within es c.args.scope.now.within (local c.args.scope.now.locals.now) (flat c.in-Some.value) (expressions c.args.call.rest.now) c.fun_before-fun.result
+          (w.others c.args.values.now c.params_at-params.result.now c.behind-others.result.now c.behind-others.ensures i) (w.earlier _ (local locals.Empty) (names_of (map parameter c.params_at-params.result.now)) (map flat c.args.values.now) refl c.arguments-earlier.ensures i))
+          ∙ w.given-application es c.args.scope.now.within (local c.args.scope.now.locals.now) c.args.call.name.now.text.items c.fun_before-fun.result (names_of (map parameter c.params_at-params.result.now))
+          c.fun_before-fun.ensures.meaning c.params_at-params.ensures (map flat c.args.values.now) (flat c.in-Some.value) (expressions c.args.call.rest.now)
+          ∙ ap (λ o. application es c.args.scope.now.within (local c.args.scope.now.locals.now) c.args.call.name.now.text.items (map flat c.args.values.now ++ passed o) (expressions c.args.call.rest.now)) (sym c.in-Some.is);
     }
 
 pub called-returns-in-None : goal.called-returns-in-None
 called-returns-in-None t c =
-    let es = map entry c.args.scope.now.expanded.now.program.decls.items in
+    let es = map declaration c.args.scope.now.expanded.now.program.decls.items in
     record {
       work = (let l = c.fun_before-fun.ensures.lighter in let u = c.applied.ensures.work in omega arith);
       answer =
           c.applied.ensures.answer
-          ∙ (λ i. meant.applied_within es c.args.scope.now.within (local c.args.scope.now.locals.now) (terms c.args.call.rest.now) c.fun_before-fun.result
-          (w.others c.args.values.now c.params_at-params.result.now c.behind-others.result.now c.behind-others.ensures i) (w.earlier _ (local locals.Empty) (names_of (map binder c.params_at-params.result.now)) (map flat c.args.values.now) refl c.arguments-earlier.ensures i))
-          ∙ w.applied-application es c.args.scope.now.within (local c.args.scope.now.locals.now) c.args.call.name.now.text.items c.fun_before-fun.result (names_of (map binder c.params_at-params.result.now))
-          c.fun_before-fun.ensures.meaning c.params_at-params.ensures (map flat c.args.values.now) (terms c.args.call.rest.now)
-          ∙ ap (λ o. application es c.args.scope.now.within (local c.args.scope.now.locals.now) c.args.call.name.now.text.items (map flat c.args.values.now ++ passed o) (terms c.args.call.rest.now)) (sym c.in-None.is);
+          ∙ (λ i. meant.applied_within es c.args.scope.now.within (local c.args.scope.now.locals.now) (expressions c.args.call.rest.now) c.fun_before-fun.result
+          (w.others c.args.values.now c.params_at-params.result.now c.behind-others.result.now c.behind-others.ensures i) (w.earlier _ (local locals.Empty) (names_of (map parameter c.params_at-params.result.now)) (map flat c.args.values.now) refl c.arguments-earlier.ensures i))
+          ∙ w.applied-application es c.args.scope.now.within (local c.args.scope.now.locals.now) c.args.call.name.now.text.items c.fun_before-fun.result (names_of (map parameter c.params_at-params.result.now))
+          c.fun_before-fun.ensures.meaning c.params_at-params.ensures (map flat c.args.values.now) (expressions c.args.call.rest.now)
+          ∙ ap (λ o. application es c.args.scope.now.within (local c.args.scope.now.locals.now) c.args.call.name.now.text.items (map flat c.args.values.now ++ passed o) (expressions c.args.call.rest.now)) (sym c.in-None.is);
     }
 
 -- ---- the turns
@@ -119,7 +119,7 @@ called-returns-in-None t c =
 pub evaluate-loop-next-init : goal.evaluate-loop-next-init
 evaluate-loop-next-init t c =
     let z = w.remains-none in
-    (omega arith, omega arith, w.starts (map entry c.args.scope.now.expanded.now.program.decls.items) c.args.scope.now.within (local c.args.scope.now.locals.now) c.args.e, omega arith, refl, (let y = w.weight-none (weights_before (map entry c.args.scope.now.expanded.now.program.decls.items) c.args.scope.now.within) in omega arith), c.requires)
+    (omega arith, omega arith, w.starts (map declaration c.args.scope.now.expanded.now.program.decls.items) c.args.scope.now.within (local c.args.scope.now.locals.now) c.args.e, omega arith, refl, (let y = w.weight-none (weights_before (map declaration c.args.scope.now.expanded.now.program.decls.items) c.args.scope.now.within) in omega arith), c.requires)
 
 pub evaluate-evaluate-requires : goal.evaluate-evaluate-requires
 evaluate-evaluate-requires t c = (
@@ -127,17 +127,17 @@ evaluate-evaluate-requires t c = (
       let s = c.loop-next.invariant.3 in
       let r = w.remains-full c.loop-next.pending c.loop-next.depth (let h = c.loop-next.invariant.4 in let g = c.loop-next.invariant.0 in omega arith) (omega arith) in
       omega arith,
-  (let p = ap (next_weight (weights_before (map entry c.args.scope.now.expanded.now.program.decls.items) c.args.scope.now.within)) c.in-Part.is in let u = c.loop-next.invariant.5 in let v = c.loop-next.invariant.6 in omega arith),
+  (let p = ap (next_weight (weights_before (map declaration c.args.scope.now.expanded.now.program.decls.items) c.args.scope.now.within)) c.in-Part.is in let u = c.loop-next.invariant.5 in let v = c.loop-next.invariant.6 in omega arith),
 )
 
 pub evaluate-returns-in_err-evaluate-in-Part : goal.evaluate-returns-in_err-evaluate-in-Part
 evaluate-returns-in_err-evaluate-in-Part t c =
-    let es = map entry c.args.scope.now.expanded.now.program.decls.items in
+    let es = map declaration c.args.scope.now.expanded.now.program.decls.items in
     let l = local c.args.scope.now.locals.now in
     let ps = waiting c.loop-next.pending c.loop-next.depth in
     let vs = kept c.loop-next.values c.loop-next.held in
     record {
-      work = (let u = c.evaluate.ensures.work in let p = ap (next_weight (weights_before (map entry c.args.scope.now.expanded.now.program.decls.items) c.args.scope.now.within)) c.in-Part.is in let i = c.loop-next.invariant.5 in omega arith);
+      work = (let u = c.evaluate.ensures.work in let p = ap (next_weight (weights_before (map declaration c.args.scope.now.expanded.now.program.decls.items) c.args.scope.now.within)) c.in-Part.is in let i = c.loop-next.invariant.5 in omega arith);
       answer =
           on_fault _ _ _ c.from_residual.ensures.1
           (w.part-fault es c.args.scope.now.within l ps vs c.in-Part.part _ _ c.in_err-evaluate-in-Part.ensures.answer
@@ -146,24 +146,24 @@ evaluate-returns-in_err-evaluate-in-Part t c =
 
 pub evaluate-returns-in_err-value-in-Call : goal.evaluate-returns-in_err-value-in-Call
 evaluate-returns-in_err-value-in-Call t c =
-    let es = map entry c.args.scope.now.expanded.now.program.decls.items in
+    let es = map declaration c.args.scope.now.expanded.now.program.decls.items in
     let l = local c.args.scope.now.locals.now in
     let ps = waiting c.loop-next.pending c.loop-next.depth in
     let vs = kept c.loop-next.values c.loop-next.held in
     let d = c.in-Call.call in
     record {
-      work = (let u = c.called.ensures.work in let p = ap (next_weight (weights_before (map entry c.args.scope.now.expanded.now.program.decls.items) c.args.scope.now.within)) c.in-Call.is in let i = c.loop-next.invariant.5 in omega arith);
+      work = (let u = c.called.ensures.work in let p = ap (next_weight (weights_before (map declaration c.args.scope.now.expanded.now.program.decls.items) c.args.scope.now.within)) c.in-Call.is in let i = c.loop-next.invariant.5 in omega arith);
       answer =
           on_fault _ _ _ c.from_residual-in_err-value-in-Call.ensures.1
           (w.call-fault es c.args.scope.now.within l ps vs d _ _
-          (c.in_err-value-in-Call.ensures.answer ∙ ap (λ xs. application es c.args.scope.now.within l d.name.now.text.items (xs ++ passed d.value) (terms d.rest.now))
+          (c.in_err-value-in-Call.ensures.answer ∙ ap (λ xs. application es c.args.scope.now.within l d.name.now.text.items (xs ++ passed d.value) (expressions d.rest.now))
           (w.values-last c.loop-next.values c.loop-next.held d.before c.saturating_sub-first.result (omega arith) c.saturating_sub-first.ensures))
           (ap (comes_to es c.args.scope.now.within l ps vs) (sym c.in-Call.is) ∙ c.loop-next.invariant.2));
     }
 
 pub evaluate-returns-then-depth-eq0 : goal.evaluate-returns-then-depth-eq0
 evaluate-returns-then-depth-eq0 t c =
-    let es = map entry c.args.scope.now.expanded.now.program.decls.items in
+    let es = map declaration c.args.scope.now.expanded.now.program.decls.items in
     let l = local c.args.scope.now.locals.now in
     let vs = kept c.loop-next.values c.loop-next.held in
     record {
@@ -177,23 +177,23 @@ evaluate-returns-then-depth-eq0 t c =
 pub evaluate-give-requires : goal.evaluate-give-requires
 evaluate-give-requires t c =
     let k = c.loop-next.depth - 1 in
-    let n = ap (next_weight (weights_before (map entry c.args.scope.now.expanded.now.program.decls.items) c.args.scope.now.within)) c.in-Value.is in
-    let f = ap (waiting_weight (weights_before (map entry c.args.scope.now.expanded.now.program.decls.items) c.args.scope.now.within)) (w.waits-last c.loop-next.pending k c.loop-next.depth (get_or c.loop-next.pending k c.index-pending-depth.result) (omega arith) (ap (get_or c.loop-next.pending k) c.index-pending-depth.is) (omega arith)) in
-    let y = w.weight-step (weights_before (map entry c.args.scope.now.expanded.now.program.decls.items) c.args.scope.now.within) (get_or c.loop-next.pending k c.index-pending-depth.result) (waiting c.loop-next.pending k) in
-    let cw = w.cost-within (weights_before (map entry c.args.scope.now.expanded.now.program.decls.items) c.args.scope.now.within) (get_or c.loop-next.pending k c.index-pending-depth.result) in
+    let n = ap (next_weight (weights_before (map declaration c.args.scope.now.expanded.now.program.decls.items) c.args.scope.now.within)) c.in-Value.is in
+    let f = ap (waiting_weight (weights_before (map declaration c.args.scope.now.expanded.now.program.decls.items) c.args.scope.now.within)) (w.waits-last c.loop-next.pending k c.loop-next.depth (get_or c.loop-next.pending k c.index-pending-depth.result) (omega arith) (ap (get_or c.loop-next.pending k) c.index-pending-depth.is) (omega arith)) in
+    let y = w.weight-step (weights_before (map declaration c.args.scope.now.expanded.now.program.decls.items) c.args.scope.now.within) (get_or c.loop-next.pending k c.index-pending-depth.result) (waiting c.loop-next.pending k) in
+    let cw = w.cost-within (weights_before (map declaration c.args.scope.now.expanded.now.program.decls.items) c.args.scope.now.within) (get_or c.loop-next.pending k c.index-pending-depth.result) in
     let u = c.loop-next.invariant.5 in
     let v = c.loop-next.invariant.6 in
     omega arith
 
 pub evaluate-returns-in_err-turn-in-Value : goal.evaluate-returns-in_err-turn-in-Value
 evaluate-returns-in_err-turn-in-Value t c =
-    let es = map entry c.args.scope.now.expanded.now.program.decls.items in
+    let es = map declaration c.args.scope.now.expanded.now.program.decls.items in
     let l = local c.args.scope.now.locals.now in
     let k = c.loop-next.depth - 1 in
     let ps = waiting c.loop-next.pending k in
     let vs = kept c.loop-next.values c.loop-next.held in
     record {
-      work = (let i = c.loop-next.invariant.5 in let f = ap (waiting_weight (weights_before (map entry c.args.scope.now.expanded.now.program.decls.items) c.args.scope.now.within)) (w.waits-last c.loop-next.pending k c.loop-next.depth (get_or c.loop-next.pending k c.index-pending-depth.result) (omega arith) (ap (get_or c.loop-next.pending k) c.index-pending-depth.is) (omega arith)) in let y = w.weight-step (weights_before (map entry c.args.scope.now.expanded.now.program.decls.items) c.args.scope.now.within) (get_or c.loop-next.pending k c.index-pending-depth.result) ps in let x = c.give.ensures.paid in let cw = w.cost-within (weights_before (map entry c.args.scope.now.expanded.now.program.decls.items) c.args.scope.now.within) (get_or c.loop-next.pending k c.index-pending-depth.result) in omega arith);
+      work = (let i = c.loop-next.invariant.5 in let f = ap (waiting_weight (weights_before (map declaration c.args.scope.now.expanded.now.program.decls.items) c.args.scope.now.within)) (w.waits-last c.loop-next.pending k c.loop-next.depth (get_or c.loop-next.pending k c.index-pending-depth.result) (omega arith) (ap (get_or c.loop-next.pending k) c.index-pending-depth.is) (omega arith)) in let y = w.weight-step (weights_before (map declaration c.args.scope.now.expanded.now.program.decls.items) c.args.scope.now.within) (get_or c.loop-next.pending k c.index-pending-depth.result) ps in let x = c.give.ensures.paid in let cw = w.cost-within (weights_before (map declaration c.args.scope.now.expanded.now.program.decls.items) c.args.scope.now.within) (get_or c.loop-next.pending k c.index-pending-depth.result) in omega arith);
       answer =
           on_fault _ _ _ c.from_residual-in_err-turn-in-Value.ensures.1
           (w.taken es c.args.scope.now.within l (waiting c.loop-next.pending c.loop-next.depth) ps vs (get_or c.loop-next.pending k c.index-pending-depth.result) c.in-Value.x _ _
@@ -212,7 +212,7 @@ evaluate-loop-next-smaller-then-depth-lt-ROOM t c =
 
 pub evaluate-loop-next-preserved-then-depth-lt-ROOM : goal.evaluate-loop-next-preserved-then-depth-lt-ROOM
 evaluate-loop-next-preserved-then-depth-lt-ROOM t c =
-    let es = map entry c.args.scope.now.expanded.now.program.decls.items in
+    let es = map declaration c.args.scope.now.expanded.now.program.decls.items in
     let l = local c.args.scope.now.locals.now in
     let ps = waiting c.loop-next.pending c.loop-next.depth in
     let vs = kept c.loop-next.values c.loop-next.held in
@@ -227,18 +227,18 @@ evaluate-loop-next-preserved-then-depth-lt-ROOM t c =
           (ap (comes_to es c.args.scope.now.within l ps vs) (sym c.in-Part.is) ∙ c.loop-next.invariant.2),
       omega arith,
       c.wait-depth.ensures.places,
-      (let u = c.loop-next.invariant.5 in let v = c.loop-next.invariant.6 in let y = ap (next_weight (weights_before (map entry c.args.scope.now.expanded.now.program.decls.items) c.args.scope.now.within)) c.in-Part.is in let g = c.begin-turn.ensures.lighter (weights_before (map entry c.args.scope.now.expanded.now.program.decls.items) c.args.scope.now.within) in let h = ap (waiting_weight (weights_before (map entry c.args.scope.now.expanded.now.program.decls.items) c.args.scope.now.within)) c.wait-depth.ensures.waits in let k = w.weight-waits (weights_before (map entry c.args.scope.now.expanded.now.program.decls.items) c.args.scope.now.within) c.begin-turn.result.wait ps in let x = c.begin-turn.ensures.paid in omega arith),
+      (let u = c.loop-next.invariant.5 in let v = c.loop-next.invariant.6 in let y = ap (next_weight (weights_before (map declaration c.args.scope.now.expanded.now.program.decls.items) c.args.scope.now.within)) c.in-Part.is in let g = c.begin-turn.ensures.lighter (weights_before (map declaration c.args.scope.now.expanded.now.program.decls.items) c.args.scope.now.within) in let h = ap (waiting_weight (weights_before (map declaration c.args.scope.now.expanded.now.program.decls.items) c.args.scope.now.within)) c.wait-depth.ensures.waits in let k = w.weight-waits (weights_before (map declaration c.args.scope.now.expanded.now.program.decls.items) c.args.scope.now.within) c.begin-turn.result.wait ps in let x = c.begin-turn.ensures.paid in omega arith),
       c.loop-next.invariant.6,
     )
 
 pub evaluate-loop-next-preserved-in_ok-evaluate-in-Part : goal.evaluate-loop-next-preserved-in_ok-evaluate-in-Part
 evaluate-loop-next-preserved-in_ok-evaluate-in-Part t c =
-    let es = map entry c.args.scope.now.expanded.now.program.decls.items in
+    let es = map declaration c.args.scope.now.expanded.now.program.decls.items in
     let l = local c.args.scope.now.locals.now in
     let ps = waiting c.loop-next.pending c.loop-next.depth in
     let vs = kept c.loop-next.values c.loop-next.held in
     let e = ap next_size c.in-Part.is in
-    let p = term_count-positive (term c.in-Part.part.now) in
+    let p = expression_count-positive (expression c.in-Part.part.now) in
     let s = c.loop-next.invariant.3 in (
       c.loop-next.invariant.0,
       c.loop-next.invariant.1,
@@ -246,13 +246,13 @@ evaluate-loop-next-preserved-in_ok-evaluate-in-Part t c =
           (ap (comes_to es c.args.scope.now.within l ps vs) (sym c.in-Part.is) ∙ c.loop-next.invariant.2),
       omega arith,
       c.loop-next.invariant.4,
-      (let u = c.loop-next.invariant.5 in let v = c.loop-next.invariant.6 in let y = ap (next_weight (weights_before (map entry c.args.scope.now.expanded.now.program.decls.items) c.args.scope.now.within)) c.in-Part.is in let g = c.evaluate.ensures.work in omega arith),
+      (let u = c.loop-next.invariant.5 in let v = c.loop-next.invariant.6 in let y = ap (next_weight (weights_before (map declaration c.args.scope.now.expanded.now.program.decls.items) c.args.scope.now.within)) c.in-Part.is in let g = c.evaluate.ensures.work in omega arith),
       c.loop-next.invariant.6,
     )
 
 pub evaluate-loop-next-preserved-in_ok-value-in-Call : goal.evaluate-loop-next-preserved-in_ok-value-in-Call
 evaluate-loop-next-preserved-in_ok-value-in-Call t c =
-    let es = map entry c.args.scope.now.expanded.now.program.decls.items in
+    let es = map declaration c.args.scope.now.expanded.now.program.decls.items in
     let l = local c.args.scope.now.locals.now in
     let ps = waiting c.loop-next.pending c.loop-next.depth in
     let vs = kept c.loop-next.values c.loop-next.held in
@@ -262,13 +262,13 @@ evaluate-loop-next-preserved-in_ok-value-in-Call t c =
       c.loop-next.invariant.0,
       (let f = c.saturating_sub-first.ensures in omega arith),
       w.call-value es c.args.scope.now.within l ps vs _ d c.in_ok-value-in-Call.value _
-          (c.in_ok-value-in-Call.ensures.answer ∙ ap (λ xs. application es c.args.scope.now.within l d.name.now.text.items (xs ++ passed d.value) (terms d.rest.now))
+          (c.in_ok-value-in-Call.ensures.answer ∙ ap (λ xs. application es c.args.scope.now.within l d.name.now.text.items (xs ++ passed d.value) (expressions d.rest.now))
           (w.values-last c.loop-next.values c.loop-next.held d.before c.saturating_sub-first.result (omega arith) c.saturating_sub-first.ensures))
           (w.values-left c.loop-next.values c.loop-next.held d.before c.saturating_sub-first.result (omega arith) c.saturating_sub-first.ensures)
           (ap (comes_to es c.args.scope.now.within l ps vs) (sym c.in-Call.is) ∙ c.loop-next.invariant.2),
       omega arith,
       c.loop-next.invariant.4,
-      (let u = c.loop-next.invariant.5 in let v = c.loop-next.invariant.6 in let y = ap (next_weight (weights_before (map entry c.args.scope.now.expanded.now.program.decls.items) c.args.scope.now.within)) c.in-Call.is in let g = c.called.ensures.work in omega arith),
+      (let u = c.loop-next.invariant.5 in let v = c.loop-next.invariant.6 in let y = ap (next_weight (weights_before (map declaration c.args.scope.now.expanded.now.program.decls.items) c.args.scope.now.within)) c.in-Call.is in let g = c.called.ensures.work in omega arith),
       c.loop-next.invariant.6,
     )
 
@@ -285,7 +285,7 @@ evaluate-loop-next-smaller t c =
 
 pub evaluate-loop-next-preserved : goal.evaluate-loop-next-preserved
 evaluate-loop-next-preserved t c =
-    let es = map entry c.args.scope.now.expanded.now.program.decls.items in
+    let es = map declaration c.args.scope.now.expanded.now.program.decls.items in
     let l = local c.args.scope.now.locals.now in
     let k = c.loop-next.depth - 1 in
     let ps = waiting c.loop-next.pending k in
@@ -307,7 +307,7 @@ evaluate-loop-next-preserved t c =
           c.wait-depth-in-Value.ensures.waits c.keep-held.ensures.keeps,
       omega arith,
       c.wait-depth-in-Value.ensures.places,
-      (let u = c.loop-next.invariant.5 in let v = c.loop-next.invariant.6 in let n = ap (next_weight (weights_before (map entry c.args.scope.now.expanded.now.program.decls.items) c.args.scope.now.within)) c.in-Value.is in let f = ap (waiting_weight (weights_before (map entry c.args.scope.now.expanded.now.program.decls.items) c.args.scope.now.within)) last in let y = w.weight-step (weights_before (map entry c.args.scope.now.expanded.now.program.decls.items) c.args.scope.now.within) (get_or c.loop-next.pending k c.index-pending-depth.result) ps in let g = c.in_ok-turn-in-Value.ensures.lighter (weights_before (map entry c.args.scope.now.expanded.now.program.decls.items) c.args.scope.now.within) in let h = ap (waiting_weight (weights_before (map entry c.args.scope.now.expanded.now.program.decls.items) c.args.scope.now.within)) c.wait-depth-in-Value.ensures.waits in let z = w.weight-waits (weights_before (map entry c.args.scope.now.expanded.now.program.decls.items) c.args.scope.now.within) c.in_ok-turn-in-Value.turn.wait ps in let x = c.give.ensures.paid in let cw = w.cost-within (weights_before (map entry c.args.scope.now.expanded.now.program.decls.items) c.args.scope.now.within) (get_or c.loop-next.pending k c.index-pending-depth.result) in omega arith),
+      (let u = c.loop-next.invariant.5 in let v = c.loop-next.invariant.6 in let n = ap (next_weight (weights_before (map declaration c.args.scope.now.expanded.now.program.decls.items) c.args.scope.now.within)) c.in-Value.is in let f = ap (waiting_weight (weights_before (map declaration c.args.scope.now.expanded.now.program.decls.items) c.args.scope.now.within)) last in let y = w.weight-step (weights_before (map declaration c.args.scope.now.expanded.now.program.decls.items) c.args.scope.now.within) (get_or c.loop-next.pending k c.index-pending-depth.result) ps in let g = c.in_ok-turn-in-Value.ensures.lighter (weights_before (map declaration c.args.scope.now.expanded.now.program.decls.items) c.args.scope.now.within) in let h = ap (waiting_weight (weights_before (map declaration c.args.scope.now.expanded.now.program.decls.items) c.args.scope.now.within)) c.wait-depth-in-Value.ensures.waits in let z = w.weight-waits (weights_before (map declaration c.args.scope.now.expanded.now.program.decls.items) c.args.scope.now.within) c.in_ok-turn-in-Value.turn.wait ps in let x = c.give.ensures.paid in let cw = w.cost-within (weights_before (map declaration c.args.scope.now.expanded.now.program.decls.items) c.args.scope.now.within) (get_or c.loop-next.pending k c.index-pending-depth.result) in omega arith),
       c.loop-next.invariant.6,
     )
 
@@ -315,25 +315,25 @@ evaluate-loop-next-preserved t c =
 
 pub given-returns-in-Some : goal.given-returns-in-Some
 given-returns-in-Some t c =
-    let es = map entry c.args.scope.now.expanded.now.program.decls.items in
+    let es = map declaration c.args.scope.now.expanded.now.program.decls.items in
     record {
       work = (let u = c.applied.ensures.work in omega arith);
       answer =
           c.applied.ensures.answer
-          ∙ ap (meant.applied_within es c.args.scope.now.within (local c.args.scope.now.locals.now) (terms c.args.more.now) c.args.fun (names_of (map binder c.in-Some.others.now))) c.bound-inner.ensures
-          ∙ given-bound es c.args.scope.now.within (local c.args.scope.now.locals.now) (terms c.args.more.now) c.args.fun (flat c.args.value) c.in-Some.param.now.name.text.items (names_of (map binder c.in-Some.others.now)) (local c.args.earlier.now)
-          ∙ ap (λ ps. meant.given_within es c.args.scope.now.within (local c.args.scope.now.locals.now) (flat c.args.value) (terms c.args.more.now) c.args.fun (names_of (map binder ps)) (local c.args.earlier.now)) (sym c.in-Some.ensures.cases.0);
+          ∙ ap (meant.applied_within es c.args.scope.now.within (local c.args.scope.now.locals.now) (expressions c.args.more.now) c.args.fun (names_of (map parameter c.in-Some.others.now))) c.bound-inner.ensures
+          ∙ given-bound es c.args.scope.now.within (local c.args.scope.now.locals.now) (expressions c.args.more.now) c.args.fun (flat c.args.value) c.in-Some.param.now.name.text.items (names_of (map parameter c.in-Some.others.now)) (local c.args.earlier.now)
+          ∙ ap (λ ps. meant.given_within es c.args.scope.now.within (local c.args.scope.now.locals.now) (flat c.args.value) (expressions c.args.more.now) c.args.fun (names_of (map parameter ps)) (local c.args.earlier.now)) (sym c.in-Some.ensures.cases.0);
     }
 
 pub given-returns-in-None : goal.given-returns-in-None
 given-returns-in-None t c =
-    let es = map entry c.args.scope.now.expanded.now.program.decls.items in
+    let es = map declaration c.args.scope.now.expanded.now.program.decls.items in
     let h = no_elements c.args.params.now c.in-None.ensures.cases in
     record {
       work = (let u = c.applied-in-None.ensures.work in omega arith);
       answer =
           c.applied-in-None.ensures.answer
-          ∙ ap (λ ps. meant.applied_within es c.args.scope.now.within (local c.args.scope.now.locals.now) (terms c.args.more.now) c.args.fun (names_of (map binder ps)) (local c.args.earlier.now)) h
-          ∙ given-unbound es c.args.scope.now.within (local c.args.scope.now.locals.now) (terms c.args.more.now) c.args.fun (flat c.args.value) (local c.args.earlier.now)
-          ∙ ap (λ ps. meant.given_within es c.args.scope.now.within (local c.args.scope.now.locals.now) (flat c.args.value) (terms c.args.more.now) c.args.fun (names_of (map binder ps)) (local c.args.earlier.now)) (sym h);
+          ∙ ap (λ ps. meant.applied_within es c.args.scope.now.within (local c.args.scope.now.locals.now) (expressions c.args.more.now) c.args.fun (names_of (map parameter ps)) (local c.args.earlier.now)) h
+          ∙ given-unbound es c.args.scope.now.within (local c.args.scope.now.locals.now) (expressions c.args.more.now) c.args.fun (flat c.args.value) (local c.args.earlier.now)
+          ∙ ap (λ ps. meant.given_within es c.args.scope.now.within (local c.args.scope.now.locals.now) (flat c.args.value) (expressions c.args.more.now) c.args.fun (names_of (map parameter ps)) (local c.args.earlier.now)) (sym h);
     }

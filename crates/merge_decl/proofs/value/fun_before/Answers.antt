@@ -1,5 +1,5 @@
 use Rattle.std.proofs.Common.{◌∙◌, ap, sym, subst, map, arith}
-use Rattle.rev_syntax.specs.View.{entry}
+use Rattle.rev_syntax.specs.View.{declaration}
 use Rattle.merge_decl.specs.Evaluation.{IsMeant}
 use Rattle.merge_decl.specs.Table.{find}
 use Rattle.merge_decl.proofs.Weighed.{name_weight}
@@ -8,28 +8,28 @@ use Rattle.merge_decl.proofs.value.fun_before.Goals as goal
 
 pub returns-in_err-head-clause-meaning : goal.returns-in_err-head-clause-meaning
 returns-in_err-head-clause-meaning c =
-    subst (λ f. IsMeant (map entry c.args.expanded.now.program.decls.items) c.args.within c.args.name.now.text.items f) (sym c.from_residual.ensures)
-    (meant_none (map entry c.args.expanded.now.program.decls.items) c.args.within c.args.name.now.text.items
+    subst (λ f. IsMeant (map declaration c.args.expanded.now.program.decls.items) c.args.within c.args.name.now.text.items f) (sym c.from_residual.ensures)
+    (meant_none (map declaration c.args.expanded.now.program.decls.items) c.args.within c.args.name.now.text.items
     (sym (c.args.expanded.now.funs_found c.args.name.now.text.items) ∙ ap (λ n. find n c.args.expanded.now.table) (sym c.deref.ensures.value)
     ∙ sym c.in_err-head.ensures))
 
 pub returns-then-decl-within-clause-meaning : goal.returns-then-decl-within-clause-meaning
 returns-then-decl-within-clause-meaning c =
-    meant_some (map entry c.args.expanded.now.program.decls.items) c.args.within c.args.name.now.text.items c.in_ok-head.head
+    meant_some (map declaration c.args.expanded.now.program.decls.items) c.args.within c.args.name.now.text.items c.in_ok-head.head
     (sym (c.args.expanded.now.funs_found c.args.name.now.text.items) ∙ ap (λ n. find n c.args.expanded.now.table) (sym c.deref.ensures.value)
     ∙ sym c.in_ok-head.ensures)
     c.if-decl-within.true
 
 pub returns-else-decl-within-clause-meaning : goal.returns-else-decl-within-clause-meaning
 returns-else-decl-within-clause-meaning c =
-    meant_later (map entry c.args.expanded.now.program.decls.items) c.args.within c.args.name.now.text.items c.in_ok-head.head
+    meant_later (map declaration c.args.expanded.now.program.decls.items) c.args.within c.args.name.now.text.items c.in_ok-head.head
     (sym (c.args.expanded.now.funs_found c.args.name.now.text.items) ∙ ap (λ n. find n c.args.expanded.now.table) (sym c.deref.ensures.value)
     ∙ sym c.in_ok-head.ensures)
     c.if-decl-within.false
 
 pub returns-then-decl-within-clause-lighter : goal.returns-then-decl-within-clause-lighter
 returns-then-decl-within-clause-lighter c =
-    let e = name_weight (map entry c.args.expanded.now.program.decls.items) c.args.within c.args.name.now.text.items c.in_ok-head.head
+    let e = name_weight (map declaration c.args.expanded.now.program.decls.items) c.args.within c.args.name.now.text.items c.in_ok-head.head
     (sym (c.args.expanded.now.funs_found c.args.name.now.text.items) ∙ ap (λ n. find n c.args.expanded.now.table) (sym c.deref.ensures.value)
     ∙ sym c.in_ok-head.ensures)
     c.if-decl-within.true in

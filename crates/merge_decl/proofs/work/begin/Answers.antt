@@ -1,72 +1,72 @@
 use Rattle.std.proofs.Common.{◌∙◌, pos, ap, sym, refl, arith, rules}
 use Rattle.rev_syntax.specs.Trees as t
-use Rattle.rev_syntax.specs.View.{links, shape, term, terms, word}
+use Rattle.rev_syntax.specs.View.{links, expression_form, expression, expressions, placed_name}
 use Rattle.merge_decl.specs.Flat.{local}
-use Rattle.merge_decl.specs.Evaluation.{shape_within}
+use Rattle.merge_decl.specs.Evaluation.{expression_form_within}
 use Rattle.merge_decl.specs.Value.{read, unknown}
 use Rattle.merge_decl.specs.Work.{ended, part_cost, part_turn, turn_size, turn_weight, value_turn}
 use Rattle.merge_decl.specs.declared.flat.Flat.TheVariants as f
 use Rattle.merge_decl.specs.declared.work.Pending.TheVariants as wait
 use Rattle.merge_decl.proofs.Evaluations.{at_int, at_bool, at_no_rev, at_var, at_inputs}
-use Rattle.merge_decl.proofs.Shapes.{shape-Chain, shape-Pick, shape-Apply, shape-Unary, shape-Cell, shape-Input, shape-Int, shape-Bool, shape-NoRev, shape-Var, shape-Inputs}
+use Rattle.merge_decl.proofs.Shapes.{expression_form-Chain, expression_form-Pick, expression_form-Apply, expression_form-Unary, expression_form-Cell, expression_form-Input, expression_form-Int, expression_form-Bool, expression_form-NoRev, expression_form-Var, expression_form-Inputs}
 use Rattle.merge_decl.proofs.Works.{at-value, awaited, by_turn, count_of, of_form, weight_of_node, wait-cell, wait-input, wait-left, wait-pick, wait-unary}
 use Rattle.merge_decl.proofs.work.begin.Goals as goal
 
 pub returns-in-Int-clause-meaning : goal.returns-in-Int-clause-meaning
 returns-in-Int-clause-meaning c es n ps vs =
-    let k = at-value es n (local c.args.locals.now) ps vs (f.Int c.in-Int.n) _ (of_form es n (local c.args.locals.now) c.args.e.now _ (at_int es n (local c.args.locals.now) _ c.in-Int.n (ap shape c.in-Int.is ∙ shape-Int c.in-Int.n))) in
+    let k = at-value es n (local c.args.locals.now) ps vs (f.Int c.in-Int.n) _ (of_form es n (local c.args.locals.now) c.args.e.now _ (at_int es n (local c.args.locals.now) _ c.in-Int.n (ap expression_form c.in-Int.is ∙ expression_form-Int c.in-Int.n))) in
     by_turn es n (local c.args.locals.now) ps vs _ _ _ c.value.ensures (search (rules, k))
 
 pub returns-in-Int-clause-smaller : goal.returns-in-Int-clause-smaller
 returns-in-Int-clause-smaller c =
-    let k = count_of c.args.e.now _ (ap shape c.in-Int.is ∙ shape-Int c.in-Int.n) in let e = ap turn_size c.value.ensures in omega arith
+    let k = count_of c.args.e.now _ (ap expression_form c.in-Int.is ∙ expression_form-Int c.in-Int.n) in let e = ap turn_size c.value.ensures in omega arith
 
 pub returns-in-Bool-clause-meaning : goal.returns-in-Bool-clause-meaning
 returns-in-Bool-clause-meaning c es n ps vs =
     by_turn es n (local c.args.locals.now) ps vs _ (value_turn (f.Bool c.in-Bool.b)) _ c.value-in-Bool.ensures
-    (at-value es n (local c.args.locals.now) ps vs (f.Bool c.in-Bool.b) _ (of_form es n (local c.args.locals.now) c.args.e.now _ (at_bool es n (local c.args.locals.now) _ c.in-Bool.b _ (ap shape c.in-Bool.is ∙ shape-Bool c.in-Bool.b) refl)))
+    (at-value es n (local c.args.locals.now) ps vs (f.Bool c.in-Bool.b) _ (of_form es n (local c.args.locals.now) c.args.e.now _ (at_bool es n (local c.args.locals.now) _ c.in-Bool.b _ (ap expression_form c.in-Bool.is ∙ expression_form-Bool c.in-Bool.b) refl)))
 
 pub returns-in-Bool-clause-smaller : goal.returns-in-Bool-clause-smaller
 returns-in-Bool-clause-smaller c =
-    let k = count_of c.args.e.now _ (ap shape c.in-Bool.is ∙ shape-Bool c.in-Bool.b) in let e = ap turn_size c.value-in-Bool.ensures in omega arith
+    let k = count_of c.args.e.now _ (ap expression_form c.in-Bool.is ∙ expression_form-Bool c.in-Bool.b) in let e = ap turn_size c.value-in-Bool.ensures in omega arith
 
 pub returns-in-NoRev-clause-meaning : goal.returns-in-NoRev-clause-meaning
 returns-in-NoRev-clause-meaning c es n ps vs =
     by_turn es n (local c.args.locals.now) ps vs _ (value_turn f.NoRev) _ c.value-in-NoRev.ensures
-    (at-value es n (local c.args.locals.now) ps vs f.NoRev _ (of_form es n (local c.args.locals.now) c.args.e.now _ (at_no_rev es n (local c.args.locals.now) _ (ap shape c.in-NoRev.is ∙ shape-NoRev))))
+    (at-value es n (local c.args.locals.now) ps vs f.NoRev _ (of_form es n (local c.args.locals.now) c.args.e.now _ (at_no_rev es n (local c.args.locals.now) _ (ap expression_form c.in-NoRev.is ∙ expression_form-NoRev))))
 
 pub returns-in-NoRev-clause-smaller : goal.returns-in-NoRev-clause-smaller
 returns-in-NoRev-clause-smaller c =
-    let k = count_of c.args.e.now _ (ap shape c.in-NoRev.is ∙ shape-NoRev) in let e = ap turn_size c.value-in-NoRev.ensures in omega arith
+    let k = count_of c.args.e.now _ (ap expression_form c.in-NoRev.is ∙ expression_form-NoRev) in let e = ap turn_size c.value-in-NoRev.ensures in omega arith
 
 pub returns-in-Var-clause-meaning : goal.returns-in-Var-clause-meaning
 returns-in-Var-clause-meaning c es n ps vs =
     by_turn es n (local c.args.locals.now) ps vs _ (value_turn c.local_read.result) _ c.value-in-Var.ensures
-    (at-value es n (local c.args.locals.now) ps vs c.local_read.result _ (of_form es n (local c.args.locals.now) c.args.e.now _ (at_var es n (local c.args.locals.now) _ (word c.in-Var.name) _ (ap shape c.in-Var.is ∙ shape-Var c.in-Var.name)
+    (at-value es n (local c.args.locals.now) ps vs c.local_read.result _ (of_form es n (local c.args.locals.now) c.args.e.now _ (at_var es n (local c.args.locals.now) _ (placed_name c.in-Var.name) _ (ap expression_form c.in-Var.is ∙ expression_form-Var c.in-Var.name)
     (c.local_read.ensures ∙ ap (λ o. read o unknown) (c.find.ensures ∙ ap (local c.args.locals.now) c.deref.ensures.value)))))
 
 pub returns-in-Var-clause-smaller : goal.returns-in-Var-clause-smaller
 returns-in-Var-clause-smaller c =
-    let k = count_of c.args.e.now _ (ap shape c.in-Var.is ∙ shape-Var c.in-Var.name) in let e = ap turn_size c.value-in-Var.ensures in omega arith
+    let k = count_of c.args.e.now _ (ap expression_form c.in-Var.is ∙ expression_form-Var c.in-Var.name) in let e = ap turn_size c.value-in-Var.ensures in omega arith
 
 pub returns-in-Inputs-clause-meaning : goal.returns-in-Inputs-clause-meaning
 returns-in-Inputs-clause-meaning c es n ps vs =
     by_turn es n (local c.args.locals.now) ps vs _ (value_turn (f.Int (pos 0))) _ c.value-in-Inputs.ensures
-    (at-value es n (local c.args.locals.now) ps vs (f.Int (pos 0)) _ (of_form es n (local c.args.locals.now) c.args.e.now _ (at_inputs es n (local c.args.locals.now) _ c.in-Inputs.word_at (ap shape c.in-Inputs.is ∙ shape-Inputs c.in-Inputs.word_at))))
+    (at-value es n (local c.args.locals.now) ps vs (f.Int (pos 0)) _ (of_form es n (local c.args.locals.now) c.args.e.now _ (at_inputs es n (local c.args.locals.now) _ c.in-Inputs.word_at (ap expression_form c.in-Inputs.is ∙ expression_form-Inputs c.in-Inputs.word_at))))
 
 pub returns-in-Inputs-clause-smaller : goal.returns-in-Inputs-clause-smaller
 returns-in-Inputs-clause-smaller c =
-    let k = count_of c.args.e.now _ (ap shape c.in-Inputs.is ∙ shape-Inputs c.in-Inputs.word_at) in let e = ap turn_size c.value-in-Inputs.ensures in omega arith
+    let k = count_of c.args.e.now _ (ap expression_form c.in-Inputs.is ∙ expression_form-Inputs c.in-Inputs.word_at) in let e = ap turn_size c.value-in-Inputs.ensures in omega arith
 
 pub returns-in-Cell-clause-meaning : goal.returns-in-Cell-clause-meaning
 returns-in-Cell-clause-meaning c es n ps vs =
     let l = (local c.args.locals.now) in
     by_turn es n l ps vs _ (part_turn wait.Cell c.deref-in-Cell.result) _ c.part.ensures
-    (awaited es n l ps wait.Cell c.deref-in-Cell.result vs _ (of_form es n l c.args.e.now _ (wait-cell es n l _ (word c.in-Cell.name) c.deref-in-Cell.result vs (ap shape c.in-Cell.is ∙ shape-Cell c.in-Cell.name c.in-Cell.index ∙ ap (λ e. t.cell (word c.in-Cell.name) (term e)) (sym c.deref-in-Cell.ensures)))))
+    (awaited es n l ps wait.Cell c.deref-in-Cell.result vs _ (of_form es n l c.args.e.now _ (wait-cell es n l _ (placed_name c.in-Cell.name) c.deref-in-Cell.result vs (ap expression_form c.in-Cell.is ∙ expression_form-Cell c.in-Cell.name c.in-Cell.index ∙ ap (λ e. t.cell (placed_name c.in-Cell.name) (expression e)) (sym c.deref-in-Cell.ensures)))))
 
 pub returns-in-Cell-clause-smaller : goal.returns-in-Cell-clause-smaller
 returns-in-Cell-clause-smaller c =
-    let k = count_of c.args.e.now _ (ap shape c.in-Cell.is ∙ shape-Cell c.in-Cell.name c.in-Cell.index ∙ ap (λ e. t.cell (word c.in-Cell.name) (term e)) (sym c.deref-in-Cell.ensures)) in
+    let k = count_of c.args.e.now _ (ap expression_form c.in-Cell.is ∙ expression_form-Cell c.in-Cell.name c.in-Cell.index ∙ ap (λ e. t.cell (placed_name c.in-Cell.name) (expression e)) (sym c.deref-in-Cell.ensures)) in
     let e = ap turn_size c.part.ensures in
     omega arith
 
@@ -74,11 +74,11 @@ pub returns-in-Input-clause-meaning : goal.returns-in-Input-clause-meaning
 returns-in-Input-clause-meaning c es n ps vs =
     let l = (local c.args.locals.now) in
     by_turn es n l ps vs _ (part_turn wait.Input c.deref-in-Input.result) _ c.part-in-Input.ensures
-    (awaited es n l ps wait.Input c.deref-in-Input.result vs _ (of_form es n l c.args.e.now _ (wait-input es n l _ c.in-Input.word_at c.deref-in-Input.result vs (ap shape c.in-Input.is ∙ shape-Input c.in-Input.word_at c.in-Input.index ∙ ap (λ e. t.input c.in-Input.word_at (term e)) (sym c.deref-in-Input.ensures)))))
+    (awaited es n l ps wait.Input c.deref-in-Input.result vs _ (of_form es n l c.args.e.now _ (wait-input es n l _ c.in-Input.word_at c.deref-in-Input.result vs (ap expression_form c.in-Input.is ∙ expression_form-Input c.in-Input.word_at c.in-Input.index ∙ ap (λ e. t.input c.in-Input.word_at (expression e)) (sym c.deref-in-Input.ensures)))))
 
 pub returns-in-Input-clause-smaller : goal.returns-in-Input-clause-smaller
 returns-in-Input-clause-smaller c =
-    let k = count_of c.args.e.now _ (ap shape c.in-Input.is ∙ shape-Input c.in-Input.word_at c.in-Input.index ∙ ap (λ e. t.input c.in-Input.word_at (term e)) (sym c.deref-in-Input.ensures)) in
+    let k = count_of c.args.e.now _ (ap expression_form c.in-Input.is ∙ expression_form-Input c.in-Input.word_at c.in-Input.index ∙ ap (λ e. t.input c.in-Input.word_at (expression e)) (sym c.deref-in-Input.ensures)) in
     let e = ap turn_size c.part-in-Input.ensures in
     omega arith
 
@@ -86,11 +86,11 @@ pub returns-in-Unary-clause-meaning : goal.returns-in-Unary-clause-meaning
 returns-in-Unary-clause-meaning c es n ps vs =
     let l = (local c.args.locals.now) in
     by_turn es n l ps vs _ (part_turn (wait.Unary c.in-Unary.op) c.deref-in-Unary.result) _ c.part-in-Unary.ensures
-    (awaited es n l ps (wait.Unary c.in-Unary.op) c.deref-in-Unary.result vs _ (of_form es n l c.args.e.now _ (wait-unary es n l _ c.in-Unary.op c.deref-in-Unary.result vs (ap shape c.in-Unary.is ∙ shape-Unary c.in-Unary.op c.in-Unary.part ∙ ap (λ e. t.unary c.in-Unary.op (term e)) (sym c.deref-in-Unary.ensures)))))
+    (awaited es n l ps (wait.Unary c.in-Unary.op) c.deref-in-Unary.result vs _ (of_form es n l c.args.e.now _ (wait-unary es n l _ c.in-Unary.op c.deref-in-Unary.result vs (ap expression_form c.in-Unary.is ∙ expression_form-Unary c.in-Unary.op c.in-Unary.part ∙ ap (λ e. t.unary c.in-Unary.op (expression e)) (sym c.deref-in-Unary.ensures)))))
 
 pub returns-in-Unary-clause-smaller : goal.returns-in-Unary-clause-smaller
 returns-in-Unary-clause-smaller c =
-    let k = count_of c.args.e.now _ (ap shape c.in-Unary.is ∙ shape-Unary c.in-Unary.op c.in-Unary.part ∙ ap (λ e. t.unary c.in-Unary.op (term e)) (sym c.deref-in-Unary.ensures)) in
+    let k = count_of c.args.e.now _ (ap expression_form c.in-Unary.is ∙ expression_form-Unary c.in-Unary.op c.in-Unary.part ∙ ap (λ e. t.unary c.in-Unary.op (expression e)) (sym c.deref-in-Unary.ensures)) in
     let e = ap turn_size c.part-in-Unary.ensures in
     omega arith
 
@@ -98,11 +98,11 @@ pub returns-in-Pick-clause-meaning : goal.returns-in-Pick-clause-meaning
 returns-in-Pick-clause-meaning c es n ps vs =
     let l = (local c.args.locals.now) in
     by_turn es n l ps vs _ (part_turn (wait.Pick c.deref-in-Pick.result c.deref-in-Pick-2.result) c.deref-in-Pick-3.result) _ c.part-in-Pick.ensures
-    (awaited es n l ps (wait.Pick c.deref-in-Pick.result c.deref-in-Pick-2.result) c.deref-in-Pick-3.result vs _ (of_form es n l c.args.e.now _ (wait-pick es n l _ c.deref-in-Pick-3.result c.deref-in-Pick.result c.deref-in-Pick-2.result vs (ap shape c.in-Pick.is ∙ shape-Pick c.in-Pick.test c.in-Pick.yes c.in-Pick.no ∙ (λ i. t.pick (term (sym c.deref-in-Pick-3.ensures i)) (term (sym c.deref-in-Pick.ensures i)) (term (sym c.deref-in-Pick-2.ensures i)))))))
+    (awaited es n l ps (wait.Pick c.deref-in-Pick.result c.deref-in-Pick-2.result) c.deref-in-Pick-3.result vs _ (of_form es n l c.args.e.now _ (wait-pick es n l _ c.deref-in-Pick-3.result c.deref-in-Pick.result c.deref-in-Pick-2.result vs (ap expression_form c.in-Pick.is ∙ expression_form-Pick c.in-Pick.test c.in-Pick.yes c.in-Pick.no ∙ (λ i. t.pick (expression (sym c.deref-in-Pick-3.ensures i)) (expression (sym c.deref-in-Pick.ensures i)) (expression (sym c.deref-in-Pick-2.ensures i)))))))
 
 pub returns-in-Pick-clause-smaller : goal.returns-in-Pick-clause-smaller
 returns-in-Pick-clause-smaller c =
-    let k = count_of c.args.e.now _ (ap shape c.in-Pick.is ∙ shape-Pick c.in-Pick.test c.in-Pick.yes c.in-Pick.no ∙ (λ i. t.pick (term (sym c.deref-in-Pick-3.ensures i)) (term (sym c.deref-in-Pick.ensures i)) (term (sym c.deref-in-Pick-2.ensures i)))) in
+    let k = count_of c.args.e.now _ (ap expression_form c.in-Pick.is ∙ expression_form-Pick c.in-Pick.test c.in-Pick.yes c.in-Pick.no ∙ (λ i. t.pick (expression (sym c.deref-in-Pick-3.ensures i)) (expression (sym c.deref-in-Pick.ensures i)) (expression (sym c.deref-in-Pick-2.ensures i)))) in
     let e = ap turn_size c.part-in-Pick.ensures in
     omega arith
 
@@ -110,11 +110,11 @@ pub returns-in-Chain-clause-meaning : goal.returns-in-Chain-clause-meaning
 returns-in-Chain-clause-meaning c es n ps vs =
     let l = (local c.args.locals.now) in
     by_turn es n l ps vs _ (part_turn (wait.Left c.deref-in-Chain.result) c.deref-in-Chain-2.result) _ c.part-in-Chain.ensures
-    (awaited es n l ps (wait.Left c.deref-in-Chain.result) c.deref-in-Chain-2.result vs _ (of_form es n l c.args.e.now _ (wait-left es n l _ c.deref-in-Chain-2.result c.deref-in-Chain.result vs (ap shape c.in-Chain.is ∙ shape-Chain c.in-Chain.first c.in-Chain.rest ∙ (λ i. t.chain (term (sym c.deref-in-Chain-2.ensures i)) (links (sym c.deref-in-Chain.ensures.value i)))))))
+    (awaited es n l ps (wait.Left c.deref-in-Chain.result) c.deref-in-Chain-2.result vs _ (of_form es n l c.args.e.now _ (wait-left es n l _ c.deref-in-Chain-2.result c.deref-in-Chain.result vs (ap expression_form c.in-Chain.is ∙ expression_form-Chain c.in-Chain.first c.in-Chain.rest ∙ (λ i. t.chain (expression (sym c.deref-in-Chain-2.ensures i)) (links (sym c.deref-in-Chain.ensures.value i)))))))
 
 pub returns-in-Chain-clause-smaller : goal.returns-in-Chain-clause-smaller
 returns-in-Chain-clause-smaller c =
-    let k = count_of c.args.e.now _ (ap shape c.in-Chain.is ∙ shape-Chain c.in-Chain.first c.in-Chain.rest ∙ (λ i. t.chain (term (sym c.deref-in-Chain-2.ensures i)) (links (sym c.deref-in-Chain.ensures.value i)))) in
+    let k = count_of c.args.e.now _ (ap expression_form c.in-Chain.is ∙ expression_form-Chain c.in-Chain.first c.in-Chain.rest ∙ (λ i. t.chain (expression (sym c.deref-in-Chain-2.ensures i)) (links (sym c.deref-in-Chain.ensures.value i)))) in
     let e = ap turn_size c.part-in-Chain.ensures in
     omega arith
 
@@ -122,17 +122,17 @@ pub returns-in-Apply-clause-meaning : goal.returns-in-Apply-clause-meaning
 returns-in-Apply-clause-meaning c es n ps vs =
     let l = (local c.args.locals.now) in
     c.begin_application.ensures.meaning es n l ps vs
-    ∙ ap (ended es n l ps vs) (of_form es n l c.args.e.now _ (ap (shape_within es n l) (sym (ap shape c.in-Apply.is ∙ shape-Apply c.in-Apply.name c.in-Apply.args ∙ ap (λ xs. t.apply (word c.in-Apply.name) (terms xs)) (sym c.deref-in-Apply.ensures.value)))))
+    ∙ ap (ended es n l ps vs) (of_form es n l c.args.e.now _ (ap (expression_form_within es n l) (sym (ap expression_form c.in-Apply.is ∙ expression_form-Apply c.in-Apply.name c.in-Apply.args ∙ ap (λ xs. t.apply (placed_name c.in-Apply.name) (expressions xs)) (sym c.deref-in-Apply.ensures.value)))))
 
 pub returns-in-Apply-clause-smaller : goal.returns-in-Apply-clause-smaller
 returns-in-Apply-clause-smaller c =
-    let k = count_of c.args.e.now _ (ap shape c.in-Apply.is ∙ shape-Apply c.in-Apply.name c.in-Apply.args ∙ ap (λ xs. t.apply (word c.in-Apply.name) (terms xs)) (sym c.deref-in-Apply.ensures.value)) in
+    let k = count_of c.args.e.now _ (ap expression_form c.in-Apply.is ∙ expression_form-Apply c.in-Apply.name c.in-Apply.args ∙ ap (λ xs. t.apply (placed_name c.in-Apply.name) (expressions xs)) (sym c.deref-in-Apply.ensures.value)) in
     let e = c.begin_application.ensures.smaller in
     omega arith
 
 pub returns-in-Int-clause-lighter : goal.returns-in-Int-clause-lighter
 returns-in-Int-clause-lighter c ws =
-    let h = ap shape c.in-Int.is ∙ shape-Int c.in-Int.n in
+    let h = ap expression_form c.in-Int.is ∙ expression_form-Int c.in-Int.n in
     let k = weight_of_node ws c.args.e.now _ h in
     let p = ap part_cost h in
     let e = ap (turn_weight ws) c.value.ensures in
@@ -140,7 +140,7 @@ returns-in-Int-clause-lighter c ws =
 
 pub returns-in-Bool-clause-lighter : goal.returns-in-Bool-clause-lighter
 returns-in-Bool-clause-lighter c ws =
-    let h = ap shape c.in-Bool.is ∙ shape-Bool c.in-Bool.b in
+    let h = ap expression_form c.in-Bool.is ∙ expression_form-Bool c.in-Bool.b in
     let k = weight_of_node ws c.args.e.now _ h in
     let p = ap part_cost h in
     let e = ap (turn_weight ws) c.value-in-Bool.ensures in
@@ -148,7 +148,7 @@ returns-in-Bool-clause-lighter c ws =
 
 pub returns-in-NoRev-clause-lighter : goal.returns-in-NoRev-clause-lighter
 returns-in-NoRev-clause-lighter c ws =
-    let h = ap shape c.in-NoRev.is ∙ shape-NoRev in
+    let h = ap expression_form c.in-NoRev.is ∙ expression_form-NoRev in
     let k = weight_of_node ws c.args.e.now _ h in
     let p = ap part_cost h in
     let e = ap (turn_weight ws) c.value-in-NoRev.ensures in
@@ -156,7 +156,7 @@ returns-in-NoRev-clause-lighter c ws =
 
 pub returns-in-Var-clause-lighter : goal.returns-in-Var-clause-lighter
 returns-in-Var-clause-lighter c ws =
-    let h = ap shape c.in-Var.is ∙ shape-Var c.in-Var.name in
+    let h = ap expression_form c.in-Var.is ∙ expression_form-Var c.in-Var.name in
     let k = weight_of_node ws c.args.e.now _ h in
     let p = ap part_cost h in
     let e = ap (turn_weight ws) c.value-in-Var.ensures in
@@ -164,7 +164,7 @@ returns-in-Var-clause-lighter c ws =
 
 pub returns-in-Inputs-clause-lighter : goal.returns-in-Inputs-clause-lighter
 returns-in-Inputs-clause-lighter c ws =
-    let h = ap shape c.in-Inputs.is ∙ shape-Inputs c.in-Inputs.word_at in
+    let h = ap expression_form c.in-Inputs.is ∙ expression_form-Inputs c.in-Inputs.word_at in
     let k = weight_of_node ws c.args.e.now _ h in
     let p = ap part_cost h in
     let e = ap (turn_weight ws) c.value-in-Inputs.ensures in
@@ -172,7 +172,7 @@ returns-in-Inputs-clause-lighter c ws =
 
 pub returns-in-Cell-clause-lighter : goal.returns-in-Cell-clause-lighter
 returns-in-Cell-clause-lighter c ws =
-    let h = ap shape c.in-Cell.is ∙ shape-Cell c.in-Cell.name c.in-Cell.index ∙ ap (λ e. t.cell (word c.in-Cell.name) (term e)) (sym c.deref-in-Cell.ensures) in
+    let h = ap expression_form c.in-Cell.is ∙ expression_form-Cell c.in-Cell.name c.in-Cell.index ∙ ap (λ e. t.cell (placed_name c.in-Cell.name) (expression e)) (sym c.deref-in-Cell.ensures) in
     let k = weight_of_node ws c.args.e.now _ h in
     let p = ap part_cost h in
     let e = ap (turn_weight ws) c.part.ensures in
@@ -180,7 +180,7 @@ returns-in-Cell-clause-lighter c ws =
 
 pub returns-in-Input-clause-lighter : goal.returns-in-Input-clause-lighter
 returns-in-Input-clause-lighter c ws =
-    let h = ap shape c.in-Input.is ∙ shape-Input c.in-Input.word_at c.in-Input.index ∙ ap (λ e. t.input c.in-Input.word_at (term e)) (sym c.deref-in-Input.ensures) in
+    let h = ap expression_form c.in-Input.is ∙ expression_form-Input c.in-Input.word_at c.in-Input.index ∙ ap (λ e. t.input c.in-Input.word_at (expression e)) (sym c.deref-in-Input.ensures) in
     let k = weight_of_node ws c.args.e.now _ h in
     let p = ap part_cost h in
     let e = ap (turn_weight ws) c.part-in-Input.ensures in
@@ -188,7 +188,7 @@ returns-in-Input-clause-lighter c ws =
 
 pub returns-in-Unary-clause-lighter : goal.returns-in-Unary-clause-lighter
 returns-in-Unary-clause-lighter c ws =
-    let h = ap shape c.in-Unary.is ∙ shape-Unary c.in-Unary.op c.in-Unary.part ∙ ap (λ e. t.unary c.in-Unary.op (term e)) (sym c.deref-in-Unary.ensures) in
+    let h = ap expression_form c.in-Unary.is ∙ expression_form-Unary c.in-Unary.op c.in-Unary.part ∙ ap (λ e. t.unary c.in-Unary.op (expression e)) (sym c.deref-in-Unary.ensures) in
     let k = weight_of_node ws c.args.e.now _ h in
     let p = ap part_cost h in
     let e = ap (turn_weight ws) c.part-in-Unary.ensures in
@@ -196,7 +196,7 @@ returns-in-Unary-clause-lighter c ws =
 
 pub returns-in-Pick-clause-lighter : goal.returns-in-Pick-clause-lighter
 returns-in-Pick-clause-lighter c ws =
-    let h = ap shape c.in-Pick.is ∙ shape-Pick c.in-Pick.test c.in-Pick.yes c.in-Pick.no ∙ (λ i. t.pick (term (sym c.deref-in-Pick-3.ensures i)) (term (sym c.deref-in-Pick.ensures i)) (term (sym c.deref-in-Pick-2.ensures i))) in
+    let h = ap expression_form c.in-Pick.is ∙ expression_form-Pick c.in-Pick.test c.in-Pick.yes c.in-Pick.no ∙ (λ i. t.pick (expression (sym c.deref-in-Pick-3.ensures i)) (expression (sym c.deref-in-Pick.ensures i)) (expression (sym c.deref-in-Pick-2.ensures i))) in
     let k = weight_of_node ws c.args.e.now _ h in
     let p = ap part_cost h in
     let e = ap (turn_weight ws) c.part-in-Pick.ensures in
@@ -204,7 +204,7 @@ returns-in-Pick-clause-lighter c ws =
 
 pub returns-in-Chain-clause-lighter : goal.returns-in-Chain-clause-lighter
 returns-in-Chain-clause-lighter c ws =
-    let h = ap shape c.in-Chain.is ∙ shape-Chain c.in-Chain.first c.in-Chain.rest ∙ (λ i. t.chain (term (sym c.deref-in-Chain-2.ensures i)) (links (sym c.deref-in-Chain.ensures.value i))) in
+    let h = ap expression_form c.in-Chain.is ∙ expression_form-Chain c.in-Chain.first c.in-Chain.rest ∙ (λ i. t.chain (expression (sym c.deref-in-Chain-2.ensures i)) (links (sym c.deref-in-Chain.ensures.value i))) in
     let k = weight_of_node ws c.args.e.now _ h in
     let p = ap part_cost h in
     let e = ap (turn_weight ws) c.part-in-Chain.ensures in
@@ -212,7 +212,7 @@ returns-in-Chain-clause-lighter c ws =
 
 pub returns-in-Apply-clause-lighter : goal.returns-in-Apply-clause-lighter
 returns-in-Apply-clause-lighter c ws =
-    let h = ap shape c.in-Apply.is ∙ shape-Apply c.in-Apply.name c.in-Apply.args ∙ ap (λ xs. t.apply (word c.in-Apply.name) (terms xs)) (sym c.deref-in-Apply.ensures.value) in
+    let h = ap expression_form c.in-Apply.is ∙ expression_form-Apply c.in-Apply.name c.in-Apply.args ∙ ap (λ xs. t.apply (placed_name c.in-Apply.name) (expressions xs)) (sym c.deref-in-Apply.ensures.value) in
     let k = weight_of_node ws c.args.e.now _ h in
     let p = ap part_cost h in
     let e = c.begin_application.ensures.lighter ws in

@@ -1,7 +1,7 @@
 use Rattle.std.proofs.Common.{◌∙◌, true, false, ap, sym, arith}
-use Rattle.rev_syntax.specs.Small.{term_count}
-use Rattle.rev_syntax.specs.View.{term}
-use Rattle.merge_decl.specs.Weights.{term_weight}
+use Rattle.rev_syntax.specs.Small.{expression_count}
+use Rattle.rev_syntax.specs.View.{expression}
+use Rattle.merge_decl.specs.Weights.{expression_weight}
 use Rattle.merge_decl.specs.Flat.{flat}
 use Rattle.merge_decl.proofs.Works.{give-pick}
 use Rattle.merge_decl.proofs.work.chosen.Goals.{then-truth, else-truth}
@@ -17,13 +17,13 @@ returns-clause-meaning c es n l ps vs =
 pub returns-clause-smaller : goal.returns-clause-smaller
 returns-clause-smaller c =
     elim c.if-truth.branch [
-      | then-truth b ↦ (let h = ap (λ x. term_count (term x.now)) b.result-is in omega arith)
-      | else-truth b ↦ (let h = ap (λ x. term_count (term x.now)) b.result-is in omega arith)
+      | then-truth b ↦ (let h = ap (λ x. expression_count (expression x.now)) b.result-is in omega arith)
+      | else-truth b ↦ (let h = ap (λ x. expression_count (expression x.now)) b.result-is in omega arith)
     ]
 
 pub returns-clause-lighter : goal.returns-clause-lighter
 returns-clause-lighter c ws =
     elim c.if-truth.branch [
-      | then-truth b ↦ (let h = ap (λ x. term_weight ws (term x.now)) b.result-is in omega arith)
-      | else-truth b ↦ (let h = ap (λ x. term_weight ws (term x.now)) b.result-is in omega arith)
+      | then-truth b ↦ (let h = ap (λ x. expression_weight ws (expression x.now)) b.result-is in omega arith)
+      | else-truth b ↦ (let h = ap (λ x. expression_weight ws (expression x.now)) b.result-is in omega arith)
     ]

@@ -1,7 +1,7 @@
 use Rattle.std.proofs.Common.{◌∙◌, Some, ◌++◌, ◌∷◌, [], suc, ap, sym, arith, add-one}
-use Rattle.rev_syntax.specs.View.{terms}
-use Rattle.rev_syntax.specs.Small.{terms_count}
-use Rattle.merge_decl.specs.Weights.{terms_weight}
+use Rattle.rev_syntax.specs.View.{expressions}
+use Rattle.rev_syntax.specs.Small.{expressions_count}
+use Rattle.merge_decl.specs.Weights.{expressions_weight}
 use Rattle.merge_decl.specs.Flat.{flat}
 use Rattle.merge_decl.specs.Work.{application, call_turn, comes_to, ended, lasts, turn_size, turn_weight}
 use Rattle.merge_decl.specs.declared.work.Pending.TheVariants as wait
@@ -15,11 +15,11 @@ returns-in-Some-clause-meaning c es n l ps vs =
     let k = c.args.before in
     ap (λ m. comes_to es n l (wait.Argument c.args.name m c.in-Some.rest ∷ ps) (vs ++ x ∷ []) (next.Part c.in-Some.arg)) (add-one k)
     ∙ awaited es n l ps (wait.Argument c.args.name (suc k) c.in-Some.rest) c.in-Some.arg (vs ++ x ∷ []) _ (argument-next es n l c.args.name k x c.in-Some.arg c.in-Some.rest vs)
-    ∙ (λ i. ended es n l ps (without-push k vs x i) (application es n l c.args.name.now.text.items (lasts k vs ++ x ∷ []) (terms (sym c.in-Some.ensures.cases.0 i))))
+    ∙ (λ i. ended es n l ps (without-push k vs x i) (application es n l c.args.name.now.text.items (lasts k vs ++ x ∷ []) (expressions (sym c.in-Some.ensures.cases.0 i))))
 
 pub returns-in-Some-clause-smaller : goal.returns-in-Some-clause-smaller
 returns-in-Some-clause-smaller c =
-    let k = ap (λ xs. terms_count (terms xs)) c.in-Some.ensures.cases.0 in
+    let k = ap (λ xs. expressions_count (expressions xs)) c.in-Some.ensures.cases.0 in
     omega arith
 
 pub returns-in_default-clause-meaning : goal.returns-in_default-clause-meaning
@@ -32,7 +32,7 @@ returns-in_default-clause-smaller c = let e = ap turn_size c.call.ensures in ome
 
 pub returns-in-Some-clause-lighter : goal.returns-in-Some-clause-lighter
 returns-in-Some-clause-lighter c ws =
-    let k = ap (λ xs. terms_weight ws (terms xs)) c.in-Some.ensures.cases.0 in
+    let k = ap (λ xs. expressions_weight ws (expressions xs)) c.in-Some.ensures.cases.0 in
     omega arith
 
 pub returns-in_default-clause-lighter : goal.returns-in_default-clause-lighter

@@ -1,5 +1,5 @@
 use Rattle.std.proofs.Common.{◌∙◌, ap, sym, refl, arith}
-use Rattle.rev_syntax.specs.View.{links, term}
+use Rattle.rev_syntax.specs.View.{links, expression}
 use Rattle.rev_syntax.specs.Small.{links_count}
 use Rattle.merge_decl.specs.Weights.{links_weight}
 use Rattle.merge_decl.specs.Evaluation.{chained_within}
@@ -22,7 +22,7 @@ returns-in_default-clause-smaller c = let e = ap turn_size c.value.ensures in om
 pub returns-in-Some-short-clause-meaning : goal.returns-in-Some-short-clause-meaning
 returns-in-Some-short-clause-meaning c es n l ps vs =
     given es n l ps (wait.Left c.in-Some.rest) (flat c.in-Some-short.decided) c.in-Some-short.decided vs refl
-    ∙ ap (ended es n l ps vs) (left-decided es n l c.in-Some.link.now.op (term c.in-Some.link.now.part) (flat c.args.left) (flat c.in-Some-short.decided) vs c.in-Some.rest c.in-Some-short.ensures)
+    ∙ ap (ended es n l ps vs) (left-decided es n l c.in-Some.link.now.op (expression c.in-Some.link.now.part) (flat c.args.left) (flat c.in-Some-short.decided) vs c.in-Some.rest c.in-Some-short.ensures)
     ∙ ap (λ ls. ended es n l ps vs (chained_within es n l (flat c.args.left) ls)) (sym (ap links c.in-Some.ensures.cases.0 ∙ links-first c.in-Some.link.now c.in-Some.rest.now))
 
 pub returns-in-Some-short-clause-smaller : goal.returns-in-Some-short-clause-smaller
@@ -34,7 +34,7 @@ pub returns-in-None-clause-meaning : goal.returns-in-None-clause-meaning
 returns-in-None-clause-meaning c es n l ps vs =
     let lk = c.in-Some.link.now in
     by_turn es n l ps vs _ _ _ c.part.ensures
-    (awaited es n l ps (wait.Right lk.op c.args.left c.in-Some.rest) _ vs _ (left-wanted es n l lk.op (term lk.part) c.args.left vs c.in-Some.rest c.in-None.ensures))
+    (awaited es n l ps (wait.Right lk.op c.args.left c.in-Some.rest) _ vs _ (left-wanted es n l lk.op (expression lk.part) c.args.left vs c.in-Some.rest c.in-None.ensures))
     ∙ ap (λ ls. ended es n l ps vs (chained_within es n l (flat c.args.left) ls)) (sym (ap links c.in-Some.ensures.cases.0 ∙ links-first lk c.in-Some.rest.now))
 
 pub returns-in-None-clause-smaller : goal.returns-in-None-clause-smaller

@@ -1,11 +1,11 @@
 use Rattle.std.proofs.Common.{◌≡◌, drop}
-use Rattle.rev_syntax.specs.View.{terms, links}
+use Rattle.rev_syntax.specs.View.{expressions, links}
 use Rattle.rev_types.specs.Program as program
 use Rattle.rev_types.proofs.passed.+weight.Given as goal
 
 abbrev pub invariant-args_weight-loop-arg : goal.invariant-args_weight-loop-arg
 invariant-args_weight-loop-arg l =
-    program.terms_weight l.weights l.sum (terms (drop l.arg-index l.args)) ≡ program.terms_weight l.weights l.initial.sum (terms l.args)
+    program.expressions_weight l.weights l.sum (expressions (drop l.arg-index l.args)) ≡ program.expressions_weight l.weights l.initial.sum (expressions l.args)
 
 abbrev pub invariant-links_weight-loop-link : goal.invariant-links_weight-loop-link
 invariant-links_weight-loop-link l =

@@ -1,5 +1,5 @@
 use Rattle.std.proofs.Common.{◌∙◌, ap, sym, map}
-use Rattle.rev_syntax.specs.View.{binder}
+use Rattle.rev_syntax.specs.View.{parameter}
 use Rattle.merge_decl.specs.Definitions.{names_of}
 use Rattle.merge_decl.specs.Flat.{flat, local}
 use Rattle.merge_decl.proofs.Locals.{found_behind, found_passed}
@@ -8,12 +8,12 @@ use Rattle.merge_decl.proofs.flat.Locals.+find.Goals as goal
 
 pub returns-in-Some : goal.returns-in-Some
 returns-in-Some t c =
-    found_passed (local c.in-Passed.rest.now) (names_of (map binder c.in-Passed.params.now)) (map flat c.in-Passed.values.now) c.args.name.now _ c.in-Some.ensures
+    found_passed (local c.in-Passed.rest.now) (names_of (map parameter c.in-Passed.params.now)) (map flat c.in-Passed.values.now) c.args.name.now _ c.in-Some.ensures
     ∙ ap (λ l. l c.args.name.now) (sym (local-Passed c.in-Passed.params c.in-Passed.values c.in-Passed.rest))
     ∙ ap (λ l. local l c.args.name.now) (sym c.in-Passed.is)
 
 pub returns-in-None : goal.returns-in-None
 returns-in-None t c =
-    found_behind (local c.in-Passed.rest.now) (names_of (map binder c.in-Passed.params.now)) (map flat c.in-Passed.values.now) c.args.name.now _ c.in-None.ensures c.find-in-None.ensures
+    found_behind (local c.in-Passed.rest.now) (names_of (map parameter c.in-Passed.params.now)) (map flat c.in-Passed.values.now) c.args.name.now _ c.in-None.ensures c.find-in-None.ensures
     ∙ ap (λ l. l c.args.name.now) (sym (local-Passed c.in-Passed.params c.in-Passed.values c.in-Passed.rest))
     ∙ ap (λ l. local l c.args.name.now) (sym c.in-Passed.is)

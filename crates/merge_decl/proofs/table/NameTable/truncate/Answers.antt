@@ -1,9 +1,8 @@
-use Rattle.std.proofs.Common.{◌∙◌, ap, sym, take}
-use Rattle.std.proofs.lemmas.List.{take-map}
-use Rattle.merge_decl.specs.Table.{rows}
+use Rattle.std.proofs.Common.{◌∙◌, ◌<◌, length, arith, rules}
+use Rattle.merge_decl.proofs.Tables.{shorter}
 use Rattle.merge_decl.proofs.table.NameTable.truncate.Goals as goal
 
-pub returns : goal.returns
-returns g c =
-    ap rows c.truncate.ensures.entries ∙ sym (take-map _ c.args.len c.self.inside.index.entries)
-    ∙ ap (λ t. take c.args.len t) c.self.view_is
+pub loop-self-preserved : goal.loop-self-preserved
+loop-self-preserved g c =
+    let more : c.args.len < length c.loop-self.self-inside.entries.items = search rules in
+    (c.last_out.ensures.indexed, shorter c.args.len c.loop-self.self-inside.entries.items c.last_out.new.entries.items c.last_out.ensures.rest more ∙ c.loop-self.invariant.1)

@@ -1,0 +1,11 @@
+use Rattle.std.proofs.Common.{◌≡◌, take, length}
+use Rattle.merge_decl.specs.Table.{IsIndexed, rows}
+use Rattle.merge_decl.proofs.table.NameTable.truncate.Given as goal
+
+abbrev pub invariant-loop-self : goal.invariant-loop-self
+invariant-loop-self g l =
+    IsIndexed l.self-inside.index (rows l.self-inside.entries.items)
+    × (take l.len (rows l.self-inside.entries.items) ≡ take l.len (rows l.initial.self-inside.entries.items))
+
+abbrev pub decreases-loop-self : goal.decreases-loop-self
+decreases-loop-self g l = length l.self-inside.entries.items

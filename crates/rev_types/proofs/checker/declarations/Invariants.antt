@@ -1,0 +1,15 @@
+use Rattle.std.proofs.Common.{◌≡◌, ◌≤◌, drop, map, None}
+use Rattle.rev_syntax.specs.View.{declaration}
+use Rattle.rev_kinds.specs.Walk.{names_of}
+use Rattle.rev_types.specs.Passing.{passed_of}
+use Rattle.rev_types.specs.Program as program
+use Rattle.rev_types.specs.Walk as rule
+use Rattle.rev_types.proofs.checker.declarations.Given as goal
+
+abbrev pub invariant-loop-d : goal.invariant-loop-d
+invariant-loop-d l = record {
+  number : l.passed.number ≡ l.d-index;
+  counted : l.passed.merge_count ≤ l.passed.number;
+  found : rule.broken_in_declarations (names_of l.outer) (names_of l.inner) (passed_of l.passed) l.found (map declaration (drop l.d-index l.decls))
+      ≡ rule.broken_in_declarations (names_of l.outer) (names_of l.inner) program.nothing_passed None (map declaration l.decls);
+}
