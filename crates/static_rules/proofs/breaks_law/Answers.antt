@@ -1,0 +1,6 @@
+use Rattle.static_rules.proofs.Fronts.{decided, has_one, same_first}
+use Rattle.static_rules.proofs.Whole.{same}
+use Rattle.static_rules.proofs.breaks_law.Goals as goal
+
+pub returns : goal.returns
+returns c = record { same = same; first = same_first; decided = decided; outcome = has_one }

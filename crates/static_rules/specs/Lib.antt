@@ -1,0 +1,4 @@
+pub mod Breaks
+pub mod Examples
+pub mod Front
+pub mod Places

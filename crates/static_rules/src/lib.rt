@@ -1,0 +1,20 @@
+//! The rules that a program breaks, each by itself.
+#![tactic(auto)]
+
+ghost use Rattle.static_rules.specs.Breaks.{Same};
+ghost use Rattle.static_rules.specs.Examples.{Examples};
+ghost use Rattle.static_rules.specs.Front.{Decided, OneOutcome, SameFirst};
+
+/// The checker's list of faults has exactly those of the rules; and a small program that keeps the
+/// rules on funs is well typed, or there is one first rule that it breaks, and never both.
+pub fn breaks_law()
+    ensures same { Same }
+    ensures first { SameFirst }
+    ensures decided { Decided }
+    ensures outcome { OneOutcome }
+{}
+
+/// Programs with a fault each, which is the first rule that they break.
+pub fn examples()
+    ensures { Examples }
+{}
