@@ -2,12 +2,12 @@
 use Rattle.std.proofs.Common.{◌≡◌, ℕ, Bool, List, [], Option, Some, refl, subst}
 use Rattle.std.specs.Prelude.{option_map}
 use Rattle.rev_num.specs.Path.{Path}
+use Rattle.rev_report.specs.Report.{Output}
 use Rattle.revision_machine.specs.Machine.{Global, Complete, Reached}
 use Rattle.revision_machine.proofs.Ends.{unique_end}
 use Rattle.revision_calculus.specs.Program.{Setting}
 use Rattle.revision_calculus.specs.State.{Local}
 use Rattle.revision_calculus.specs.Calculus.{main, calculus}
-use Rattle.revision_calculus.specs.Report.{Report}
 use Rattle.revision_calculus.specs.Complete.{start_of, Always, report_of, Reports, state_at, Tells}
 use Rattle.revision_calculus.proofs.Meets.{counts}
 use Rattle.revision_calculus.proofs.Played.{told, latest, Told, complete_of}
@@ -28,7 +28,7 @@ always {X} s fuel f rs x e = record { by = rs; end = one.end; complete = one.com
 abbrev pub run_latest : ℕ → Setting → ℕ → List Path
 run_latest n s fuel = latest (calculus s) n (main s fuel)
 
-pub reports : (s : Setting) (fuel : ℕ) (asked : Bool) (rs : List Path) (r : Report) → told (calculus s) (report_of s asked) (main s fuel) rs ≡ Some r → Reports s fuel asked r
+pub reports : (s : Setting) (fuel : ℕ) (asked : Bool) (rs : List Path) (r : Output) → told (calculus s) (report_of s asked) (main s fuel) rs ≡ Some r → Reports s fuel asked r
 reports s fuel asked rs r e = always s fuel (report_of s asked) rs r e
 
 pub always_tells : {X : Type 0} (s : Setting) (fuel : ℕ) (r : Path) (f : Local → X) (rs : List Path) (x : X) → told (calculus s) (λ g. option_map f (state_at r g)) (main s fuel) rs ≡ Some x → Tells s fuel r f x

@@ -6,11 +6,11 @@ use Rattle.std.proofs.lemmas.Bool.{leb-false}
 use Rattle.rev_num.specs.declared.value.Value.{Value}
 use Rattle.rev_num.specs.declared.value.ValueKind.{ValueKind}
 use Rattle.rev_num.specs.declared.value.ValueKind.TheVariants as k
-use Rattle.rev_syntax.specs.Trees.{Word, Binder, Term, Entry, fun, merge, shared, proc, Whole}
-use Rattle.rev_syntax.specs.Small.{word_formed, term_formed, term_small, binder_formed, entry_small}
+use Rattle.rev_syntax.specs.Trees.{PlacedName, Parameter, Expression, Declaration, fun, merge, shared, proc, ProgramTree}
+use Rattle.rev_syntax.specs.Small.{name_formed, expression_formed, expression_small, parameter_formed, declaration_small}
 use Rattle.merge_decl.specs.Names.{Name, same}
 use Rattle.merge_decl.specs.Table.{find, added}
-use Rattle.merge_decl.specs.FunRules.{Use, count, term_uses, steps_uses, later_here, broken_by, broken_in, entry_uses, entries_uses, uses_in, first_fun, head}
+use Rattle.merge_decl.specs.FunRules.{Use, count, expression_uses, statements_uses, later_here, broken_by, broken_in, declaration_uses, declarations_uses, uses_in, first_fun, head}
 use Rattle.merge_decl.specs.FunRules as rule
 use Rattle.merge_decl.specs.declared.expand.FunHead.{FunHead}
 use Rattle.merge_decl.specs.Value.{Fun, Funs, FunDef, bind, bind_all, nothing, inside, fun_value, earlier_of, funs_of}
@@ -20,8 +20,8 @@ use Rattle.merge_decl.proofs.Tables.{same_equal, or_else, or_else-none, or_else-
 use Rattle.rev_kinds.specs.Kinds.{Callee, Names, Locals}
 use Rattle.rev_kinds.specs.Typing.{HasKind}
 use Rattle.rev_kinds.proofs.Lists.{parts, failed, and_parts, added_unknown}
-use Rattle.rev_types.specs.Program.{fun_named, outside, within, with_params, merge_locals}
-use Rattle.rev_types.specs.Judgement.{ParamsNew, EntriesTyped, ProgramTyped}
+use Rattle.rev_types.specs.Scopes.{fun_named, outside, within, with_params, merge_locals}
+use Rattle.rev_types.specs.Judgement.{ParamsNew, DeclarationsTyped, ProgramTyped}
 use Rattle.rev_types.proofs.Applying.{broken_parts, small_formed}
 use Rattle.rev_types.proofs.DeclsSound.{program_typed}
 use Rattle.revision_calculus.specs.Kinded.{IsAccepted, IsOf, IsSomeOf}
@@ -42,7 +42,7 @@ bind_is w t x scope local new is known name u h = by (same name w) refl (sym (fi
         is ∙ cc
     by false e q = known name u (sym (or_else-none (find name scope)) ∙ q)
 
-params_are : (c : Names) (ps : List Binder) (xs : List Value) (scope : Locals) (local : Name → Option Value) → ParamsNew c scope ps → ArgsAre ps xs
+params_are : (c : Names) (ps : List Parameter) (xs : List Value) (scope : Locals) (local : Name → Option Value) → ParamsNew c scope ps → ArgsAre ps xs
     → ((name : Name) (u : ValueKind) → find name scope ≡ Some (Some u) → IsSomeOf u (local name))
     → (name : Name) (u : ValueKind) → find name (with_params scope ps) ≡ Some (Some u) → IsSomeOf u (bind_all local (names_of ps) xs name)
 params_are c [] [] scope local new is known name u h = known name u h
@@ -57,7 +57,7 @@ MergeIs d = (m j r : Value) → IsOf k.Int m → IsOf k.Int j → IsOf k.Int r �
 
 -- where names mean this inside of funs and merges
 module _ (c : Names) (closed : (name : Name) → c.shared name ≡ None) where
-  inside_is : (ps : List Binder) (xs : List Value) → ParamsNew c [] ps → ArgsAre ps xs → EnvIs c (with_params [] ps) (inside (names_of ps) xs)
+  inside_is : (ps : List Parameter) (xs : List Value) → ParamsNew c [] ps → ArgsAre ps xs → EnvIs c (with_params [] ps) (inside (names_of ps) xs)
   inside_is ps xs new is = record {
     local = params_are c ps xs [] nothing new is (λ name u h. cc);
     shared = λ name h none e. absurd (let clash : None ≡ Some h = sym (closed name) ∙ e in cc);
@@ -65,18 +65,18 @@ module _ (c : Names) (closed : (name : Name) → c.shared name ≡ None) where
 
   -- ---- bodies
 
-  fun_is : (fs : Funs) (w : Word) (ps : List Binder) (r : ValueKind) (body : Term) (n : ℕ) → ParamsNew c [] ps → HasKind c (with_params [] ps) body r → IsTrue (term_formed body)
-      → OfUses (CanApply c fs n) (term_uses n body)
+  fun_is : (fs : Funs) (w : PlacedName) (ps : List Parameter) (r : ValueKind) (body : Expression) (n : ℕ) → ParamsNew c [] ps → HasKind c (with_params [] ps) body r → IsTrue (expression_formed body)
+      → OfUses (CanApply c fs n) (expression_uses n body)
       → FunIs (record { params = ps; result = Some r }) (Some (fun_value fs (fun_def w ps body)))
   fun_is fs w ps r body n new has formed us args is t e =
       let same : r ≡ t = (let q : Some r ≡ Some t = e in cc) in
       value_is c (with_params [] ps) fs (inside (names_of ps) args) (inside_is ps args new is) n body t us formed (subst (λ u. HasKind c (with_params [] ps) body u) same has)
 
-  abbrev int_param : Word → Binder
+  abbrev int_param : PlacedName → Parameter
   int_param w = record { name = w; kind_at = 0; kind = k.Int }
 
-  merge_is : (fs : List FunDef) (w m j r : Word) (body : Term) (n : ℕ) → (m.text ≢ j.text) × (m.text ≢ r.text) × (j.text ≢ r.text) → HasKind c (merge_locals m j r) body k.Int → IsTrue (term_formed body)
-      → OfUses (CanApply c (funs_of fs) n) (term_uses n body)
+  merge_is : (fs : List FunDef) (w m j r : PlacedName) (body : Expression) (n : ℕ) → (m.text ≢ j.text) × (m.text ≢ r.text) × (j.text ≢ r.text) → HasKind c (merge_locals m j r) body k.Int → IsTrue (expression_formed body)
+      → OfUses (CanApply c (funs_of fs) n) (expression_uses n body)
       → MergeIs (merge_def fs w m j r body)
   merge_is fs w m j r body n differ has formed us x y z kx ky kz =
       let ps = int_param m ∷ int_param j ∷ int_param r ∷ [] in
@@ -118,7 +118,7 @@ fits_more (Some y) None d f g is more = absurd is
 fits_more (Some y) (Some h) d f g is more = is
 
 -- the number of a declaration is none of those before
-first_from : (d n : ℕ) (es : List Entry) (name : Name) (h : FunHead) → first_fun d n es name ≡ Some h → d ≤ h.decl
+first_from : (d n : ℕ) (es : List Declaration) (name : Name) (h : FunHead) → first_fun d n es name ≡ Some h → d ≤ h.decl
 first_from d n [] name h e = absurd cc
 first_from d n (fun w ps r body ∷ es) name h e = by (same name w.text) (first_from (d + 1) (n + 1) es name h) e
   where
@@ -133,17 +133,17 @@ abbrev AreMerges : List MergeDef → Type 0
 AreMerges [] = Unit {0}
 AreMerges (d ∷ ds) = MergeIs d × AreMerges ds
 
-module _ (p : Whole) where
+module _ (p : ProgramTree) where
   abbrev inner : Names
-  inner = within p.entries
+  inner = within p.declarations
 
   -- the funs before these declarations: what they take, and what they give
-  record Sofar (fs : List FunDef) (known : Name → Option Callee) (d n : ℕ) (rest : List Entry) : Type 0 where
+  record Sofar (fs : List FunDef) (known : Name → Option Callee) (d n : ℕ) (rest : List Declaration) : Type 0 where
     fits : (name : Name) → Fits (known name) (funs_of fs name)
-    all : (name : Name) → fun_named p.entries name ≡ or_else (known name) (fun_named rest name)
+    all : (name : Name) → fun_named p.declarations name ≡ or_else (known name) (fun_named rest name)
     heads : (name : Name) (h : FunHead) → rule.fun_named p name ≡ Some h → ((f : Callee) × (known name ≡ Some f)) ⊎ (first_fun d n rest name ≡ Some h)
 
-  can_use : (fs : List FunDef) (known : Name → Option Callee) (d n : ℕ) (rest : List Entry) → Sofar fs known d n rest → (x : Use) → broken_by x (rule.fun_named p x.name.text) ≡ [] → CanApply inner (funs_of fs) d x
+  can_use : (fs : List FunDef) (known : Name → Option Callee) (d n : ℕ) (rest : List Declaration) → Sofar fs known d n rest → (x : Use) → broken_by x (rule.fun_named p x.name.text) ≡ [] → CanApply inner (funs_of fs) d x
   can_use fs known d n rest sofar x fine within f means = by (rule.fun_named p x.name.text) refl fine
     where
       before : (h : FunHead) → nat_le x.within h.decl ≡ false → ((g : Callee) × (known x.name.text ≡ Some g)) ⊎ (first_fun d n rest x.name.text ≡ Some h) → FunIs f (funs_of fs x.name.text)
@@ -159,13 +159,13 @@ module _ (p : Whole) where
       by None e q = absurd cc
       by (Some h) e q = before h (failed (nat_le x.within h.decl) _ (parts (later_here x h) _ q).0) (sofar.heads x.name.text h e)
 
-  can_apply : (fs : List FunDef) (known : Name → Option Callee) (d n : ℕ) (rest : List Entry) → Sofar fs known d n rest → (xs : List Use) → broken_in (rule.fun_named p) xs ≡ [] → OfUses (CanApply inner (funs_of fs) d) xs
+  can_apply : (fs : List FunDef) (known : Name → Option Callee) (d n : ℕ) (rest : List Declaration) → Sofar fs known d n rest → (xs : List Use) → broken_in (rule.fun_named p) xs ≡ [] → OfUses (CanApply inner (funs_of fs) d) xs
   can_apply fs known d n rest sofar [] fine = tt
   can_apply fs known d n rest sofar (x ∷ xs) fine =
       let both = parts (broken_by x (rule.fun_named p x.name.text)) (broken_in (rule.fun_named p) xs) fine in
       (can_use fs known d n rest sofar x both.0, can_apply fs known d n rest sofar xs both.1)
 
-  one_more : (fs : List FunDef) (known : Name → Option Callee) (d n : ℕ) (w : Word) (ps : List Binder) (r : ValueKind) (body : Term) (es : List Entry) → Sofar fs known d n (fun w ps r body ∷ es)
+  one_more : (fs : List FunDef) (known : Name → Option Callee) (d n : ℕ) (w : PlacedName) (ps : List Parameter) (r : ValueKind) (body : Expression) (es : List Declaration) → Sofar fs known d n (fun w ps r body ∷ es)
       → FunIs (record { params = ps; result = Some r }) (Some (fun_value (funs_of fs) (fun_def w ps body)))
       → Sofar (fun_def w ps body ∷ fs) (λ name. or_else (known name) (if same name w.text then Some (record { params = ps; result = Some r }) else None)) (d + 1) (n + 1) es
   one_more fs known d n w ps r body es sofar is = record { fits = fits; all = all; heads = λ name h e. heads name h (sofar.heads name h e) }
@@ -179,7 +179,7 @@ module _ (p : Whole) where
       fits : (name : Name) → Fits (or_else (known name) (if same name w.text then Some f else None)) (funs_of (fun_def w ps body ∷ fs) name)
       fits name = fits_more (known name) (funs_of fs name) (same name w.text) f (fun_value (funs_of fs) (fun_def w ps body)) (sofar.fits name) is
 
-      all : (name : Name) → fun_named p.entries name ≡ or_else (or_else (known name) (if same name w.text then Some f else None)) (fun_named es name)
+      all : (name : Name) → fun_named p.declarations name ≡ or_else (or_else (known name) (if same name w.text then Some f else None)) (fun_named es name)
       all name = sofar.all name ∙ sym (or_else-step (known name) (same name w.text) f (fun_named es name))
 
       found : (o : Option Callee) → (g : Callee) × (or_else o (Some f) ≡ Some g)
@@ -198,34 +198,34 @@ module _ (p : Whole) where
 
   -- all funs can be applied, and all merges give ints
   record Declared (fs : List FunDef) (ds : List MergeDef) : Type 0 where
-    funs : (name : Name) → Fits (fun_named p.entries name) (funs_of fs name)
+    funs : (name : Name) → Fits (fun_named p.declarations name) (funs_of fs name)
     merges : AreMerges ds
 
-  declared : (fs : List FunDef) (known : Name → Option Callee) (d n all : ℕ) (before rest : List Entry) → Sofar fs known d n rest → EntriesTyped (outside p.entries) inner before rest
-      → broken_in (rule.fun_named p) (entries_uses all d rest) ≡ [] → IsTrue (list_all entry_small rest) → Declared (funs_after fs rest) (merges_after fs rest)
+  declared : (fs : List FunDef) (known : Name → Option Callee) (d n all : ℕ) (before rest : List Declaration) → Sofar fs known d n rest → DeclarationsTyped (outside p.declarations) inner before rest
+      → broken_in (rule.fun_named p) (declarations_uses all d rest) ≡ [] → IsTrue (list_all declaration_small rest) → Declared (funs_after fs rest) (merges_after fs rest)
   declared fs known d n all before [] sofar typed fine small = record {
     funs = λ name. subst (λ o. Fits o (funs_of fs name)) (sym (sofar.all name ∙ or_else-none (known name))) (sofar.fits name);
     merges = tt;
   }
   declared fs known d n all before (fun w ps r body ∷ es) sofar typed fine small =
-      let uses = broken_parts (rule.fun_named p) (term_uses d body) (entries_uses all (d + 1) es) fine in
-      let smalls = and_parts (entry_small (fun w ps r body)) (list_all entry_small es) small in
-      let formed = and_parts (word_formed w && list_all binder_formed ps) (term_small body) smalls.0 in
-      let is = fun_is inner (λ name. refl) (funs_of fs) w ps r body d typed.0.params typed.0.body (small_formed body formed.1) (can_apply fs known d n (fun w ps r body ∷ es) sofar (term_uses d body) uses.0) in
+      let uses = broken_parts (rule.fun_named p) (expression_uses d body) (declarations_uses all (d + 1) es) fine in
+      let smalls = and_parts (declaration_small (fun w ps r body)) (list_all declaration_small es) small in
+      let formed = and_parts (name_formed w && list_all parameter_formed ps) (expression_small body) smalls.0 in
+      let is = fun_is inner (λ name. refl) (funs_of fs) w ps r body d typed.0.params typed.0.body (small_formed body formed.1) (can_apply fs known d n (fun w ps r body ∷ es) sofar (expression_uses d body) uses.0) in
       declared (fun_def w ps body ∷ fs) _ (d + 1) (n + 1) all (fun w ps r body ∷ before) es (one_more fs known d n w ps r body es sofar is) typed.1 uses.1 smalls.1
   declared fs known d n all before (merge w m j r body ∷ es) sofar typed fine small =
-      let uses = broken_parts (rule.fun_named p) (term_uses d body) (entries_uses all (d + 1) es) fine in
-      let smalls = and_parts (entry_small (merge w m j r body)) (list_all entry_small es) small in
-      let formed = and_parts (word_formed w && word_formed m && word_formed j && word_formed r) (term_small body) smalls.0 in
-      let is = merge_is inner (λ name. refl) fs w m j r body d typed.0.params typed.0.body (small_formed body formed.1) (can_apply fs known d n (merge w m j r body ∷ es) sofar (term_uses d body) uses.0) in
+      let uses = broken_parts (rule.fun_named p) (expression_uses d body) (declarations_uses all (d + 1) es) fine in
+      let smalls = and_parts (declaration_small (merge w m j r body)) (list_all declaration_small es) small in
+      let formed = and_parts (name_formed w && name_formed m && name_formed j && name_formed r) (expression_small body) smalls.0 in
+      let is = merge_is inner (λ name. refl) fs w m j r body d typed.0.params typed.0.body (small_formed body formed.1) (can_apply fs known d n (merge w m j r body ∷ es) sofar (expression_uses d body) uses.0) in
       let later = declared fs known (d + 1) n all (merge w m j r body ∷ before) es (record { fits = sofar.fits; all = sofar.all; heads = sofar.heads }) typed.1 uses.1 smalls.1 in
       record { funs = later.funs; merges = (is, later.merges) }
   declared fs known d n all before (shared x ∷ es) sofar typed fine small =
-      let smalls = and_parts (entry_small (shared x)) (list_all entry_small es) small in
+      let smalls = and_parts (declaration_small (shared x)) (list_all declaration_small es) small in
       declared fs known (d + 1) n all (shared x ∷ before) es (record { fits = sofar.fits; all = sofar.all; heads = sofar.heads }) typed.1 fine smalls.1
   declared fs known d n all before (proc w ps r body ∷ es) sofar typed fine small =
-      let uses = broken_parts (rule.fun_named p) (steps_uses all body) (entries_uses all (d + 1) es) fine in
-      let smalls = and_parts (entry_small (proc w ps r body)) (list_all entry_small es) small in
+      let uses = broken_parts (rule.fun_named p) (statements_uses all body) (declarations_uses all (d + 1) es) fine in
+      let smalls = and_parts (declaration_small (proc w ps r body)) (list_all declaration_small es) small in
       declared fs known (d + 1) n all (proc w ps r body ∷ before) es (record { fits = sofar.fits; all = sofar.all; heads = sofar.heads }) typed.1 uses.1 smalls.1
 
 merge_at : (ds : List MergeDef) (n : ℕ) (m j r : Value) → AreMerges ds → IsOf k.Int m → IsOf k.Int j → IsOf k.Int r → OfOk (IsOf k.Int) (definition.merged_by (slice_get ds n) m j r)
@@ -233,17 +233,17 @@ merge_at [] n m j r are km kj kr = refl
 merge_at (d ∷ ds) zero m j r are km kj kr = are.0 m j r km kj kr
 merge_at (d ∷ ds) (suc n) m j r are km kj kr = merge_at ds n m j r are.1 km kj kr
 
-module _ (p : Whole) (well : IsAccepted p) where
+module _ (p : ProgramTree) (well : IsAccepted p) where
   pub rules_kept : ProgramTyped p
   rules_kept = program_typed p well.small well.funs well.rules
 
   program_declared : Declared p (funs_in p) (merges_in p)
   program_declared =
-      let uses = broken_parts (rule.fun_named p) (entries_uses (length p.entries) 0 p.entries) (steps_uses (length p.entries) p.main) well.funs in
-      declared p [] (λ name. None) 0 0 (length p.entries) [] p.entries (record { fits = λ name. tt; all = λ name. refl; heads = λ name h e. inr e }) rules_kept.entries uses.0 well.small.entries
+      let uses = broken_parts (rule.fun_named p) (declarations_uses (length p.declarations) 0 p.declarations) (statements_uses (length p.declarations) p.main) well.funs in
+      declared p [] (λ name. None) 0 0 (length p.declarations) [] p.declarations (record { fits = λ name. tt; all = λ name. refl; heads = λ name h e. inr e }) rules_kept.declarations uses.0 well.small.declarations
 
   -- an expression outside of funs and merges may apply every fun
-  pub funs_apply : (n : ℕ) (xs : List Use) → OfUses (CanApply (outside p.entries) (funs_of (funs_in p)) n) xs
+  pub funs_apply : (n : ℕ) (xs : List Use) → OfUses (CanApply (outside p.declarations) (funs_of (funs_in p)) n) xs
   funs_apply n xs = uses_all _ (λ x within f means. fits_fun f _ (funs_of (funs_in p) x.name.text) (program_declared.funs x.name.text) means) xs
 
   -- a merge gives an int for three ints

@@ -3,33 +3,34 @@ use Rattle.std.proofs.Common.{◌≡◌, ◌⊎◌, inl, inr, ℕ, zero, suc, �
 use Rattle.rev_num.specs.Path.{Path}
 use Rattle.rev_num.specs.declared.value.Value.{Value}
 use Rattle.rev_num.specs.declared.value.Value.TheVariants as v
-use Rattle.rev_syntax.specs.Trees.{Term, Terms}
+use Rattle.rev_syntax.specs.Trees.{Expression, Expressions}
 use Rattle.merge_decl.specs.Names.{Name, same}
 use Rattle.merge_decl.specs.Table.{Table, find}
 use Rattle.merge_decl.specs.Value.{scalar, array}
 use Rattle.merge_decl.specs.Definitions.{funs_in}
-use Rattle.revision_calculus.specs.Program.{SharedVariable, variables, variable_named, Setting}
-use Rattle.revision_calculus.specs.State.{Slot, seen, seen_at, write_at, fresh, Frame, Local}
+use Rattle.rev_types.specs.Layout.{SharedVariable, variables}
+use Rattle.revision_calculus.specs.Program.{variable_named, Setting}
+use Rattle.revision_calculus.specs.State.{Location, view, view_at, write_at, fresh, Frame, Local}
 use Rattle.revision_calculus.specs.Evaluation.{top_locals, read_shared, env, eval, evals, with_local}
 use Rattle.revision_calculus.specs.Step.{locals_of}
-use Rattle.revision_calculus.specs.Held.{IsHandle, SlotsHold, LocalsHold, FramesHold, Holds, in_slots, in_frames}
+use Rattle.revision_calculus.specs.Held.{IsHandle, LocationsHold, LocalsHold, FramesHold, Holds, in_locations, in_frames}
 use Rattle.revision_calculus.proofs.Values.{OfOk, OfOthers, OfEach, OfEnv, OfShared, OfLocal, value_ok, values_ok, funs_ok}
 
--- ---- slots
+-- ---- locations
 
-pub seen_held : (m : Slot) (ms : List Slot) (q : Path) → IsHandle (seen m) q → SlotsHold (m ∷ ms) q
+pub seen_held : (m : Location) (ms : List Location) (q : Path) → IsHandle (view m) q → LocationsHold (m ∷ ms) q
 seen_held m ms q e = go m.written refl e
   where
-    go : (w : Option Value) → m.written ≡ w → elim w [ None ↦ m.base | Some x ↦ x ] ≡ v.Rev (Some q) → SlotsHold (m ∷ ms) q
+    go : (w : Option Value) → m.written ≡ w → elim w [ None ↦ m.base | Some x ↦ x ] ≡ v.Rev (Some q) → LocationsHold (m ∷ ms) q
     go None f e = inl (inl e)
     go (Some x) f e = inl (inr (f ∙ ap Some e))
 
-pub seen_at_held : (ms : List Slot) (n : ℕ) (q : Path) → IsHandle (seen_at ms n) q → SlotsHold ms q
+pub seen_at_held : (ms : List Location) (n : ℕ) (q : Path) → IsHandle (view_at ms n) q → LocationsHold ms q
 seen_at_held [] n q e = absurd cc
 seen_at_held (m ∷ ms) zero q e = seen_held m ms q e
 seen_at_held (m ∷ ms) (suc n) q e = inr (seen_at_held ms n q e)
 
-pub write_held : (ms : List Slot) (n : ℕ) (x : Value) (q : Path) → SlotsHold (write_at ms n x) q → SlotsHold ms q ⊎ IsHandle x q
+pub write_held : (ms : List Location) (n : ℕ) (x : Value) (q : Path) → LocationsHold (write_at ms n x) q → LocationsHold ms q ⊎ IsHandle x q
 write_held [] n x q none = absurd none
 write_held (m ∷ ms) zero x q (inl (inl e)) = inl (inl (inl e))
 write_held (m ∷ ms) zero x q (inl (inr e)) = inr cc
@@ -37,11 +38,11 @@ write_held (m ∷ ms) zero x q (inr h) = inl (inr h)
 write_held (m ∷ ms) (suc n) x q (inl h) = inl (inl h)
 write_held (m ∷ ms) (suc n) x q (inr h) = go (write_held ms n x q h)
   where
-    go : SlotsHold ms q ⊎ IsHandle x q → SlotsHold (m ∷ ms) q ⊎ IsHandle x q
+    go : LocationsHold ms q ⊎ IsHandle x q → LocationsHold (m ∷ ms) q ⊎ IsHandle x q
     go (inl i) = inl (inr i)
     go (inr e) = inr e
 
-pub fresh_held : (ms : List Slot) (q : Path) → SlotsHold (fresh (map seen ms)) q → SlotsHold ms q
+pub fresh_held : (ms : List Location) (q : Path) → LocationsHold (fresh (map view ms)) q → LocationsHold ms q
 fresh_held [] q none = none
 fresh_held (m ∷ ms) q (inl (inl e)) = seen_held m ms q e
 fresh_held (m ∷ ms) q (inl (inr e)) = absurd cc
@@ -99,20 +100,20 @@ module _ (s : Setting) (l : Local) where
       go None e = tt
       go (Some x) e = λ q f. in_frames (top_held l.frames q (find_held (top_locals l.frames) name q (e ∙ ap Some f)))
 
-  shared_ok : (o : Option SharedVariable) → OfShared (Held l) (not_held l) (read_shared o l.slots)
+  shared_ok : (o : Option SharedVariable) → OfShared (Held l) (not_held l) (read_shared o l.locations)
   shared_ok None = tt
-  shared_ok (Some x) = go x.is_array
+  shared_ok (Some x) = go x.info.array
     where
-      go : (b : Bool) → OfShared (Held l) (not_held l) (cond b (array x.cells (λ i. seen_at l.slots (x.base + i))) (scalar (seen_at l.slots x.base)))
-      go true = λ i q e. in_slots (seen_at_held l.slots (x.base + i) q e)
-      go false = λ q e. in_slots (seen_at_held l.slots x.base q e)
+      go : (b : Bool) → OfShared (Held l) (not_held l) (cond b (array x.info.cells (λ i. view_at l.locations (x.info.base + i))) (scalar (view_at l.locations x.info.base)))
+      go true = λ i q e. in_locations (seen_at_held l.locations (x.info.base + i) q e)
+      go false = λ q e. in_locations (seen_at_held l.locations x.info.base q e)
 
   env_ok : OfEnv (Held l) (not_held l) (env s l)
   env_ok = record { local = local_ok; shared = λ name. shared_ok (variable_named (variables s.program) name) }
 
   -- a handle that is an expression's value is held
-  pub eval_held : (e : Term) → OfOk (Held l) (eval s l e)
+  pub eval_held : (e : Expression) → OfOk (Held l) (eval s l e)
   eval_held e = value_ok (Held l) (not_held l) _ (env s l) (funs_ok (Held l) (not_held l) (funs_in s.program)) env_ok e
 
-  pub evals_held : (es : Terms) → OfOk (OfEach (Held l) (not_held l)) (evals s l es)
+  pub evals_held : (es : Expressions) → OfOk (OfEach (Held l) (not_held l)) (evals s l es)
   evals_held es = values_ok (Held l) (not_held l) _ (env s l) (funs_ok (Held l) (not_held l) (funs_in s.program)) env_ok es

@@ -7,9 +7,14 @@ pub mod Joining
 pub mod Meets
 pub mod EveryRun
 pub mod Outcomes
+pub mod Tight
+pub mod Causes
+pub mod PlainCauses
+pub mod MergeCauses
 pub mod Shapes
+pub mod Placed
 pub mod ValueKinds
 pub mod FunKinds
-pub mod SlotKinds
+pub mod LocationKinds
 pub mod ScopeKinds
 pub mod StepKinds

@@ -5,17 +5,17 @@ use Rattle.rev_num.specs.declared.value.ValueKind.TheVariants as kind
 use Rattle.rev_num.specs.Path.{Path}
 use Rattle.rev_num.specs.declared.value.Value.{Value}
 use Rattle.rev_num.specs.declared.value.Value.TheVariants as v
-use Rattle.rev_syntax.specs.Trees.{Constant, Entry, fun, merge, shared, proc}
-use Rattle.merge_decl.specs.Definitions.{MergeDef, merges_in}
+use Rattle.rev_syntax.specs.Trees.{Constant, Declaration, fun, merge, shared, proc}
 use Rattle.revision_machine.specs.Machine.{Event, Joins, Ended}
-use Rattle.revision_machine.specs.Conditions.{Counts, Handles, HoldsNone, Spends}
-use Rattle.rev_types.specs.Program.{cells_of}
-use Rattle.revision_calculus.specs.Program.{zero_value, written_value, first_value, variables_from, variables, Setting}
+use Rattle.revision_machine.specs.Conditions.{Counts, Handles, HoldsNone, Spends, PaysForks}
+use Rattle.rev_types.specs.Scopes.{cells_of}
+use Rattle.rev_types.specs.Layout.{variables_behind, variables}
+use Rattle.revision_calculus.specs.Program.{zero_value, constant_value, first_value, Setting}
 use Rattle.revision_calculus.specs.State.{running, joining, fresh, Local}
 use Rattle.revision_calculus.specs.Step.{next}
 use Rattle.revision_calculus.specs.Join.{join}
 use Rattle.revision_calculus.specs.Calculus.{start_values, main, calculus}
-use Rattle.revision_calculus.specs.Held.{IsHandle, SlotsHold, Holds, in_slots, in_frames, in_phase, weight}
+use Rattle.revision_calculus.specs.Held.{IsHandle, LocationsHold, Holds, in_locations, in_frames, in_phase, weight}
 use Rattle.revision_calculus.proofs.Moves.{Moved}
 use Rattle.revision_calculus.proofs.Events.{ForkOk, WantOk, EventOk, event_ok, joins_phase, ended_phase}
 use Rattle.revision_calculus.proofs.Joining.{JoinOk, join_ok, join_forks}
@@ -63,6 +63,14 @@ module _ (s : Setting) where
     joins = λ r q l j e f. let h : JoinOk l j (join s r l q j) = joins_ok r q l j e f in let k = h.fuel in let n = h.forks in omega arith;
   }
 
+  -- a fork is paid with fuel, whatever the count of forks
+  pub pays_forks : PaysForks (calculus s) (λ l. l.fuel)
+  pays_forks = record {
+    moves = λ r l l' e. let h : Moved l l' = event r l e in h.fuel;
+    forks = λ r l l' c e. let h : ForkOk r l l' c = event r l e in h.fuel;
+    joins = λ r q l j e f. let h : JoinOk l j (join s r l q j) = joins_ok r q l j e f in h.fuel;
+  }
+
   pub spends_weight : Spends (calculus s) 1 weight
   spends_weight = record {
     moves = λ r l l' e. let h : Moved l l' = event r l e in h.weight;
@@ -86,7 +94,7 @@ replicate_none : (n : ℕ) (x : Value) → ((q : Path) → IsHandle x q → ⊥)
 replicate_none zero x no_handle = tt
 replicate_none (suc n) x no_handle = (no_handle, replicate_none n x no_handle)
 
-written_none : (x : Value) (q : Path) → IsHandle (written_value x) q → ⊥
+written_none : (x : Value) (q : Path) → IsHandle (constant_value x) q → ⊥
 written_none (v.Int n) q e = cc
 written_none (v.Bool b) q e = cc
 written_none (v.Rev h) q e = cc
@@ -100,26 +108,26 @@ first_none : (k : ValueKind) (c : Option Constant) (q : Path) → IsHandle (firs
 first_none k None q e = zero_none k q e
 first_none k (Some c) q e = written_none c.value q e
 
-start_none : (ms : List MergeDef) (base : ℕ) (es : List Entry) → NoHandle (start_values (variables_from ms base es))
-start_none ms base [] = tt
-start_none ms base (fun name params result body ∷ es) = start_none ms base es
-start_none ms base (merge name m j r body ∷ es) = start_none ms base es
-start_none ms base (proc name params result body ∷ es) = start_none ms base es
-start_none ms base (shared x ∷ es) =
-    both_none (replicate (cells_of x.size) (first_value x.holds x.first)) (start_values (variables_from ms (base + cells_of x.size) es))
-    (replicate_none (cells_of x.size) (first_value x.holds x.first) (first_none x.holds x.first)) (start_none ms (base + cells_of x.size) es)
+start_none : (before es : List Declaration) → NoHandle (start_values (variables_behind before es))
+start_none before [] = tt
+start_none before (fun name params result body ∷ es) = start_none (before ++ fun name params result body ∷ []) es
+start_none before (merge name m j r body ∷ es) = start_none (before ++ merge name m j r body ∷ []) es
+start_none before (proc name params result body ∷ es) = start_none (before ++ proc name params result body ∷ []) es
+start_none before (shared x ∷ es) =
+    both_none (replicate (cells_of x.size) (first_value x.holds x.first)) (start_values (variables_behind (before ++ shared x ∷ []) es))
+    (replicate_none (cells_of x.size) (first_value x.holds x.first) (first_none x.holds x.first)) (start_none (before ++ shared x ∷ []) es)
 
-fresh_none : (xs : List Value) (q : Path) → NoHandle xs → SlotsHold (fresh xs) q → ⊥
+fresh_none : (xs : List Value) (q : Path) → NoHandle xs → LocationsHold (fresh xs) q → ⊥
 fresh_none [] q p none = none
 fresh_none (x ∷ xs) q p (inl (inl e)) = p.0 q e
 fresh_none (x ∷ xs) q p (inl (inr e)) = cc
 fresh_none (x ∷ xs) q p (inr h) = fresh_none xs q p.1 h
 
 pub main_holds_none : (s : Setting) (fuel : ℕ) → HoldsNone (calculus s) Holds (main s fuel)
-main_holds_none s fuel q (in_slots h) = fresh_none (start_values (variables s.program)) q (start_none (merges_in s.program) 0 s.program.entries) h
+main_holds_none s fuel q (in_locations h) = fresh_none (start_values (variables s.program)) q (start_none [] s.program.declarations) h
 main_holds_none s fuel q (in_frames (inl none)) = none
 main_holds_none s fuel q (in_frames (inr none)) = none
 main_holds_none s fuel q (in_phase left e) = let clash : running ≡ joining q left = e in cc
 
-pub main_weight : (s : Setting) (fuel : ℕ) → weight (main s fuel) ≡ 3 * fuel + 2
+pub main_weight : (s : Setting) (fuel : ℕ) → weight (main s fuel) ≡ 2 * fuel + 1
 main_weight s fuel = omega arith

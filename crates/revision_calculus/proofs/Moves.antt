@@ -3,26 +3,27 @@ use Rattle.std.proofs.Common.{◌≡◌, ◌⊎◌, inl, inr, ℕ, suc, ◌+◌,
 use Rattle.rev_num.specs.Path.{Path, child}
 use Rattle.rev_num.specs.declared.value.Value.{Value}
 use Rattle.rev_num.specs.declared.outcome.Trap.{Trap}
-use Rattle.rev_syntax.specs.Trees.{Steps}
+use Rattle.rev_syntax.specs.Trees.{Statements}
 use Rattle.revision_machine.specs.Machine.{Event, Moves, Forks, Joins, Ended}
 use Rattle.merge_decl.specs.Names.{Name}
-use Rattle.revision_calculus.specs.Program.{SharedVariable, variables, variable_named, Procedure, Setting}
+use Rattle.rev_types.specs.Layout.{SharedVariable, variables, Procedure}
+use Rattle.revision_calculus.specs.Program.{variable_named, Setting}
 use Rattle.revision_calculus.specs.State.{write_at, Frame, Phase, running, joining, done, trapped, Local}
 use Rattle.revision_calculus.specs.Evaluation.{on_top, set_local, set_named, set, give}
-use Rattle.revision_calculus.specs.Step.{enter, followed, frame_of, finished, returned}
-use Rattle.revision_calculus.specs.Held.{IsHandle, SlotsHold, LocalsHold, FramesHold, Holds, in_slots, in_frames, in_phase, beyond_first, weight_at, weight}
+use Rattle.revision_calculus.specs.Step.{enter, append, frame_of, finish, end_frame}
+use Rattle.revision_calculus.specs.Held.{IsHandle, LocationsHold, LocalsHold, FramesHold, Holds, in_locations, in_frames, in_phase, beyond_first, weight_at, weight}
 use Rattle.revision_calculus.proofs.Values.{OfEach}
 use Rattle.revision_calculus.proofs.Handles.{write_held, with_local_held, Held, not_held, locals_of_held}
 
 -- ---- weights
 
 pub weight_same : (p : Phase) (fs gs : List Frame) (f : ℕ) → beyond_first fs ≡ beyond_first gs → weight_at p fs f ≡ weight_at p gs f
-weight_same running fs gs f e = ap (λ n. 3 * f + 2 + n) e
-weight_same (joining q left) fs gs f e = ap (λ n. 3 * f + 2 + n) e
+weight_same running fs gs f e = ap (λ n. 2 * f + 1 + n) e
+weight_same (joining q left) fs gs f e = ap (λ n. 2 * f + 2 + n) e
 weight_same done fs gs f e = refl
 weight_same (trapped t) fs gs f e = refl
 
-pub weight_running : (l : Local) → l.phase ≡ running → weight l ≡ 3 * l.fuel + 2 + beyond_first l.frames
+pub weight_running : (l : Local) → l.phase ≡ running → weight l ≡ 2 * l.fuel + 1 + beyond_first l.frames
 weight_running l run = ap (λ p. weight_at p l.frames l.fuel) run
 
 -- ---- a step of its own
@@ -50,7 +51,7 @@ pub record Split (r : Path) (l l' c : Local) : Type 0 where
   pub held : (q : Path) → Holds l' q → Holds l q ⊎ (q ≡ child r l.forks)
   pub given : (q : Path) → Holds c q → Holds l q
   pub fuel : l'.fuel + c.fuel ≤ l.fuel
-  pub weight : weight l' + weight c ≤ weight l + 2
+  pub weight : weight l' + weight c ≤ weight l + 1
   pub none : c.forks ≡ 0
 
 -- what a paid statement does
@@ -60,9 +61,9 @@ Paid r l (Forks l' c) = Split r l l' c
 Paid r l (Joins q) = ⊥
 Paid r l Ended = ⊥
 
--- the same slots and frames, in a phase without a handle
-pub same_held : (l l' : Local) (q : Path) → l'.slots ≡ l.slots → l'.frames ≡ l.frames → ((left : Option Name) → l'.phase ≡ joining q left → Holds l q) → Holds l' q → Holds l q
-same_held l l' q ms fs from (in_slots h) = in_slots (subst (λ x. SlotsHold x q) ms h)
+-- the same locations and frames, in a phase without a handle
+pub same_held : (l l' : Local) (q : Path) → l'.locations ≡ l.locations → l'.frames ≡ l.frames → ((left : Option Name) → l'.phase ≡ joining q left → Holds l q) → Holds l' q → Holds l q
+same_held l l' q ms fs from (in_locations h) = in_locations (subst (λ x. LocationsHold x q) ms h)
 same_held l l' q ms fs from (in_frames h) = in_frames (subst (λ x. FramesHold x q) fs h)
 same_held l l' q ms fs from (in_phase left e) = from left e
 
@@ -89,15 +90,15 @@ pub assigned_weight : {l l' : Local} {x : Value} → Assigned l l' x → weight 
 assigned_weight {l} {l'} a =
     ap (λ p. weight_at p l'.frames l'.fuel) a.phase ∙ ap (λ f. weight_at l.phase l'.frames f) a.fuel ∙ weight_same l.phase l'.frames l.frames l.fuel a.beyond
 
-pub slot_assigned : (l : Local) (n : ℕ) (x : Value) → Assigned l (record l { slots = write_at l.slots n x }) x
-slot_assigned l n x = record { forks = refl; fuel = refl; phase = refl; beyond = refl; held = held }
+pub location_assigned : (l : Local) (n : ℕ) (x : Value) → Assigned l (record l { locations = write_at l.locations n x }) x
+location_assigned l n x = record { forks = refl; fuel = refl; phase = refl; beyond = refl; held = held }
   where
-    by : (q : Path) → SlotsHold l.slots q ⊎ IsHandle x q → Holds l q ⊎ IsHandle x q
-    by q (inl i) = inl (in_slots i)
+    by : (q : Path) → LocationsHold l.locations q ⊎ IsHandle x q → Holds l q ⊎ IsHandle x q
+    by q (inl i) = inl (in_locations i)
     by q (inr i) = inr i
 
-    held : (q : Path) → Holds (record l { slots = write_at l.slots n x }) q → Holds l q ⊎ IsHandle x q
-    held q (in_slots h) = by q (write_held l.slots n x q h)
+    held : (q : Path) → Holds (record l { locations = write_at l.locations n x }) q → Holds l q ⊎ IsHandle x q
+    held q (in_locations h) = by q (write_held l.locations n x q h)
     held q (in_frames h) = inl (in_frames h)
     held q (in_phase left e) = inl (in_phase left e)
 
@@ -122,7 +123,7 @@ local_assigned l name x = record { forks = refl; fuel = refl; phase = refl; beyo
     by q (inr i) = inr i
 
     held : (q : Path) → Holds (record l { frames = on_top (λ f. set_local f name x) l.frames }) q → Holds l q ⊎ IsHandle x q
-    held q (in_slots h) = inl (in_slots h)
+    held q (in_locations h) = inl (in_locations h)
     held q (in_frames h) = by q (top_assigned l.frames name x q h)
     held q (in_phase left e) = inl (in_phase left e)
 
@@ -130,7 +131,7 @@ pub set_assigned : (s : Setting) (l : Local) (name : Name) (x : Value) → Assig
 set_assigned s l name x = go (variable_named (variables s.program) name)
   where
     go : (o : Option SharedVariable) → Assigned l (set_named o l name x) x
-    go (Some y) = slot_assigned l y.base x
+    go (Some y) = location_assigned l y.info.base x
     go None = local_assigned l name x
 
 pub give_assigned : (s : Setting) (l : Local) (left : Option Name) (x : Value) → Assigned l (give s l left (Some x)) x
@@ -153,22 +154,22 @@ assigned_ok {l} {l'} {x} a k = record { forks = a.forks; held = λ q h. by q (a.
 
 -- ---- frames
 
-pub enter_ok : (block : Steps) (l : Local) → Stepped l (enter block l)
+pub enter_ok : (block : Statements) (l : Local) → Stepped l (enter block l)
 enter_ok block l = record { forks = refl; held = held; fuel = le_refl l.fuel; weight = less }
   where
-    top : (fs : List Frame) (q : Path) → FramesHold (on_top (λ f. record f { rest = followed block f.rest }) fs) q → FramesHold fs q
+    top : (fs : List Frame) (q : Path) → FramesHold (on_top (λ f. record f { rest = append block f.rest }) fs) q → FramesHold fs q
     top [] q none = none
     top (f ∷ fs) q h = h
 
     held : (q : Path) → Holds (enter block l) q → Holds l q
-    held q (in_slots h) = in_slots h
+    held q (in_locations h) = in_locations h
     held q (in_frames h) = in_frames (top l.frames q h)
     held q (in_phase left e) = in_phase left e
 
     less : weight (enter block l) ≤ weight l + 1
     less = let w : weight (enter block l) ≡ weight l = weight_same l.phase (enter block l).frames l.frames l.fuel (beyond_on_top _ l.frames) in omega arith
 
-pub enter_twice : (first second : Steps) (l : Local) → Stepped l (enter first (enter second l))
+pub enter_twice : (first second : Statements) (l : Local) → Stepped l (enter first (enter second l))
 enter_twice first second l =
     let one = enter_ok first (enter second l) in
     let two = enter_ok second l in
@@ -187,33 +188,33 @@ call_ok l p args left run k = record { forks = refl; held = held; fuel = le_refl
     l' = record l { frames = frame_of p args left ∷ l.frames }
 
     held : (q : Path) → Holds l' q → Holds l q
-    held q (in_slots h) = in_slots h
+    held q (in_locations h) = in_locations h
     held q (in_frames (inl h)) = locals_of_held l p.params args q k h
     held q (in_frames (inr h)) = in_frames h
     held q (in_phase left' e) = in_phase left' e
 
     less : (fs : List Frame) → l.frames ≡ fs → weight l' ≤ weight l + 1
     less [] e =
-        let before : weight l ≡ 3 * l.fuel + 2 + 0 = weight_running l run ∙ ap (λ x. 3 * l.fuel + 2 + beyond_first x) e in
-        let after : weight l' ≡ 3 * l.fuel + 2 + 0 = weight_running l' run ∙ ap (λ x. 3 * l.fuel + 2 + length x) e in
+        let before : weight l ≡ 2 * l.fuel + 1 + 0 = weight_running l run ∙ ap (λ x. 2 * l.fuel + 1 + beyond_first x) e in
+        let after : weight l' ≡ 2 * l.fuel + 1 + 0 = weight_running l' run ∙ ap (λ x. 2 * l.fuel + 1 + length x) e in
         omega arith
     less (f ∷ fs) e =
-        let before : weight l ≡ 3 * l.fuel + 2 + length fs = weight_running l run ∙ ap (λ x. 3 * l.fuel + 2 + beyond_first x) e in
-        let after : weight l' ≡ 3 * l.fuel + 2 + suc (length fs) = weight_running l' run ∙ ap (λ x. 3 * l.fuel + 2 + length x) e in
+        let before : weight l ≡ 2 * l.fuel + 1 + length fs = weight_running l run ∙ ap (λ x. 2 * l.fuel + 1 + beyond_first x) e in
+        let after : weight l' ≡ 2 * l.fuel + 1 + suc (length fs) = weight_running l' run ∙ ap (λ x. 2 * l.fuel + 1 + length x) e in
         omega arith
 
-pub finish_ok : (l : Local) → l.phase ≡ running → Moved l (finished l)
+pub finish_ok : (l : Local) → l.phase ≡ running → Moved l (finish l)
 finish_ok l run = record { forks = refl; held = held; fuel = le_refl l.fuel; weight = less }
   where
-    held : (q : Path) → Holds (finished l) q → Holds l q
-    held q (in_slots h) = in_slots h
+    held : (q : Path) → Holds (finish l) q → Holds l q
+    held q (in_locations h) = in_locations h
     held q (in_frames none) = absurd none
     held q (in_phase left e) = absurd (let clash : done ≡ joining q left = e in cc)
 
-    less : weight (finished l) + 1 ≤ weight l
+    less : weight (finish l) + 1 ≤ weight l
     less = let w = weight_running l run in omega arith
 
-pub return_ok : (s : Setting) (l : Local) (fs : List Frame) (x : Option Value) → l.phase ≡ running → l.frames ≡ fs → ((y : Value) → x ≡ Some y → Held l y) → Moved l (returned s l fs x)
+pub return_ok : (s : Setting) (l : Local) (fs : List Frame) (x : Option Value) → l.phase ≡ running → l.frames ≡ fs → ((y : Value) → x ≡ Some y → Held l y) → Moved l (end_frame s l fs x)
 return_ok s l [] x run is from = finish_ok l run
 return_ok s l (f ∷ []) x run is from = finish_ok l run
 return_ok s l (f ∷ g ∷ fs) x run is from = go f.left x from
@@ -222,14 +223,14 @@ return_ok s l (f ∷ g ∷ fs) x run is from = go f.left x from
     l₁ = record l { frames = g ∷ fs }
 
     popped : (q : Path) → Holds l₁ q → Holds l q
-    popped q (in_slots h) = in_slots h
+    popped q (in_locations h) = in_locations h
     popped q (in_frames h) = in_frames (subst (λ v. FramesHold v q) (sym is) (inr h))
     popped q (in_phase left e) = in_phase left e
 
     less : weight l₁ + 1 ≤ weight l
     less =
-        let before : weight l ≡ 3 * l.fuel + 2 + suc (length fs) = weight_running l run ∙ ap (λ v. 3 * l.fuel + 2 + beyond_first v) is in
-        let after : weight l₁ ≡ 3 * l.fuel + 2 + length fs = weight_running l₁ run in
+        let before : weight l ≡ 2 * l.fuel + 1 + suc (length fs) = weight_running l run ∙ ap (λ v. 2 * l.fuel + 1 + beyond_first v) is in
+        let after : weight l₁ ≡ 2 * l.fuel + 1 + length fs = weight_running l₁ run in
         omega arith
 
     without : Moved l l₁

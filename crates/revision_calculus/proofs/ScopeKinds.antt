@@ -1,12 +1,12 @@
 -- The names in scope and the locals: what a `let`, a block, a call and an assignment do to them.
-use Rattle.std.proofs.Common.{◌≡◌, ◌∙◌, ◌≢◌, Bool, true, false, cond, ◌&&◌, IsTrue, List, [], ◌∷◌, Option, Some, None, refl, sym, ap, subst, true≢false}
+use Rattle.std.proofs.Common.{◌≡◌, ◌+◌, ℕ, ◌∙◌, ◌≢◌, Bool, true, false, cond, ◌&&◌, IsTrue, List, [], ◌∷◌, Option, Some, None, refl, sym, ap, subst, true≢false}
 use Rattle.std.specs.Prelude.{if◌then◌else◌}
 use Rattle.std.specs.List.{list_all}
 use Rattle.std.specs.Cmp.Lexicographic.{other_text}
 use Rattle.rev_num.specs.declared.value.Value.{Value}
 use Rattle.rev_num.specs.declared.value.ValueKind.{ValueKind}
-use Rattle.rev_syntax.specs.Trees.{Word, Binder, Step, step, bind, assign, assign_cell, choose, choose_or, repeat, call, return, fork, join, print, assert, Steps, no_steps, steps, Entry, fun, merge, shared, proc}
-use Rattle.rev_syntax.specs.Small.{word_formed, binder_formed, step_small, steps_small, entry_small}
+use Rattle.rev_syntax.specs.Trees.{PlacedName, Parameter, Statement, statement, bind, assign, assign_cell, choose, choose_or, repeat, call, return, fork, join, print, assert, Statements, no_statements, statements, Declaration, fun, merge, shared, proc}
+use Rattle.rev_syntax.specs.Small.{name_formed, parameter_formed, statement_small, statements_small, declaration_small}
 use Rattle.rev_syntax.proofs.Lists.{same-self}
 use Rattle.merge_decl.specs.Names.{Name, same}
 use Rattle.merge_decl.specs.Table.{Table, find, added}
@@ -16,15 +16,17 @@ use Rattle.rev_kinds.specs.declared.names.Holder.{Holder}
 use Rattle.rev_kinds.specs.Kinds.{Callee, Names, Locals}
 use Rattle.rev_kinds.specs.Typing.{ScalarHas}
 use Rattle.rev_kinds.proofs.Lists.{and_parts}
-use Rattle.rev_types.specs.Program.{proc_named, with_params}
-use Rattle.rev_types.specs.Steps.{step_returns, steps_return}
-use Rattle.rev_types.specs.Judgement.{IsNew, ParamsNew, StepTyped, StepsTyped, Returns, EntriesTyped}
-use Rattle.revision_calculus.specs.Program.{Procedure, procedures_of, procedure_named}
+use Rattle.rev_types.specs.Scopes.{proc_named, with_params}
+use Rattle.rev_types.specs.Statements.{statement_returns, statements_return}
+use Rattle.rev_types.specs.Judgement.{IsNew, ParamsNew, StatementTyped, StatementsTyped, Returns, DeclarationsTyped}
+use Rattle.rev_types.specs.Layout.{Procedure, procedures_from}
+use Rattle.revision_calculus.specs.Program.{procedure_named}
 use Rattle.revision_calculus.specs.State.{Frame}
 use Rattle.revision_calculus.specs.Evaluation.{with_local}
-use Rattle.revision_calculus.specs.Step.{followed, locals_of, frame_of}
+use Rattle.revision_calculus.specs.Step.{append, locals_of, frame_of}
 use Rattle.revision_calculus.specs.Kinded.{IsOf, IsSomeOf, LocalsAre, IsWithin, RestTyped, FrameIs, Takes, FramesAre, FramesTrapped}
 use Rattle.revision_calculus.proofs.ValueKinds.{and_both, ArgsAre}
+use Rattle.rev_types.proofs.Returning.{ends_return, returns_end}
 
 -- ---- names
 
@@ -64,68 +66,70 @@ within_path : (l m : Locals) → m ≡ l → IsWithin l m
 within_path l m e = subst (λ n. IsWithin l n) (sym e) (within_self l)
 
 -- a statement forgets no name
-step_within : (c : Names) (result : Option ValueKind) (l : Locals) (x : Step) (l' : Locals) → StepTyped c result l x l' → IsWithin l l'
-step_within c result l (step at line (bind w r)) l' typed = subst (λ n. IsWithin l n) (sym typed.1.2) (within_added l w.text (Some typed.1.0))
-step_within c result l (step at line (assign w r)) l' typed = within_path l l' typed.1
-step_within c result l (step at line (assign_cell w i e)) l' typed = within_path l l' typed.1
-step_within c result l (step at line (choose arms)) l' typed = within_path l l' typed.1
-step_within c result l (step at line (choose_or arms last)) l' typed = within_path l l' typed.1
-step_within c result l (step at line (repeat test body)) l' typed = within_path l l' typed.1
-step_within c result l (step at line (call w args)) l' typed = within_path l l' typed.1
-step_within c result l (step at line (return e)) l' typed = within_path l l' typed.1
-step_within c result l (step at line (fork w args)) l' typed = within_path l l' typed.1
-step_within c result l (step at line (join e)) l' typed = within_path l l' typed.1
-step_within c result l (step at line (print items)) l' typed = within_path l l' typed.1
-step_within c result l (step at line (assert e)) l' typed = within_path l l' typed.1
+step_within : (c : Names) (result : Option ValueKind) (l : Locals) (x : Statement) (l' : Locals) → StatementTyped c result l x l' → IsWithin l l'
+step_within c result l (statement at line (bind w r)) l' typed = subst (λ n. IsWithin l n) (sym typed.1.2) (within_added l w.text (Some typed.1.0))
+step_within c result l (statement at line (assign w r)) l' typed = within_path l l' typed.1
+step_within c result l (statement at line (assign_cell w i e)) l' typed = within_path l l' typed.1
+step_within c result l (statement at line (choose arms)) l' typed = within_path l l' typed.1
+step_within c result l (statement at line (choose_or arms last)) l' typed = within_path l l' typed.1
+step_within c result l (statement at line (repeat test body)) l' typed = within_path l l' typed.1
+step_within c result l (statement at line (call w args)) l' typed = within_path l l' typed.1
+step_within c result l (statement at line (return e)) l' typed = within_path l l' typed.1
+step_within c result l (statement at line (fork w args)) l' typed = within_path l l' typed.1
+step_within c result l (statement at line (join e)) l' typed = within_path l l' typed.1
+step_within c result l (statement at line (print items)) l' typed = within_path l l' typed.1
+step_within c result l (statement at line (assert e)) l' typed = within_path l l' typed.1
 
-rest_wider : (c : Names) (result : Option ValueKind) (l m : Locals) (rest : Steps) → IsWithin l m → RestTyped c result l rest → RestTyped c result m rest
-rest_wider c result l m no_steps inside typed = tt
-rest_wider c result l m (steps x rest) inside typed = (typed.0, typed.1, within_trans typed.0 l m typed.2 inside, typed.3, typed.4)
+rest_wider : (c : Names) (result : Option ValueKind) (l m : Locals) (rest : Statements) → IsWithin l m → RestTyped c result l rest → RestTyped c result m rest
+rest_wider c result l m no_statements inside typed = tt
+rest_wider c result l m (statements x rest) inside typed = (typed.0, typed.1, within_trans typed.0 l m typed.2 inside, typed.3, typed.4)
 
 -- a block before what remains
-pub block_typed : (c : Names) (result : Option ValueKind) (l m : Locals) (block rest : Steps) → StepsTyped c result m block → IsWithin l m → RestTyped c result l rest → RestTyped c result m (followed block rest)
-block_typed c result l m no_steps rest typed inside later = rest_wider c result l m rest inside later
-block_typed c result l m (steps x xs) rest typed inside later =
+pub block_typed : (c : Names) (result : Option ValueKind) (l m : Locals) (block rest : Statements) → StatementsTyped c result m block → IsWithin l m → RestTyped c result l rest → RestTyped c result m (append block rest)
+block_typed c result l m no_statements rest typed inside later = rest_wider c result l m rest inside later
+block_typed c result l m (statements x xs) rest typed inside later =
     (m, typed.0, within_self m, typed.1, block_typed c result l typed.0 xs rest typed.2 (within_trans l m typed.0 inside (step_within c result m x typed.0 typed.1)) later)
 
-pub whole_typed : (c : Names) (result : Option ValueKind) (l : Locals) (block : Steps) → StepsTyped c result l block → RestTyped c result l block
-whole_typed c result l no_steps typed = tt
-whole_typed c result l (steps x xs) typed = (l, typed.0, within_self l, typed.1, whole_typed c result typed.0 xs typed.2)
+pub whole_typed : (c : Names) (result : Option ValueKind) (l : Locals) (block : Statements) → StatementsTyped c result l block → RestTyped c result l block
+whole_typed c result l no_statements typed = tt
+whole_typed c result l (statements x xs) typed = (l, typed.0, within_self l, typed.1, whole_typed c result typed.0 xs typed.2)
 
-pub block_small : (block rest : Steps) → IsTrue (steps_small block) → IsTrue (steps_small rest) → IsTrue (steps_small (followed block rest))
-block_small no_steps rest p q = q
-block_small (steps x xs) rest p q =
-    let both = and_parts (step_small x) (steps_small xs) p in
-    and_both (step_small x) (steps_small (followed xs rest)) both.0 (block_small xs rest both.1 q)
+pub block_small : (block rest : Statements) → IsTrue (statements_small block) → IsTrue (statements_small rest) → IsTrue (statements_small (append block rest))
+block_small no_statements rest p q = q
+block_small (statements x xs) rest p q =
+    let both = and_parts (statement_small x) (statements_small xs) p in
+    and_both (statement_small x) (statements_small (append xs rest)) both.0 (block_small xs rest both.1 q)
 
 -- ---- returns
 
-return_later : (d : Bool) (rest : Steps) → steps_return false rest ≡ true → steps_return d rest ≡ true
-return_later d no_steps h = absurd (true≢false (sym h))
-return_later d (steps x rest) h = h
+return_later : (d : Bool) (rest : Statements) → statements_return false rest ≡ true → statements_return d rest ≡ true
+return_later d no_statements h = absurd (true≢false (sym h))
+return_later d (statements x rest) h = h
 
-return_followed : (d : Bool) (block rest : Steps) → steps_return d (followed block rest) ≡ steps_return (steps_return d block) rest
-return_followed d no_steps rest = refl
-return_followed d (steps x xs) rest = return_followed (step_returns x) xs rest
+return_followed : (d : Bool) (block rest : Statements) → statements_return d (append block rest) ≡ statements_return (statements_return d block) rest
+return_followed d no_statements rest = refl
+return_followed d (statements x xs) rest = return_followed (statement_returns x) xs rest
 
-return_by : (before here : Bool) (rest : Steps) → steps_return before rest ≡ true → (before ≡ true → here ≡ true) → steps_return here rest ≡ true
-return_by true here rest h more = subst (λ d. steps_return d rest ≡ true) (sym (more refl)) h
+return_by : (before here : Bool) (rest : Statements) → statements_return before rest ≡ true → (before ≡ true → here ≡ true) → statements_return here rest ≡ true
+return_by true here rest h more = subst (λ d. statements_return d rest ≡ true) (sym (more refl)) h
 return_by false here rest h more = return_later here rest h
 
 -- what remains behind a statement that does not return
-pub returns_behind : (result : Option ValueKind) (x : Step) (rest : Steps) → step_returns x ≡ false → Returns result (steps x rest) → Returns result rest
+pub returns_behind : (result : Option ValueKind) (x : Statement) (rest : Statements) → statement_returns x ≡ false → Returns result (statements x rest) → Returns result rest
 returns_behind None x rest e h = tt
-returns_behind (Some t) x rest e h = subst (λ d. steps_return d rest ≡ true) e h
+returns_behind (Some t) x rest e h = returns_end rest (subst (λ d. statements_return d rest ≡ true) e (ends_return (statements x rest) h))
 
 -- a block of a statement, where the block returns if the statement does
-pub returns_block : (result : Option ValueKind) (x : Step) (block rest : Steps) → (step_returns x ≡ true → steps_return false block ≡ true) → Returns result (steps x rest) → Returns result (followed block rest)
+pub returns_block : (result : Option ValueKind) (x : Statement) (block rest : Statements) → (statement_returns x ≡ true → statements_return false block ≡ true) → Returns result (statements x rest) → Returns result (append block rest)
 returns_block None x block rest more h = tt
-returns_block (Some t) x block rest more h = return_followed false block rest ∙ return_by (step_returns x) (steps_return false block) rest h more
+returns_block (Some t) x block rest more h =
+    returns_end (append block rest) (return_followed false block rest ∙ return_by (statement_returns x) (statements_return false block) rest (ends_return (statements x rest) h) more)
 
 -- a block before what returns
-pub returns_before : (result : Option ValueKind) (block rest : Steps) → Returns result rest → Returns result (followed block rest)
+pub returns_before : (result : Option ValueKind) (block rest : Statements) → Returns result rest → Returns result (append block rest)
 returns_before None block rest h = tt
-returns_before (Some t) block rest h = return_followed false block rest ∙ return_later (steps_return false block) rest h
+returns_before (Some t) block rest h =
+    returns_end (append block rest) (return_followed false block rest ∙ return_later (statements_return false block) rest (ends_return rest h))
 
 -- ---- locals
 
@@ -154,7 +158,7 @@ module _ (c : Names) where
           by (Some t) q = absurd (let clash : None ≡ Some t = sym (are.apart name h e).0 ∙ inside name t q in cc)
 
   -- a `let` puts its name in scope, which waits for its value
-  pub locals_let : (scope : Locals) (w : Word) (t : ValueKind) (values : Table Value) → IsNew c scope w → LocalsAre c scope None values → LocalsAre c (added scope w.text (Some t)) (Some w.text) values
+  pub locals_let : (scope : Locals) (w : PlacedName) (t : ValueKind) (values : Table Value) → IsNew c scope w → LocalsAre c scope None values → LocalsAre c (added scope w.text (Some t)) (Some w.text) values
   locals_let scope w t values new are = record { kinds = kinds; apart = apart }
     where
       kinds : (name : Name) (u : ValueKind) → Some w.text ≢ Some name → find name (added scope w.text (Some t)) ≡ Some (Some u) → IsSomeOf u (find name values)
@@ -171,7 +175,7 @@ module _ (c : Names) where
           by true q = absurd (let clash : None ≡ Some h = sym new.1 ∙ ap c.shared (sym (same_equal name w.text q)) ∙ e in cc)
           by false q = ap (λ o. or_else o None) (are.apart name h e).0
 
-  pub let_takes : (scope : Locals) (w : Word) (t : ValueKind) → IsNew c scope w → Takes c (added scope w.text (Some t)) (Some w.text) (Some t)
+  pub let_takes : (scope : Locals) (w : PlacedName) (t : ValueKind) → IsNew c scope w → Takes c (added scope w.text (Some t)) (Some w.text) (Some t)
   let_takes scope w t new =
       let found : find w.text (added scope w.text (Some t)) ≡ Some (Some t) =
       find-added w.text w.text (Some t) scope ∙ ap (λ o. or_else o (if same w.text w.text then Some (Some t) else None)) new.0 ∙ ap (λ d. if d then Some (Some t) else None) (same-self w.text) in
@@ -207,17 +211,17 @@ module _ (c : Names) where
 
   -- ---- parameters
 
-  abbrev first_kind : Name → List Binder → Option (Option ValueKind)
+  abbrev first_kind : Name → List Parameter → Option (Option ValueKind)
   first_kind name [] = None
   first_kind name (p ∷ ps) = if same name p.name.text then Some (Some p.kind) else first_kind name ps
 
-  find-params : (scope : Locals) (ps : List Binder) (name : Name) → find name (with_params scope ps) ≡ or_else (find name scope) (first_kind name ps)
+  find-params : (scope : Locals) (ps : List Parameter) (name : Name) → find name (with_params scope ps) ≡ or_else (find name scope) (first_kind name ps)
   find-params scope [] name = sym (or_else-none (find name scope))
   find-params scope (p ∷ ps) name =
       find-params (added scope p.name.text (Some p.kind)) ps name ∙ ap (λ o. or_else o (first_kind name ps)) (find-added name p.name.text (Some p.kind) scope)
       ∙ or_else-step (find name scope) (same name p.name.text) (Some p.kind) (first_kind name ps)
 
-  param_kinds : (ps : List Binder) (xs : List Value) (name : Name) (u : ValueKind) → ArgsAre ps xs → first_kind name ps ≡ Some (Some u) → IsSomeOf u (find name (locals_of (names_of ps) xs))
+  param_kinds : (ps : List Parameter) (xs : List Value) (name : Name) (u : ValueKind) → ArgsAre ps xs → first_kind name ps ≡ Some (Some u) → IsSomeOf u (find name (locals_of (names_of ps) xs))
   param_kinds [] xs name u are h = cc
   param_kinds (p ∷ ps) [] name u are h = absurd are
   param_kinds (p ∷ ps) (x ∷ xs) name u are h = by (same name p.name.text) h (param_kinds ps xs name u are.1)
@@ -227,7 +231,7 @@ module _ (c : Names) where
       by true q rest = are.0 ∙ cc
       by false q rest = rest q
 
-  param_apart : (scope : Locals) (ps : List Binder) (xs : List Value) (name : Name) (h : Holder) → ParamsNew c scope ps → c.shared name ≡ Some h → (first_kind name ps ≡ None) × (find name (locals_of (names_of ps) xs) ≡ None)
+  param_apart : (scope : Locals) (ps : List Parameter) (xs : List Value) (name : Name) (h : Holder) → ParamsNew c scope ps → c.shared name ≡ Some h → (first_kind name ps ≡ None) × (find name (locals_of (names_of ps) xs) ≡ None)
   param_apart scope [] xs name h new e = (refl, refl)
   param_apart scope (p ∷ ps) xs name h new e = by (λ ys. param_apart (added scope p.name.text (Some p.kind)) ps ys name h new.1 e) (same name p.name.text) refl xs
     where
@@ -237,7 +241,7 @@ module _ (c : Names) where
       by later false q [] = ((later []).0, refl)
       by later false q (y ∷ ys) = ((later ys).0, ap (λ d. cond d (Some y) (find name (locals_of (names_of ps) ys))) q ∙ (later ys).1)
 
-  params_locals : (ps : List Binder) (xs : List Value) → ParamsNew c [] ps → ArgsAre ps xs → LocalsAre c (with_params [] ps) None (locals_of (names_of ps) xs)
+  params_locals : (ps : List Parameter) (xs : List Value) → ParamsNew c [] ps → ArgsAre ps xs → LocalsAre c (with_params [] ps) None (locals_of (names_of ps) xs)
   params_locals ps xs new are = record {
     kinds = λ name u differ h. param_kinds ps xs name u are (sym (find-params [] ps name) ∙ h);
     apart = λ name h e. let both = param_apart [] ps xs name h new e in (find-params [] ps name ∙ both.0, both.1);
@@ -249,32 +253,32 @@ module _ (c : Names) where
   pub record ProcIs (q : Callee) (d : Procedure) : Type 0 where
     pub params : d.params ≡ names_of q.params
     pub new : ParamsNew c [] q.params
-    pub body : StepsTyped c q.result (with_params [] q.params) d.body
+    pub body : StatementsTyped c q.result (with_params [] q.params) d.body
     pub returns : Returns q.result d.body
-    pub small : IsTrue (steps_small d.body)
+    pub small : IsTrue (statements_small d.body)
 
-  pub proc_is : (inner : Names) (before es : List Entry) (name : Name) (q : Callee) → EntriesTyped c inner before es → IsTrue (list_all entry_small es) → proc_named es name ≡ Some q → ProcIs q (procedure_named (procedures_of es) name)
-  proc_is inner before [] name q typed small e = cc
-  proc_is inner before (fun w ps r body ∷ es) name q typed small e = proc_is inner (fun w ps r body ∷ before) es name q typed.1 (and_parts (entry_small (fun w ps r body)) (list_all entry_small es) small).1 e
-  proc_is inner before (merge w m j r body ∷ es) name q typed small e = proc_is inner (merge w m j r body ∷ before) es name q typed.1 (and_parts (entry_small (merge w m j r body)) (list_all entry_small es) small).1 e
-  proc_is inner before (shared x ∷ es) name q typed small e = proc_is inner (shared x ∷ before) es name q typed.1 (and_parts (entry_small (shared x)) (list_all entry_small es) small).1 e
-  proc_is inner before (proc w ps r body ∷ es) name q typed small e = by (same name w.text) e (proc_is inner (proc w ps r body ∷ before) es name q typed.1 smalls.1)
+  pub proc_is : (inner : Names) (before : List Declaration) (d : ℕ) (es : List Declaration) (name : Name) (q : Callee) → DeclarationsTyped c inner before es → IsTrue (list_all declaration_small es) → proc_named es name ≡ Some q → ProcIs q (procedure_named (procedures_from d es) name)
+  proc_is inner before d [] name q typed small e = cc
+  proc_is inner before d (fun w ps r body ∷ es) name q typed small e = proc_is inner (fun w ps r body ∷ before) (d + 1) es name q typed.1 (and_parts (declaration_small (fun w ps r body)) (list_all declaration_small es) small).1 e
+  proc_is inner before d (merge w m j r body ∷ es) name q typed small e = proc_is inner (merge w m j r body ∷ before) (d + 1) es name q typed.1 (and_parts (declaration_small (merge w m j r body)) (list_all declaration_small es) small).1 e
+  proc_is inner before d (shared x ∷ es) name q typed small e = proc_is inner (shared x ∷ before) (d + 1) es name q typed.1 (and_parts (declaration_small (shared x)) (list_all declaration_small es) small).1 e
+  proc_is inner before d (proc w ps r body ∷ es) name q typed small e = by (same name w.text) e (proc_is inner (proc w ps r body ∷ before) (d + 1) es name q typed.1 smalls.1)
     where
-      smalls : IsTrue (entry_small (proc w ps r body)) × IsTrue (list_all entry_small es)
-      smalls = and_parts (entry_small (proc w ps r body)) (list_all entry_small es) small
+      smalls : IsTrue (declaration_small (proc w ps r body)) × IsTrue (list_all declaration_small es)
+      smalls = and_parts (declaration_small (proc w ps r body)) (list_all declaration_small es) small
 
-      here : ProcIs (record { params = ps; result = r }) (record { name = w.text; params = names_of ps; body = body })
+      here : ProcIs (record { params = ps; result = r }) (record { decl = d; name = w.text; params = names_of ps; body = body })
       here = record {
         params = refl;
         new = typed.0.params;
         body = typed.0.body;
         returns = typed.0.result;
-        small = (and_parts (word_formed w && list_all binder_formed ps) (steps_small body) smalls.0).1;
+        small = (and_parts (name_formed w && list_all parameter_formed ps) (statements_small body) smalls.0).1;
       }
 
-      by : (d : Bool) → cond d (Some (record { params = ps; result = r })) (proc_named es name) ≡ Some q → (proc_named es name ≡ Some q → ProcIs q (procedure_named (procedures_of es) name))
-          → ProcIs q (cond d (record { name = w.text; params = names_of ps; body = body }) (procedure_named (procedures_of es) name))
-      by true h rest = subst (λ y. ProcIs y (record { name = w.text; params = names_of ps; body = body })) (let is : record { params = ps; result = r } ≡ q = cc in is) here
+      by : (is_named : Bool) → cond is_named (Some (record { params = ps; result = r })) (proc_named es name) ≡ Some q → (proc_named es name ≡ Some q → ProcIs q (procedure_named (procedures_from (d + 1) es) name))
+          → ProcIs q (cond is_named (record { decl = d; name = w.text; params = names_of ps; body = body }) (procedure_named (procedures_from (d + 1) es) name))
+      by true h rest = subst (λ y. ProcIs y (record { decl = d; name = w.text; params = names_of ps; body = body })) (let is : record { params = ps; result = r } ≡ q = cc in is) here
       by false h rest = rest h
 
   -- the frame of a call

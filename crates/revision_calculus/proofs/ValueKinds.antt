@@ -10,19 +10,19 @@ use Rattle.rev_num.specs.declared.value.NumFault.{NumFault}
 use Rattle.rev_num.specs.declared.value.NumFault.TheVariants as fault
 use Rattle.rev_num.specs.declared.outcome.Cause.TheVariants as cause
 use Rattle.rev_num.specs.Arith.{sum_of, difference_of, product_of, quotient_of, remainder_of, negation_of}
-use Rattle.rev_syntax.specs.Trees.{Binder, Term, placed, Shape, Terms, Links, int, bool, no_rev, var, cell, apply, input, inputs, pick, unary, chain, no_terms, term, no_links, link}
-use Rattle.rev_syntax.specs.Small.{word_formed, term_formed, shape_formed, terms_formed, links_formed, term_small, terms_small, strength, all_bind, is_chain}
+use Rattle.rev_syntax.specs.Trees.{Parameter, Expression, placed, ExpressionForm, Expressions, Links, int, bool, no_rev, var, cell, apply, input, inputs, pick, unary, chain, no_expressions, expression, no_links, link}
+use Rattle.rev_syntax.specs.Small.{name_formed, expression_formed, expression_form_formed, expressions_formed, links_formed, expression_small, expressions_small, strength, all_bind, is_chain}
 use Rattle.rev_syntax.specs.declared.tree.UnaryOp.{UnaryOp}
 use Rattle.rev_syntax.specs.declared.tree.UnaryOp.TheVariants as u
 use Rattle.rev_syntax.specs.declared.tree.BinaryOp.{BinaryOp}
 use Rattle.rev_syntax.specs.declared.tree.BinaryOp.TheVariants as b
 use Rattle.merge_decl.specs.Names.{Name}
 use Rattle.merge_decl.specs.Table.{find}
-use Rattle.merge_decl.specs.FunRules.{Use, count, term_uses, shape_uses, terms_uses, links_uses}
-use Rattle.merge_decl.specs.Value.{Answer, and_then, number_of, truth_of, number, operated, short, linked, reversed, Shared, unknown, scalar, array, Env, read_cell, taken, read_input, read, Fun, Funs, called, value_by, shape_value, values_by, chained}
+use Rattle.merge_decl.specs.FunRules.{Use, count, expression_uses, expression_form_uses, expressions_uses, links_uses}
+use Rattle.merge_decl.specs.Value.{Answer, and_then, number_of, truth_of, number, operated, short, linked, reversed, Shared, unknown, scalar, array, Env, read_cell, taken, read_input, read, Fun, Funs, called, value_by, expression_form_value, values_by, chained}
 use Rattle.rev_kinds.specs.declared.names.Holder.{Holder}
 use Rattle.rev_kinds.specs.Kinds.{Callee, Names, Locals, operand_kind, given_kind, links_kind}
-use Rattle.rev_kinds.specs.Typing.{ScalarHas, ArrayHas, TakesRight, HasKind, ShapeHas, ArgsHave, LinksHave}
+use Rattle.rev_kinds.specs.Typing.{ScalarHas, ArrayHas, TakesRightSide, HasKind, ExpressionFormHas, ArgsHave, LinksHave}
 use Rattle.rev_kinds.proofs.Lists.{and_parts}
 use Rattle.rev_types.proofs.Applying.{small_formed}
 use Rattle.revision_calculus.specs.Kinded.{IsOf, IsSomeOf}
@@ -38,11 +38,11 @@ and_both true y p q = q
 and_both false y p q = absurd (true≢false (sym p))
 
 -- the arguments of a small tree have their forms
-pub terms_small_formed : (es : Terms) → IsTrue (terms_small es) → IsTrue (terms_formed es)
-terms_small_formed no_terms h = h
-terms_small_formed (term x xs) h =
-    let both = and_parts (term_small x) (terms_small xs) h in
-    and_both (term_formed x) (terms_formed xs) (small_formed x both.0) (terms_small_formed xs both.1)
+pub expressions_small_formed : (es : Expressions) → IsTrue (expressions_small es) → IsTrue (expressions_formed es)
+expressions_small_formed no_expressions h = h
+expressions_small_formed (expression x xs) h =
+    let both = and_parts (expression_small x) (expressions_small xs) h in
+    and_both (expression_formed x) (expressions_formed xs) (small_formed x both.0) (expressions_small_formed xs both.1)
 
 -- ---- what an expression reads
 
@@ -58,7 +58,7 @@ pub record EnvIs (c : Names) (scope : Locals) (e : Env) : Type 0 where
   pub shared : (name : Name) (h : Holder) → find name scope ≡ None → c.shared name ≡ Some h → (e.local name ≡ None) × SharedIs h (e.shared name)
 
 -- the arguments are of the kinds of these parameters
-abbrev pub ArgsAre : List Binder → List Value → Type 0
+abbrev pub ArgsAre : List Parameter → List Value → Type 0
 ArgsAre [] [] = Unit {0}
 ArgsAre [] (x ∷ xs) = ⊥
 ArgsAre (p ∷ ps) [] = ⊥
@@ -124,7 +124,7 @@ number_is (Err fault.Overflow) = tt
 number_is (Err fault.ZeroDivisor) = tt
 
 -- a link gives a value of its operator's kind
-link_is : (op : BinaryOp) (left t : ValueKind) (x : Value) (right : Answer) → TakesRight op left t → OfOk (IsOf t) right → OfOk (IsOf (given_kind op)) (linked op x right (short op x))
+link_is : (op : BinaryOp) (left t : ValueKind) (x : Value) (right : Answer) → TakesRightSide op left t → OfOk (IsOf t) right → OfOk (IsOf (given_kind op)) (linked op x right (short op x))
 link_is b.Add left t x right takes is = then_ok (IsOf t) (IsOf k.Int) right (operated b.Add x) is (λ y ky. number_is (sum_of (number_of x) (number_of y)))
 link_is b.Sub left t x right takes is = then_ok (IsOf t) (IsOf k.Int) right (operated b.Sub x) is (λ y ky. number_is (difference_of (number_of x) (number_of y)))
 link_is b.Mul left t x right takes is = then_ok (IsOf t) (IsOf k.Int) right (operated b.Mul x) is (λ y ky. number_is (product_of (number_of x) (number_of y)))
@@ -171,15 +171,15 @@ given_class b.And = refl
 given_class b.Or = refl
 
 -- the operators of a chain bind alike
-chain_binds : (op : BinaryOp) (part : Term) (rest : Links) → IsTrue (is_chain (link op part rest)) → IsTrue (all_bind (strength op) rest)
+chain_binds : (op : BinaryOp) (part : Expression) (rest : Links) → IsTrue (is_chain (link op part rest)) → IsTrue (all_bind (strength op) rest)
 chain_binds op part no_links h = refl
 chain_binds op part (link o x more) h = (and_parts _ (all_bind (strength op) (link o x more)) h).1
 
 -- ---- arguments
 
-args_shift : (c : Names) (scope : Locals) (p : Binder) (ps : List Binder) (n : ℕ) (ts : Terms) → ArgsHave c scope (p ∷ ps) (suc n) ts → ArgsHave c scope ps n ts
-args_shift c scope p ps n no_terms h = tt
-args_shift c scope p ps n (term x xs) h = (h.0, args_shift c scope p ps (n + 1) xs (subst (λ m. ArgsHave c scope (p ∷ ps) m xs) (let e : suc n + 1 ≡ suc (n + 1) = omega arith in e) h.1))
+args_shift : (c : Names) (scope : Locals) (p : Parameter) (ps : List Parameter) (n : ℕ) (ts : Expressions) → ArgsHave c scope (p ∷ ps) (suc n) ts → ArgsHave c scope ps n ts
+args_shift c scope p ps n no_expressions h = tt
+args_shift c scope p ps n (expression x xs) h = (h.0, args_shift c scope p ps (n + 1) xs (subst (λ m. ArgsHave c scope (p ∷ ps) m xs) (let e : suc n + 1 ≡ suc (n + 1) = omega arith in e) h.1))
 
 called_is : (o : Option Fun) (f : Callee) (xs : List Value) (t : ValueKind) → FunIs f o → ArgsAre f.params xs → f.result ≡ Some t → OfOk (IsOf t) (called o xs)
 called_is None f xs t h is r = absurd h
@@ -206,52 +206,52 @@ module _ (c : Names) (scope : Locals) (fs : Funs) (e : Env) (env : EnvIs c scope
       by None p None q has = absurd has
 
   mutual
-    pub value_is : (n : ℕ) (x : Term) (t : ValueKind) → OfUses (CanApply c fs n) (term_uses n x) → IsTrue (term_formed x) → HasKind c scope x t → OfOk (IsOf t) (value_by fs e x)
-    value_is n (placed at s) t us ok has = shape_is n s t us ok has
+    pub value_is : (n : ℕ) (x : Expression) (t : ValueKind) → OfUses (CanApply c fs n) (expression_uses n x) → IsTrue (expression_formed x) → HasKind c scope x t → OfOk (IsOf t) (value_by fs e x)
+    value_is n (placed at s) t us ok has = expression_form_is n s t us ok has
 
-    shape_is : (n : ℕ) (s : Shape) (t : ValueKind) → OfUses (CanApply c fs n) (shape_uses n s) → IsTrue (shape_formed s) → ShapeHas c scope s t → OfOk (IsOf t) (shape_value fs e s)
-    shape_is n (int z) t us ok has = sym has
-    shape_is n (bool x) t us ok has = sym has
-    shape_is n no_rev t us ok has = sym has
-    shape_is n (var w) t us ok has = var_is w.text t has
-    shape_is n (cell w index) t us ok has =
-        let part = value_is n index k.Int us (and_parts (word_formed w) (term_formed index) ok).1 has.1 in
+    expression_form_is : (n : ℕ) (s : ExpressionForm) (t : ValueKind) → OfUses (CanApply c fs n) (expression_form_uses n s) → IsTrue (expression_form_formed s) → ExpressionFormHas c scope s t → OfOk (IsOf t) (expression_form_value fs e s)
+    expression_form_is n (int z) t us ok has = sym has
+    expression_form_is n (bool x) t us ok has = sym has
+    expression_form_is n no_rev t us ok has = sym has
+    expression_form_is n (var w) t us ok has = var_is w.text t has
+    expression_form_is n (cell w index) t us ok has =
+        let part = value_is n index k.Int us (and_parts (name_formed w) (expression_formed index) ok).1 has.1 in
         then_ok (IsOf k.Int) (IsOf t) (value_by fs e index) (λ i. read_cell (e.shared w.text) (number_of i)) part (λ i ki. array_is w.text t has.0 (number_of i))
-    shape_is n (apply w args) t us ok has =
-        let part = values_is n args has.0.params us.1 (and_parts (word_formed w) (terms_formed args) ok).1 has.3 has.4 in
+    expression_form_is n (apply w args) t us ok has =
+        let part = values_is n args has.0.params us.1 (and_parts (name_formed w) (expressions_formed args) ok).1 has.3 has.4 in
         then_ok (ArgsAre has.0.params) (IsOf t) (values_by fs e args) (called (fs w.text)) part (λ xs is. called_is (fs w.text) has.0 xs t (us.0 refl has.0 has.1) is has.2)
-    shape_is n (input at index) t us ok has =
+    expression_form_is n (input at index) t us ok has =
         let part = value_is n index k.Int us ok has.2 in
-        subst (λ u. OfOk (IsOf u) (shape_value fs e (input at index))) (sym has.0)
+        subst (λ u. OfOk (IsOf u) (expression_form_value fs e (input at index))) (sym has.0)
         (then_ok (IsOf k.Int) (IsOf k.Int) (value_by fs e index) (λ i. read_input e.inputs (number_of i)) part (λ i ki. input_read e.inputs (number_of i)))
-    shape_is n (inputs at) t us ok has = sym has.0
-    shape_is n (pick test x y) t us ok has =
-        let uses = uses_parts (CanApply c fs n) (term_uses n test ++ term_uses n x) (term_uses n y) us in
-        let first = uses_parts (CanApply c fs n) (term_uses n test) (term_uses n x) uses.0 in
-        let formed = and_parts (term_formed test && term_formed x) (term_formed y) ok in
-        let parts = and_parts (term_formed test) (term_formed x) formed.0 in
+    expression_form_is n (inputs at) t us ok has = sym has.0
+    expression_form_is n (pick test x y) t us ok has =
+        let uses = uses_parts (CanApply c fs n) (expression_uses n test ++ expression_uses n x) (expression_uses n y) us in
+        let first = uses_parts (CanApply c fs n) (expression_uses n test) (expression_uses n x) uses.0 in
+        let formed = and_parts (expression_formed test && expression_formed x) (expression_formed y) ok in
+        let parts = and_parts (expression_formed test) (expression_formed x) formed.0 in
         let tested = value_is n test k.Bool first.0 parts.0 has.0 in
         let p = value_is n x t first.1 parts.1 has.1 in
         let q = value_is n y t uses.1 formed.1 has.2 in
         then_ok (IsOf k.Bool) (IsOf t) (value_by fs e test) (λ d. if truth_of d then value_by fs e x else value_by fs e y) tested (λ d kd. either (OfOk (IsOf t)) (truth_of d) (value_by fs e x) (value_by fs e y) p q)
-    shape_is n (unary op part) t us ok has =
+    expression_form_is n (unary op part) t us ok has =
         let is = value_is n part (operand_kind op) us ok has.1 in
-        subst (λ u. OfOk (IsOf u) (shape_value fs e (unary op part))) (sym has.0)
+        subst (λ u. OfOk (IsOf u) (expression_form_value fs e (unary op part))) (sym has.0)
         (then_ok (IsOf (operand_kind op)) (IsOf (operand_kind op)) (value_by fs e part) (reversed op) is (λ x kx. reversed_is op x))
-    shape_is n (chain first rest) t us ok has =
-        let both = uses_parts (CanApply c fs n) (term_uses n first) (links_uses n rest) us in
-        let formed = and_parts (is_chain rest && term_formed first) (links_formed rest) ok in
-        let parts = and_parts (is_chain rest) (term_formed first) formed.0 in
+    expression_form_is n (chain first rest) t us ok has =
+        let both = uses_parts (CanApply c fs n) (expression_uses n first) (links_uses n rest) us in
+        let formed = and_parts (is_chain rest && expression_formed first) (links_formed rest) ok in
+        let parts = and_parts (is_chain rest) (expression_formed first) formed.0 in
         let is = value_is n first has.0 both.0 parts.1 has.1 in
         then_ok (IsOf has.0) (IsOf t) (value_by fs e first) (λ x. chained fs e x rest) is (chain_is n has.0 t rest both.1 formed.1 parts.0 has.3 has.4)
 
-    pub values_is : (n : ℕ) (ts : Terms) (ps : List Binder) → OfUses (CanApply c fs n) (terms_uses n ts) → IsTrue (terms_formed ts) → count ts ≡ length ps → ArgsHave c scope ps 0 ts → OfOk (ArgsAre ps) (values_by fs e ts)
-    values_is n no_terms [] us ok same has = tt
-    values_is n no_terms (p ∷ ps) us ok same has = cc
-    values_is n (term x xs) [] us ok same has = absurd (omega arith)
-    values_is n (term x xs) (p ∷ ps) us ok same has =
-        let both = uses_parts (CanApply c fs n) (term_uses n x) (terms_uses n xs) us in
-        let formed = and_parts (term_formed x) (terms_formed xs) ok in
+    pub values_is : (n : ℕ) (ts : Expressions) (ps : List Parameter) → OfUses (CanApply c fs n) (expressions_uses n ts) → IsTrue (expressions_formed ts) → count ts ≡ length ps → ArgsHave c scope ps 0 ts → OfOk (ArgsAre ps) (values_by fs e ts)
+    values_is n no_expressions [] us ok same has = tt
+    values_is n no_expressions (p ∷ ps) us ok same has = cc
+    values_is n (expression x xs) [] us ok same has = absurd (omega arith)
+    values_is n (expression x xs) (p ∷ ps) us ok same has =
+        let both = uses_parts (CanApply c fs n) (expression_uses n x) (expressions_uses n xs) us in
+        let formed = and_parts (expression_formed x) (expressions_formed xs) ok in
         let here = value_is n x has.0.0 both.0 formed.0 has.0.1 in
         let later = values_is n xs ps both.1 formed.1 (omega arith) (args_shift c scope p ps 0 xs has.1) in
         then_ok (IsOf has.0.0) (ArgsAre (p ∷ ps)) (value_by fs e x) (λ y. and_then (values_by fs e xs) (λ ys. Ok (y ∷ ys))) here
@@ -262,8 +262,8 @@ module _ (c : Names) (scope : Locals) (fs : Funs) (e : Env) (env : EnvIs c scope
         → (x : Value) → IsOf left x → OfOk (IsOf t) (chained fs e x ls)
     chain_is n left t no_links us ok alike has is x kx = cc
     chain_is n left t (link op part rest) us ok alike has is x kx =
-        let both = uses_parts (CanApply c fs n) (term_uses n part) (links_uses n rest) us in
-        let formed = and_parts (term_formed part) (links_formed rest) ok in
+        let both = uses_parts (CanApply c fs n) (expression_uses n part) (links_uses n rest) us in
+        let formed = and_parts (expression_formed part) (links_formed rest) ok in
         let here = value_is n part has.0.0 both.0 formed.0 has.0.1 in
         let gives : given_kind op ≡ t = (let same : Some (given_kind op) ≡ Some t = is in cc) in
         then_ok (IsOf t) (IsOf t) (linked op x (value_by fs e part) (short op x)) (λ z. chained fs e z rest)
@@ -275,8 +275,8 @@ module _ (c : Names) (scope : Locals) (fs : Funs) (e : Env) (env : EnvIs c scope
         → (x : Value) → IsOf t x → OfOk (IsOf t) (chained fs e x ls)
     links_are n left tight t no_links us ok is alike has x kx = kx
     links_are n left tight t (link op part rest) us ok is alike has x kx =
-        let both = uses_parts (CanApply c fs n) (term_uses n part) (links_uses n rest) us in
-        let formed = and_parts (term_formed part) (links_formed rest) ok in
+        let both = uses_parts (CanApply c fs n) (expression_uses n part) (links_uses n rest) us in
+        let formed = and_parts (expression_formed part) (links_formed rest) ok in
         let bind = and_parts (strength op == tight) (all_bind tight rest) alike in
         let here = value_is n part has.0.0 both.0 formed.0 has.0.1 in
         let gives : given_kind op ≡ t = given_class op ∙ ap class (eqb-true (strength op) tight bind.0) ∙ sym is in

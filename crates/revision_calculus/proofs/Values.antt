@@ -9,18 +9,16 @@ use Rattle.rev_num.specs.declared.value.NumFault.TheVariants as fault
 use Rattle.rev_num.specs.declared.outcome.Cause.{Cause}
 use Rattle.rev_num.specs.declared.outcome.Cause.TheVariants as cause
 use Rattle.rev_num.specs.Arith.{sum_of, difference_of, product_of, quotient_of, remainder_of, negation_of}
-use Rattle.rev_syntax.specs.Trees.{Term, placed, Shape, Terms, Links, int, bool, no_rev, var, cell, apply, input, inputs, pick, unary, chain, no_terms, term, no_links, link}
+use Rattle.rev_syntax.specs.Trees.{Expression, placed, ExpressionForm, Expressions, Links, int, bool, no_rev, var, cell, apply, input, inputs, pick, unary, chain, no_expressions, expression, no_links, link}
 use Rattle.rev_syntax.specs.declared.tree.UnaryOp.{UnaryOp}
 use Rattle.rev_syntax.specs.declared.tree.UnaryOp.TheVariants as u
 use Rattle.rev_syntax.specs.declared.tree.BinaryOp.{BinaryOp}
 use Rattle.rev_syntax.specs.declared.tree.BinaryOp.TheVariants as b
-use Rattle.rev_syntax.specs.Trees.{Whole}
 use Rattle.merge_decl.specs.Names.{Name, same}
-use Rattle.merge_decl.specs.Value.{Answer, and_then, number_of, truth_of, number, not, operated, short, linked, reversed, Shared, unknown, scalar, array, Env, read_cell, taken, read_input, read, Fun, Funs, called, value_by, shape_value, values_by, chained, FunDef, bind, bind_all, nothing, inside, fun_value, earlier_of, funs_of, same_value}
-use Rattle.merge_decl.specs.Definitions.{MergeDef, merges_in, merged_by, merge_value_of}
+use Rattle.merge_decl.specs.Value.{Answer, and_then, number_of, truth_of, number, not, operated, short, linked, reversed, Shared, unknown, scalar, array, Env, read_cell, taken, read_input, read, Fun, Funs, called, value_by, expression_form_value, values_by, chained, FunDef, bind, bind_all, nothing, inside, fun_value, earlier_of, funs_of, same_value}
 
 -- what holds of the result, where there is one
-abbrev pub OfOk : {A : Type 0} → (A → Type 0) → Result A Cause → Type 0
+abbrev pub OfOk : {A E : Type 0} → (A → Type 0) → Result A E → Type 0
 OfOk P (Ok x) = P x
 OfOk P (Err c) = Unit {0}
 
@@ -142,31 +140,31 @@ module _ (K : Value → Type 0) (others : OfOthers K) where
 
   module _ (fs : Funs) (e : Env) (of_funs : OfFuns fs) (of_env : OfEnv e) where
     mutual
-      pub value_ok : (t : Term) → OfOk K (value_by fs e t)
-      value_ok (placed at s) = shape_ok s
+      pub value_ok : (t : Expression) → OfOk K (value_by fs e t)
+      value_ok (placed at s) = expression_form_ok s
 
-      shape_ok : (s : Shape) → OfOk K (shape_value fs e s)
-      shape_ok (int n) = others.int n
-      shape_ok (bool x) = others.bool x
-      shape_ok no_rev = others.none
-      shape_ok (var w) = read_ok (e.local w.text) (e.shared w.text) (of_env.local w.text) (of_env.shared w.text)
-      shape_ok (cell w index) =
+      expression_form_ok : (s : ExpressionForm) → OfOk K (expression_form_value fs e s)
+      expression_form_ok (int n) = others.int n
+      expression_form_ok (bool x) = others.bool x
+      expression_form_ok no_rev = others.none
+      expression_form_ok (var w) = read_ok (e.local w.text) (e.shared w.text) (of_env.local w.text) (of_env.shared w.text)
+      expression_form_ok (cell w index) =
           then_ok AnyValue K (value_by fs e index) (λ i. read_cell (e.shared w.text) (number_of i)) (any_ok (value_by fs e index)) (λ i any. read_cell_ok (e.shared w.text) (number_of i) (of_env.shared w.text))
-      shape_ok (apply w args) =
+      expression_form_ok (apply w args) =
           then_ok OfEach K (values_by fs e args) (called (fs w.text)) (values_ok args) (λ xs k. called_ok (fs w.text) xs (of_funs w.text) k)
-      shape_ok (input at index) =
+      expression_form_ok (input at index) =
           then_ok AnyValue K (value_by fs e index) (λ i. read_input e.inputs (number_of i)) (any_ok (value_by fs e index)) (λ i any. read_input_ok e.inputs (number_of i))
-      shape_ok (inputs at) = others.int (pos (length e.inputs))
-      shape_ok (pick test x y) =
+      expression_form_ok (inputs at) = others.int (pos (length e.inputs))
+      expression_form_ok (pick test x y) =
           then_ok AnyValue K (value_by fs e test) (λ c. if truth_of c then value_by fs e x else value_by fs e y) (any_ok (value_by fs e test))
           (let p = value_ok x in let q = value_ok y in λ c any. cond_ok (truth_of c) (value_by fs e x) (value_by fs e y) p q)
-      shape_ok (unary o part) = then_ok K K (value_by fs e part) (reversed o) (value_ok part) (λ x k. reversed_ok o x)
-      shape_ok (chain first rest) =
+      expression_form_ok (unary o part) = then_ok K K (value_by fs e part) (reversed o) (value_ok part) (λ x k. reversed_ok o x)
+      expression_form_ok (chain first rest) =
           then_ok K K (value_by fs e first) (λ x. chained fs e x rest) (value_ok first) (chained_ok rest)
 
-      pub values_ok : (ts : Terms) → OfOk OfEach (values_by fs e ts)
-      values_ok no_terms = tt
-      values_ok (term x xs) =
+      pub values_ok : (ts : Expressions) → OfOk OfEach (values_by fs e ts)
+      values_ok no_expressions = tt
+      values_ok (expression x xs) =
           then_ok K OfEach (value_by fs e x) (λ y. and_then (values_by fs e xs) (λ ys. Ok (y ∷ ys))) (value_ok x)
           (let later = values_ok xs in λ y k. then_ok OfEach OfEach (values_by fs e xs) (λ ys. Ok (y ∷ ys)) later (λ ys ks. (k, ks)))
 
@@ -199,13 +197,3 @@ module _ (K : Value → Type 0) (others : OfOthers K) where
       let those : OfFuns (funs_of before) = funs_ok before in
       earlier_ok (funs_of before name) (if same name d.name then Some (fun_value (funs_of before) d) else None) (those name)
       (cond_fun (same name d.name) (fun_value (funs_of before) d) (λ args ks. value_ok (funs_of before) (inside d.params args) those (inside_ok d.params args ks) d.body))
-
-  merged_ok : (o : Option MergeDef) (m j r : Value) → K m → K j → K r → OfOk K (merged_by o m j r)
-  merged_ok None m j r km kj kr = others.int (pos 0)
-  merged_ok (Some d) m j r km kj kr =
-      value_ok (funs_of d.funs) (inside d.params (m ∷ j ∷ r ∷ [])) (funs_ok d.funs) (inside_ok d.params (m ∷ j ∷ r ∷ []) (km, (kj, (kr, tt)))) d.body
-
-  -- a merge's value comes from its three values
-  pub merge_ok : (p : Whole) (k : ℕ) (m j r : Value) → K m → K j → K r → OfOk K (merge_value_of p k m j r)
-  unfolding merge_value_of
-  merge_ok p k m j r = merged_ok (slice_get (merges_in p) k) m j r

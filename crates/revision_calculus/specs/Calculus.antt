@@ -1,8 +1,12 @@
 -- The calculus: the machine of revisions of a program, from its start.
+--
+-- `main` is the first revision before its first statement, with the start values of all locations; `calculus` is the
+-- machine of its steps.
 use Rattle.std.specs.Prelude.{ℕ, List, [], ◌∷◌, ◌++◌, replicate, None}
 use Rattle.rev_num.specs.declared.value.Value.{Value}
 use Rattle.revision_machine.specs.Machine.{Machine}
-use Rattle.revision_calculus.specs.Program.{SharedVariable, variables, Setting}
+use Rattle.rev_types.specs.Layout.{SharedVariable, variables}
+use Rattle.revision_calculus.specs.Program.{first_of, Setting}
 use Rattle.revision_calculus.specs.State.{fresh, running, Local}
 use Rattle.revision_calculus.specs.Step.{next}
 use Rattle.revision_calculus.specs.Join.{join}
@@ -10,12 +14,12 @@ use Rattle.revision_calculus.specs.Join.{join}
 -- the start value of each location
 abbrev pub start_values : List SharedVariable → List Value
 start_values [] = []
-start_values (x ∷ xs) = replicate x.cells x.first ++ start_values xs
+start_values (x ∷ xs) = replicate x.info.cells (first_of x) ++ start_values xs
 
 -- `main` with this fuel, before its first statement
 abbrev pub main : Setting → ℕ → Local
 main s fuel = record {
-  slots = fresh (start_values (variables s.program));
+  locations = fresh (start_values (variables s.program));
   frames = record { locals = []; rest = s.program.main; left = None } ∷ [];
   fuel = fuel;
   forks = 0;

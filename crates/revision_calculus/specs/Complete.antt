@@ -1,14 +1,18 @@
 -- What holds of the end of every complete run, and runs by a list of steps.
+--
+-- `Always` is what holds of each end; `HasOutcome`, `Reports` and `Tells` say it of the outcome, of what is written and
+-- of one revision; `OneOutcome` is that there is one outcome; `runs_to` follows one list of steps.
 use Rattle.std.specs.Prelude.{◌≡◌, ℕ, Bool, false, List, [], ◌∷◌, Option, Some, None, option_map}
 use Rattle.rev_num.specs.Path.{Path}
 use Rattle.rev_num.specs.declared.outcome.Outcome.{Outcome}
+use Rattle.rev_report.specs.Report.{Output}
+use Rattle.rev_report.specs.Outcome.{report}
 use Rattle.revision_machine.specs.Machine.{Entry, Global, Twice, Live, start, step, Complete}
 use Rattle.revision_machine.specs.Laws.{local_of}
 use Rattle.revision_calculus.specs.Program.{Setting}
 use Rattle.revision_calculus.specs.State.{Local}
 use Rattle.revision_calculus.specs.Calculus.{main, calculus}
 use Rattle.revision_calculus.specs.Outcome.{outcome}
-use Rattle.revision_calculus.specs.Report.{Report, report}
 
 -- the state before the first step
 abbrev pub start_of : Setting → ℕ → Global Local
@@ -33,11 +37,11 @@ pub record OneOutcome (s : Setting) (fuel : ℕ) : Type 0 where
   pub only : (o : Outcome) → HasOutcome s fuel o → o ≡ is
 
 -- the report of a final state
-abbrev pub report_of : Setting → Bool → Global Local → Option Report
+abbrev pub report_of : Setting → Bool → Global Local → Option Output
 report_of s asked g = option_map (report asked) (outcome s g)
 
 -- every complete run gives this report
-abbrev pub Reports : Setting → ℕ → Bool → Report → Type 0
+abbrev pub Reports : Setting → ℕ → Bool → Output → Type 0
 Reports s fuel asked r = Always s fuel (λ g. report_of s asked g ≡ Some r)
 
 -- the local state of the revision at this path, with or without the mark
@@ -59,5 +63,5 @@ after s g [] = Some g
 after s g (r ∷ rs) = elim (step (calculus s) g r) [ None ↦ None | Some h ↦ after s h rs ]
 
 -- the report of the state after these steps from the start, where each can be made and `main` has ended or it is Twice
-abbrev pub runs_to : Setting → ℕ → List Path → Option Report
+abbrev pub runs_to : Setting → ℕ → List Path → Option Output
 runs_to s fuel rs = elim (after s (start_of s fuel) rs) [ None ↦ None | Some g ↦ report_of s false g ]

@@ -1,15 +1,19 @@
 -- The value of an expression in a local state, and assignment.
+--
+-- `env` is what an expression reads, `eval` and `evals` are its value and those of arguments; `set` assigns to a name,
+-- `give` to a left side that waits, and `cell_location` is the location of a cell, whose index is tested.
 use Rattle.std.specs.Prelude.{ℕ, ◌+◌, ℤ, pos, negsuc, nat_lt, if◌then◌else◌, List, [], ◌∷◌, Option, Some, None, Result, Ok, Err}
 use Rattle.rev_num.specs.declared.value.Value.{Value}
 use Rattle.rev_num.specs.declared.outcome.Cause.{Cause}
 use Rattle.rev_num.specs.declared.outcome.Cause.TheVariants as cause
-use Rattle.rev_syntax.specs.Trees.{Term, Terms}
+use Rattle.rev_syntax.specs.Trees.{Expression, Expressions}
 use Rattle.merge_decl.specs.Names.{Name, same}
 use Rattle.merge_decl.specs.Table.{Table, find}
 use Rattle.merge_decl.specs.Value.{Answer, Shared, unknown, scalar, array, Env, value, values}
 use Rattle.merge_decl.specs.Definitions.{funs_in}
-use Rattle.revision_calculus.specs.Program.{SharedVariable, variables, variable_named, Setting}
-use Rattle.revision_calculus.specs.State.{Slot, seen_at, write_at, Frame, Local}
+use Rattle.rev_types.specs.Layout.{SharedVariable, variables}
+use Rattle.revision_calculus.specs.Program.{variable_named, Setting}
+use Rattle.revision_calculus.specs.State.{Location, view_at, write_at, Frame, Local}
 
 -- ---- what an expression reads
 
@@ -18,24 +22,24 @@ top_locals [] = []
 top_locals (f ∷ fs) = f.locals
 
 -- how a shared variable reads in the view
-abbrev pub read_shared : Option SharedVariable → List Slot → Shared
-read_shared None slots = unknown
-read_shared (Some x) slots =
-    if x.is_array then array x.cells (λ i. seen_at slots (x.base + i)) else scalar (seen_at slots x.base)
+abbrev pub read_shared : Option SharedVariable → List Location → Shared
+read_shared None locations = unknown
+read_shared (Some x) locations =
+    if x.info.array then array x.info.cells (λ i. view_at locations (x.info.base + i)) else scalar (view_at locations x.info.base)
 
 -- the locals of the top frame, the shared variables of the view, and the input numbers
 abbrev pub env : Setting → Local → Env
 env s l = record {
   local = λ name. find name (top_locals l.frames);
-  shared = λ name. read_shared (variable_named (variables s.program) name) l.slots;
+  shared = λ name. read_shared (variable_named (variables s.program) name) l.locations;
   inputs = s.inputs;
 }
 
-abbrev pub eval : Setting → Local → Term → Answer
+abbrev pub eval : Setting → Local → Expression → Answer
 eval s l e = value (funs_in s.program) (env s l) e
 
 -- of arguments, from left to right
-abbrev pub evals : Setting → Local → Terms → Result (List Value) Cause
+abbrev pub evals : Setting → Local → Expressions → Result (List Value) Cause
 evals s l es = values (funs_in s.program) (env s l) es
 
 -- ---- assignment
@@ -53,7 +57,7 @@ abbrev pub set_local : Frame → Name → Value → Frame
 set_local f name x = record f { locals = with_local f.locals name x }
 
 abbrev pub set_named : Option SharedVariable → Local → Name → Value → Local
-set_named (Some y) l name x = record l { slots = write_at l.slots y.base x }
+set_named (Some y) l name x = record l { locations = write_at l.locations y.info.base x }
 set_named None l name x = record l { frames = on_top (λ f. set_local f name x) l.frames }
 
 -- The value goes to the left side of a `let` or an assignment: to the shared variable of that name,
@@ -69,7 +73,7 @@ give s l None x = l
 
 -- the location of a cell, whose index is tested
 abbrev pub location_in : SharedVariable → ℤ → Result ℕ Cause
-location_in x (pos i) = if nat_lt i x.cells then Ok (x.base + i) else Err cause.Index
+location_in x (pos i) = if nat_lt i x.info.cells then Ok (x.info.base + i) else Err cause.Index
 location_in x (negsuc i) = Err cause.Index
 
 abbrev pub location_of : Option SharedVariable → ℤ → Result ℕ Cause

@@ -5,7 +5,7 @@ use Rattle.rev_num.specs.declared.value.Value.{Value}
 use Rattle.rev_num.specs.declared.value.Value.TheVariants as v
 use Rattle.merge_decl.specs.Names.{Name}
 use Rattle.merge_decl.specs.Table.{Table}
-use Rattle.revision_calculus.specs.State.{Slot, Frame, Phase, running, joining, done, trapped, Local}
+use Rattle.revision_calculus.specs.State.{Location, Frame, Phase, running, joining, done, trapped, Local}
 
 -- ---- handles
 
@@ -14,9 +14,9 @@ abbrev pub IsHandle : Value → Path → Type 0
 IsHandle x q = x ≡ v.Rev (Some q)
 
 -- in the snapshot or in the writes
-abbrev pub SlotsHold : List Slot → Path → Type 0
-SlotsHold [] q = ⊥
-SlotsHold (m ∷ ms) q = (IsHandle m.base q ⊎ (m.written ≡ Some (v.Rev (Some q)))) ⊎ SlotsHold ms q
+abbrev pub LocationsHold : List Location → Path → Type 0
+LocationsHold [] q = ⊥
+LocationsHold (m ∷ ms) q = (IsHandle m.base q ⊎ (m.written ≡ Some (v.Rev (Some q)))) ⊎ LocationsHold ms q
 
 abbrev pub LocalsHold : Table Value → Path → Type 0
 LocalsHold [] q = ⊥
@@ -28,7 +28,7 @@ FramesHold (f ∷ fs) q = LocalsHold f.locals q ⊎ FramesHold fs q
 
 -- the handle of q stands in the snapshot or the writes, in the locals of a frame, or in the phase
 pub data Holds (l : Local) (q : Path) : Type 0 where
-  in_slots : SlotsHold l.slots q → Holds l q
+  in_locations : LocationsHold l.locations q → Holds l q
   in_frames : FramesHold l.frames q → Holds l q
   in_phase : (left : Option Name) → l.phase ≡ joining q left → Holds l q
 
@@ -39,13 +39,14 @@ abbrev pub beyond_first : List Frame → ℕ
 beyond_first [] = 0
 beyond_first (f ∷ fs) = length fs
 
--- Three for each unit of fuel, and one for a revision that has ended, which is for its join. One that
--- has not ended has one more for its end, and one more for the end of each further frame.
+-- Two for each unit of fuel: a statement takes one, and what it leads to the other, which is the end of a frame or of
+-- a child, or a join. One that has not ended has one more for its end and for the end of each further frame, and one
+-- that waits has one for its join.
 abbrev pub weight_at : Phase → List Frame → ℕ → ℕ
-weight_at running fs fuel = 3 * fuel + 2 + beyond_first fs
-weight_at (joining q left) fs fuel = 3 * fuel + 2 + beyond_first fs
-weight_at done fs fuel = 3 * fuel + 1
-weight_at (trapped t) fs fuel = 3 * fuel + 1
+weight_at running fs fuel = 2 * fuel + 1 + beyond_first fs
+weight_at (joining q left) fs fuel = 2 * fuel + 2 + beyond_first fs
+weight_at done fs fuel = 2 * fuel
+weight_at (trapped t) fs fuel = 2 * fuel
 
 abbrev pub weight : Local → ℕ
 weight l = weight_at l.phase l.frames l.fuel

@@ -1,27 +1,38 @@
 -- Values of the kinds that the static rules give, in the local states of a well-typed program.
-use Rattle.std.specs.Prelude.{◌≡◌, ◌≢◌, ℕ, ◌++◌, replicate, IsTrue, IfOk, List, [], ◌∷◌, Option, Some, None}
+--
+-- `IsAccepted` is a program without a fault; `IsKinded` is kept of the local states of its runs. `ValueLaw` is on
+-- expressions, `MergeLaw` on merges, and `JoinLaw` on the merges at the joins of reached states.
+use Rattle.std.specs.Prelude.{◌≡◌, ◌≢◌, ℕ, ◌++◌, replicate, IsTrue, IfOk, List, [], ◌∷◌, Option, Some, None, Ok, Err}
 use Rattle.rev_num.specs.Path.{Path}
 use Rattle.rev_num.specs.Value.{kind_of}
 use Rattle.rev_num.specs.declared.value.Value.{Value}
 use Rattle.rev_num.specs.declared.value.ValueKind.{ValueKind}
 use Rattle.rev_num.specs.declared.value.ValueKind.TheVariants as kind
-use Rattle.rev_syntax.specs.Trees.{Term, Steps, no_steps, steps, Entry, fun, merge, shared, proc, Whole}
-use Rattle.rev_syntax.specs.Small.{term_formed, steps_small, IsSmall}
+use Rattle.rev_num.specs.declared.outcome.Cause.TheVariants as cause
+use Rattle.rev_syntax.specs.Trees.{Expression, Statements, no_statements, statements, Declaration, fun, merge, shared, proc, ProgramTree}
+use Rattle.rev_syntax.specs.Small.{expression_formed, statements_small, IsSmall}
 use Rattle.merge_decl.specs.Names.{Name}
 use Rattle.merge_decl.specs.Table.{Table, find}
 use Rattle.merge_decl.specs.FunRules.{fun_faults}
+use Rattle.merge_decl.specs.Value.{Answer}
 use Rattle.merge_decl.specs.Definitions.{merge_value_of}
 use Rattle.rev_kinds.specs.declared.names.Holder.{Holder}
 use Rattle.rev_kinds.specs.Kinds.{Names, Locals}
 use Rattle.rev_kinds.specs.Typing.{ScalarHas, HasKind}
-use Rattle.rev_types.specs.Program.{cells_of, outside, faults}
-use Rattle.rev_types.specs.Judgement.{StepTyped, Returns}
+use Rattle.rev_types.specs.Program.{faults}
+use Rattle.rev_types.specs.Scopes.{cells_of, outside}
+use Rattle.rev_types.specs.Judgement.{StatementTyped, Returns}
+use Rattle.rev_types.specs.Layout.{variables}
+use Rattle.revision_machine.specs.Machine.{Entry, Global, Twice, Live, Reached}
+use Rattle.revision_machine.specs.Laws.{local_of}
 use Rattle.revision_calculus.specs.Program.{Setting}
-use Rattle.revision_calculus.specs.State.{Slot, Frame, Phase, running, joining, done, trapped, Local}
+use Rattle.revision_calculus.specs.State.{Location, view, Frame, Phase, running, joining, done, trapped, Local}
 use Rattle.revision_calculus.specs.Evaluation.{eval}
+use Rattle.revision_calculus.specs.Join.{merges_of}
+use Rattle.revision_calculus.specs.Calculus.{main, calculus}
 
 -- a small tree that breaks no rule on funs and no other static rule or limit
-pub record IsAccepted (p : Whole) : Type 0 where
+pub record IsAccepted (p : ProgramTree) : Type 0 where
   pub small : IsSmall p
   pub funs : fun_faults p ≡ []
   pub rules : faults p ≡ []
@@ -45,24 +56,24 @@ IsOfIfAny t (Some x) = IsOf t x
 -- ---- locations
 
 -- the kinds of the locations, in their order
-abbrev pub location_kinds : List Entry → List ValueKind
-location_kinds [] = []
-location_kinds (shared x ∷ es) = replicate (cells_of x.size) x.holds ++ location_kinds es
-location_kinds (fun name params result body ∷ es) = location_kinds es
-location_kinds (merge name m j r body ∷ es) = location_kinds es
-location_kinds (proc name params result body ∷ es) = location_kinds es
+abbrev pub declared_kinds : List Declaration → List ValueKind
+declared_kinds [] = []
+declared_kinds (shared x ∷ es) = replicate (cells_of x.size) x.holds ++ declared_kinds es
+declared_kinds (fun name params result body ∷ es) = declared_kinds es
+declared_kinds (merge name m j r body ∷ es) = declared_kinds es
+declared_kinds (proc name params result body ∷ es) = declared_kinds es
 
 -- the snapshot has a value of this kind there, and so have the writes, if they have one
-pub record SlotIs (t : ValueKind) (m : Slot) : Type 0 where
+pub record LocationIs (t : ValueKind) (m : Location) : Type 0 where
   pub base : IsOf t m.base
   pub written : IsOfIfAny t m.written
 
 -- the locations are of these kinds
-abbrev pub SlotsAre : List ValueKind → List Slot → Type 0
-SlotsAre [] [] = Unit {0}
-SlotsAre [] (m ∷ ms) = ⊥
-SlotsAre (t ∷ ts) [] = ⊥
-SlotsAre (t ∷ ts) (m ∷ ms) = SlotIs t m × SlotsAre ts ms
+abbrev pub LocationsAre : List ValueKind → List Location → Type 0
+LocationsAre [] [] = Unit {0}
+LocationsAre [] (m ∷ ms) = ⊥
+LocationsAre (t ∷ ts) [] = ⊥
+LocationsAre (t ∷ ts) (m ∷ ms) = LocationIs t m × LocationsAre ts ms
 
 -- ---- frames
 
@@ -78,16 +89,16 @@ IsWithin inner outer = (name : Name) (t : Option ValueKind) → find name inner 
 
 -- The statements that remain, in a procedure with this result, where these names are in scope: each is typed with
 -- some of them, since those of a block that has ended are no longer known behind it.
-abbrev pub RestTyped : Names → Option ValueKind → Locals → Steps → Type 0
-RestTyped c result scope no_steps = Unit {0}
-RestTyped c result scope (steps x rest) =
-    (known : Locals) × (after : Locals) × IsWithin known scope × StepTyped c result known x after × RestTyped c result after rest
+abbrev pub RestTyped : Names → Option ValueKind → Locals → Statements → Type 0
+RestTyped c result scope no_statements = Unit {0}
+RestTyped c result scope (statements x rest) =
+    (known : Locals) × (after : Locals) × IsWithin known scope × StatementTyped c result known x after × RestTyped c result after rest
 
 -- a frame of a procedure with this result, in which these names are in scope and this one waits for its value
 pub record FrameIs (c : Names) (result : Option ValueKind) (scope : Locals) (waits : Option Name) (f : Frame) : Type 0 where
   pub locals : LocalsAre c scope waits f.locals
   pub rest : RestTyped c result scope f.rest
-  pub small : IsTrue (steps_small f.rest)
+  pub small : IsTrue (statements_small f.rest)
 
 -- a left side, if there is one, takes values of this kind
 abbrev pub Takes : Names → Locals → Option Name → Option ValueKind → Type 0
@@ -119,15 +130,15 @@ FramesAt c (trapped t) fs = FramesTrapped c fs
 
 -- what names mean in procedures and in `main`
 abbrev pub names : Setting → Names
-names s = outside s.program.entries
+names s = outside s.program.declarations
 
 -- the kinds of the locations of a run
-abbrev pub slot_kinds : Setting → List ValueKind
-slot_kinds s = location_kinds s.program.entries
+abbrev pub location_kinds : Setting → List ValueKind
+location_kinds s = declared_kinds s.program.declarations
 
 -- each value is of the kind that the static rules give
 pub record IsKinded (s : Setting) (r : Path) (l : Local) : Type 0 where
-  pub slots : SlotsAre (slot_kinds s) l.slots
+  pub locations : LocationsAre (location_kinds s) l.locations
   pub frames : FramesAt (names s) l.phase l.frames
 
 -- ---- values that are worked out
@@ -136,11 +147,56 @@ pub record IsKinded (s : Setting) (r : Path) (l : Local) : Type 0 where
 -- top frame has a value of its kind, where it has one.
 abbrev pub ValueLaw : Setting → Type 0
 ValueLaw s =
-    (l : Local) (f : Frame) (fs : List Frame) (scope known : Locals) (e : Term) (t : ValueKind)
-    → SlotsAre (slot_kinds s) l.slots → l.frames ≡ f ∷ fs → LocalsAre (names s) scope None f.locals → IsWithin known scope
-    → IsTrue (term_formed e) → HasKind (names s) known e t → IfOk (eval s l e) (IsOf t)
+    (l : Local) (f : Frame) (fs : List Frame) (scope known : Locals) (e : Expression) (t : ValueKind)
+    → LocationsAre (location_kinds s) l.locations → l.frames ≡ f ∷ fs → LocalsAre (names s) scope None f.locals → IsWithin known scope
+    → IsTrue (expression_formed e) → HasKind (names s) known e t → IfOk (eval s l e) (IsOf t)
 
--- a merge of three ints is an int, where it has a value
-abbrev pub MergeLaw : Whole → Type 0
+-- ---- merges
+
+-- an int, or a fault of arithmetic
+abbrev pub IsNumberOrFault : Answer → Type 0
+IsNumberOrFault (Ok x) = IsOf kind.Int x
+IsNumberOrFault (Err cause.Overflow) = Unit {0}
+IsNumberOrFault (Err cause.ZeroDivisor) = Unit {0}
+IsNumberOrFault (Err cause.Index) = ⊥
+IsNumberOrFault (Err cause.Assert) = ⊥
+IsNumberOrFault (Err cause.JoinNone) = ⊥
+IsNumberOrFault (Err cause.CallDepth) = ⊥
+IsNumberOrFault (Err cause.Spent) = ⊥
+IsNumberOrFault (Err (cause.Merge n f)) = ⊥
+
+-- a merge of three ints is an int or a fault of arithmetic
+abbrev pub MergeLaw : ProgramTree → Type 0
 MergeLaw p =
-    (n : ℕ) (m j r : Value) → IsOf kind.Int m → IsOf kind.Int j → IsOf kind.Int r → IfOk (merge_value_of p n m j r) (IsOf kind.Int)
+    (n : ℕ) (m j r : Value) → IsOf kind.Int m → IsOf kind.Int j → IsOf kind.Int r → IsNumberOrFault (merge_value_of p n m j r)
+
+-- what a joiner's location takes of a joinee's by the merge of this number: three ints go in
+pub record IsMerge (p : ProgramTree) (k : ℕ) (joiner joinee : Location) (x : Value) : Type 0 where
+  pub main : IsOf kind.Int (view joiner)
+  pub join : IsOf kind.Int x
+  pub root : IsOf kind.Int joinee.base
+  pub answer : IsNumberOrFault (merge_value_of p k (view joiner) x joinee.base)
+
+-- where there is a merge, and the joinee wrote
+abbrev pub MergesLocation : ProgramTree → Option ℕ → Location → Location → Option Value → Type 0
+MergesLocation p (Some k) joiner joinee (Some x) = IsMerge p k joiner joinee x
+MergesLocation p (Some k) joiner joinee None = Unit {0}
+MergesLocation p None joiner joinee x = Unit {0}
+
+-- at each location: their merges, the joiner's and the joinee's
+abbrev pub MergesLocations : ProgramTree → List (Option ℕ) → List Location → List Location → Type 0
+MergesLocations p (k ∷ ks) (m ∷ ms) (j ∷ js) = MergesLocation p k m j j.written × MergesLocations p ks ms js
+MergesLocations p (k ∷ ks) (m ∷ ms) [] = Unit {0}
+MergesLocations p (k ∷ ks) [] js = Unit {0}
+MergesLocations p [] ms js = Unit {0}
+
+-- for any two revisions of a state
+abbrev pub MergesIn : Setting → Global Local → Type 0
+MergesIn s Twice = Unit {0}
+MergesIn s (Live revs) =
+    (r q : Path) (l j : Entry Local) → revs r ≡ Some l → revs q ≡ Some j
+    → MergesLocations s.program (merges_of (variables s.program)) (local_of l).locations (local_of j).locations
+
+-- in every state that a run reaches, whichever two revisions join
+abbrev pub JoinLaw : Setting → ℕ → Type 0
+JoinLaw s fuel = (g : Global Local) → Reached (calculus s) (main s fuel) g → MergesIn s g

@@ -5,10 +5,10 @@ pub mod Step
 pub mod Join
 pub mod Calculus
 pub mod Outcome
-pub mod Report
 pub mod Held
 pub mod Kept
 pub mod Kinded
 pub mod Complete
 pub mod Words
 pub mod Examples
+pub mod Tight

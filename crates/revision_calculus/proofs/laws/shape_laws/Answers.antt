@@ -1,8 +1,12 @@
 use Rattle.revision_machine.proofs.Kept.{kept_law}
 use Rattle.revision_calculus.specs.Calculus.{calculus, main}
 use Rattle.revision_calculus.specs.Kept.{IsShaped}
+use Rattle.revision_calculus.proofs.Placed.{place_law}
 use Rattle.revision_calculus.proofs.Shapes.{shape_kept, main_shaped}
 use Rattle.revision_calculus.proofs.laws.shape_laws.Goals as goal
 
 pub returns : goal.returns
-returns c = record { shaped = λ s fuel. kept_law (calculus s) (main s fuel) (IsShaped s) (shape_kept s) (main_shaped s fuel) }
+returns c = record {
+  shaped = λ s fuel. kept_law (calculus s) (main s fuel) (IsShaped s) (shape_kept s) (main_shaped s fuel);
+  placed = place_law;
+}
