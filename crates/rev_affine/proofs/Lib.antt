@@ -1,0 +1,11 @@
+pub mod Counts
+pub mod Readings
+pub mod Scopes
+pub mod Steps
+pub mod JoinStep
+pub mod Freedom
+pub mod Paths
+pub mod Exact
+pub mod Sound
+pub mod Places
+pub mod ExampleProofs
