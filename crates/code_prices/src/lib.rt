@@ -1,0 +1,15 @@
+//! What running code costs: prices that every step of certified code uses up.
+#![tactic(auto)]
+
+ghost use Rattle.std.specs.Prelude.{ℕ};
+ghost use Rattle.code_prices.specs.Prices.{Bears, entry_prices, leg_prices};
+ghost use Rattle.code_prices.specs.Uses.{EveryNumberedStepPays, LegsAreBounded};
+
+/// Every step of certified code uses up what it costs, and so a leg ends; the prices of legs and of schedules bear all
+/// code.
+pub fn price_laws()
+    ensures steps { EveryNumberedStepPays }
+    ensures legs { LegsAreBounded }
+    ensures leg_prices { (most : ℕ) → Bears (leg_prices most) most }
+    ensures entry_prices { (most : ℕ) → Bears entry_prices most }
+{}

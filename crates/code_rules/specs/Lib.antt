@@ -1,0 +1,4 @@
+pub mod Tables
+pub mod Shapes
+pub mod Pass
+pub mod Verdict

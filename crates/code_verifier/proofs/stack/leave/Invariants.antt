@@ -1,0 +1,9 @@
+use Rattle.std.proofs.Common.{◌≡◌, ◌<◌, drop, length}
+use Rattle.code_verifier.specs.Kept.{shape_at}
+use Rattle.code_verifier.proofs.stack.leave.Given as goal
+
+abbrev pub invariant-loop-i : goal.invariant-loop-i
+invariant-loop-i l = record {
+  within : l.rest < length l.shapes;
+  shape : shape_at l.shapes l.rest ≡ drop l.i (shape_at l.shapes l.initial.rest);
+}

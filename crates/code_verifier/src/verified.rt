@@ -1,0 +1,23 @@
+//! Code that was verified.
+
+ghost use Rattle.std.specs.Prelude.{◌≡◌};
+ghost use Rattle.code_verifier.specs.Verdicts.{KeepsRules};
+
+use rev_code::Code;
+
+/// Code that keeps all rules.
+#[derive(Drop)]
+pub struct Verified {
+    pub(crate) code: Code,
+    ghost sound: { KeepsRules code },
+}
+
+impl Verified {
+    /// The code.
+    pub fn code(&self) -> &Code
+        ensures code { result.now ≡ self.now.code }
+        ensures sound { KeepsRules result.now }
+    {
+        &self.code
+    }
+}

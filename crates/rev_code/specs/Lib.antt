@@ -1,0 +1,7 @@
+pub mod Words
+pub mod State
+pub mod Variables
+pub mod Printing
+pub mod Step
+pub mod Funs
+pub mod Events
