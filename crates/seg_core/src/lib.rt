@@ -1,0 +1,15 @@
+//! Segments with counts, and the steps of holders on them, as plain data.
+#![tactic(auto)]
+
+mod cells;
+mod laws;
+mod moves;
+mod segment;
+mod state;
+mod step;
+#[cfg(test)]
+mod tests;
+
+pub use laws::step_laws;
+pub use state::{SegState, apply, refs};
+pub use step::{Applied, SegStep};

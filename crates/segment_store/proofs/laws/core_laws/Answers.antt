@@ -1,0 +1,9 @@
+use Rattle.segment_store.proofs.Tying.{bases_tie}
+use Rattle.segment_store.proofs.Traces.{reaches}
+use Rattle.segment_store.proofs.laws.core_laws.Goals as goal
+
+pub returns-clause-shown : goal.returns-clause-shown
+returns-clause-shown c = reaches
+
+pub returns-clause-bases : goal.returns-clause-bases
+returns-clause-bases c = bases_tie

@@ -1,0 +1,5 @@
+use Rattle.segment_store.proofs.Groups.{same_group}
+use Rattle.segment_store.proofs.laws.group_law.Goals as goal
+
+pub returns : goal.returns
+returns c = same_group

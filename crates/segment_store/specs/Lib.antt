@@ -1,0 +1,12 @@
+pub mod Act
+pub mod Entry
+pub mod Store
+pub mod Base
+pub mod Same
+pub mod Own
+pub mod Shown
+pub mod Rule
+pub mod Live
+pub mod Names
+pub mod Group
+pub mod Depth

@@ -1,0 +1,23 @@
+//! What the rule says of the pure core, and of chains.
+ghost use Rattle.std.specs.Prelude.{◌≡◌, ℕ};
+ghost use Rattle.atomic_table.specs.Seated.{TableId};
+ghost use Rattle.segment_store.specs.Group.{group_of};
+ghost use Rattle.segment_store.specs.Depth.{IsDepthBound};
+ghost use Rattle.segment_store.specs.Rule.{Reaches, BasesTie};
+
+/// Between any two atomic steps the words and views show a core that the steps of the core lead to
+/// from the empty one, and the base of each seat's chain is that of the core.
+pub fn core_laws()
+    ensures shown { (words stride masks : ℕ) → Reaches words stride masks }
+    ensures bases { (words stride masks : ℕ) → BasesTie words stride masks }
+{}
+
+/// No chain is longer than the blocks are many.
+pub fn depth_bound()
+    ensures { IsDepthBound }
+{}
+
+/// The group of a store names it: no other store has the same.
+pub fn group_law()
+    ensures { (a b : TableId) → group_of a ≡ group_of b → a ≡ b }
+{}

@@ -1,0 +1,16 @@
+//! Reference-counted blocks of atomic words, whose contents never change while they are referred to.
+#![tactic(auto)]
+
+mod board;
+mod held;
+mod laws;
+mod plays;
+mod store;
+#[cfg(test)]
+mod tests;
+
+pub use board::{Size, View};
+pub use held::Held;
+pub use laws::{core_laws, depth_bound, group_law};
+pub use plays::Law;
+pub use store::{Closed, Hold, Spent, Store};

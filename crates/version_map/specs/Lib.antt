@@ -1,0 +1,3 @@
+pub mod Masks
+pub mod Deltas
+pub mod Overlay
