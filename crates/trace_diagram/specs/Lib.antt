@@ -1,0 +1,5 @@
+pub mod Places
+pub mod Lines
+pub mod Traces
+pub mod Cuts
+pub mod Laws

@@ -1,0 +1,51 @@
+-- Names of locations.
+--   reserved_words  the words that are no names
+--   is_name         whether the bytes are a name
+--   IsPlain         digits without a needless zero
+--   IsPlace         the bytes name a location: a variable, or a cell of an array
+use Rattle.std.specs.Prelude.{◌≡◌, ℕ, Bool, false, not, ◌&&◌, ◌||◌, ◌==◌, ◌⊎◌, nat_eq, nat_le, IsTrue, List, [], ◌∷◌, ◌++◌, length, codes}
+use Rattle.std.specs.List.{list_all, list_any}
+use Rattle.std.specs.Cmp.Lexicographic.{pointwise}
+
+-- '0' to '9'
+abbrev pub is_digit : ℕ → Bool
+is_digit b = nat_le 48 b && nat_le b 57
+
+-- 'A' to 'Z', 'a' to 'z' and '_'
+abbrev pub is_letter : ℕ → Bool
+is_letter b = (nat_le 65 b && nat_le b 90) || (nat_le 97 b && nat_le b 122) || (b == 95)
+
+abbrev pub is_name_byte : ℕ → Bool
+is_name_byte b = is_letter b || is_digit b
+
+-- a letter, and then letters and digits
+abbrev pub is_word : List ℕ → Bool
+is_word [] = false
+is_word (b ∷ bs) = is_letter b && list_all is_name_byte bs
+
+abbrev pub reserved_words : List (List ℕ)
+reserved_words = codes "fun" ∷ codes "merge" ∷ codes "versioned" ∷ codes "cumulative" ∷ codes "by" ∷ codes "proc" ∷ codes "main" ∷ codes "int" ∷ codes "bool" ∷ codes "rev" ∷ codes "let" ∷ codes "if" ∷ codes "else" ∷ codes "while" ∷ codes "call" ∷ codes "return" ∷ codes "rfork" ∷ codes "rjoin" ∷ codes "tryjoin" ∷ codes "print" ∷ codes "assert" ∷ codes "true" ∷ codes "false" ∷ codes "none" ∷ codes "input" ∷ codes "inputs" ∷ codes "pick" ∷ []
+
+abbrev pub is_reserved : List ℕ → Bool
+is_reserved bytes = list_any (λ word. pointwise nat_eq word bytes) reserved_words
+
+-- a word that is not reserved
+abbrev pub is_name : List ℕ → Bool
+is_name bytes = is_word bytes && not (is_reserved bytes)
+
+-- one or more digits, of which the first is a zero only where it is the only one
+abbrev pub is_plain : List ℕ → Bool
+is_plain [] = false
+is_plain (d ∷ ds) = list_all is_digit (d ∷ ds) && (not (d == 48) || (length ds == 0))
+
+-- a name, and a number of any size in brackets
+pub record IsCell (place : List ℕ) : Type 0 where
+  pub array : List ℕ
+  pub index : List ℕ
+  pub name : IsTrue (is_name array)
+  pub number : IsTrue (is_plain index)
+  pub is : place ≡ array ++ (91 ∷ index ++ 93 ∷ [])
+
+-- a variable, or a cell of an array
+abbrev pub IsPlace : List ℕ → Type 0
+IsPlace place = IsTrue (is_name place) ⊎ IsCell place
