@@ -13,6 +13,7 @@ ghost use Rattle.rev_words.specs.Answer.{Gives};
 mod command;
 mod fault;
 mod laws;
+mod load;
 mod numbers;
 mod settings;
 
@@ -20,6 +21,7 @@ use clap::ArgMatches;
 use command::matches_of;
 pub use fault::WordsFault;
 pub use laws::{row_laws, schedule_law};
+pub use load::load_text;
 use numbers::{numbers_of, schedule_of};
 use rev_num::Items;
 use settings::{is_flagged, mode_of, setting, small_setting};

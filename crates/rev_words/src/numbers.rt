@@ -37,7 +37,8 @@ fn few_numbers_in(alloc: Global, texts: &[&str]) -> Result<Vec<i64>, WordsFault>
 
 /// The input numbers.
 pub(crate) fn numbers_of(alloc: Global, matches: &ArgMatches) -> Result<Vec<i64>, WordsFault>
-    ensures { let texts = unwrap_or (all_of (codes "numbers") (rows_of (found_of matches.now))) [] in
+    ensures { let texts = unwrap_or
+        (all_of (codes "numbers") (rows_of (found_of matches.now))) [] in
         Gives (λ v. v.items) result (few_numbers_in texts) }
 {
     match texts_of(matches, "numbers") {

@@ -1,0 +1,6 @@
+use Rattle.rev_words.specs.Load.{declarations}
+use Rattle.rev_words.proofs.load.append_declarations.Goals as goal
+
+pub returns : goal.returns
+unfolding declarations
+returns c = c.push.ensures

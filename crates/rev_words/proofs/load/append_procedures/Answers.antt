@@ -1,0 +1,6 @@
+use Rattle.rev_words.specs.Load.{procedures}
+use Rattle.rev_words.proofs.load.append_procedures.Goals as goal
+
+pub returns : goal.returns
+unfolding procedures
+returns c = c.push.ensures
