@@ -3,7 +3,7 @@
 #![tactic(auto)]
 
 use rev_io::{StdSink, StdSource};
-use rev_top::rev_main;
+use rev_top::{out_of_memory, rev_main};
 use std::env::Env;
 use std::process::ExitCode;
 use std::{env, io};
@@ -21,7 +21,13 @@ fn main(rt: HostRuntime) -> ExitCode {
     let mut source = StdSource::new(rt.stdin());
     let mut out = StdSink::new(rt.stdout());
     let mut err = StdSink::new(rt.stderr());
-    // Words that cannot be had are wrong usage, as no words are.
-    let words = words_given(&rt).unwrap_or(Vec::new(rt.alloc()));
+    let words = match words_given(&rt) {
+        Ok(words) => words,
+        Err(error) if error.kind() == io::ErrorKind::OutOfMemory => {
+            return ExitCode::from(out_of_memory(&mut err));
+        }
+        // A word that is no UTF-8 is wrong usage, as no words are.
+        Err(_) => Vec::new(rt.alloc()),
+    };
     ExitCode::from(rev_main(&rt, words.as_slice(), &mut source, &mut out, &mut err))
 }

@@ -5,7 +5,7 @@ use Rattle.rev_io.specs.Stream.{Stream, Gave, Rose}
 use Rattle.rev_words.specs.declared.Mode.{Mode}
 use Rattle.rev_words.specs.declared.Mode.TheVariants as modes
 use Rattle.rev_words.specs.declared.Words.{Words}
-use Rattle.rev_syntax.specs.Trees.{Whole}
+use Rattle.rev_syntax.specs.Trees.{ProgramTree}
 use Rattle.rev_report.specs.Lines.{lines}
 use Rattle.rev_report.specs.Report.{Output, done}
 use Rattle.rev_report.specs.Messages.{shown, status_of}
@@ -35,7 +35,7 @@ pub runs_plain : (text : List ℕ) (a : Answer) → Runs text a → IsPlain a
 unfolding Runs
 runs_plain text (Ok o) h = go h.0 h.2
   where
-    go : (found : Result Whole Refusal) → Onward RunsProgram found (Ok o) → IsPlain (Ok o)
+    go : (found : Result ProgramTree Refusal) → Onward RunsProgram found (Ok o) → IsPlain (Ok o)
     go (Ok p) on = is_done (rw on.2 refl)
     go (Err f) on = cc
 runs_plain text (Err f) h =
@@ -116,7 +116,7 @@ of_text old new text refusals.NotBuilt gave h = absurd (check_of_text text refus
 Caused : Stream → Stream → Answer → Type 0
 Caused old new a = (f : Refusal) × (a ≡ Err f) × Cause old new f
 
-of_program : (old new : Stream) (text : List ℕ) (p : Whole) (a : Answer) → Gave old text new → Checks text (Ok p) → RunsProgram p a → (shown a).status ≡ 2 → Caused old new a
+of_program : (old new : Stream) (text : List ℕ) (p : ProgramTree) (a : Answer) → Gave old text new → Checks text (Ok p) → RunsProgram p a → (shown a).status ≡ 2 → Caused old new a
 unfolding Caused
 of_program old new text p (Ok o) gave h on is = absurd (omega (arith, is, ap (λ (x : Output). x.status) on.2))
 of_program old new text p (Err f) gave h on is =
@@ -126,7 +126,7 @@ of_run : (old new : Stream) (text : List ℕ) (a : Answer) → Gave old text new
 unfolding Caused Runs
 of_run old new text a gave h is = go h.0 h.1 h.2
   where
-    go : (found : Result Whole Refusal) → Checks text found → Onward RunsProgram found a → Caused old new a
+    go : (found : Result ProgramTree Refusal) → Checks text found → Onward RunsProgram found a → Caused old new a
     go (Ok p) s on = of_program old new text p a gave s on is
     go (Err g) s on = (g, on, of_text old new text g gave s)
 
@@ -153,7 +153,7 @@ at_most_5 w old new n (plain a b most) = omega arith
 
 -- ---- there is one answer
 
-one_program : (p : Whole) (a b : Answer) → RunsProgram p a → RunsProgram p b → a ≡ b
+one_program : (p : ProgramTree) (a b : Answer) → RunsProgram p a → RunsProgram p b → a ≡ b
 one_program p (Ok o) (Ok q) h k =
     ap (λ (x : Output). Ok x) (h.2 ∙ ap (λ ls. done (lines ls)) (prints_once p h.0 k.0 h.1 k.1) ∙ sym k.2)
 one_program p (Ok o) (Err f) h k = absurd (k.1 h.0 h.1)

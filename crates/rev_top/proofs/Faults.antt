@@ -1,7 +1,7 @@
 -- A text has one reading at most: one tree that keeps all rules, or one first fault.
 use Rattle.std.proofs.Common.{◌≡◌, ◌≢◌, ◌∙◌, ℕ, refl, sym, subst, ap, List, nat_eq, if◌then◌else◌}
 use Rattle.std.specs.Prelude.{Option, Some, None, Result, Ok, Err}
-use Rattle.rev_syntax.specs.Trees.{Whole}
+use Rattle.rev_syntax.specs.Trees.{ProgramTree}
 use Rattle.rev_syntax.specs.Tokens.{IsFirstFault}
 use Rattle.rev_syntax.specs.declared.token.Token.{Token}
 use Rattle.rev_syntax.specs.declared.scan.LexFault.{LexFault}
@@ -20,8 +20,9 @@ use Rattle.merge_decl.specs.declared.expand.MergeFault.TheVariants as fun
 use Rattle.rev_kinds.specs.Faults as types
 use Rattle.rev_kinds.specs.declared.fault.TypeFault.{TypeFault}
 use Rattle.rev_kinds.specs.declared.fault.TypeFault.TheVariants as type
-use Rattle.rev_kinds.specs.declared.fault.Which.{Which}
-use Rattle.rev_kinds.specs.declared.fault.Which.TheVariants as which
+use Rattle.rev_report.specs.Limits.{most}
+use Rattle.rev_report.specs.declared.limit.Limit.{Limit}
+use Rattle.rev_report.specs.declared.limit.Limit.TheVariants as limits
 use Rattle.rev_types.specs.Program as program
 use Rattle.rev_types.specs.Tables as tables
 use Rattle.rev_types.proofs.OwnLimits.{own_limits}
@@ -29,8 +30,11 @@ use Rattle.rev_report.specs.declared.fault.TextFault.TheVariants as fault
 use Rattle.rev_report.specs.declared.refusal.Refusal.{Refusal}
 use Rattle.rev_report.specs.declared.refusal.Refusal.TheVariants as refusals
 use Rattle.rev_report.specs.Messages.{status_of}
+use Rattle.rev_types.proofs.Accepting.{accepts}
+use Rattle.static_rules.specs.Front.{IsFirstBroken}
+use Rattle.static_rules.proofs.Fronts.{same_first}
 use Rattle.rev_top.specs.Stops.{Meets, report_of_syntax, stop_of}
-use Rattle.rev_top.specs.Texts.{Checks, ChecksTokens, ChecksTree, Cuts, KeepsFuns, KeepsTypes, Reads, Reports, fault_at, limited_of, place_in, reading, report_of_funs, report_of_lexical, report_of_types, unexpected_at}
+use Rattle.rev_top.specs.Texts.{Checks, ChecksTokens, ChecksTree, Cuts, KeepsFuns, KeepsTypes, Reads, Reports, fault_at, place_in, reading, report_of_funs, report_of_lexical, report_of_types, unexpected_at}
 use Rattle.rev_top.specs.declared.stop.Stop.{Stop}
 use Rattle.rev_top.proofs.Stages.{One, one_then, refusal_of, reported}
 
@@ -59,18 +63,18 @@ funs_by_rank text (fun.LaterFun at) = refl
 funs_by_rank text (fun.Arity at) = refl
 funs_by_rank text fun.OutOfMemory = refl
 
-over : List ℕ → ℕ → Which → Option Refusal
-over text at w = Some (refusals.OverLimit (place_in text at) (types.limit_of w) (limited_of w))
+over : List ℕ → ℕ → Limit → Option Refusal
+over text at w = Some (refusals.OverLimit (place_in text at) (most w) w)
 
 limits_by : List ℕ → ℕ → ℕ → Option Refusal
 limits_by text at n =
-    if nat_eq n 6 then over text at which.Locations else
-    (if nat_eq n 7 then over text at which.Procedures else
-    (if nat_eq n 8 then over text at which.Funs else
-    (if nat_eq n 9 then over text at which.Parameters else
-    (if nat_eq n 10 then over text at which.Locals else
-    (if nat_eq n 11 then over text at which.Items else
-    (if nat_eq n 12 then over text at which.Weight else None))))))
+    if nat_eq n 6 then over text at limits.Locations else
+    (if nat_eq n 7 then over text at limits.Procedures else
+    (if nat_eq n 8 then over text at limits.Funs else
+    (if nat_eq n 9 then over text at limits.Parameters else
+    (if nat_eq n 10 then over text at limits.Locals else
+    (if nat_eq n 11 then over text at limits.Items else
+    (if nat_eq n 12 then over text at limits.Weight else None))))))
 
 types_by : List ℕ → ℕ → ℕ → Option Refusal
 types_by text at n =
@@ -80,15 +84,15 @@ types_by text at n =
     (if nat_eq n 4 then Some (fault_at text at fault.WrongCount) else
     (if nat_eq n 5 then Some (fault_at text at fault.NoReturn) else limits_by text at n))))
 
-limits_by_rank : (text : List ℕ) (at : ℕ) (w : Which) → over text at w ≡ types_by text at (types.order w)
+limits_by_rank : (text : List ℕ) (at : ℕ) (w : Limit) → over text at w ≡ types_by text at (types.order w)
 unfolding limits_by types_by
-limits_by_rank text at which.Locations = refl
-limits_by_rank text at which.Procedures = refl
-limits_by_rank text at which.Funs = refl
-limits_by_rank text at which.Parameters = refl
-limits_by_rank text at which.Locals = refl
-limits_by_rank text at which.Items = refl
-limits_by_rank text at which.Weight = refl
+limits_by_rank text at limits.Locations = refl
+limits_by_rank text at limits.Procedures = refl
+limits_by_rank text at limits.Funs = refl
+limits_by_rank text at limits.Parameters = refl
+limits_by_rank text at limits.Locals = refl
+limits_by_rank text at limits.Items = refl
+limits_by_rank text at limits.Weight = refl
 
 types_by_rank : (text : List ℕ) (f : TypeFault) → types.HasLimit f → report_of_types text f ≡ types_by text (types.place f) (types.rank f)
 unfolding over limits_by types_by
@@ -97,7 +101,7 @@ types_by_rank text (type.Redeclared at) own = refl
 types_by_rank text (type.WrongType at) own = refl
 types_by_rank text (type.WrongCount at) own = refl
 types_by_rank text (type.NoReturn at) own = refl
-types_by_rank text (type.LimitOf at w n) own = ap (λ (x : ℕ). Some (refusals.OverLimit (place_in text at) x (limited_of w))) own ∙ limits_by_rank text at w
+types_by_rank text (type.LimitOf at w n) own = ap (λ (x : ℕ). Some (refusals.OverLimit (place_in text at) x w)) own ∙ limits_by_rank text at w
 types_by_rank text type.OutOfMemory own = refl
 
 -- ---- each stage has one value or refusal at most
@@ -114,19 +118,27 @@ one_cuts text (Err r) (Err s) h k =
 one_reads : (text : List ℕ) (ts : List Token) → One (Reads text ts)
 one_reads text ts a b h k = h.2 ∙ ap (reading text) (one_verdict text ts h.0 k.0 h.1 k.1) ∙ sym k.2
 
-one_funs : (text : List ℕ) (p : Whole) → One (KeepsFuns text p)
-one_funs text p (Ok q) (Ok r) h k = ap (λ (x : Whole). Ok x) (h.0 ∙ sym k.0)
+one_funs : (text : List ℕ) (p : ProgramTree) → One (KeepsFuns text p)
+one_funs text p (Ok q) (Ok r) h k = ap (λ (x : ProgramTree). Ok x) (h.0 ∙ sym k.0)
 one_funs text p (Ok q) (Err s) h k = absurd (no_first funs.place funs.rank (funs.fun_faults p) k.fault h.1 k.comes)
 one_funs text p (Err r) (Ok q) h k = absurd (no_first funs.place funs.rank (funs.fun_faults p) h.fault k.1 h.comes)
 one_funs text p (Err r) (Err s) h k =
     ap (λ (x : Refusal). Err x) (one_report funs.place funs.rank (report_of_funs text) (funs_by text) (funs.fun_faults p) (λ f among. funs_by_rank text f) r s h k)
 
-one_types : (text : List ℕ) (p : Whole) → One (KeepsTypes text p)
-one_types text p (Ok q) (Ok r) h k = ap (λ (x : Whole). Ok x) (h.0 ∙ sym k.0)
-one_types text p (Ok q) (Err s) h k = absurd (no_first types.place types.rank (program.faults p) k.fault h.1 k.comes)
-one_types text p (Err r) (Ok q) h k = absurd (no_first types.place types.rank (program.faults p) h.fault k.1 h.comes)
+-- the first rule that is broken is the first of the checker's list
+of_list : (text : List ℕ) (p : ProgramTree) (r : Refusal)
+    → Reports (IsFirstBroken p) (report_of_types text) r
+    → Reports (IsFirst types.place types.rank (program.faults p)) (report_of_types text) r
+of_list text p r h = record { fault = h.fault; comes = (same_first p h.fault).1 h.comes; reported = h.reported }
+
+one_types : (text : List ℕ) (p : ProgramTree) → One (KeepsTypes text p)
+one_types text p (Ok q) (Ok r) h k = ap (λ (x : ProgramTree). Ok x) (h.0 ∙ sym k.0)
+one_types text p (Ok q) (Err s) h k =
+    absurd (no_first types.place types.rank (program.faults p) k.fault (accepts p h.1) ((same_first p k.fault).1 k.comes))
+one_types text p (Err r) (Ok q) h k =
+    absurd (no_first types.place types.rank (program.faults p) h.fault (accepts p k.1) ((same_first p h.fault).1 h.comes))
 one_types text p (Err r) (Err s) h k =
-    ap (λ (x : Refusal). Err x) (one_report types.place types.rank (report_of_types text) (types_by text) (program.faults p) (λ f among. types_by_rank text f (own_limits p f among)) r s h k)
+    ap (λ (x : Refusal). Err x) (one_report types.place types.rank (report_of_types text) (types_by text) (program.faults p) (λ f among. types_by_rank text f (own_limits p f among)) r s (of_list text p r h) (of_list text p s k))
 
 pub one_check : (text : List ℕ) → One (Checks text)
 unfolding Checks
@@ -208,7 +220,7 @@ module _ {X : Type 0} (text : List ℕ) where
       → (f ≢ lex.OutOfMemory → IsFirstFault text f) → Meets view (Err e) (Cuts text)
   no_tokens view f e is h = refuses (report_of_lexical text) lex.OutOfMemory refl (IsFirstFault text) (Cuts text) (λ r x. x) view f e is h
 
-  module _ (view : X → Whole) where
+  module _ (view : X → ProgramTree) where
     pub no_tree : (ts : List Token) (f : SyntaxFault) (e : Stop) → e ≡ stop_of (report_of_syntax text f)
         → Parses text ts (Err f) → Meets view (Err e) (Reads text ts)
     no_tree ts f e is h = subst (λ (x : Stop). Meets view (Err x) (Reads text ts)) (sym is) (go f h)
@@ -218,10 +230,10 @@ module _ {X : Type 0} (text : List ℕ) where
         go (syntax.TooDeep at) k = (too_deep at, k, refl)
         go syntax.OutOfMemory k = tt
 
-    pub no_funs : (p : Whole) (f : MergeFault) (e : Stop) → e ≡ stop_of (report_of_funs text f)
+    pub no_funs : (p : ProgramTree) (f : MergeFault) (e : Stop) → e ≡ stop_of (report_of_funs text f)
         → expands.Refuses p f → Meets view (Err e) (KeepsFuns text p)
     no_funs p f e is h = refuses (report_of_funs text) fun.OutOfMemory refl (IsFirst funs.place funs.rank (funs.fun_faults p)) (KeepsFuns text p) (λ r x. x) view f e is h
 
-    pub no_types : (p : Whole) (f : TypeFault) (e : Stop) → e ≡ stop_of (report_of_types text f)
+    pub no_types : (p : ProgramTree) (f : TypeFault) (e : Stop) → e ≡ stop_of (report_of_types text f)
         → tables.Refuses p f → Meets view (Err e) (KeepsTypes text p)
-    no_types p f e is h = refuses (report_of_types text) type.OutOfMemory refl (IsFirst types.place types.rank (program.faults p)) (KeepsTypes text p) (λ r x. x) view f e is h
+    no_types p f e is h = refuses (report_of_types text) type.OutOfMemory refl (IsFirstBroken p) (KeepsTypes text p) (λ r x. x) view f e is (λ n. (same_first p f).0 (h n))

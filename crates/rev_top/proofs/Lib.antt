@@ -1,6 +1,7 @@
-pub mod Stages
-pub mod Faults
-pub mod Prints
-pub mod Steps
 pub mod Causes
+pub mod Faults
+pub mod Findings
 pub mod Kept
+pub mod Prints
+pub mod Stages
+pub mod Steps

@@ -9,7 +9,7 @@ use Rattle.rev_report.specs.Report.{Output, done}
 use Rattle.rev_report.specs.Messages.{shown}
 use Rattle.rev_report.specs.declared.refusal.Refusal.{Refusal}
 use Rattle.rev_report.specs.declared.refusal.Refusal.TheVariants as refusals
-use Rattle.rev_syntax.specs.Trees.{Whole}
+use Rattle.rev_syntax.specs.Trees.{ProgramTree}
 use Rattle.rev_parse.specs.SmallTree.{most_bytes}
 use Rattle.rev_top.specs.Stages.{Then}
 use Rattle.rev_top.specs.Texts.{Checks}
@@ -25,7 +25,7 @@ source_limit = most_bytes
 -- ---- one relation for each mode: this answer belongs to this text
 
 -- the lines that the program prints; a program that does more is not built yet
-abbrev pub RunsProgram : Whole → Answer → Type 0
+abbrev pub RunsProgram : ProgramTree → Answer → Type 0
 RunsProgram p (Ok o) = (lists : List (List ℤ)) × Prints p lists × (o ≡ done (lines lists))
 RunsProgram p (Err f) = (f ≡ refusals.NotBuilt) × ((lists : List (List ℤ)) → Prints p lists → ⊥)
 

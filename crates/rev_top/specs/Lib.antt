@@ -1,7 +1,8 @@
-pub mod Stages
-pub mod Texts
-pub mod Prints
 pub mod Answer
-pub mod Stops
 pub mod Delivery
+pub mod Findings
+pub mod Prints
 pub mod Promises
+pub mod Stages
+pub mod Stops
+pub mod Texts

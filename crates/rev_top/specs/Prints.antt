@@ -1,6 +1,6 @@
 -- The programs that only print numbers, as `main { print 1, 2; print 3; }`.
 use Rattle.std.specs.Prelude.{◌≡◌, ℤ, List, [], ◌∷◌, Option, Some, None}
-use Rattle.rev_syntax.specs.Trees.{Term, placed, Shape, int, bool, no_rev, var, cell, apply, input, inputs, pick, unary, chain, Shown, text, shown, Step, step, Act, bind, assign, assign_cell, choose, choose_or, repeat, call, return, fork, join, print, assert, Steps, no_steps, steps, Whole}
+use Rattle.rev_syntax.specs.Trees.{Expression, placed, ExpressionForm, int, bool, no_rev, var, cell, apply, input, inputs, pick, unary, chain, PrintItem, text, shown, Statement, statement, StatementForm, bind, assign, assign_cell, choose, choose_or, repeat, call, return, fork, join, print, assert, Statements, no_statements, statements, ProgramTree}
 
 -- the members of one list stand in a relation to those of another, each to the one in its place
 abbrev pub Each : {A B : Type 0} → (A → B → Type 0) → List A → List B → Type 0
@@ -10,60 +10,60 @@ Each R (x ∷ xs) [] = ⊥
 Each R (x ∷ xs) (y ∷ ys) = R x y × Each R xs ys
 
 -- the number that is written, where an expression is no more than that
-abbrev pub number_of_shape : Shape → Option ℤ
-number_of_shape (int n) = Some n
-number_of_shape (bool b) = None
-number_of_shape no_rev = None
-number_of_shape (var w) = None
-number_of_shape (cell w index) = None
-number_of_shape (apply w args) = None
-number_of_shape (input at index) = None
-number_of_shape (inputs at) = None
-number_of_shape (pick test a b) = None
-number_of_shape (unary op part) = None
-number_of_shape (chain first rest) = None
+abbrev pub number_of_expression_form : ExpressionForm → Option ℤ
+number_of_expression_form (int n) = Some n
+number_of_expression_form (bool b) = None
+number_of_expression_form no_rev = None
+number_of_expression_form (var w) = None
+number_of_expression_form (cell w index) = None
+number_of_expression_form (apply w args) = None
+number_of_expression_form (input at index) = None
+number_of_expression_form (inputs at) = None
+number_of_expression_form (pick test a b) = None
+number_of_expression_form (unary op part) = None
+number_of_expression_form (chain first rest) = None
 
-abbrev pub number_of_term : Term → Option ℤ
-number_of_term (placed at s) = number_of_shape s
+abbrev pub number_of_expression : Expression → Option ℤ
+number_of_expression (placed at s) = number_of_expression_form s
 
-abbrev pub number_of : Shown → Option ℤ
+abbrev pub number_of : PrintItem → Option ℤ
 number_of (text at bytes) = None
-number_of (shown e) = number_of_term e
+number_of (shown e) = number_of_expression e
 
 -- the items of a print
-abbrev pub items_of_act : Act → Option (List Shown)
-items_of_act (print items) = Some items
-items_of_act (bind w r) = None
-items_of_act (assign w r) = None
-items_of_act (assign_cell w index value) = None
-items_of_act (choose arms) = None
-items_of_act (choose_or arms last) = None
-items_of_act (repeat test body) = None
-items_of_act (call w args) = None
-items_of_act (return value) = None
-items_of_act (fork w args) = None
-items_of_act (join handle) = None
-items_of_act (assert test) = None
+abbrev pub items_of_statement_form : StatementForm → Option (List PrintItem)
+items_of_statement_form (print items) = Some items
+items_of_statement_form (bind w r) = None
+items_of_statement_form (assign w r) = None
+items_of_statement_form (assign_cell w index value) = None
+items_of_statement_form (choose arms) = None
+items_of_statement_form (choose_or arms last) = None
+items_of_statement_form (repeat test body) = None
+items_of_statement_form (call w args) = None
+items_of_statement_form (return value) = None
+items_of_statement_form (fork w args) = None
+items_of_statement_form (join handle) = None
+items_of_statement_form (assert test) = None
 
-abbrev pub items_of : Step → Option (List Shown)
-items_of (step at line act) = items_of_act act
+abbrev pub items_of : Statement → Option (List PrintItem)
+items_of (statement at line form) = items_of_statement_form form
 
 -- the item is this number
-abbrev pub IsNumber : Shown → ℤ → Type 0
+abbrev pub IsNumber : PrintItem → ℤ → Type 0
 IsNumber item n = number_of item ≡ Some n
 
 -- the statement prints these numbers
-abbrev pub IsPrint : Step → List ℤ → Type 0
-IsPrint s ns = (items : List Shown) × (items_of s ≡ Some items) × Each IsNumber items ns
+abbrev pub IsPrint : Statement → List ℤ → Type 0
+IsPrint s ns = (items : List PrintItem) × (items_of s ≡ Some items) × Each IsNumber items ns
 
 -- each of the statements prints the numbers of one list
-abbrev pub EachPrints : Steps → List (List ℤ) → Type 0
-EachPrints no_steps [] = Unit {0}
-EachPrints no_steps (ns ∷ lists) = ⊥
-EachPrints (steps s rest) [] = ⊥
-EachPrints (steps s rest) (ns ∷ lists) = IsPrint s ns × EachPrints rest lists
+abbrev pub EachPrints : Statements → List (List ℤ) → Type 0
+EachPrints no_statements [] = Unit {0}
+EachPrints no_statements (ns ∷ lists) = ⊥
+EachPrints (statements s rest) [] = ⊥
+EachPrints (statements s rest) (ns ∷ lists) = IsPrint s ns × EachPrints rest lists
 
 -- the program declares nothing, and its `main` prints these lists of numbers and does no more
-pub record Prints (p : Whole) (lists : List (List ℤ)) : Type 0 where
-  pub alone : p.entries ≡ []
+pub record Prints (p : ProgramTree) (lists : List (List ℤ)) : Type 0 where
+  pub alone : p.declarations ≡ []
   pub in_main : EachPrints p.main lists

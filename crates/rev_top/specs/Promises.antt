@@ -8,7 +8,7 @@ use Rattle.rev_report.specs.Messages.{refused, shown}
 use Rattle.rev_report.specs.Status.{no_memory_status, read_fault_status, refused_status, usage_status, write_fault_status}
 use Rattle.rev_report.specs.declared.refusal.Refusal.{Refusal}
 use Rattle.rev_report.specs.declared.refusal.Refusal.TheVariants as refusals
-use Rattle.rev_syntax.specs.Trees.{Whole}
+use Rattle.rev_syntax.specs.Trees.{ProgramTree}
 use Rattle.rev_top.specs.Texts.{Checks}
 use Rattle.rev_top.specs.Prints.{Prints}
 use Rattle.rev_top.specs.Answer.{Answer, Answers, Runs, source_limit}
@@ -46,7 +46,7 @@ Cause old new (refusals.Text place fault) =
 Cause old new (refusals.OverLimit place limit which) =
     (text : List ℕ) × Gave old text new × Checks text (Err (refusals.OverLimit place limit which))
 Cause old new refusals.NotBuilt = (text : List ℕ) × Gave old text new
-    × (p : Whole) × Checks text (Ok p) × ((lists : List (List ℤ)) → Prints p lists → ⊥)
+    × (p : ProgramTree) × Checks text (Ok p) × ((lists : List (List ℤ)) → Prints p lists → ⊥)
 Cause old new refusals.Usage = ⊥
 Cause old new refusals.ReadFault = ⊥
 

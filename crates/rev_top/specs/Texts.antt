@@ -5,7 +5,7 @@
 use Rattle.std.specs.Prelude.{◌≡◌, ◌==◌, ℕ, if◌then◌else◌, List, [], length, Option, Some, None, Result, Ok, Err}
 use Rattle.rev_syntax.specs.Places.{line_of, column_of}
 use Rattle.rev_syntax.specs.Tokens.{IsTokens, IsFirstFault}
-use Rattle.rev_syntax.specs.Trees.{Whole}
+use Rattle.rev_syntax.specs.Trees.{ProgramTree}
 use Rattle.rev_syntax.specs.declared.token.Token.{Token}
 use Rattle.rev_syntax.specs.declared.scan.LexFault.{LexFault}
 use Rattle.rev_syntax.specs.declared.scan.LexFault.TheVariants as lex
@@ -14,17 +14,13 @@ use Rattle.merge_decl.specs.Least.{IsFirst}
 use Rattle.merge_decl.specs.FunRules as funs
 use Rattle.merge_decl.specs.declared.expand.MergeFault.{MergeFault}
 use Rattle.merge_decl.specs.declared.expand.MergeFault.TheVariants as fun
-use Rattle.rev_kinds.specs.Faults as types
 use Rattle.rev_kinds.specs.declared.fault.TypeFault.{TypeFault}
 use Rattle.rev_kinds.specs.declared.fault.TypeFault.TheVariants as type
-use Rattle.rev_kinds.specs.declared.fault.Which.{Which}
-use Rattle.rev_kinds.specs.declared.fault.Which.TheVariants as which
-use Rattle.rev_types.specs.Program as program
+use Rattle.rev_types.specs.Accepted.{IsWellTyped}
+use Rattle.static_rules.specs.Front.{IsFirstBroken}
 use Rattle.rev_report.specs.declared.fault.Place.{Place}
 use Rattle.rev_report.specs.declared.fault.TextFault.{TextFault}
 use Rattle.rev_report.specs.declared.fault.TextFault.TheVariants as fault
-use Rattle.rev_report.specs.declared.fault.Limited.{Limited}
-use Rattle.rev_report.specs.declared.fault.Limited.TheVariants as limited
 use Rattle.rev_report.specs.declared.refusal.Refusal.{Refusal}
 use Rattle.rev_report.specs.declared.refusal.Refusal.TheVariants as refusals
 use Rattle.rev_top.specs.Stages.{Then}
@@ -48,7 +44,7 @@ report_of_lexical text lex.OutOfMemory = None
 abbrev pub unexpected_at : List ℕ → ℕ → TextFault
 unexpected_at text at = if at == length text then fault.UnexpectedEnd else fault.UnexpectedToken
 
-abbrev pub reading : List ℕ → Verdict → Result Whole Refusal
+abbrev pub reading : List ℕ → Verdict → Result ProgramTree Refusal
 reading text (tree p) = Ok p
 reading text (unexpected at) = Err (fault_at text at (unexpected_at text at))
 reading text (too_deep at) = Err (fault_at text at fault.TooDeep)
@@ -59,22 +55,13 @@ report_of_funs text (fun.LaterFun at) = Some (fault_at text at fault.LaterFun)
 report_of_funs text (fun.Arity at) = Some (fault_at text at fault.ArgumentCount)
 report_of_funs text fun.OutOfMemory = None
 
-abbrev pub limited_of : Which → Limited
-limited_of which.Locations = limited.Locations
-limited_of which.Procedures = limited.Procedures
-limited_of which.Funs = limited.Funs
-limited_of which.Parameters = limited.Parameters
-limited_of which.Locals = limited.Locals
-limited_of which.Items = limited.Items
-limited_of which.Weight = limited.Weight
-
 abbrev pub report_of_types : List ℕ → TypeFault → Option Refusal
 report_of_types text (type.UnknownName at) = Some (fault_at text at fault.UnknownName)
 report_of_types text (type.Redeclared at) = Some (fault_at text at fault.Redeclared)
 report_of_types text (type.WrongType at) = Some (fault_at text at fault.WrongType)
 report_of_types text (type.WrongCount at) = Some (fault_at text at fault.WrongCount)
 report_of_types text (type.NoReturn at) = Some (fault_at text at fault.NoReturn)
-report_of_types text (type.LimitOf at w n) = Some (refusals.OverLimit (place_in text at) n (limited_of w))
+report_of_types text (type.LimitOf at w n) = Some (refusals.OverLimit (place_in text at) n w)
 report_of_types text type.OutOfMemory = None
 
 -- ---- the stages
@@ -91,25 +78,25 @@ Cuts text (Ok ts) = IsTokens text ts
 Cuts text (Err r) = Reports (IsFirstFault text) (report_of_lexical text) r
 
 -- the one tree of the tokens, or their first syntax fault
-abbrev pub Reads : List ℕ → List Token → Result Whole Refusal → Type 0
+abbrev pub Reads : List ℕ → List Token → Result ProgramTree Refusal → Type 0
 Reads text ts r = (v : Verdict) × IsVerdict text ts v × (r ≡ reading text v)
 
 -- the program, where it has no fault of its funs, or the first of them
-abbrev pub KeepsFuns : List ℕ → Whole → Result Whole Refusal → Type 0
+abbrev pub KeepsFuns : List ℕ → ProgramTree → Result ProgramTree Refusal → Type 0
 KeepsFuns text p (Ok q) = (q ≡ p) × (funs.fun_faults p ≡ [])
 KeepsFuns text p (Err r) = Reports (IsFirst funs.place funs.rank (funs.fun_faults p)) (report_of_funs text) r
 
--- the program, where it breaks no other static rule and no limit, or the first that it breaks
-abbrev pub KeepsTypes : List ℕ → Whole → Result Whole Refusal → Type 0
-KeepsTypes text p (Ok q) = (q ≡ p) × (program.faults p ≡ [])
-KeepsTypes text p (Err r) = Reports (IsFirst types.place types.rank (program.faults p)) (report_of_types text) r
+-- the program, where it is well typed and within the limits, or the first of the other rules that it breaks
+abbrev pub KeepsTypes : List ℕ → ProgramTree → Result ProgramTree Refusal → Type 0
+KeepsTypes text p (Ok q) = (q ≡ p) × IsWellTyped p
+KeepsTypes text p (Err r) = Reports (IsFirstBroken p) (report_of_types text) r
 
-abbrev pub ChecksTree : List ℕ → Whole → Result Whole Refusal → Type 0
+abbrev pub ChecksTree : List ℕ → ProgramTree → Result ProgramTree Refusal → Type 0
 ChecksTree text p = Then (KeepsFuns text p) (KeepsTypes text)
 
-abbrev pub ChecksTokens : List ℕ → List Token → Result Whole Refusal → Type 0
+abbrev pub ChecksTokens : List ℕ → List Token → Result ProgramTree Refusal → Type 0
 ChecksTokens text ts = Then (Reads text ts) (ChecksTree text)
 
 -- the program that the text is, where it keeps all rules, or its first fault
-unfoldable pub Checks : List ℕ → Result Whole Refusal → Type 0
+unfoldable pub Checks : List ℕ → Result ProgramTree Refusal → Type 0
 Checks text = Then (Cuts text) (ChecksTokens text)

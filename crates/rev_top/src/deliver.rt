@@ -14,8 +14,9 @@ use rev_io::{Sink, SinkFault, Source, write_all};
 use rev_report::{Report, no_memory_message, status};
 use std::alloc::Global;
 
-/// Writes the message for want of memory, as far as `err` takes it.
-fn tell_want<E: Sink>(err: &mut E) -> u8
+/// Writes the message for want of memory, as far as `err` takes it, and answers its status. For a
+/// caller that has no memory for the words of a call.
+pub fn out_of_memory<E: Sink>(err: &mut E) -> u8
     ensures status { result ≡ no_memory_status }
     ensures some { TookSome (E.stream err.old) no_memory (E.stream err.new) }
 {
@@ -29,7 +30,7 @@ fn deliver<O: Sink, E: Sink>(out: &mut O, err: &mut E, report: &Report) -> u8
 {
     match write_all(out, report.out.as_slice()) {
         Err(SinkFault::Failed) => status::WRITE_FAULT,
-        Err(SinkFault::OutOfMemory) => tell_want(err),
+        Err(SinkFault::OutOfMemory) => out_of_memory(err),
         Ok(()) => match write_all(err, report.err.as_slice()) {
             Err(SinkFault::Failed) => status::WRITE_FAULT,
             Err(SinkFault::OutOfMemory) => status::NO_MEMORY,
@@ -54,6 +55,6 @@ pub fn happen<S: Source, O: Sink, E: Sink>(
 {
     match make_report(alloc, words, source) {
         Ok(report) => deliver(out, err, &report),
-        Err(_) => tell_want(err),
+        Err(_) => out_of_memory(err),
     }
 }

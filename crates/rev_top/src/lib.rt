@@ -16,7 +16,8 @@ mod tests;
 mod text;
 
 use deliver::happen;
-pub use law::one_answer;
+pub use deliver::out_of_memory;
+pub use law::{one_answer, one_finding};
 use rev_io::{Sink, Source};
 
 /// One call of the program, with the words that follow its name. It writes the bytes of the report

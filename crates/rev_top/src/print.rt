@@ -1,13 +1,13 @@
 //! Programs that only print numbers.
 ghost use Rattle.std.specs.Prelude.{◌≡◌, ℤ, List, IfNone, IfOk, IfSome, map, option_map};
-ghost use Rattle.rev_syntax.specs.View.{block, program as whole, shape, shown, stmt};
-ghost use Rattle.rev_top.specs.Prints.{Each, EachPrints, IsNumber, IsPrint, Prints, items_of, number_of, number_of_shape};
+ghost use Rattle.rev_syntax.specs.View.{block, program as whole, expression_form, print_item, stmt};
+ghost use Rattle.rev_top.specs.Prints.{Each, EachPrints, IsNumber, IsPrint, Prints, items_of, number_of, number_of_expression_form};
 
 use rev_syntax::{Block, Form, Item, Node, Program, Stmt};
 use std::alloc::{AllocError, Global};
 
 fn number_of_node(node: &Node) -> Option<i64>
-    ensures { result ≡ number_of_shape (shape node.now) }
+    ensures { result ≡ number_of_expression_form (expression_form node.now) }
 {
     match node {
         Node::Int(number) => Some(*number),
@@ -17,7 +17,7 @@ fn number_of_node(node: &Node) -> Option<i64>
 
 /// The number that an item is, if it is no more than that.
 fn number_of(item: &Item) -> Option<i64>
-    ensures { result ≡ number_of (shown item.now) }
+    ensures { result ≡ number_of (print_item item.now) }
 {
     match item {
         Item::Value(value) => number_of_node(&value.node),
@@ -27,8 +27,10 @@ fn number_of(item: &Item) -> Option<i64>
 
 /// The numbers that items are, if each is one.
 fn numbers_of(alloc: Global, items: &[Item]) -> Result<Option<Vec<i64>>, AllocError>
-    ensures some { IfOk result (λ o. IfSome o (λ v. Each IsNumber (map shown items.now) v.items)) }
-    ensures none { IfOk result (λ o. IfNone o ((ns : List ℤ) → Each IsNumber (map shown items.now) ns → ⊥)) }
+    ensures some { IfOk result
+        (λ o. IfSome o (λ v. Each IsNumber (map print_item items.now) v.items)) }
+    ensures none { IfOk result
+        (λ o. IfNone o ((ns : List ℤ) → Each IsNumber (map print_item items.now) ns → ⊥)) }
 {
     let mut numbers = Vec::new(alloc);
     for item in items {
@@ -42,7 +44,8 @@ fn numbers_of(alloc: Global, items: &[Item]) -> Result<Option<Vec<i64>>, AllocEr
 
 /// The items of a print.
 fn items_of(statement: &Stmt) -> Option<&[Item]>
-    ensures { option_map (λ items. map shown items.now) result ≡ items_of (stmt statement.now) }
+    ensures { option_map (λ items. map print_item items.now) result
+        ≡ items_of (stmt statement.now) }
 {
     match &statement.form {
         Form::Print { items } => Some(items.as_slice()),
@@ -53,7 +56,8 @@ fn items_of(statement: &Stmt) -> Option<&[Item]>
 /// The numbers that a statement prints, if it does only that.
 fn printed_by(alloc: Global, statement: &Stmt) -> Result<Option<Vec<i64>>, AllocError>
     ensures some { IfOk result (λ o. IfSome o (λ v. IsPrint (stmt statement.now) v.items)) }
-    ensures none { IfOk result (λ o. IfNone o ((ns : List ℤ) → IsPrint (stmt statement.now) ns → ⊥)) }
+    ensures none { IfOk result
+        (λ o. IfNone o ((ns : List ℤ) → IsPrint (stmt statement.now) ns → ⊥)) }
 {
     match items_of(statement) {
         Some(items) => numbers_of(alloc, items),

@@ -5,17 +5,16 @@ ghost use Rattle.rev_syntax.specs.Tokens.{IsToken, IsTokens};
 ghost use Rattle.rev_syntax.specs.View.{program as whole};
 ghost use Rattle.rev_top.specs.Answer.{source_limit};
 ghost use Rattle.rev_top.specs.Stops.{Meets, report_of_syntax, stop_of};
-ghost use Rattle.rev_top.specs.Texts.{Checks, ChecksTokens, ChecksTree, Cuts, KeepsFuns, KeepsTypes, Reads, fault_at, limited_of, place_in, report_of_funs, report_of_lexical, report_of_types, unexpected_at};
+ghost use Rattle.rev_top.specs.Texts.{Checks, ChecksTokens, ChecksTree, Cuts, KeepsFuns, KeepsTypes, Reads, fault_at, place_in, report_of_funs, report_of_lexical, report_of_types, unexpected_at};
 ghost use Rattle.rev_top.specs.declared.stop.Stop.TheVariants as stops;
 
 use crate::stop::Stop;
-use merge_decl::expand::{Expanded, MergeFault, expand_funs};
-use rev_kinds::fault::{TypeFault, Which};
+use merge_decl::{Expanded, MergeFault, expand_funs};
+use rev_kinds::TypeFault;
 use rev_parse::{SyntaxFault, parse};
-use rev_report::{Limited, Place, Refusal, TextFault};
+use rev_report::{Place, Refusal, TextFault};
 use rev_syntax::{LexFault, Program, Token, line_column, tokens};
-use rev_types::check::check;
-use rev_types::typed::Typed;
+use rev_types::{Typed, check};
 use std::alloc::Global;
 
 /// Line and column of an offset; what is past the end stands at the end.
@@ -87,20 +86,6 @@ fn of_funs(text: &[u8], fault: MergeFault) -> Stop
     }
 }
 
-fn limited_of(which: Which) -> Limited
-    ensures { result ≡ limited_of which }
-{
-    match which {
-        Which::Locations => Limited::Locations,
-        Which::Procedures => Limited::Procedures,
-        Which::Funs => Limited::Funs,
-        Which::Parameters => Limited::Parameters,
-        Which::Locals => Limited::Locals,
-        Which::Items => Limited::Items,
-        Which::Weight => Limited::Weight,
-    }
-}
-
 /// Which static rule or limit a program breaks.
 fn of_types(text: &[u8], fault: TypeFault) -> Stop
     requires { length text.now ≤ source_limit }
@@ -115,7 +100,7 @@ fn of_types(text: &[u8], fault: TypeFault) -> Stop
         TypeFault::LimitOf { at, which, limit } => Stop::Refused(Refusal::OverLimit {
             place: place_in(text, at),
             limit,
-            which: limited_of(which),
+            which,
         }),
         TypeFault::OutOfMemory => Stop::OutOfMemory,
     }
@@ -160,7 +145,8 @@ fn expanded_of(alloc: Global, text: &[u8], program: Program) -> Result<Expanded,
 /// The program with its tables, if it keeps all static rules.
 fn typed_of(alloc: Global, text: &[u8], expanded: Expanded) -> Result<Typed, Stop>
     requires { length text.now ≤ source_limit }
-    ensures { Meets (λ t. whole t.expanded.program) result (KeepsTypes text.now (whole expanded.program)) }
+    ensures { Meets (λ t. whole t.expanded.program) result
+        (KeepsTypes text.now (whole expanded.program)) }
 {
     match check(alloc, expanded) {
         Ok(typed) => Ok(typed),
