@@ -1,12 +1,13 @@
-//! Programs that keep or break the affine rule, each of which is named in `specs/Examples.antt` with its text.
+//! Programs that keep or break the affine rule, each of which is named in `specs/Examples.antt`
+//! with its text.
 
 ghost use Rattle.revision_calculus.specs.Kinded.{IsAccepted};
 ghost use Rattle.rev_affine.specs.Affine.{IsAffine, copied, in_loop, stored, used_twice};
 ghost use Rattle.rev_affine.specs.Laws.{IsRefused};
 ghost use Rattle.rev_affine.specs.Examples as x;
 
-/// Well-typed programs that keep the rule: one use, one in each arm of an `if`, one before a `return` and one behind it,
-/// and one after each value.
+/// Well-typed programs that keep the rule: one use, one in each arm of an `if`, one before a
+/// `return` and one behind it, and one after each value.
 pub fn affine_programs()
     ensures once { IsAffine x.joins_once }
     ensures either { IsAffine x.joins_in_either }

@@ -1,5 +1,5 @@
-//! Laws of the affine rule, each of which is a function that does nothing: what it ensures holds of every program,
-//! input, fuel and share, whatever the order of the steps.
+//! Laws of the affine rule, each of which is a function that does nothing: what it ensures holds of
+//! every program, input, fuel and share, whatever the order of the steps.
 
 ghost use Rattle.std.specs.Prelude.{ℕ};
 ghost use Rattle.rev_syntax.specs.Trees.{ProgramTree};
@@ -10,9 +10,10 @@ ghost use Rattle.rev_affine.specs.Owned.{UsesHandlesOnce};
 ghost use Rattle.rev_affine.specs.Laws.{Decides, FindsBreaches, NeverTwice, OnlyBreaches, OwnerLaw};
 ghost use Rattle.rev_affine.specs.Places.{first_breakage};
 
-/// No run of a well-typed program that keeps the affine rule reaches the state of a second join. Such a program uses
-/// each handle once, which suffices: in every state that a run reaches, each revision is named by at most one live place
-/// of the revisions that no join has taken, and one that a join has taken by none.
+/// No run of a well-typed program that keeps the affine rule reaches the state of a second join.
+/// Such a program uses each handle once, which suffices: in every state that a run reaches, each
+/// revision is named by at most one live place of the revisions that no join has taken, and one
+/// that a join has taken by none.
 pub fn affine_laws()
     ensures affine { (s : Setting) (fuel : ℕ) → IsAccepted s.program → IsAffine s.program
         → NeverTwice s fuel }
@@ -23,9 +24,10 @@ pub fn affine_laws()
         → UsesHandlesOnce s.program → OwnerLaw s fuel }
 {}
 
-/// The lists of places have each place where a program breaks the rule; and where it is well typed, they have no other
-/// place. So a well-typed program keeps the rule where there is none, and else the first of them is the first that it
-/// breaks: at the least place, and there of the least number.
+/// The lists of places have each place where a program breaks the rule; and where it is well typed,
+/// they have no other place. So a well-typed program keeps the rule where there is none, and else
+/// the first of them is the first that it breaks: at the least place, and there of the least
+/// number.
 pub fn place_laws()
     ensures found { (p : ProgramTree) → FindsBreaches p }
     ensures sound { (p : ProgramTree) → IsAccepted p → OnlyBreaches p }

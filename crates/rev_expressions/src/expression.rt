@@ -1,7 +1,8 @@
 // Expressions.
 ghost use Rattle.std.specs.Prelude.{◌≡◌, ◌++◌, [], ◌∷◌, IfOk, OnOk, map, length};
 ghost use Rattle.rev_expressions.specs.Grammar as spec;
-ghost use Rattle.rev_expressions.specs.Parse.{parse, inside, IsSign, links, of_name, of_parts, cell_of, apply_of, expr_begins};
+ghost use Rattle.rev_expressions.specs.Parse.{parse, inside, IsSign, links, of_name};
+ghost use Rattle.rev_expressions.specs.Parse.{of_parts, cell_of, apply_of, expr_begins};
 ghost use Rattle.rev_expressions.specs.Lists.{more_behind};
 ghost use Rattle.rev_expressions.specs.Parses.{Parses, ParsesBy};
 ghost use Rattle.rev_syntax.specs.Trees as t;

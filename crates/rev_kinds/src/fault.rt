@@ -1,7 +1,7 @@
 //! Static rules and limits that a program breaks.
 
 ghost use Rattle.std.specs.Prelude.{◌≡◌};
-ghost use Rattle.merge_decl.specs.Least.{is_less, first_of};
+ghost use Rattle.merge_decl.specs.Least.{first_of};
 ghost use Rattle.rev_kinds.specs.Faults as rule;
 ghost use Rattle.rev_kinds.specs.declared.fault.TypeFault.TheVariants.{OutOfMemory};
 
@@ -91,25 +91,19 @@ fn rank(fault: TypeFault) -> u8
     }
 }
 
-/// Whether a fault is at a lesser place than another, or at the same with a lesser number.
-fn precedes(f: TypeFault, g: TypeFault) -> bool
-    ensures { result ≡ is_less (rule.place f) (rule.rank f) (rule.place g) (rule.rank g) }
-{
-    if place(f) < place(g) {
-        true
-    } else if place(g) < place(f) {
-        false
-    } else {
-        rank(f) < rank(g)
-    }
-}
-
-/// The first of two faults, either of which may be absent.
+/// The first of two faults, either of which may be absent: the one at the lesser place, and at one
+/// place the one of the lesser number.
 pub fn first(a: Option<TypeFault>, b: Option<TypeFault>) -> Option<TypeFault>
     ensures { result ≡ first_of rule.place rule.rank a b }
 {
     match (a, b) {
-        (Some(f), Some(g)) => Some(if precedes(g, f) { g } else { f }),
+        (Some(f), Some(g)) => {
+            if (place(g), rank(g)) < (place(f), rank(f)) {
+                Some(g)
+            } else {
+                Some(f)
+            }
+        }
         (Some(f), None) => Some(f),
         (None, b) => b,
     }

@@ -2,9 +2,11 @@
 //! every path.
 
 ghost use Rattle.std.specs.Prelude.{IsTrue};
-ghost use Rattle.rev_num.specs.Laws.{DecimalsAreExact, DivisionFailsOnlyThere, DivisionTruncates, WordsAndNumbersAreInverse, WrittenIsRead};
+ghost use Rattle.rev_num.specs.Laws.{DecimalsAreExact, DivisionFailsOnlyThere, DivisionTruncates};
+ghost use Rattle.rev_num.specs.Laws.{WordsAndNumbersAreInverse, WrittenIsRead};
 ghost use Rattle.rev_num.specs.Path.{before};
-ghost use Rattle.rev_num.specs.PostOrder.{ChildrenComeFirst, ChildrenComeInOrder, IsStrictTotalOrder, TestsAreExact};
+ghost use Rattle.rev_num.specs.PostOrder.{ChildrenComeFirst, ChildrenComeInOrder};
+ghost use Rattle.rev_num.specs.PostOrder.{IsStrictTotalOrder, TestsAreExact};
 
 /// Post-order of paths: it is a strict total order, in which a child comes before its forker, and an
 /// earlier child, with all that stands below it, before a later one.

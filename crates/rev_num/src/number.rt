@@ -1,7 +1,8 @@
 //! Arithmetic on signed numbers of 64 bits, and their bits as words.
 
 ghost use Rattle.std.specs.Prelude.{◌≡◌};
-ghost use Rattle.rev_num.specs.Arith.{difference_of, negation_of, product_of, quotient_of, remainder_of, sum_of};
+ghost use Rattle.rev_num.specs.Arith.{difference_of, negation_of, product_of};
+ghost use Rattle.rev_num.specs.Arith.{quotient_of, remainder_of, sum_of};
 ghost use Rattle.rev_num.specs.Words.{int_of, word_of};
 
 use crate::value::NumFault;

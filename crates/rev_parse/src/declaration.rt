@@ -583,7 +583,8 @@ fn main_word(cursor: &mut Cursor<'_>) -> Result<u32, Fault>
     }
 }
 
-/// A program, with its tokens left that stand behind the block of `main`. No number of the tokens is negative.
+/// A program, with its tokens left that stand behind the block of `main`. No number of the tokens
+/// is negative.
 #[tactic(auto, using(crate::proofs::DeclarationRules::program_is))]
 pub fn program(source: &Source<'_>, cursor: &mut Cursor<'_>, levels: u32) -> Result<Program, Fault>
     requires { AreNatural cursor.old.rest.now }

@@ -1,7 +1,9 @@
-//! The parser of the language: the one tree of a text, or the first place at which it is no program.
+//! The parser of the language: the one tree of a text, or the first place at which it is no
+//! program.
 //!
-//! The crate `rev_expressions` has the grammar and the parser of expressions; here are statements, declarations and
-//! whole programs. The parser is one pass over the tokens; it recurs by levels alone.
+//! The crate `rev_expressions` has the grammar and the parser of expressions; here are statements,
+//! declarations and whole programs. The parser is one pass over the tokens; it recurs by levels
+//! alone.
 #![tactic(auto)]
 
 mod declaration;

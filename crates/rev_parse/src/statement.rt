@@ -6,7 +6,9 @@ ghost use Rattle.rev_expressions.specs.Lists.{more_of, more_listed};
 ghost use Rattle.rev_expressions.specs.Parse.{parse};
 ghost use Rattle.rev_expressions.specs.Parses.{Parses, ParsesBy};
 ghost use Rattle.rev_expressions.specs.Reads.{Reads};
-ghost use Rattle.rev_parse.specs.Parts.{statement_form_of_name, flat_form_behind, form_behind, item_begins, more_parts, statement_begins, with_last};
+ghost use Rattle.rev_parse.specs.Parts.{statement_form_of_name, flat_form_behind, form_behind};
+ghost use Rattle.rev_parse.specs.Parts.{item_begins, more_parts, statement_begins};
+ghost use Rattle.rev_parse.specs.Parts.{with_last};
 ghost use Rattle.rev_syntax.specs.View as view;
 
 use crate::form;
@@ -38,7 +40,8 @@ fn application(
     levels: u32,
 ) -> Result<(Name, Vec<Expr>), Fault>
     ensures { Parses st.application
-        source.now levels cursor.old (λ p. (view.placed_name p.0, map view.expression p.1.items)) result cursor.new }
+        source.now levels cursor.old
+        (λ p. (view.placed_name p.0, map view.expression p.1.items)) result cursor.new }
 {
     let name = name(source, cursor, levels)?;
     let args = actual(source, cursor, levels)?;
@@ -481,7 +484,8 @@ fn else_parts(
 ) -> Result<(Vec<Arm>, Option<Block>), Fault>
     ensures { ParsesBy
         (λ b n ts. more_parts b n (length ts) (map st.Test (map view.arm arms.items)) ts)
-        source.now levels cursor.old (λ p. with_last (map view.arm p.0.items) (option_map view.block p.1)) result cursor.new }
+        source.now levels cursor.old
+        (λ p. with_last (map view.arm p.0.items) (option_map view.block p.1)) result cursor.new }
 {
     let mut arms = arms;
     for _turn in 0..cursor.left() {

@@ -43,11 +43,12 @@ fn nested(alloc: Global, times: usize) -> Result<Vec<u8>, Fail> {
 
 #[test]
 fn each_form_parses(rt: HostRuntime) -> Result<(), Fail> {
-    let texts: [&[u8]; 16] = [
+    let texts: [&[u8]; 17] = [
         b"main { }",
         b"fun f() : int = 1; fun g(a : int, b : bool) : bool = b; main { }",
         b"merge m(a, b, c) = a + b - c; cumulative x : int by m = -3; cumulative y : int[4] by m; main { }",
-        b"versioned x : rev = none; versioned y : bool[2] = true; versioned z : bool = false; versioned w : int; main { }",
+        b"versioned x : rev = none; versioned y : bool[2] = true; main { }",
+        b"versioned z : bool = false; versioned w : int; main { }",
         b"proc p() { } proc q(a : int) : int { return a; } main { }",
         b"main { let a = 1; a = 2; a[1] = 3; let b = call p(); b = rfork p(1, a); b = tryjoin b; }",
         b"main { if true { } if true { } else { } if a { } else if b { } else if c { } else { } }",
@@ -152,8 +153,8 @@ fn a_megabyte_parses(rt: HostRuntime) -> Result<(), Fail> {
     Ok(())
 }
 
-/// The places of the one value that a program prints: of its statement, with the line, of the value, of the chain's
-/// first operand and of what this is in its parentheses.
+/// The places of the one value that a program prints: of its statement, with the line, of the
+/// value, of the chain's first operand and of what this is in its parentheses.
 fn places(program: &Program) -> Option<(u32, u32, u32, u32, u32)> {
     let [stmt] = program.main.stmts.as_slice() else {
         return None;

@@ -8,11 +8,12 @@ use rev_expressions::{Cursor, Fault, Source};
 use rev_syntax::{Program, Token};
 use std::alloc::{AllocError, Global};
 
-/// How many levels may be open at once. Each opening bracket opens a level up to its closing one, and each unary
-/// operator to the end of its operand.
+/// How many levels may be open at once. Each opening bracket opens a level up to its closing one,
+/// and each unary operator to the end of its operand.
 pub const MOST_LEVELS: u32 = 200;
 
-/// Why tokens are no program, with the offset of the first token that is at fault, or of the end of the text.
+/// Why tokens are no program, with the offset of the first token that is at fault, or of the end of
+/// the text.
 #[derive(Clone, Copy, PartialEq, Eq, Debug, Drop)]
 pub enum SyntaxFault {
     /// No program goes on like this.
@@ -44,7 +45,8 @@ fn place(bytes: &[u8], cursor: &Cursor<'_>) -> u32
     }
 }
 
-/// The program that a text is, of which these are the tokens. The tree of a text of at most a megabyte is small.
+/// The program that a text is, of which these are the tokens. The tree of a text of at most a
+/// megabyte is small.
 pub fn parse(alloc: Global, bytes: &[u8], tokens: &[Token]) -> Result<Program, SyntaxFault>
     requires small { length bytes.now < 2 ^ 32 - 1 }
     requires tokens { All (IsToken bytes.now) tokens.now }

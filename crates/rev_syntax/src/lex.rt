@@ -1,5 +1,6 @@
 //! The tokens of a text.
-ghost use Rattle.std.specs.Prelude.{◌≡◌, ◌≢◌, ◌⊎◌, ◌++◌, ◌<◌, ◌^◌, List, length, All, IfOk, IfErr, OnOk, MatchResult};
+ghost use Rattle.std.specs.Prelude.{◌≡◌, ◌≢◌, ◌⊎◌, ◌++◌, ◌<◌, ◌^◌, List};
+ghost use Rattle.std.specs.Prelude.{length, All, IfOk, IfErr, OnOk, MatchResult};
 ghost use Rattle.rev_syntax.specs.declared.token.Token.{Token};
 ghost use Rattle.rev_syntax.specs.declared.scan.LexFault.{LexFault};
 ghost use Rattle.rev_syntax.specs.Tokens.{IsTokens, IsFirstFault, Ascend, IsToken, token_of};

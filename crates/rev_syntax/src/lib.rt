@@ -1,7 +1,8 @@
 //! The tokens and the syntax trees of the language.
 //!
-//! `specs/Words.antt` has the spellings of reserved words and signs, `specs/Tokens.antt` what the tokens of a text
-//! are, `specs/Trees.antt` and `specs/View.antt` the plain trees that contracts speak of.
+//! `specs/Words.antt` has the spellings of reserved words and signs, `specs/Tokens.antt` what the
+//! tokens of a text are, `specs/Trees.antt` and `specs/View.antt` the plain trees that contracts
+//! speak of.
 #![tactic(auto)]
 
 mod laws;

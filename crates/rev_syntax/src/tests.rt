@@ -22,7 +22,8 @@ const fn token(kind: TokenKind, start: u32, end: u32) -> Token {
 #[test]
 fn reads_each_word_and_sign(rt: HostRuntime) -> Result<(), Fail> {
     let words =
-        b"fun merge versioned cumulative by proc main int bool rev let if else while call return rfork rjoin tryjoin print assert true false none input inputs pick";
+        b"fun merge versioned cumulative by proc main int bool rev let if else while call return \
+        rfork rjoin tryjoin print assert true false none input inputs pick";
     let found = read(rt.alloc(), words)?;
     assert_eq!(rt; found.len(), WORDS.len());
     for (token, word) in found.iter().zip(WORDS) {

@@ -1,7 +1,7 @@
 //! Programs as they are written.
 //!
-//! A place `at` is the offset of a byte of the source, counted from 0. Where contracts speak of a tree, they speak
-//! of the plain tree that `specs/View.antt` makes of it.
+//! A place `at` is the offset of a byte of the source, counted from 0. Where contracts speak of a
+//! tree, they speak of the plain tree that `specs/View.antt` makes of it.
 
 use rev_num::{Value, ValueKind};
 
@@ -167,7 +167,8 @@ pub struct Arm {
     pub body: Block,
 }
 
-/// What stands after the `=` of a `let` or an assignment. Other than an expression, it has the offset of its word.
+/// What stands after the `=` of a `let` or an assignment. Other than an expression, it has the
+/// offset of its word.
 #[derive(Drop)]
 pub enum Rhs {
     Plain(Expr),

@@ -84,6 +84,13 @@ passed_with p (merge w m j r body) = record p { number = p.number + 1; names = a
 passed_with p (shared x) = record p { number = p.number + 1; names = added p.names x.name.text p.number; located = located_after p.located (cells_in x.size) }
 passed_with p (proc w ps r body) = record p { number = p.number + 1; names = added p.names w.text p.number; procs_left = p.procs_left - 1 }
 
+-- the weight of the body of a fun or of a merge behind these
+abbrev pub body_weight : Passed → Declaration → ℕ
+body_weight p (fun w ps r body) = weight p.weights body
+body_weight p (merge w m j r body) = weight p.weights body
+body_weight p (shared x) = 0
+body_weight p (proc w ps r body) = 0
+
 -- ---- the tables of a program
 
 -- the number of the merge of a cumulative variable: of those declared before it the first of the name

@@ -13,13 +13,17 @@ use Rattle.rev_kinds.specs.Walk.{callee}
 use Rattle.rev_types.specs.Program.{faults}
 use Rattle.rev_types.specs.Scopes.{holder}
 
+-- the table after a declaration, if it is a shared variable
+abbrev pub with_shared : Table Holder → Declaration → Table Holder
+with_shared t (shared x) = added t x.name.text (holder x)
+with_shared t (fun w ps r body) = t
+with_shared t (merge w m j r body) = t
+with_shared t (proc w ps r body) = t
+
 -- the first shared variable of each name, after those of a table
 abbrev pub shared_table : Table Holder → List Declaration → Table Holder
 shared_table t [] = t
-shared_table t (shared x ∷ es) = shared_table (added t x.name.text (holder x)) es
-shared_table t (fun w ps r body ∷ es) = shared_table t es
-shared_table t (merge w m j r body ∷ es) = shared_table t es
-shared_table t (proc w ps r body ∷ es) = shared_table t es
+shared_table t (e ∷ es) = shared_table (with_shared t e) es
 
 -- the table after a declaration, if it is a procedure
 abbrev pub with_proc : Table Callee → Declaration → Table Callee

@@ -3,7 +3,9 @@
 ghost use Rattle.std.specs.Prelude.{◌≡◌, ◌-◌, true, ℕ, Some, None, [], map, option_map, IfOk, OnOk};
 ghost use Rattle.std.specs.declared.option.Option.{Option};
 ghost use Rattle.rev_num.specs.declared.value.ValueKind.TheVariants as k;
-ghost use Rattle.rev_syntax.specs.View.{statement_form, arms, parameter, block, constant, declaration, array_size, stmt, stmts, expression, placed_name};
+ghost use Rattle.rev_syntax.specs.View.{statement_form, arms, parameter, block};
+ghost use Rattle.rev_syntax.specs.View.{constant, declaration, array_size, stmt};
+ghost use Rattle.rev_syntax.specs.View.{stmts, expression, placed_name};
 ghost use Rattle.merge_decl.specs.Table.{added, find};
 ghost use Rattle.rev_report.specs.declared.limit.Limit.TheVariants as limits;
 ghost use Rattle.rev_report.specs.Limits.{first_past};
@@ -14,7 +16,7 @@ ghost use Rattle.rev_types.specs.Scopes as scopes;
 ghost use Rattle.rev_types.specs.Statements as statements;
 ghost use Rattle.rev_types.specs.Walk as rule;
 
-use crate::passed::{Passed, cells_in, located_after, weight};
+use crate::passed::{Passed, cells_in, located_after};
 use crate::statements::{Body, block, new_local, one_more_local};
 use merge_decl::NameTable;
 use rev_kinds::{Checker, Locals, TypeFault, first, not_rev, same_kind, wants};
@@ -172,7 +174,8 @@ fn fun_params(
     ensures fault { IfOk result
         (λ f. f ≡ rule.fun_params locals.old (first_past limits.Parameters) None
         (map parameter params.now)) }
-    ensures locals { OnOk result (locals.new ≡ scopes.with_params locals.old (map parameter params.now)) }
+    ensures locals { OnOk result
+        (locals.new ≡ scopes.with_params locals.old (map parameter params.now)) }
 {
     let mut left = Limit::Parameters.first_past();
     let mut found = None;
@@ -239,7 +242,7 @@ fn fun_body(
     first(first(seen.fault, wanted), not_rev(body.at, seen.kind))
 }
 
-/// A fun.
+/// A fun, of whose body this is the weight.
 fn fun_decl(
     alloc: Global,
     inner: &Checker,
@@ -247,11 +250,13 @@ fn fun_decl(
     name: &Name,
     params: &[Param],
     result_kind: ValueKind,
-    body: &Expr,
+    body: (&Expr, u32),
 ) -> Result<Option<TypeFault>, AllocError>
+    requires { body.1 ≡ program.weight passed.now.weights (expression body.0.now) }
     ensures { IfOk result
         (λ f. f ≡ program.broken_in_fun None Some both (names_of inner.now) (passed_of passed.now)
-        (placed_name name.now) (map parameter params.now) result_kind (expression body.now)) }
+        (placed_name name.now) (map parameter params.now) result_kind
+        (expression body.entry.0.now)) }
 {
     let mut locals = NameTable::new(alloc);
     let named = first(
@@ -260,8 +265,11 @@ fn fun_decl(
     );
     let params = fun_params(alloc, &mut locals, params)?;
     let head = first(params, fun_result(name, result_kind));
-    let weight = weight_of(name, weight(&passed.weights, body));
-    let rest = first(fun_body(inner, &locals, result_kind, body), weight);
+    let (body, weight) = body;
+    let rest = first(
+        fun_body(inner, &locals, result_kind, body),
+        weight_of(name, weight),
+    );
     Ok(first(named, first(head, rest)))
 }
 
@@ -277,7 +285,8 @@ fn merge_locals(
         ≡ rule.merge_params (placed_name main.now) (placed_name join.now) (placed_name root.now)) }
     ensures locals { IfOk result
         (λ r. r.1
-        ≡ scopes.merge_locals (placed_name main.now) (placed_name join.now) (placed_name root.now)) }
+        ≡ scopes.merge_locals (placed_name main.now) (placed_name join.now)
+        (placed_name root.now)) }
 {
     let mut locals = NameTable::new(alloc);
     locals.add(alloc, &main.text, Some(ValueKind::Int))?;
@@ -288,27 +297,31 @@ fn merge_locals(
     Ok((first(second, third), locals))
 }
 
-/// A merge.
+/// A merge, of whose body this is the weight.
 fn merge_decl(
     alloc: Global,
     inner: &Checker,
     passed: &Passed,
     name: &Name,
     params: (&Name, &Name, &Name),
-    body: &Expr,
+    body: (&Expr, u32),
 ) -> Result<Option<TypeFault>, AllocError>
+    requires { body.1 ≡ program.weight passed.now.weights (expression body.0.now) }
     ensures { IfOk result
         (λ f. f ≡ program.broken_in_merge None Some both (names_of inner.now) (passed_of passed.now)
         (placed_name name.now) (placed_name params.entry.0.now) (placed_name params.entry.1.now)
-        (placed_name params.entry.2.now) (expression body.now)) }
+        (placed_name params.entry.2.now) (expression body.entry.0.now)) }
 {
     let named = first(
         new_name(name, &passed.names),
         limit_at(name.at, Limit::Funs, passed.funs_left),
     );
     let (params, locals) = merge_locals(alloc, params.0, params.1, params.2)?;
-    let weight = weight_of(name, weight(&passed.weights, body));
-    let rest = first(inner.part(&locals, body, ValueKind::Int), weight);
+    let (body, weight) = body;
+    let rest = first(
+        inner.part(&locals, body, ValueKind::Int),
+        weight_of(name, weight),
+    );
     Ok(first(named, first(params, rest)))
 }
 
@@ -458,14 +471,17 @@ fn shared_decl(
     first(named, first(merged, cells))
 }
 
-/// A declaration, where names mean this outside of funs and merges, and this inside.
+/// A declaration, where names mean this outside of funs and merges, and this inside. The body of a
+/// fun or of a merge has this weight.
 pub fn decl(
     alloc: Global,
     outer: &Checker,
     inner: &Checker,
     passed: &Passed,
+    weight: u32,
     d: &Decl,
 ) -> Result<Option<TypeFault>, AllocError>
+    requires { weight ≡ program.body_weight (passed_of passed.now) (declaration d.now) }
     ensures { IfOk result
         (λ f. f ≡ rule.broken_in_declaration (names_of outer.now) (names_of inner.now)
         (passed_of passed.now) (declaration d.now)) }
@@ -476,14 +492,23 @@ pub fn decl(
             params,
             result,
             body,
-        } => { fun_decl(alloc, inner, passed, name, params, *result, body) }
+        } => { fun_decl(alloc, inner, passed, name, params, *result, (body, weight)) }
         Decl::Merge {
             name,
             main,
             join,
             root,
             body,
-        } => { merge_decl(alloc, inner, passed, name, (main, join, root), body) }
+        } => {
+            merge_decl(
+                alloc,
+                inner,
+                passed,
+                name,
+                (main, join, root),
+                (body, weight),
+            )
+        }
         Decl::Shared {
             name,
             by,

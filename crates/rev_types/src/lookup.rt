@@ -9,143 +9,102 @@ use rev_kinds::{Callee, Holder};
 use rev_syntax::Decl;
 use std::alloc::{AllocError, Global};
 
-/// The first shared variable of each name.
-pub fn shared_table(alloc: Global, decls: &[Decl]) -> Result<NameTable<Holder>, AllocError>
-    ensures { IfOk result (λ t. t ≡ spec.shared_table [] (map declaration decls.now)) }
-{
-    let mut table = NameTable::new(alloc);
-    for d in decls {
-        if let Decl::Shared {
-            name,
-            by: _,
-            kind_at: _,
-            holds,
-            size,
-            first: _,
-        } = d
-        {
-            let holder = Holder {
-                kind: *holds,
-                array: size.is_some(),
-            };
-            table.add(alloc, &name.text, holder)?;
-        }
-    }
-    Ok(table)
+/// The first shared variable, the first procedure and the first fun of each name.
+#[derive(Drop)]
+pub struct NameTables<'a> {
+    pub shared: NameTable<Holder>,
+    pub procs: NameTable<Callee<'a>>,
+    pub funs: NameTable<Callee<'a>>,
 }
 
-/// Enters a procedure.
-#[tactic(auto, using(crate::proofs::Named::callees_added))]
-fn add_proc<'a>(
-    alloc: Global,
-    table: &mut NameTable<Callee<'a>>,
-    d: &'a Decl,
-) -> Result<(), AllocError>
-    ensures { OnOk result
-        (spec.callees table.new ≡ spec.with_proc (spec.callees table.old) (declaration d.now)) }
-{
-    match d {
-        Decl::Proc {
-            name,
-            params,
-            result,
-            body: _,
-        } => {
-            let callee = Callee {
+impl<'a> NameTables<'a> {
+    /// Before all declarations.
+    fn new(alloc: Global) -> NameTables<'a>
+        ensures shared { result.shared ≡ [] }
+        ensures procs { spec.callees result.procs ≡ [] }
+        ensures funs { spec.callees result.funs ≡ [] }
+    {
+        NameTables {
+            shared: NameTable::new(alloc),
+            procs: NameTable::new(alloc),
+            funs: NameTable::new(alloc),
+        }
+    }
+
+    /// Enters a declaration.
+    #[tactic(auto, using(crate::proofs::Named::callees_added))]
+    fn enter(&mut self, alloc: Global, d: &'a Decl) -> Result<(), AllocError>
+        ensures shared { OnOk result
+            (self.new.shared ≡ spec.with_shared self.old.shared (declaration d.now)) }
+        ensures procs { OnOk result
+            (spec.callees self.new.procs
+            ≡ spec.with_proc (spec.callees self.old.procs) (declaration d.now)) }
+        ensures funs { OnOk result
+            (spec.callees self.new.funs
+            ≡ spec.with_fun (spec.callees self.old.funs) (declaration d.now)) }
+    {
+        match d {
+            Decl::Shared {
+                name,
+                by: _,
+                kind_at: _,
+                holds,
+                size,
+                first: _,
+            } => {
+                let holder = Holder {
+                    kind: *holds,
+                    array: size.is_some(),
+                };
+                self.shared.add(alloc, &name.text, holder)
+            }
+            Decl::Proc {
+                name,
                 params,
-                result: *result,
-            };
-            table.add(alloc, &name.text, callee)
-        }
-        Decl::Fun {
-            name: _,
-            params: _,
-            result: _,
-            body: _,
-        } => Ok(()),
-        Decl::Merge {
-            name: _,
-            main: _,
-            join: _,
-            root: _,
-            body: _,
-        } => Ok(()),
-        Decl::Shared {
-            name: _,
-            by: _,
-            kind_at: _,
-            holds: _,
-            size: _,
-            first: _,
-        } => Ok(()),
-    }
-}
-
-/// The first procedure of each name.
-pub fn proc_table(alloc: Global, decls: &[Decl]) -> Result<NameTable<Callee<'_>>, AllocError>
-    ensures { IfOk result (λ t. spec.callees t ≡ spec.proc_table [] (map declaration decls.now)) }
-{
-    let mut table = NameTable::new(alloc);
-    for d in decls {
-        add_proc(alloc, &mut table, d)?;
-    }
-    Ok(table)
-}
-
-/// Enters a fun.
-#[tactic(auto, using(crate::proofs::Named::callees_added))]
-fn add_fun<'a>(
-    alloc: Global,
-    table: &mut NameTable<Callee<'a>>,
-    d: &'a Decl,
-) -> Result<(), AllocError>
-    ensures { OnOk result
-        (spec.callees table.new ≡ spec.with_fun (spec.callees table.old) (declaration d.now)) }
-{
-    match d {
-        Decl::Fun {
-            name,
-            params,
-            result,
-            body: _,
-        } => {
-            let callee = Callee {
+                result,
+                body: _,
+            } => {
+                let callee = Callee {
+                    params,
+                    result: *result,
+                };
+                self.procs.add(alloc, &name.text, callee)
+            }
+            Decl::Fun {
+                name,
                 params,
-                result: Some(*result),
-            };
-            table.add(alloc, &name.text, callee)
+                result,
+                body: _,
+            } => {
+                let callee = Callee {
+                    params,
+                    result: Some(*result),
+                };
+                self.funs.add(alloc, &name.text, callee)
+            }
+            Decl::Merge {
+                name: _,
+                main: _,
+                join: _,
+                root: _,
+                body: _,
+            } => Ok(()),
         }
-        Decl::Merge {
-            name: _,
-            main: _,
-            join: _,
-            root: _,
-            body: _,
-        } => Ok(()),
-        Decl::Shared {
-            name: _,
-            by: _,
-            kind_at: _,
-            holds: _,
-            size: _,
-            first: _,
-        } => Ok(()),
-        Decl::Proc {
-            name: _,
-            params: _,
-            result: _,
-            body: _,
-        } => Ok(()),
     }
 }
 
-/// The first fun of each name.
-pub fn fun_table(alloc: Global, decls: &[Decl]) -> Result<NameTable<Callee<'_>>, AllocError>
-    ensures { IfOk result (λ t. spec.callees t ≡ spec.fun_table [] (map declaration decls.now)) }
+/// The tables of the names of declarations.
+pub fn name_tables(alloc: Global, decls: &[Decl]) -> Result<NameTables<'_>, AllocError>
+    ensures shared { IfOk result
+        (λ t. t.shared ≡ spec.shared_table [] (map declaration decls.now)) }
+    ensures procs { IfOk result
+        (λ t. spec.callees t.procs ≡ spec.proc_table [] (map declaration decls.now)) }
+    ensures funs { IfOk result
+        (λ t. spec.callees t.funs ≡ spec.fun_table [] (map declaration decls.now)) }
 {
-    let mut table = NameTable::new(alloc);
+    let mut tables = NameTables::new(alloc);
     for d in decls {
-        add_fun(alloc, &mut table, d)?;
+        tables.enter(alloc, d)?;
     }
-    Ok(table)
+    Ok(tables)
 }

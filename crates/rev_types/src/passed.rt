@@ -1,7 +1,8 @@
 //! What the declarations before a place declare.
 
 ghost use Rattle.std.specs.Prelude.{◌≡◌, ◌+◌, ◌<◌, ◌≤◌, ◌^◌, OnOk, min, option_map};
-ghost use Rattle.rev_syntax.specs.View.{declaration, array_size, links, expression_form, expression, expressions};
+ghost use Rattle.rev_syntax.specs.View.{declaration, array_size, links};
+ghost use Rattle.rev_syntax.specs.View.{expression_form, expression, expressions};
 ghost use Rattle.merge_decl.specs.Table.{find};
 ghost use Rattle.rev_types.specs.Passing.{passed_of};
 ghost use Rattle.merge_decl.specs.Weights.{known_weight};
@@ -47,7 +48,7 @@ fn known_weight(weights: &NameTable<u32>, name: &Name) -> u32
 
 /// The weight of an expression, where the funs have these weights.
 #[cycle(weight)]
-pub fn weight(weights: &NameTable<u32>, e: &Expr) -> u32
+fn weight(weights: &NameTable<u32>, e: &Expr) -> u32
     ensures { result ≡ program.weight weights.now (expression e.now) }
 {
     node_weight(weights, &e.node)
@@ -151,8 +152,45 @@ impl Passed {
         }
     }
 
-    /// Goes past a declaration.
-    pub fn pass(&mut self, alloc: Global, decl: &Decl) -> Result<(), AllocError>
+    /// The weight of the body of a fun or of a merge behind these declarations.
+    pub fn body_weight(&self, decl: &Decl) -> u32
+        ensures { result ≡ program.body_weight (passed_of self.now) (declaration decl.now) }
+    {
+        match decl {
+            Decl::Fun {
+                name: _,
+                params: _,
+                result: _,
+                body,
+            } => weight(&self.weights, body),
+            Decl::Merge {
+                name: _,
+                main: _,
+                join: _,
+                root: _,
+                body,
+            } => weight(&self.weights, body),
+            Decl::Shared {
+                name: _,
+                by: _,
+                kind_at: _,
+                holds: _,
+                size: _,
+                first: _,
+            } => 0,
+            Decl::Proc {
+                name: _,
+                params: _,
+                result: _,
+                body: _,
+            } => 0,
+        }
+    }
+
+    /// Goes past a declaration, whose body has this weight.
+    pub fn pass(&mut self, alloc: Global, decl: &Decl, weight: u32) -> Result<(), AllocError>
+        requires weighed { weight
+            ≡ program.body_weight (passed_of self.old) (declaration decl.now) }
         requires fits { self.old.number + 1 < 2 ^ 32 }
         requires counted { self.old.merge_count ≤ self.old.number }
         ensures passed { OnOk result
@@ -165,9 +203,8 @@ impl Passed {
                 name,
                 params: _,
                 result: _,
-                body,
+                body: _,
             } => {
-                let weight = weight(&self.weights, body);
                 self.names.add(alloc, &name.text, self.number)?;
                 self.weights.add(alloc, &name.text, weight)?;
                 self.funs_left = self.funs_left.saturating_sub(1);

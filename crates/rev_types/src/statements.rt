@@ -1,7 +1,8 @@
 //! The rules on statements.
 
 ghost use Rattle.std.specs.Prelude.{◌≡◌, ◌-◌, false, [], length, map, option_map, IfOk, OnOk};
-ghost use Rattle.rev_syntax.specs.View.{statement_form, arm as pair, arms, block, right_side, print_item, stmt, expression, placed_name};
+ghost use Rattle.rev_syntax.specs.View.{statement_form, arm as pair, arms, block, right_side};
+ghost use Rattle.rev_syntax.specs.View.{print_item, stmt, expression, placed_name};
 ghost use Rattle.rev_report.specs.declared.limit.Limit.TheVariants as limits;
 ghost use Rattle.rev_report.specs.Limits.{first_past};
 ghost use Rattle.rev_kinds.specs.Kinds as kind;

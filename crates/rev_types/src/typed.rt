@@ -13,9 +13,9 @@ use crate::tables::{SharedInfo, Tables};
 use merge_decl::{Expanded, merge_value};
 use rev_num::{Items, NumFault};
 
-/// A program that breaks no static rule and no limit, with the tables that its runs go by: its shared
-/// variables in order, the numbers of the declarations that are procedures, and how many locations
-/// there are.
+/// A program that breaks no static rule and no limit, with the tables that its runs go by: its
+/// shared variables in order, the numbers of the declarations that are procedures, and how many
+/// locations there are.
 #[derive(Drop)]
 pub struct Typed {
     pub expanded: Expanded,
@@ -29,8 +29,9 @@ pub struct Typed {
 }
 
 impl Typed {
-    /// The value of the merge of this number, counted from 0 in order of declaration, of the joiner's,
-    /// the joinee's and the root's value, or its fault, as `merge_decl` answers it. It takes no memory.
+    /// The value of the merge of this number, counted from 0 in order of declaration, of the
+    /// joiner's, the joinee's and the root's value, or its fault, as `merge_decl` answers it. It
+    /// takes no memory.
     pub fn merge_value(&self, merge: u32, main: i64, join: i64, root: i64) -> Result<i64, NumFault>
         requires { merge < length self.now.expanded.merges }
         ensures { result
@@ -47,7 +48,8 @@ pub(crate) fn make_typed(expanded: Expanded, tables: Tables) -> Typed
     requires keeps { program.faults (whole expanded.program) ≡ [] }
     requires shared { tables.shared.items
         ≡ program.infos program.nothing_passed (map declaration expanded.program.decls.items) }
-    requires procs { tables.procs.items ≡ program.proc_decls 0 (map declaration expanded.program.decls.items) }
+    requires procs { tables.procs.items
+        ≡ program.proc_decls 0 (map declaration expanded.program.decls.items) }
     requires locations { tables.locations ≡ program.locations (whole expanded.program) }
     ensures { whole result.expanded.program ≡ whole expanded.program }
 {

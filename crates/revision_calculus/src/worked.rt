@@ -1,5 +1,5 @@
-//! Worked programs, each of which is named in `specs/Examples.antt` with its text: what every complete run of it
-//! reports, whatever the order of its steps, or leaves.
+//! Worked programs, each of which is named in `specs/Examples.antt` with its text: what every
+//! complete run of it reports, whatever the order of its steps, or leaves.
 
 ghost use Rattle.std.specs.Prelude.{◌≡◌, [], ◌∷◌, Some, false, negsuc, pos, true};
 ghost use Rattle.rev_num.specs.declared.value.Value.TheVariants as v;
@@ -20,8 +20,8 @@ ghost use Rattle.revision_calculus.specs.Examples.{
   Traps,
 };
 
-/// Joins of revisions that are done: which value a location takes, in which order texts stand, and which handles can
-/// be joined.
+/// Joins of revisions that are done: which value a location takes, in which order texts stand, and
+/// which handles can be joined.
 pub fn join_programs()
     ensures joinee_wins { Prints x.joinee_wins "1\n" }
     ensures no_write { Prints x.no_write "2\n" }
@@ -34,7 +34,8 @@ pub fn join_programs()
     ensures texts_in_order { Prints x.texts_in_order "one\nchild\ntwo\n" }
 {}
 
-/// A second join of one revision, also by another revision, and also where that one is never joined itself.
+/// A second join of one revision, also by another revision, and also where that one is never joined
+/// itself.
 pub fn second_joins()
     ensures double_join { JoinsTwice x.double_join }
     ensures two_joiners { JoinsTwice x.two_joiners }
@@ -70,8 +71,8 @@ pub fn expression_programs()
         "trap: zero divisor at line 1 in revision main" }
 {}
 
-/// An `else`, values that procedures return, and indexes outside of an array, which are tested before the value of an
-/// assignment.
+/// An `else`, values that procedures return, and indexes outside of an array, which are tested
+/// before the value of an assignment.
 pub fn statement_programs()
     ensures goes_to_the_else { Prints x.goes_to_the_else "2\n3\n" }
     ensures returns { Prints x.returns "5\n1 -1\n" }
@@ -95,8 +96,8 @@ pub fn number_programs()
     ensures no_input { Traps x.prints_an_input "" "trap: index at line 1 in revision main" }
 {}
 
-/// A `tryjoin` of a trapped and of a done revision, of one whose merge faults, of none, and into a variable that the
-/// joinee wrote.
+/// A `tryjoin` of a trapped and of a done revision, of one whose merge faults, of none, and into a
+/// variable that the joinee wrote.
 pub fn try_programs()
     ensures tries { Prints x.tries "false 0\nchild\ntrue 3\n" }
     ensures tries_what_faults { Reports (usual x.tries_what_faults) usual_fuel true
@@ -113,8 +114,8 @@ pub fn deep_calls()
         "trap: call depth at line 1 in revision main" }
 {}
 
-/// How fuel is shared and given back, and what is listed and written: the program `sums` with fuel 100 and
-/// share 10, and with fuel 9, where a fork gives half of what is left.
+/// How fuel is shared and given back, and what is listed and written: the program `sums` with fuel
+/// 100 and share 10, and with fuel 9, where a fork gives half of what is left.
 pub fn accounts()
     ensures child_fuel { Tells (sharing 10 x.sums) 100 (0 ∷ []) (λ l. l.fuel) 9 }
     ensures main_fuel { Tells (sharing 10 x.sums) 100 [] (λ l. l.fuel) 94 }

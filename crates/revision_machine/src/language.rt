@@ -25,11 +25,12 @@ pub trait Language {
     /// The local state of a revision.
     type State: Drop;
 
-    /// The machine of its revisions, the handles and the weight of a local state, and the limit of what the forks and
-    /// the weights come to together.
+    /// The machine of its revisions, the handles and the weight of a local state, and the limit of
+    /// what the forks and the weights come to together.
     ghost rules: { Self → Rules Self.State };
 
-    /// Makes the next local step or fork of the revision at this path, or tells what it waits for or that it has ended.
+    /// Makes the next local step or fork of the revision at this path, or tells what it waits for
+    /// or that it has ended.
     fn advance(
         &self,
         alloc: Global,

@@ -1,5 +1,5 @@
-//! The laws of every machine of revisions that keeps the conditions, for every program and every order of its steps.
-//! Each is named by the contract of a function that does nothing.
+//! The laws of every machine of revisions that keeps the conditions, for every program and every
+//! order of its steps. Each is named by the contract of a function that does nothing.
 
 ghost use Rattle.std.specs.Prelude.{List};
 ghost use Rattle.rev_num.specs.Path.{Path};
@@ -64,8 +64,8 @@ pub trait Simulated {
 /// - `twice_final`: in Twice nothing steps;
 /// - `forkers`: each revision but `main` has its forker, which has counted it;
 /// - `standing`: in every state but Twice `main` stands, and what is marked has ended;
-/// - `handles`, `unblocked`: where `main` holds no handle, each handle names a revision that comes before its holder in
-///   post-order, and where nothing steps every revision has ended;
+/// - `handles`, `unblocked`: where `main` holds no handle, each handle names a revision that comes
+///   before its holder in post-order, and where nothing steps every revision has ended;
 /// - `bound`: no run has more steps than the weight of `main`;
 /// - `count`: a reached state has no more revisions than 1 and what `main` has to pay for forks;
 /// - `completes`: every run can be completed.
@@ -87,10 +87,10 @@ pub fn theory<R: LawfulMachine>()
 ///
 /// - `runs`, `schedules`: a legal schedule is a run by paths, and a run by paths is a legal schedule;
 /// - `over`: no number has a leg exactly where the state is final;
-/// - `bound`, `count`: a legal schedule has no more entries than the weight of `main`, and the world after it no more
-///   revisions than 1 and what `main` has to pay for forks;
-/// - `completes`, `least`: every legal schedule can be completed, and the least number that has a leg, time after time,
-///   completes it.
+/// - `bound`, `count`: a legal schedule has no more entries than the weight of `main`, and the
+///   world after it no more revisions than 1 and what `main` has to pay for forks;
+/// - `completes`, `least`: every legal schedule can be completed, and the least number that has a
+///   leg, time after time, completes it.
 pub fn schedule_theory<W: NumberedWorld>()
     ensures runs { (s : W) (main : _) → ScheduleLaw (W.world s).numbered main }
     ensures schedules { (s : W) (main : _) → RunIsSchedule (W.world s).numbered main }
@@ -103,15 +103,16 @@ pub fn schedule_theory<W: NumberedWorld>()
 
 /// What a machine by paths and a world by number have to do with each other.
 ///
-/// - `steps`, `runs`, `unblocked`, `complete`, `ends`: by any table `t` that has the paths of `main` and of the children,
-///   each step by number is some steps of the same revision by paths; runs agree, none is blocked, and complete ones
-///   agree with complete ones; and any two complete runs end in states that agree;
-/// - `schedule`: the world after a legal schedule agrees with a state that a run reaches, by the table of the world's
-///   own paths, each once;
-/// - `legs`: each leg of a legal schedule is some number of steps of the revision with its number's path, and of no
-///   other, in the state that agrees with the world;
-/// - `complete_schedule`: the world after a complete schedule agrees with the end of the complete runs, and every
-///   revision has ended, by paths and by number.
+/// - `steps`, `runs`, `unblocked`, `complete`, `ends`: by any table `t` that has the paths of
+///   `main` and of the children, each step by number is some steps of the same revision by paths;
+///   runs agree, none is blocked, and complete ones agree with complete ones; and any two complete
+///   runs end in states that agree;
+/// - `schedule`: the world after a legal schedule agrees with a state that a run reaches, by the
+///   table of the world's own paths, each once;
+/// - `legs`: each leg of a legal schedule is some number of steps of the revision with its number's
+///   path, and of no other, in the state that agrees with the world;
+/// - `complete_schedule`: the world after a complete schedule agrees with the end of the complete
+///   runs, and every revision has ended, by paths and by number.
 pub fn simulation_theory<S: Simulated>()
     ensures steps { (s : S) (t : List Path) → Steps (S.simulation s) t }
     ensures runs { (s : S) (t : List Path) → Runs (S.simulation s) t }

@@ -15,7 +15,8 @@ use std::alloc::{AllocError, Global};
 /// What two steps in both orders lead to.
 #[derive(Drop)]
 pub enum BothOrders<R> {
-    /// `left` is the state after the first path and then the second, `right` the other way round: they are equal.
+    /// `left` is the state after the first path and then the second, `right` the other way round:
+    /// they are equal.
     Same {
         left: GlobalState<R>,
         right: GlobalState<R>,

@@ -1,5 +1,6 @@
-//! What holds of every program of the language and of every order of its steps, and worked examples. The laws of
-//! `revision_machine` hold of it by `theory`, `schedule_theory` and `simulation_theory`, whose traits it implements.
+//! What holds of every program of the language and of every order of its steps, and worked
+//! examples. The laws of `revision_machine` hold of it by `theory`, `schedule_theory` and
+//! `simulation_theory`, whose traits it implements.
 
 ghost use Rattle.std.specs.Prelude.{◌≡◌, ℕ, ◌+◌, ◌*◌, length};
 ghost use Rattle.revision_machine.specs.Laws.{SpendingLaw, BoundLaw, KeptLaw, CountLaw};
@@ -37,8 +38,9 @@ impl Simulated for Program {
 /// The amounts of the language, over each program `s` and each fuel.
 ///
 /// - `starts`: `main` by paths and `main` by number are related, and hold no handle;
-/// - `fuel`, `bound`, `count`: the fuel of the unmarked revisions is never more than at the start, a run has at most
-///   three times that many steps and one, and a state at most 1 and that many revisions;
+/// - `fuel`, `bound`, `count`: the fuel of the unmarked revisions is never more than at the start,
+///   a run has at most three times that many steps and one, and a state at most 1 and that many
+///   revisions;
 /// - `schedules`, `worlds`: the same of legal schedules and their worlds;
 /// - `cells`: each revision has a cell for each location.
 pub fn laws()
@@ -51,8 +53,8 @@ pub fn laws()
     ensures cells { (s : Setting) (n : ℕ) → KeptLaw (machine s) (first s n) (HasCells s.kinds) }
 {}
 
-/// The program does what it does itself, with every child known: so each complete run of the one machine ends in a
-/// state that agrees with the end of a complete run of the other.
+/// The program does what it does itself, with every child known: so each complete run of the one
+/// machine ends in a state that agrees with the end of a complete run of the other.
 pub fn converse_law()
     ensures { (s : Setting) (n : ℕ) → DoesItself s (first s n) }
 {}
@@ -64,7 +66,8 @@ pub fn converse_law()
 /// - `same_write`: a write of the value that was there is a write;
 /// - `sum_of_three`: 15, 6 and the value 5 at the fork make 16;
 /// - `two_tests`: two tasks that each read what the other writes both find 0;
-/// - `double_join`, `two_joiners`, `two_joiners_other`: a second join of a revision leads to Twice, in both orders.
+/// - `double_join`, `two_joiners`, `two_joiners_other`: a second join of a revision leads to Twice,
+///   in both orders.
 pub fn examples()
     ensures joined_write_wins { example.JoinedWriteWins }
     ensures no_write { example.NoWrite }

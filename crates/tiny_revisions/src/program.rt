@@ -10,7 +10,8 @@ use std::marker::Model;
 pub enum Kind {
     /// The joinee's write takes the place of the joiner's value.
     Versioned,
-    /// The joinee's change is added: the joiner's value, and the joinee's written value less its value at the fork.
+    /// The joinee's change is added: the joiner's value, and the joinee's written value less its
+    /// value at the fork.
     Summed,
 }
 
@@ -34,7 +35,8 @@ pub enum Instr {
     Set(u32, Expr),
     /// Skips so many instructions unless the location holds 0.
     UnlessZero(u32, u32),
-    /// Forks the procedure; the child has the forker's handles, and its own handle goes into the forker's slot.
+    /// Forks the procedure; the child has the forker's handles, and its own handle goes into the
+    /// forker's slot.
     Fork(u32, u32),
     /// Puts the handle in the location into the slot.
     Take(u32, u32),
@@ -59,7 +61,8 @@ impl Model for Procedure {
     ghost view = { λ p. p.code.items };
 }
 
-/// The kinds of the locations, the procedures, of which `main` is the first, and the most fuel that a child gets.
+/// The kinds of the locations, the procedures, of which `main` is the first, and the most fuel that
+/// a child gets.
 #[derive(Drop)]
 pub struct Program {
     kinds: Vec<Kind>,

@@ -259,7 +259,8 @@ impl State {
         Ok(())
     }
 
-    /// Skips so many of the procedure's instructions, at most to its end, unless the location holds 0.
+    /// Skips so many of the procedure's instructions, at most to its end, unless the location holds
+    /// 0.
     fn test(&mut self, len: usize, x: u32, n: u32)
         ensures { self.new ≡ tiny.tested len self.old n (tiny.cell_at self.old.cells x) }
     {
@@ -339,7 +340,8 @@ impl State {
         Ok(child)
     }
 
-    /// Makes the next local step or fork, or tells what the revision waits for or that it has ended.
+    /// Makes the next local step or fork, or tells what the revision waits for or that it has
+    /// ended.
     pub fn advance(
         &mut self,
         alloc: Global,
@@ -443,8 +445,8 @@ impl State {
         }
     }
 
-    /// Takes over what the revision of this state wrote and printed, and its fuel, or traps at the first location
-    /// where the merge has no value.
+    /// Takes over what the revision of this state wrote and printed, and its fuel, or traps at the
+    /// first location where the merge has no value.
     fn compose(&mut self, alloc: Global, kinds: &[Kind], ended: &State) -> Result<(), AllocError>
         requires { self.old.fuel + ended.now.fuel < 2 ^ 64 }
         ensures { OnOk result

@@ -5,8 +5,8 @@ ghost use Rattle.token_grammar.specs.Reader.{parser};
 ghost use Rattle.token_grammar.specs.Exact.{Decided, is_decided};
 ghost use Rattle.token_grammar.specs.Theorem.{Verdict};
 
-/// A grammar that the next token decides. `self` is what its values may depend on, as the text of which tokens are
-/// slices.
+/// A grammar that the next token decides. `self` is what its values may depend on, as the text of
+/// which tokens are slices.
 pub trait Grammar {
     /// The tokens, their kinds, and the names of the inner rules.
     ghost alphabet: { Alphabet };
@@ -30,8 +30,8 @@ pub trait Grammar {
     ghost whole_decided: { (s : Self) → is_decided alphabet goes_on kinds (whole s) ≡ true };
 }
 
-/// The parser of a grammar answers the one value of all tokens, the first place where no value of any nesting goes on
-/// as they do, or the first token that opens a level too many.
+/// The parser of a grammar answers the one value of all tokens, the first place where no value of
+/// any nesting goes on as they do, or the first token that opens a level too many.
 pub fn parser_is_exact<G: Grammar>()
     ensures { (s : G) (n : ℕ) (ts : List G.alphabet.Token) →
         Verdict G.alphabet (G.rules s) (G.whole s) n ts (parser G.alphabet (G.rules s) n (G.whole s) ts) }

@@ -1,4 +1,4 @@
-use Rattle.std.proofs.Common.{◌≡◌, ◌≤◌, drop, map, None}
+use Rattle.std.proofs.Common.{◌≡◌, ◌≤◌, ◌++◌, drop, map, None}
 use Rattle.rev_syntax.specs.View.{declaration}
 use Rattle.rev_kinds.specs.Walk.{names_of}
 use Rattle.rev_types.specs.Passing.{passed_of}
@@ -12,4 +12,7 @@ invariant-loop-d l = record {
   counted : l.passed.merge_count ≤ l.passed.number;
   found : rule.broken_in_declarations (names_of l.outer) (names_of l.inner) (passed_of l.passed) l.found (map declaration (drop l.d-index l.decls))
       ≡ rule.broken_in_declarations (names_of l.outer) (names_of l.inner) program.nothing_passed None (map declaration l.decls);
+  shared : l.shared.items ++ program.infos (passed_of l.passed) (map declaration (drop l.d-index l.decls)) ≡ program.infos program.nothing_passed (map declaration l.decls);
+  procs : l.procs.items ++ program.proc_decls l.passed.number (map declaration (drop l.d-index l.decls)) ≡ program.proc_decls 0 (map declaration l.decls);
+  all : program.passed_all (passed_of l.passed) (map declaration (drop l.d-index l.decls)) ≡ program.passed_all program.nothing_passed (map declaration l.decls);
 }

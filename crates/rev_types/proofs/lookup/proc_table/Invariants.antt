@@ -1,7 +1,0 @@
-use Rattle.std.proofs.Common.{◌≡◌, drop, map, []}
-use Rattle.rev_syntax.specs.View.{declaration}
-use Rattle.rev_types.specs.Tables as spec
-use Rattle.rev_types.proofs.lookup.proc_table.Given as goal
-
-abbrev pub invariant-loop-d : goal.invariant-loop-d
-invariant-loop-d l = spec.proc_table (spec.callees l.table) (map declaration (drop l.d-index l.decls)) ≡ spec.proc_table [] (map declaration l.decls)
