@@ -24,7 +24,8 @@ use Rattle.rev_kinds.specs.declared.names.Holder.{Holder}
 use Rattle.rev_kinds.specs.Kinds.{Callee, Names, Locals, links_kind}
 use Rattle.rev_kinds.specs.Typing.{ScalarHas, TakesRightSide, HasKind, ExpressionFormHas, ArgsHave, LinksHave}
 use Rattle.revision_calculus.specs.Held.{IsHandle}
-use Rattle.revision_calculus.proofs.Values.{OfOk, then_ok, OfOthers, OfEach, OfShared, OfLocal, OfFun, OfFuns}
+use Rattle.revision_calculus.proofs.Events.{Any, any_ok}
+use Rattle.revision_calculus.proofs.Values.{OfOk, then_ok, OfOthers, OfEach, OfShared, OfLocal, OfFun, OfFuns, number_ok, reversed_ok, read_cell_ok, read_input_ok, read_ok, called_ok}
 use Rattle.rev_affine.specs.Live.{or, names_it, among, IsRev, Free, ExpressionFormFree, PickFree, PicksFree, NameOnce, ExpressionFormOnce, is_name, UseOnce, UsesOnce}
 use Rattle.rev_affine.specs.Owned.{hit}
 use Rattle.rev_affine.specs.Owned as n
@@ -41,92 +42,9 @@ pub either : {A : Type 0} (P : A → Type 0) (d : Bool) (x y : A) → P x → P 
 either P true x y p q = p
 either P false x y p q = q
 
-module _ (K : Value → Type 0) (others : OfOthers K) where
-  number_ok : (r : Result ℤ NumFault) → OfOk K (number r)
-  number_ok (Ok z) = others.int z
-  number_ok (Err fault.Overflow) = tt
-  number_ok (Err fault.ZeroDivisor) = tt
-
-  operated_ok : (o : BinaryOp) (x y : Value) → K y → OfOk K (operated o x y)
-  operated_ok b.Add x y k = number_ok (sum_of (number_of x) (number_of y))
-  operated_ok b.Sub x y k = number_ok (difference_of (number_of x) (number_of y))
-  operated_ok b.Mul x y k = number_ok (product_of (number_of x) (number_of y))
-  operated_ok b.Div x y k = number_ok (quotient_of (number_of x) (number_of y))
-  operated_ok b.Rem x y k = number_ok (remainder_of (number_of x) (number_of y))
-  operated_ok b.Eq x y k = others.bool (same_value x y)
-  operated_ok b.Ne x y k = others.bool (not (same_value x y))
-  operated_ok b.Lt x y k = others.bool (int_lt (number_of x) (number_of y))
-  operated_ok b.Le x y k = others.bool (int_le (number_of x) (number_of y))
-  operated_ok b.Gt x y k = others.bool (int_lt (number_of y) (number_of x))
-  operated_ok b.Ge x y k = others.bool (int_le (number_of y) (number_of x))
-  operated_ok b.And x y k = k
-  operated_ok b.Or x y k = k
-
-  cond_local : (t : Bool) (x y : Option Value) → OfLocal K others x → OfLocal K others y → OfLocal K others (cond t x y)
-  cond_local true x y p q = p
-  cond_local false x y p q = q
-
-  short_ok : (o : BinaryOp) (x : Value) → OfLocal K others (short o x)
-  short_ok b.Add x = tt
-  short_ok b.Sub x = tt
-  short_ok b.Mul x = tt
-  short_ok b.Div x = tt
-  short_ok b.Rem x = tt
-  short_ok b.Eq x = tt
-  short_ok b.Ne x = tt
-  short_ok b.Lt x = tt
-  short_ok b.Le x = tt
-  short_ok b.Gt x = tt
-  short_ok b.Ge x = tt
-  short_ok b.And x = cond_local (truth_of x) None (Some (v.Bool false)) tt (others.bool false)
-  short_ok b.Or x = cond_local (truth_of x) (Some (v.Bool true)) None (others.bool true) tt
-
-  linked_ok : (o : BinaryOp) (x : Value) (right : Answer) (z : Option Value) → OfOk K right → OfLocal K others z → OfOk K (linked o x right z)
-  linked_ok o x right (Some z) k kz = kz
-  linked_ok o x right None k kz = then_ok K K right (operated o x) k (λ y. operated_ok o x y)
-
-  reversed_ok : (o : UnaryOp) (x : Value) → OfOk K (reversed o x)
-  reversed_ok u.Neg x = number_ok (negation_of (number_of x))
-  reversed_ok u.Not x = others.bool (not (truth_of x))
-
-  cond_ok : (t : Bool) (x y : Answer) → OfOk K x → OfOk K y → OfOk K (cond t x y)
-  cond_ok true x y p q = p
-  cond_ok false x y p q = q
-
-  read_cell_ok : (found : Shared) (i : ℤ) → OfShared K others found → OfOk K (read_cell found i)
-  read_cell_ok unknown i k = others.int (pos 0)
-  read_cell_ok (scalar x) i k = others.int (pos 0)
-  read_cell_ok (array n f) (pos i) k = cond_ok (nat_lt i n) (Ok (f i)) (Err cause.Index) (k i) tt
-  read_cell_ok (array n f) (negsuc i) k = tt
-
-  taken_ok : (o : Option ℤ) → OfOk K (taken o)
-  taken_ok None = tt
-  taken_ok (Some z) = others.int z
-
-  read_input_ok : (zs : List ℤ) (i : ℤ) → OfOk K (read_input zs i)
-  read_input_ok zs (pos i) = taken_ok (slice_get zs i)
-  read_input_ok zs (negsuc i) = tt
-
-  read_ok : (x : Option Value) (found : Shared) → OfLocal K others x → OfShared K others found → OfOk K (read x found)
-  read_ok (Some x) found k kf = k
-  read_ok None unknown k kf = others.int (pos 0)
-  read_ok None (scalar x) k kf = kf
-  read_ok None (array n f) k kf = others.int (pos 0)
-
-  called_ok : (o : Option Fun) (args : List Value) → OfFun K others o → OfEach K others args → OfOk K (called o args)
-  called_ok None args k ks = others.int (pos 0)
-  called_ok (Some f) args k ks = k args ks
-
 -- a handle is of this kind alone
 abbrev pub OfRev : ValueKind → Value → Type 0
 OfRev t x = (q : Path) → IsHandle x q → t ≡ k.Rev
-
-abbrev Any : {A : Type 0} → A → Type 0
-Any x = Unit {0}
-
-any_ok : {A : Type 0} (a : Result A Cause) → OfOk Any a
-any_ok (Ok x) = tt
-any_ok (Err c) = tt
 
 -- none is a handle's
 abbrev pub PlainParams : List Parameter → Type 0

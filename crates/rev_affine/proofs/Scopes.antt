@@ -26,57 +26,10 @@ use Rattle.revision_calculus.specs.Evaluation.{with_local}
 use Rattle.revision_calculus.specs.Step.{append, locals_of, frame_of}
 use Rattle.revision_calculus.specs.Held.{IsHandle}
 use Rattle.revision_calculus.specs.Kinded.{IsWithin}
-use Rattle.revision_calculus.proofs.ScopeKinds.{within_self}
+use Rattle.revision_calculus.proofs.ScopeKinds.{within_self, within_trans, statement_within, find-with_local, first_kind, find-params, param_apart}
 use Rattle.rev_affine.specs.Live.{live, passes, StatementOnce, StatementsOnce}
 use Rattle.rev_affine.specs.Owned.{RestOnce, LocalsRev, FrameOwn, Fits, FramesOwn, DeclarationsOnce}
 use Rattle.rev_affine.proofs.Readings.{PlainParams, Fit}
-
-over_by : {A : Type 0} (d : Bool) (x y : A) (r : Option A) → cond d (Some x) r ≡ cond d (Some x) (cond d (Some y) r)
-over_by true x y r = refl
-over_by false x y r = refl
-
-swap_by : {A : Type 0} (d e : Bool) (x y : A) (r : Option A) → (d ≡ true → e ≡ true → ⊥) → cond d (Some y) (cond e (Some x) r) ≡ cond e (Some x) (cond d (Some y) r)
-swap_by true true x y r differ = absurd (differ refl refl)
-swap_by true false x y r differ = refl
-swap_by false e x y r differ = refl
-
--- what a name finds among the locals after an assignment
-find-with_local : (es : Table Value) (w : Name) (x : Value) (name : Name) → find name (with_local es w x) ≡ cond (same name w) (Some x) (find name es)
-find-with_local [] w x name = refl
-find-with_local (e ∷ es) w x name = by (same w e.0) refl (find-with_local es w x name)
-  where
-    by : (d : Bool) → same w e.0 ≡ d → find name (with_local es w x) ≡ cond (same name w) (Some x) (find name es)
-        → find name (cond d ((e.0, x) ∷ es) (e ∷ with_local es w x)) ≡ cond (same name w) (Some x) (cond (same name e.0) (Some e.1) (find name es))
-    by true q rest = over_by (same name e.0) x e.1 (find name es) ∙ ap (λ n. cond (same name n) (Some x) (cond (same name e.0) (Some e.1) (find name es))) (sym (same_equal w e.0 q))
-    by false q rest =
-        ap (λ o. cond (same name e.0) (Some e.1) o) rest
-        ∙ swap_by (same name e.0) (same name w) x e.1 (find name es) (λ i j. other_text w e.0 (sym q) (sym (same_equal name w j) ∙ same_equal name e.0 i))
-
--- ---- scopes
-
-pub within_trans : (l m n : Locals) → IsWithin l m → IsWithin m n → IsWithin l n
-within_trans l m n p q name t h = q name t (p name t h)
-
-within_added : (l : Locals) (w : Name) (t : Option ValueKind) → IsWithin l (added l w t)
-within_added l w t name u h = find-added name w t l ∙ ap (λ o. or_else o (if same name w then Some t else None)) h
-
-within_path : (l m : Locals) → m ≡ l → IsWithin l m
-within_path l m e = subst (λ n. IsWithin l n) (sym e) (within_self l)
-
--- a statement forgets no name
-pub statement_within : (c : Names) (result : Option ValueKind) (l : Locals) (x : Statement) (l' : Locals) → StatementTyped c result l x l' → IsWithin l l'
-statement_within c result l (statement at line (bind w r)) l' typed = subst (λ n. IsWithin l n) (sym typed.1.2) (within_added l w.text (Some typed.1.0))
-statement_within c result l (statement at line (assign w r)) l' typed = within_path l l' typed.1
-statement_within c result l (statement at line (assign_cell w i e)) l' typed = within_path l l' typed.1
-statement_within c result l (statement at line (choose arms)) l' typed = within_path l l' typed.1
-statement_within c result l (statement at line (choose_or arms last)) l' typed = within_path l l' typed.1
-statement_within c result l (statement at line (repeat test body)) l' typed = within_path l l' typed.1
-statement_within c result l (statement at line (call w args)) l' typed = within_path l l' typed.1
-statement_within c result l (statement at line (return e)) l' typed = within_path l l' typed.1
-statement_within c result l (statement at line (fork w args)) l' typed = within_path l l' typed.1
-statement_within c result l (statement at line (join e)) l' typed = within_path l l' typed.1
-statement_within c result l (statement at line (print items)) l' typed = within_path l l' typed.1
-statement_within c result l (statement at line (assert e)) l' typed = within_path l l' typed.1
 
 -- ---- what is live
 
@@ -185,40 +138,20 @@ module _ (c : Names) where
 
   -- ---- parameters
 
-  abbrev first_kind : Name → List Parameter → Option (Option ValueKind)
-  first_kind name [] = None
-  first_kind name (p ∷ ps) = if same name p.name.text then Some (Some p.kind) else first_kind name ps
-
-  find-params : (scope : Locals) (ps : List Parameter) (name : Name) → find name (with_params scope ps) ≡ or_else (find name scope) (first_kind name ps)
-  find-params scope [] name = sym (or_else-none (find name scope))
-  find-params scope (p ∷ ps) name =
-      find-params (added scope p.name.text (Some p.kind)) ps name ∙ ap (λ o. or_else o (first_kind name ps)) (find-added name p.name.text (Some p.kind) scope)
-      ∙ or_else-step (find name scope) (same name p.name.text) (Some p.kind) (first_kind name ps)
-
-  param_apart : (scope : Locals) (ps : List Parameter) (xs : List Value) (name : Name) (h : Holder) → ParamsNew c scope ps → c.shared name ≡ Some h → (first_kind name ps ≡ None) × (find name (locals_of (names_of ps) xs) ≡ None)
-  param_apart scope [] xs name h new e = (refl, refl)
-  param_apart scope (p ∷ ps) xs name h new e = by (λ ys. param_apart (added scope p.name.text (Some p.kind)) ps ys name h new.1 e) (same name p.name.text) refl xs
-    where
-      by : ((ys : List Value) → (first_kind name ps ≡ None) × (find name (locals_of (names_of ps) ys) ≡ None))
-          → (d : Bool) → same name p.name.text ≡ d → (ys : List Value) → (cond d (Some (Some p.kind)) (first_kind name ps) ≡ None) × (find name (locals_of (p.name.text ∷ names_of ps) ys) ≡ None)
-      by later true q ys = absurd (let clash : None ≡ Some h = sym new.0.1 ∙ ap c.shared (sym (same_equal name p.name.text q)) ∙ e in cc)
-      by later false q [] = ((later []).0, refl)
-      by later false q (y ∷ ys) = ((later ys).0, ap (λ d. cond d (Some y) (find name (locals_of (names_of ps) ys))) q ∙ (later ys).1)
-
-  param_rev : (ps : List Parameter) (xs : List Value) (name : Name) (u : ValueKind) (q : Path) → Fit ps xs → first_kind name ps ≡ Some (Some u) → find name (locals_of (names_of ps) xs) ≡ Some (v.Rev (Some q)) → u ≡ k.Rev
+  param_rev : (ps : List Parameter) (xs : List Value) (name : Name) (u : ValueKind) (q : Path) → Fit ps xs → first_kind c name ps ≡ Some (Some u) → find name (locals_of (names_of ps) xs) ≡ Some (v.Rev (Some q)) → u ≡ k.Rev
   param_rev [] xs name u q fit h g = cc
   param_rev (p ∷ ps) [] name u q fit h g = cc
   param_rev (p ∷ ps) (x ∷ xs) name u q fit h g = by (same name p.name.text) h g (param_rev ps xs name u q fit.1)
     where
-      by : (d : Bool) → cond d (Some (Some p.kind)) (first_kind name ps) ≡ Some (Some u) → cond d (Some x) (find name (locals_of (names_of ps) xs)) ≡ Some (v.Rev (Some q))
-          → (first_kind name ps ≡ Some (Some u) → find name (locals_of (names_of ps) xs) ≡ Some (v.Rev (Some q)) → u ≡ k.Rev) → u ≡ k.Rev
+      by : (d : Bool) → cond d (Some (Some p.kind)) (first_kind c name ps) ≡ Some (Some u) → cond d (Some x) (find name (locals_of (names_of ps) xs)) ≡ Some (v.Rev (Some q))
+          → (first_kind c name ps ≡ Some (Some u) → find name (locals_of (names_of ps) xs) ≡ Some (v.Rev (Some q)) → u ≡ k.Rev) → u ≡ k.Rev
       by true i j rest = let value : x ≡ v.Rev (Some q) = cc in let kinds : p.kind ≡ u = cc in sym kinds ∙ fit.0 q value
       by false i j rest = rest i j
 
   params_locals : (ps : List Parameter) (xs : List Value) → ParamsNew c [] ps → Fit ps xs → LocalsRev c (with_params [] ps) None (locals_of (names_of ps) xs)
   params_locals ps xs new fit = record {
-    rev = λ name u q differ h g. param_rev ps xs name u q fit (sym (find-params [] ps name) ∙ h) g;
-    apart = λ name h e. let both = param_apart [] ps xs name h new e in (find-params [] ps name ∙ both.0, both.1);
+    rev = λ name u q differ h g. param_rev ps xs name u q fit (sym (find-params c [] ps name) ∙ h) g;
+    apart = λ name h e. let both = param_apart c [] ps xs name h new e in (find-params c [] ps name ∙ both.0, both.1);
   }
 
   -- ---- procedures

@@ -18,7 +18,7 @@ use Rattle.rev_expressions.specs.Grammar.{alphabet, Inner, Value, Operand, Paren
 use Rattle.rev_expressions.specs.Declarations.{inner}
 use Rattle.rev_expressions.specs.Parse.{expected, parse, inside, links, of_name, of_parts, sign_at, expr_begins}
 use Rattle.rev_expressions.specs.Lists.{more_listed}
-use Rattle.rev_expressions.proofs.Turns.{below_is, below_none}
+use Rattle.rev_expressions.proofs.Turns.{or_nothing, same_outcome, below_is, below_none}
 use Rattle.rev_expressions.proofs.Lists.{listed_is}
 use Rattle.rev_expressions.specs.Classes as class
 
@@ -27,10 +27,6 @@ use Rattle.rev_expressions.specs.Classes as class
 pub twice : {A B C : Type 0} (f : A → B) (g : B → C) (o : Outcome Token A) → and_then (and_then o (λ a rest. Read (f a) rest)) (λ b rest. Read (g b) rest) ≡ and_then o (λ a rest. Read (g (f a)) rest)
 twice f g (Read a rest) = refl
 twice f g (Failed e rest) = refl
-
-pub same_outcome : {A : Type 0} (o : Outcome Token A) → and_then o (λ a rest. Read a rest) ≡ o
-same_outcome (Read a rest) = refl
-same_outcome (Failed e rest) = refl
 
 abbrev pub E : List ℕ → ℕ → List Token → Outcome Token Expression
 E bytes m = parse bytes m (expr bytes)
@@ -263,10 +259,6 @@ module _ (bytes : List ℕ) (n : ℕ) where
   pub expr_not_null : nullable alphabet (expr bytes) ≡ false
   unfolding rank_sign bracketed choice name name_tail primary unary product sum comparison conjunction expr
   expr_not_null = refl
-
-  pub or_nothing : (a b : Bool) → a || (false && b) ≡ a
-  or_nothing true b = refl
-  or_nothing false b = refl
 
   listed_begins : (ts : List Token) → begins alphabet (listed (expr bytes)) ts ≡ begins alphabet (expr bytes) ts
   listed_begins ts = by_kind_of (next_kind alphabet ts)

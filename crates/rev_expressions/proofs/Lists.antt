@@ -8,7 +8,7 @@ use Rattle.token_grammar.specs.Reader.{begins, first, is_next, passes, next_kind
 use Rattle.rev_expressions.specs.Grammar.{alphabet, Rule, behind, all, listed, never}
 use Rattle.rev_expressions.specs.Parse.{parse}
 use Rattle.rev_expressions.specs.Lists.{more_of, more_listed}
-use Rattle.rev_expressions.proofs.Turns.{repeat_end, repeat_stop, repeat_go}
+use Rattle.rev_expressions.proofs.Turns.{or_nothing, same_outcome, repeat_end, repeat_stop, repeat_go}
 use Rattle.rev_expressions.specs.Classes as class
 
 module _ (bytes : List ℕ) (n : ℕ) {A : Type 0} (F : Rule A) where
@@ -17,10 +17,6 @@ module _ (bytes : List ℕ) (n : ℕ) {A : Type 0} (F : Rule A) where
   pub all_is : (ts : List Token) → parse bytes n (all F) ts ≡ more_of bytes n F (length ts) [] ts
   unfolding read
   all_is ts = same_outcome (more_of bytes n F (length ts) [] ts)
-    where
-      same_outcome : (o : Outcome Token (List A)) → and_then o (λ xs rest. Read xs rest) ≡ o
-      same_outcome (Read xs rest) = refl
-      same_outcome (Failed e rest) = refl
 
   pub all_end : (k : ℕ) (found : List A) (ts : List Token) → k ≡ 0 → more_of bytes n F k found ts ≡ Read found ts
   all_end = repeat_end (parse bytes n F) never (begins alphabet F)
@@ -33,10 +29,6 @@ module _ (bytes : List ℕ) (n : ℕ) {A : Type 0} (F : Rule A) where
 
   -- ---- behind a comma
 
-  or_nothing : (a b : Bool) → a || (false && b) ≡ a
-  or_nothing true b = refl
-  or_nothing false b = refl
-
   comma_begins : (ts : List Token) → begins alphabet (behind s.Comma F) ts ≡ is_next alphabet (class.fixed s.Comma) ts
   comma_begins ts = by_next (next_kind alphabet ts)
     where
@@ -48,10 +40,6 @@ module _ (bytes : List ℕ) (n : ℕ) {A : Type 0} (F : Rule A) where
   unfolding read
   comma_read [] e = absurd cc
   comma_read (t ∷ ts) e = ap (λ b. and_then (cond b (Read tt ts) (Failed Unexpected (t ∷ ts))) (λ x rest. and_then (parse bytes n F rest) (λ a rest2. Read a rest2))) e ∙ same_outcome (parse bytes n F ts)
-    where
-      same_outcome : (o : Outcome Token A) → and_then o (λ a rest. Read a rest) ≡ o
-      same_outcome (Read a rest) = refl
-      same_outcome (Failed x rest) = refl
 
   pub comma_end : (k : ℕ) (found : List A) (ts : List Token) → k ≡ 0 → more_listed bytes n F k found ts ≡ Read found ts
   comma_end = repeat_end (parse bytes n (behind s.Comma F)) never (begins alphabet (behind s.Comma F))

@@ -12,6 +12,15 @@ use Rattle.rev_expressions.specs.Classes.{Class}
 use Rattle.rev_expressions.specs.Declarations.{inner}
 use Rattle.rev_expressions.specs.Parse.{parse, links}
 
+pub or_nothing : (a b : Bool) → a || (false && b) ≡ a
+or_nothing true b = refl
+or_nothing false b = refl
+
+pub same_outcome : {A : Type 0} (o : Outcome Token A) → and_then o (λ a rest. Read a rest) ≡ o
+same_outcome (Read a rest) = refl
+same_outcome (Failed e rest) = refl
+
+
 -- ---- levels
 
 pub below_is : (bytes : List ℕ) (n m : ℕ) → n ≡ suc m → below alphabet (inner bytes) n ≡ Some (λ i. parse bytes m (inner bytes i))
@@ -83,17 +92,14 @@ module _ (bytes : List ℕ) (n : ℕ) (rank : Rank) where
   sign_is_token r.Sum = refl
   sign_is_token r.Product = refl
 
-  or_nothing : (a b c : Bool) → b ≡ false → a || (b && c) ≡ a
-  or_nothing true b c e = refl
-  or_nothing false false c e = refl
-  or_nothing false true c e = absurd cc
-
   link_begins : (ts : List Token) → begins alphabet (linked (rank_sign rank) (operand bytes rank)) ts ≡ begins alphabet (rank_sign rank) ts
   link_begins ts = by_next (next_kind alphabet ts)
     where
       by_next : (o : Option Class) → passes alphabet (first alphabet (linked (rank_sign rank) (operand bytes rank))) o ≡ passes alphabet (first alphabet (rank_sign rank)) o
       by_next None = refl
-      by_next (Some k) = or_nothing (first alphabet (rank_sign rank) k) (nullable alphabet (rank_sign rank)) (first alphabet (operand bytes rank) k) (sign_is_token rank)
+      by_next (Some k) =
+          ap (λ b. first alphabet (rank_sign rank) k || (b && first alphabet (operand bytes rank) k)) (sign_is_token rank)
+          ∙ or_nothing (first alphabet (rank_sign rank) k) (first alphabet (operand bytes rank) k)
 
   pub links_are : (ts : List Token) → parse bytes n (links bytes rank) ts ≡ more_links (length ts) [] ts
   unfolding read

@@ -17,8 +17,9 @@ use Rattle.rev_expressions.specs.Statements.{block}
 use Rattle.rev_expressions.specs.Declarations.{KindAt, optional, kind, constant, cells, size, first_value, param, params, names, formal, head, meaning, fun_form, merge_form, variable, shared_of, versioned_form, cumulative_form, proc_form, declaration, declarations, program, inner}
 use Rattle.rev_expressions.specs.Parse.{parse, inside}
 use Rattle.rev_expressions.specs.Lists.{more_of, more_listed}
+use Rattle.rev_expressions.proofs.Turns.{same_outcome}
 use Rattle.rev_expressions.proofs.Lists.{listed_is, all_is, all_end, all_stop, all_go}
-use Rattle.rev_expressions.proofs.Expressions.{K, by_kind, by_next, at_kind, same_outcome, inside_none, inside_go}
+use Rattle.rev_expressions.proofs.Expressions.{K, by_kind, by_next, at_kind, inside_none, inside_go}
 use Rattle.rev_parse.specs.Pieces.{plain, declaration_begins, number, count, negative_of, three_names, result_kind}
 use Rattle.rev_expressions.specs.Classes as class
 

@@ -19,9 +19,9 @@ use Rattle.rev_expressions.specs.Statements.{Else, Test, Last, is_last, tests_of
 use Rattle.rev_expressions.specs.Declarations.{inner}
 use Rattle.rev_expressions.specs.Parse.{parse, inside, expr_begins}
 use Rattle.rev_expressions.specs.Lists.{more_of, more_listed}
-use Rattle.rev_expressions.proofs.Turns.{repeat_end, repeat_stop, repeat_go, found_before}
+use Rattle.rev_expressions.proofs.Turns.{or_nothing, same_outcome, repeat_end, repeat_stop, repeat_go, found_before}
 use Rattle.rev_expressions.proofs.Lists.{listed_is, all_is}
-use Rattle.rev_expressions.proofs.Expressions.{K, at_kind, by_kind, by_next, same_outcome, inside_none, inside_go, arguments_go, or_nothing, expr_not_null, begins_any, expr_end}
+use Rattle.rev_expressions.proofs.Expressions.{K, at_kind, by_kind, by_next, inside_none, inside_go, arguments_go, expr_not_null, begins_any, expr_end}
 use Rattle.rev_parse.specs.Parts.{with_last, conditional_of, more_parts, statement_form_of_name, stmt_at, form_of, form_behind, statement_begins, item_begins}
 use Rattle.rev_expressions.specs.Classes as class
 
@@ -211,7 +211,7 @@ module _ (bytes : List ℕ) (n : ℕ) where
     where
       by_kind_of : (o : Option Class) → passes alphabet (first alphabet (both (λ e x. Some e) (expr bytes) (nothing {A = Unit {0}} tt))) o ≡ passes alphabet (first alphabet (expr bytes)) o
       by_kind_of None = refl
-      by_kind_of (Some k) = ap (λ b. first alphabet (expr bytes) k || (b && false)) (expr_not_null bytes n) ∙ or_nothing bytes n (first alphabet (expr bytes) k) false
+      by_kind_of (Some k) = ap (λ b. first alphabet (expr bytes) k || (b && false)) (expr_not_null bytes n) ∙ or_nothing (first alphabet (expr bytes) k) false
 
   abbrev returned : Outcome Token (Option Expression) → Outcome Token StatementForm
   returned o = and_then o (λ e rest. and_then (K s.Semicolon rest) (λ x rest2. Read (t.return e) rest2))
@@ -243,7 +243,7 @@ module _ (bytes : List ℕ) (n : ℕ) where
     where
       by_kind_of : (o : Option Class) → passes alphabet (first alphabet (listed (item bytes))) o ≡ passes alphabet (first alphabet (item bytes)) o
       by_kind_of None = refl
-      by_kind_of (Some k) = ap (λ b. first alphabet (item bytes) k || (b && (is_same (class.fixed s.Comma) k || false))) item_not_null ∙ or_nothing bytes n (first alphabet (item bytes) k) (is_same (class.fixed s.Comma) k || false)
+      by_kind_of (Some k) = ap (λ b. first alphabet (item bytes) k || (b && (is_same (class.fixed s.Comma) k || false))) item_not_null ∙ or_nothing (first alphabet (item bytes) k) (is_same (class.fixed s.Comma) k || false)
 
       same_any : (ts : List Token) → begins alphabet (item bytes) ts ≡ item_begins ts
       same_any ts = item_any ts
@@ -291,7 +291,7 @@ module _ (bytes : List ℕ) (n : ℕ) where
     where
       by_kind_of : (o : Option Class) → passes alphabet (first alphabet (else_part bytes)) o ≡ passes alphabet (is_same (class.fixed s.Else)) o
       by_kind_of None = refl
-      by_kind_of (Some k) = or_nothing bytes n (is_same (class.fixed s.Else) k) (first alphabet (else_choice bytes) k)
+      by_kind_of (Some k) = or_nothing (is_same (class.fixed s.Else) k) (first alphabet (else_choice bytes) k)
 
   pub parts_end : (j : ℕ) (found : List Else) (ts : List Token) → j ≡ 0 → more_parts bytes n j found ts ≡ Read found ts
   parts_end = repeat_end (parse bytes n (else_part bytes)) is_last (begins alphabet (else_part bytes))
@@ -304,7 +304,7 @@ module _ (bytes : List ℕ) (n : ℕ) where
     where
       by_kind_of : (o : Option Class) → passes alphabet (first alphabet (both (λ x a. Test a) (sign s.If) (arm bytes))) o ≡ passes alphabet (is_same (class.fixed s.If)) o
       by_kind_of None = refl
-      by_kind_of (Some k) = or_nothing bytes n (is_same (class.fixed s.If) k) (first alphabet (arm bytes) k)
+      by_kind_of (Some k) = or_nothing (is_same (class.fixed s.If) k) (first alphabet (arm bytes) k)
 
   -- behind an `else`
   else_read : (ts : List Token) → is_next alphabet (class.fixed s.Else) ts ≡ true → parse bytes n (else_part bytes) ts ≡ parse bytes n (else_choice bytes) (after ts)

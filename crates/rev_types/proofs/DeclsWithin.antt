@@ -61,14 +61,14 @@ locals_never left (b ∷ ps) h = (
 
 -- ---- weights
 
-weight_is_within : (n m : ℕ) → m ≡ min n 65537 → nat_lt 65536 m ≡ false → n ≤ 65536
-weight_is_within n m e h = let g : m ≤ 65536 = grind (arith, nat_tests) in omega arith
+weight_is_within : (n m : ℕ) → m ≡ min n (first_past limits.Weight) → nat_lt (most limits.Weight) m ≡ false → n ≤ most limits.Weight
+weight_is_within n m e h = let g : m ≤ most limits.Weight = grind (arith, nat_tests) in omega arith
 
-weight_never : (n m : ℕ) → m ≡ min n 65537 → n ≤ 65536 → nat_lt 65536 m ≡ true → ⊥
-weight_never n m e h t = let g : 65536 < m = grind (arith, nat_tests) in omega arith
+weight_never : (n m : ℕ) → m ≡ min n (first_past limits.Weight) → n ≤ most limits.Weight → nat_lt (most limits.Weight) m ≡ true → ⊥
+weight_never n m e h t = let g : most limits.Weight < m = grind (arith, nat_tests) in omega arith
 
-weight_within : (w : PlacedName) (ws vs : Table ℕ) (e : Expression) → Caps ws vs → p.weight_of [] one app w (p.weight vs e) ≡ [] → expression_weight ws e ≤ 65536
-weight_within w ws vs e c h = weight_is_within (expression_weight ws e) (p.weight vs e) (expression_caps ws vs c e) (failed (nat_lt 65536 (p.weight vs e)) _ h)
+weight_within : (w : PlacedName) (ws vs : Table ℕ) (e : Expression) → Caps ws vs → p.weight_of [] one app w (p.weight vs e) ≡ [] → expression_weight ws e ≤ most limits.Weight
+weight_within w ws vs e c h = weight_is_within (expression_weight ws e) (p.weight vs e) (expression_caps ws vs c e) (failed (nat_lt (most limits.Weight) (p.weight vs e)) _ h)
 
 -- ---- locations
 

@@ -91,13 +91,13 @@ inner_names c es o q f = λ i. record {
 }
 
 -- the first fault of a program is that of its declarations or of `main`, by checkers with its tables
-pub program_found : (q : ProgramTree) (o i : held_checker.Checker) (e1 e2 e3 e4 : List Declaration) (l : Locals) (left : ℕ) (d m x : Fault)
-    → e1 ≡ q.declarations → e2 ≡ q.declarations → e3 ≡ q.declarations → e4 ≡ q.declarations → l ≡ [] → left ≡ first_past limits.Locals
-    → o.inside ≡ false → o.shared.now ≡ shared_table [] e1 → callees o.procs.now ≡ proc_table [] e2 → callees o.funs.now ≡ fun_table [] e3
-    → i.inside ≡ true → callees i.procs.now ≡ proc_table [] e2 → callees i.funs.now ≡ fun_table [] e3
-    → d ≡ broken_in_declarations (names_of o) (names_of i) p.nothing_passed None e4 → m ≡ broken_in_statements (names_of o) None l left None q.main → x ≡ both d m
+pub program_found : (q : ProgramTree) (o i : held_checker.Checker) (es : List Declaration) (l : Locals) (left : ℕ) (d m x : Fault)
+    → es ≡ q.declarations → l ≡ [] → left ≡ first_past limits.Locals
+    → o.inside ≡ false → o.shared.now ≡ shared_table [] es → callees o.procs.now ≡ proc_table [] es → callees o.funs.now ≡ fun_table [] es
+    → i.inside ≡ true → callees i.procs.now ≡ proc_table [] es → callees i.funs.now ≡ fun_table [] es
+    → d ≡ broken_in_declarations (names_of o) (names_of i) p.nothing_passed None es → m ≡ broken_in_statements (names_of o) None l left None q.main → x ≡ both d m
     → x ≡ broken_in_program q
-program_found q o i e1 e2 e3 e4 l left d m x p1 p2 p3 p4 pl pn oi os op of ii ip if' hd hm hx =
-    let outer = outer_names o q.declarations oi (os ∙ ap (λ es. shared_table [] es) p1) (op ∙ ap (λ es. proc_table [] es) p2) (of ∙ ap (λ es. fun_table [] es) p3) in
-    let inner = inner_names i q.declarations ii (ip ∙ ap (λ es. proc_table [] es) p2) (if' ∙ ap (λ es. fun_table [] es) p3) in
-    hx ∙ (λ j. both ((hd ∙ (λ k. broken_in_declarations (outer k) (inner k) p.nothing_passed None (p4 k))) j) ((hm ∙ (λ k. broken_in_statements (outer k) None (pl k) (pn k) None q.main)) j))
+program_found q o i es l left d m x pe pl pn oi os op of ii ip if' hd hm hx =
+    let outer = outer_names o q.declarations oi (os ∙ ap (λ es. shared_table [] es) pe) (op ∙ ap (λ es. proc_table [] es) pe) (of ∙ ap (λ es. fun_table [] es) pe) in
+    let inner = inner_names i q.declarations ii (ip ∙ ap (λ es. proc_table [] es) pe) (if' ∙ ap (λ es. fun_table [] es) pe) in
+    hx ∙ (λ j. both ((hd ∙ (λ k. broken_in_declarations (outer k) (inner k) p.nothing_passed None (pe k))) j) ((hm ∙ (λ k. broken_in_statements (outer k) None (pl k) (pn k) None q.main)) j))

@@ -4,14 +4,16 @@ use Rattle.rev_syntax.specs.Trees.{Expression, placed, ExpressionForm, Expressio
 use Rattle.merge_decl.specs.Names.{Name, same}
 use Rattle.merge_decl.specs.Table.{Table, find, added}
 use Rattle.merge_decl.proofs.Tables.{or_else, find-added}
+use Rattle.rev_report.specs.declared.limit.Limit.TheVariants as limits
+use Rattle.rev_report.specs.Limits.{first_past}
 use Rattle.rev_types.specs.Program as p
 use Rattle.merge_decl.specs.Weights.{known_weight, expression_weight, expression_form_weight, expressions_weight, links_weight}
 
 -- one past the limit
 abbrev pub cap : ℕ → ℕ
-cap n = min n 65537
+cap n = min n (first_past limits.Weight)
 
-cap_plus : (a b : ℕ) → min (min a 65537 + min b 65537) 65537 ≡ min (a + b) 65537
+cap_plus : (a b : ℕ) → cap (cap a + cap b) ≡ cap (a + b)
 cap_plus a b = omega arith
 
 plus_caps : (x y a b : ℕ) → x ≡ cap a → y ≡ cap b → p.plus x y ≡ cap (a + b)

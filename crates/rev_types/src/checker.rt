@@ -54,19 +54,25 @@ fn list(
             holds: _,
             size,
             first: _,
-        } => shared.push(SharedInfo {
-            decl: passed.number,
-            base: passed.located,
-            cells: cells_in(*size),
-            array: size.is_some(),
-            merge: merge_number(&passed.merges, by),
-        }),
+        } => {
+            shared.push(SharedInfo {
+                decl: passed.number,
+                base: passed.located,
+                cells: cells_in(*size),
+                array: size.is_some(),
+                merge: merge_number(&passed.merges, by),
+            })?;
+            Ok(())
+        }
         Decl::Proc {
             name: _,
             params: _,
             result: _,
             body: _,
-        } => procs.push(passed.number),
+        } => {
+            procs.push(passed.number)?;
+            Ok(())
+        }
         Decl::Fun {
             name: _,
             params: _,

@@ -40,7 +40,7 @@ swap_by true false x y r differ = refl
 swap_by false e x y r differ = refl
 
 -- what a name finds among the locals after an assignment
-find-with_local : (es : Table Value) (w : Name) (x : Value) (name : Name) → find name (with_local es w x) ≡ cond (same name w) (Some x) (find name es)
+pub find-with_local : (es : Table Value) (w : Name) (x : Value) (name : Name) → find name (with_local es w x) ≡ cond (same name w) (Some x) (find name es)
 find-with_local [] w x name = refl
 find-with_local (e ∷ es) w x name = by (same w e.0) refl (find-with_local es w x name)
   where
@@ -56,7 +56,7 @@ find-with_local (e ∷ es) w x name = by (same w e.0) refl (find-with_local es w
 pub within_self : (l : Locals) → IsWithin l l
 within_self l name t h = h
 
-within_trans : (l m n : Locals) → IsWithin l m → IsWithin m n → IsWithin l n
+pub within_trans : (l m n : Locals) → IsWithin l m → IsWithin m n → IsWithin l n
 within_trans l m n p q name t h = q name t (p name t h)
 
 within_added : (l : Locals) (w : Name) (t : Option ValueKind) → IsWithin l (added l w t)
@@ -66,19 +66,19 @@ within_path : (l m : Locals) → m ≡ l → IsWithin l m
 within_path l m e = subst (λ n. IsWithin l n) (sym e) (within_self l)
 
 -- a statement forgets no name
-step_within : (c : Names) (result : Option ValueKind) (l : Locals) (x : Statement) (l' : Locals) → StatementTyped c result l x l' → IsWithin l l'
-step_within c result l (statement at line (bind w r)) l' typed = subst (λ n. IsWithin l n) (sym typed.1.2) (within_added l w.text (Some typed.1.0))
-step_within c result l (statement at line (assign w r)) l' typed = within_path l l' typed.1
-step_within c result l (statement at line (assign_cell w i e)) l' typed = within_path l l' typed.1
-step_within c result l (statement at line (choose arms)) l' typed = within_path l l' typed.1
-step_within c result l (statement at line (choose_or arms last)) l' typed = within_path l l' typed.1
-step_within c result l (statement at line (repeat test body)) l' typed = within_path l l' typed.1
-step_within c result l (statement at line (call w args)) l' typed = within_path l l' typed.1
-step_within c result l (statement at line (return e)) l' typed = within_path l l' typed.1
-step_within c result l (statement at line (fork w args)) l' typed = within_path l l' typed.1
-step_within c result l (statement at line (join e)) l' typed = within_path l l' typed.1
-step_within c result l (statement at line (print items)) l' typed = within_path l l' typed.1
-step_within c result l (statement at line (assert e)) l' typed = within_path l l' typed.1
+pub statement_within : (c : Names) (result : Option ValueKind) (l : Locals) (x : Statement) (l' : Locals) → StatementTyped c result l x l' → IsWithin l l'
+statement_within c result l (statement at line (bind w r)) l' typed = subst (λ n. IsWithin l n) (sym typed.1.2) (within_added l w.text (Some typed.1.0))
+statement_within c result l (statement at line (assign w r)) l' typed = within_path l l' typed.1
+statement_within c result l (statement at line (assign_cell w i e)) l' typed = within_path l l' typed.1
+statement_within c result l (statement at line (choose arms)) l' typed = within_path l l' typed.1
+statement_within c result l (statement at line (choose_or arms last)) l' typed = within_path l l' typed.1
+statement_within c result l (statement at line (repeat test body)) l' typed = within_path l l' typed.1
+statement_within c result l (statement at line (call w args)) l' typed = within_path l l' typed.1
+statement_within c result l (statement at line (return e)) l' typed = within_path l l' typed.1
+statement_within c result l (statement at line (fork w args)) l' typed = within_path l l' typed.1
+statement_within c result l (statement at line (join e)) l' typed = within_path l l' typed.1
+statement_within c result l (statement at line (print items)) l' typed = within_path l l' typed.1
+statement_within c result l (statement at line (assert e)) l' typed = within_path l l' typed.1
 
 rest_wider : (c : Names) (result : Option ValueKind) (l m : Locals) (rest : Statements) → IsWithin l m → RestTyped c result l rest → RestTyped c result m rest
 rest_wider c result l m no_statements inside typed = tt
@@ -88,7 +88,7 @@ rest_wider c result l m (statements x rest) inside typed = (typed.0, typed.1, wi
 pub block_typed : (c : Names) (result : Option ValueKind) (l m : Locals) (block rest : Statements) → StatementsTyped c result m block → IsWithin l m → RestTyped c result l rest → RestTyped c result m (append block rest)
 block_typed c result l m no_statements rest typed inside later = rest_wider c result l m rest inside later
 block_typed c result l m (statements x xs) rest typed inside later =
-    (m, typed.0, within_self m, typed.1, block_typed c result l typed.0 xs rest typed.2 (within_trans l m typed.0 inside (step_within c result m x typed.0 typed.1)) later)
+    (m, typed.0, within_self m, typed.1, block_typed c result l typed.0 xs rest typed.2 (within_trans l m typed.0 inside (statement_within c result m x typed.0 typed.1)) later)
 
 pub whole_typed : (c : Names) (result : Option ValueKind) (l : Locals) (block : Statements) → StatementsTyped c result l block → RestTyped c result l block
 whole_typed c result l no_statements typed = tt
@@ -211,11 +211,11 @@ module _ (c : Names) where
 
   -- ---- parameters
 
-  abbrev first_kind : Name → List Parameter → Option (Option ValueKind)
+  abbrev pub first_kind : Name → List Parameter → Option (Option ValueKind)
   first_kind name [] = None
   first_kind name (p ∷ ps) = if same name p.name.text then Some (Some p.kind) else first_kind name ps
 
-  find-params : (scope : Locals) (ps : List Parameter) (name : Name) → find name (with_params scope ps) ≡ or_else (find name scope) (first_kind name ps)
+  pub find-params : (scope : Locals) (ps : List Parameter) (name : Name) → find name (with_params scope ps) ≡ or_else (find name scope) (first_kind name ps)
   find-params scope [] name = sym (or_else-none (find name scope))
   find-params scope (p ∷ ps) name =
       find-params (added scope p.name.text (Some p.kind)) ps name ∙ ap (λ o. or_else o (first_kind name ps)) (find-added name p.name.text (Some p.kind) scope)
@@ -231,7 +231,7 @@ module _ (c : Names) where
       by true q rest = are.0 ∙ cc
       by false q rest = rest q
 
-  param_apart : (scope : Locals) (ps : List Parameter) (xs : List Value) (name : Name) (h : Holder) → ParamsNew c scope ps → c.shared name ≡ Some h → (first_kind name ps ≡ None) × (find name (locals_of (names_of ps) xs) ≡ None)
+  pub param_apart : (scope : Locals) (ps : List Parameter) (xs : List Value) (name : Name) (h : Holder) → ParamsNew c scope ps → c.shared name ≡ Some h → (first_kind name ps ≡ None) × (find name (locals_of (names_of ps) xs) ≡ None)
   param_apart scope [] xs name h new e = (refl, refl)
   param_apart scope (p ∷ ps) xs name h new e = by (λ ys. param_apart (added scope p.name.text (Some p.kind)) ps ys name h new.1 e) (same name p.name.text) refl xs
     where

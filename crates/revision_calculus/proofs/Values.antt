@@ -56,7 +56,7 @@ module _ (K : Value → Type 0) (others : OfOthers K) where
   abbrev pub OfFuns : Funs → Type 0
   OfFuns fs = (name : Name) → OfFun (fs name)
 
-  number_ok : (r : Result ℤ NumFault) → OfOk K (number r)
+  pub number_ok : (r : Result ℤ NumFault) → OfOk K (number r)
   number_ok (Ok z) = others.int z
   number_ok (Err fault.Overflow) = tt
   number_ok (Err fault.ZeroDivisor) = tt
@@ -99,7 +99,7 @@ module _ (K : Value → Type 0) (others : OfOthers K) where
   linked_ok o x right (Some z) k kz = kz
   linked_ok o x right None k kz = then_ok K K right (operated o x) k (λ y. operated_ok o x y)
 
-  reversed_ok : (o : UnaryOp) (x : Value) → OfOk K (reversed o x)
+  pub reversed_ok : (o : UnaryOp) (x : Value) → OfOk K (reversed o x)
   reversed_ok u.Neg x = number_ok (negation_of (number_of x))
   reversed_ok u.Not x = others.bool (not (truth_of x))
 
@@ -107,7 +107,7 @@ module _ (K : Value → Type 0) (others : OfOthers K) where
   cond_ok true x y p q = p
   cond_ok false x y p q = q
 
-  read_cell_ok : (found : Shared) (i : ℤ) → OfShared found → OfOk K (read_cell found i)
+  pub read_cell_ok : (found : Shared) (i : ℤ) → OfShared found → OfOk K (read_cell found i)
   read_cell_ok unknown i k = others.int (pos 0)
   read_cell_ok (scalar x) i k = others.int (pos 0)
   read_cell_ok (array n f) (pos i) k = cond_ok (nat_lt i n) (Ok (f i)) (Err cause.Index) (k i) tt
@@ -117,17 +117,17 @@ module _ (K : Value → Type 0) (others : OfOthers K) where
   taken_ok None = tt
   taken_ok (Some z) = others.int z
 
-  read_input_ok : (zs : List ℤ) (i : ℤ) → OfOk K (read_input zs i)
+  pub read_input_ok : (zs : List ℤ) (i : ℤ) → OfOk K (read_input zs i)
   read_input_ok zs (pos i) = taken_ok (slice_get zs i)
   read_input_ok zs (negsuc i) = tt
 
-  read_ok : (x : Option Value) (found : Shared) → OfLocal x → OfShared found → OfOk K (read x found)
+  pub read_ok : (x : Option Value) (found : Shared) → OfLocal x → OfShared found → OfOk K (read x found)
   read_ok (Some x) found k kf = k
   read_ok None unknown k kf = others.int (pos 0)
   read_ok None (scalar x) k kf = kf
   read_ok None (array n f) k kf = others.int (pos 0)
 
-  called_ok : (o : Option Fun) (args : List Value) → OfFun o → OfEach args → OfOk K (called o args)
+  pub called_ok : (o : Option Fun) (args : List Value) → OfFun o → OfEach args → OfOk K (called o args)
   called_ok None args k ks = others.int (pos 0)
   called_ok (Some f) args k ks = k args ks
 

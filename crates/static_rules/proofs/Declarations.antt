@@ -11,6 +11,7 @@ use Rattle.merge_decl.specs.Names.{Name}
 use Rattle.merge_decl.specs.Table.{find, added}
 use Rattle.merge_decl.specs.Weights.{expression_weight, weights_after}
 use Rattle.rev_report.specs.declared.limit.Limit.TheVariants as limits
+use Rattle.rev_report.specs.Limits.{first_past, most}
 use Rattle.rev_kinds.specs.declared.fault.TypeFault.{TypeFault}
 use Rattle.rev_kinds.specs.declared.fault.TypeFault.TheVariants.{Redeclared}
 use Rattle.rev_kinds.specs.declared.names.Holder.{Holder}
@@ -163,8 +164,8 @@ module _ (p : ProgramTree) where
     funs_all : (e : Declaration) → IsBehind before e p.declarations → IsFun e → AllAre (Breaks p) (d.limit_at [] one app (word_of e).at limits.Funs q.funs_left)
     funs_all e b is = all_at (Breaks p) q.funs_left (exceeded (word_of e).at limits.Funs) (λ t. declared_funs {before = before} {e = e} b is (last_of (funs before) q.funs_left f.funs_left t))
 
-    heavy : (n m : ℕ) → m ≡ min n 65537 → nat_lt 65536 m ≡ true → 65536 < n
-    heavy n m e h = let g : 65536 < m = grind (arith, nat_tests) in omega arith
+    heavy : (n m : ℕ) → m ≡ min n (first_past limits.Weight) → nat_lt (most limits.Weight) m ≡ true → most limits.Weight < n
+    heavy n m e h = let g : most limits.Weight < m = grind (arith, nat_tests) in omega arith
 
     over : (n c : ℕ) → q.located ≡ min n 4097 → nat_le q.located 4096 ≡ true → nat_lt 4096 (d.located_after q.located (min c 4097)) ≡ true → (n ≤ 4096) × (4096 < n + c)
     over n c e h g =
@@ -203,10 +204,10 @@ module _ (p : ProgramTree) where
     return_all w ps None body m = all_none (Breaks p)
     return_all w ps (Some t) body m = all_unless (Breaks p) (s.returns body) _ (λ h. no_return m (λ e. true≢false (sym (ends_return body e) ∙ h)))
 
-    weight_all : (w : PlacedName) (body : Expression) → (65536 < expression_weight (weights_after [] before) body → Breaks p (exceeded w.at limits.Weight))
+    weight_all : (w : PlacedName) (body : Expression) → (most limits.Weight < expression_weight (weights_after [] before) body → Breaks p (exceeded w.at limits.Weight))
         → AllAre (Breaks p) (d.weight_of [] one app w (d.weight q.weights body))
     weight_all w body h =
-        all_when (Breaks p) (nat_lt 65536 (d.weight q.weights body)) _
+        all_when (Breaks p) (nat_lt (most limits.Weight) (d.weight q.weights body)) _
         (λ t. h (heavy (expression_weight (weights_after [] before) body) (d.weight q.weights body) (expression_caps (weights_after [] before) q.weights f.weights body) t))
 
     left_params : (n : ℕ) (ps : List Parameter) → d.left_params n ps ≡ n - length ps

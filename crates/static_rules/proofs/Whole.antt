@@ -10,6 +10,7 @@ use Rattle.merge_decl.specs.Least.{Among}
 use Rattle.merge_decl.specs.Table.{find, added}
 use Rattle.merge_decl.specs.Weights.{expression_weight, weights_after, declaration_weight}
 use Rattle.rev_report.specs.declared.limit.Limit.TheVariants as limits
+use Rattle.rev_report.specs.Limits.{first_past, most}
 use Rattle.rev_kinds.specs.declared.fault.TypeFault.{TypeFault}
 use Rattle.rev_kinds.specs.declared.fault.TypeFault.TheVariants.{UnknownName, Redeclared, WrongType, WrongCount, NoReturn}
 use Rattle.rev_kinds.specs.declared.names.Holder.{Holder}
@@ -139,8 +140,8 @@ item_limit c l left (shown y) e =
 
 -- ---- each rule
 
-heavy : (n m : ℕ) → m ≡ min n 65537 → 65536 < n → nat_lt 65536 m ≡ true
-heavy n m e h = let g : 65536 < m = omega arith in grind (arith, nat_tests)
+heavy : (n m : ℕ) → m ≡ min n (first_past limits.Weight) → most limits.Weight < n → nat_lt (most limits.Weight) m ≡ true
+heavy n m e h = let g : most limits.Weight < m = omega arith in grind (arith, nat_tests)
 
 over : (m n c : ℕ) → m ≡ min n 4097 → n ≤ 4096 → 4096 < n + c → (nat_le m 4096 ≡ true) × (nat_lt 4096 (d.located_after m (min c 4097)) ≡ true)
 over m n c e h g =
@@ -195,12 +196,12 @@ module _ (p : ProgramTree) where
   funs_in before (shared x) b is e = absurd is
   funs_in before (proc w ps x body) b is e = absurd is
 
-  weight_in : (before : List Declaration) (w : PlacedName) (body : Expression) → 65536 < expression_weight (weights_after [] before) body → Is (d.weight_of [] one app w (d.weight (met p before).weights body)) (exceeded w.at limits.Weight)
+  weight_in : (before : List Declaration) (w : PlacedName) (body : Expression) → most limits.Weight < expression_weight (weights_after [] before) body → Is (d.weight_of [] one app w (d.weight (met p before).weights body)) (exceeded w.at limits.Weight)
   weight_in before w body h =
-      in_when (nat_lt 65536 (d.weight (met p before).weights body)) (exceeded w.at limits.Weight)
+      in_when (nat_lt (most limits.Weight) (d.weight (met p before).weights body)) (exceeded w.at limits.Weight)
       (heavy (expression_weight (weights_after [] before) body) (d.weight (met p before).weights body) (expression_caps (weights_after [] before) (met p before).weights (met_at before).weights body) h)
 
-  heavy_in : (before : List Declaration) (e : Declaration) → IsBehind before e p.declarations → 65536 < declaration_weight (weights_after [] before) e → Is (d.faults p) (exceeded (word_of e).at limits.Weight)
+  heavy_in : (before : List Declaration) (e : Declaration) → IsBehind before e p.declarations → most limits.Weight < declaration_weight (weights_after [] before) e → Is (d.faults p) (exceeded (word_of e).at limits.Weight)
   heavy_in before (fun w ps x body) b h =
       let g : TypeFault = exceeded w.at limits.Weight in
       at_declaration p before (fun w ps x body) b g (in_right_side _ _ g (in_right_side _ _ g (in_right_side (d.fun_body [] one app inner (scopes.with_params [] ps) x body) _ g (weight_in before w body h))))

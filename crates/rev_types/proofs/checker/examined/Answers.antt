@@ -10,7 +10,7 @@ use Rattle.rev_types.proofs.checker.examined.Goals as goal
 pub returns-in-Some-clause-err : goal.returns-in-Some-clause-err
 returns-in-Some-clause-err c =
     λ _. first_is place rank (faults (whole c.args.p.now)) c.in-Some.fault
-    (first_of_faults (whole c.args.p.now) ∙ sym c.in_ok-fault.ensures ∙ c.in-Some.is)
+    (first_of_faults (whole c.args.p.now) ∙ sym c.in_ok-broken.ensures.fault ∙ c.in-Some.is)
 
 pub returns-in-Some-clause-untyped : goal.returns-in-Some-clause-untyped
 returns-in-Some-clause-untyped c = not_typed (whole c.args.p.now) c.in-Some.fault (returns-in-Some-clause-err c)
@@ -18,4 +18,4 @@ returns-in-Some-clause-untyped c = not_typed (whole c.args.p.now) c.in-Some.faul
 pub returns-clause-keeps : goal.returns-clause-keeps
 returns-clause-keeps c =
     none_is place rank (faults (whole c.args.p.now))
-    (first_of_faults (whole c.args.p.now) ∙ sym c.in_ok-fault.ensures ∙ c.in_default.is)
+    (first_of_faults (whole c.args.p.now) ∙ sym c.in_ok-broken.ensures.fault ∙ c.in_default.is)
