@@ -20,7 +20,6 @@ pub same_outcome : {A : Type 0} (o : Outcome Token A) → and_then o (λ a rest.
 same_outcome (Read a rest) = refl
 same_outcome (Failed e rest) = refl
 
-
 -- ---- levels
 
 pub below_is : (bytes : List ℕ) (n m : ℕ) → n ≡ suc m → below alphabet (inner bytes) n ≡ Some (λ i. parse bytes m (inner bytes i))

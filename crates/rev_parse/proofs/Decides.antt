@@ -2,19 +2,12 @@
 use Rattle.std.proofs.Common.{◌≡◌, ◌||◌, not, Bool, true, false, List, ℕ, refl}
 use Rattle.std.specs.List.{list_all}
 use Rattle.token_grammar.specs.Exact.{extends, is_decided, is_plain, Decided}
-use Rattle.rev_syntax.specs.declared.token.Fixed.TheVariants as s
-use Rattle.rev_expressions.specs.Classes.{Class, is_same, classes}
+use Rattle.rev_expressions.specs.Classes.{Class, classes}
 use Rattle.rev_expressions.specs.Grammar.{alphabet, Inner, Operand, Parens, Index, Arguments, Parts, Body, Params, Names, Cells, rank_sign, bracketed, choice, name, name_tail, primary, unary, product, sum, comparison, conjunction, expr, parens, index, arguments, parts}
 use Rattle.rev_expressions.specs.Statements.{block, actual, application, right_side, item, assigned, assignment, arm, else_part, else_parts, let_form, if_form, while_form, call_form, return_form, fork_form, join_form, print_form, assert_form, statement, statements, body}
 use Rattle.rev_expressions.specs.Declarations.{kind, constant, cells, size, first_value, param, params, names, formal, head, meaning, fun_form, merge_form, variable, versioned_form, cumulative_form, proc_form, declaration, declarations, program, inner}
+use Rattle.rev_parse.specs.Instance.{going_on, Choices, decided}
 use Rattle.rev_parse.proofs.Complete.{complete}
-use Rattle.rev_parse.proofs.Samples.{sample}
-use Rattle.rev_expressions.specs.Classes as class
-
--- a unary expression goes on with an index or arguments behind a name, the others end with a closing sign
-abbrev pub going_on : Inner → Class → Bool
-going_on Operand k = is_same (class.fixed s.OpenBracket) k || is_same (class.fixed s.OpenParen) k
-going_on _ k = false
 
 module _ (bytes : List ℕ) where
   rules_decided : (i : Inner) → is_decided alphabet going_on classes (inner bytes i) ≡ true
@@ -58,15 +51,18 @@ module _ (bytes : List ℕ) where
   implied true b e h = e
   implied false b e h = absurd cc
 
-  pub grammar_decided : Decided alphabet (inner bytes) going_on classes
-  grammar_decided = record {
-    complete = complete;
-    sample = sample;
-    decided = rules_decided;
-    extended = λ i k h. implied (extends alphabet going_on (inner bytes i) k) (going_on i k) (complete (λ k. not (extends alphabet going_on (inner bytes i) k) || going_on i k) (extends_only i) k) h;
-    plain = rules_plain;
-  }
-
   pub program_decided : is_decided alphabet going_on classes (program bytes) ≡ true
   unfolding rank_sign bracketed choice name name_tail primary unary product sum comparison conjunction expr parens index arguments parts block actual application right_side item assigned assignment arm else_part else_parts let_form if_form while_form call_form return_form fork_form join_form print_form assert_form statement statements body kind constant cells size first_value param params names formal head meaning fun_form merge_form variable versioned_form cumulative_form proc_form declaration declarations program inner
   program_decided = refl
+
+  pub choices : Choices bytes
+  choices = record {
+    complete = complete;
+    decided = rules_decided;
+    extended = λ i k h. implied (extends alphabet going_on (inner bytes i) k) (going_on i k) (complete (λ k. not (extends alphabet going_on (inner bytes i) k) || going_on i k) (extends_only i) k) h;
+    plain = rules_plain;
+    whole = program_decided;
+  }
+
+  pub grammar_decided : Decided alphabet (inner bytes) going_on classes
+  grammar_decided = decided bytes choices

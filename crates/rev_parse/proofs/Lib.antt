@@ -1,5 +1,4 @@
 pub mod Complete
-pub mod Samples
 pub mod Decides
 pub mod StatementRules
 pub mod Naturals

@@ -16,7 +16,8 @@ use Rattle.rev_expressions.specs.Declarations.{inner, program}
 use Rattle.rev_expressions.specs.Parse.{parse}
 use Rattle.rev_parse.specs.SmallTree.{IsSmallTree}
 use Rattle.rev_parse.specs.Verdicts.{most_levels, IsProgram, IsUnexpected, IsTooDeep, At, place_of}
-use Rattle.rev_parse.proofs.Decides.{going_on, grammar_decided, program_decided}
+use Rattle.rev_parse.specs.Instance.{going_on}
+use Rattle.rev_parse.proofs.Decides.{grammar_decided, program_decided}
 use Rattle.rev_parse.proofs.SmallPrograms.{program_small}
 
 module _ (bytes : List ℕ) (ts : List Token) where

@@ -10,7 +10,8 @@ use Rattle.rev_expressions.specs.Grammar.{alphabet}
 use Rattle.rev_expressions.specs.Declarations.{inner, program}
 use Rattle.rev_expressions.specs.Parse.{parse}
 use Rattle.rev_parse.specs.Verdicts.{most_levels, place_of, Verdict, tree, unexpected, too_deep, IsVerdict, SomeVerdict}
-use Rattle.rev_parse.proofs.Decides.{going_on, grammar_decided, program_decided}
+use Rattle.rev_parse.specs.Instance.{going_on}
+use Rattle.rev_parse.proofs.Decides.{grammar_decided, program_decided}
 
 module _ (bytes : List ℕ) (ts : List Token) where
   abbrev IsSaid : Outcome Token ProgramTree → Type 0

@@ -1,4 +1,6 @@
+pub mod Instance
 pub mod Parts
 pub mod Pieces
+pub mod Samples
 pub mod SmallTree
 pub mod Verdicts

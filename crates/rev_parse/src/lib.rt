@@ -8,11 +8,13 @@
 
 mod declaration;
 mod form;
+mod language;
 mod laws;
 mod statement;
 mod whole;
 
-pub use laws::{one_verdict, some_verdict};
+pub use language::Language;
+pub use laws::{language_is_exact, one_verdict, some_verdict};
 pub use whole::{MOST_LEVELS, SyntaxFault, parse};
 
 #[cfg(test)]

@@ -60,10 +60,12 @@ pub fn fuel_laws()
     ensures forks { (s : Setting) (fuel : ℕ)
         → SpendingLaw (calculus s) (main s fuel) 0 (λ l. l.fuel + l.forks) }
     ensures bound { (s : Setting) (fuel : ℕ) → BoundLaw (calculus s) (main s fuel) (3 * fuel + 2) }
-    ensures least_bound { (s : Setting) (fuel : ℕ) → BoundLaw (calculus s) (main s fuel) (2 * fuel + 1) }
+    ensures least_bound { (s : Setting) (fuel : ℕ) →
+        BoundLaw (calculus s) (main s fuel) (2 * fuel + 1) }
     ensures tight { Takes (λ fuel. 2 * fuel + 1) }
     ensures count { (s : Setting) (fuel : ℕ) → CountLaw (calculus s) (main s fuel) (1 + fuel) }
-    ensures few { (s : Setting) (fuel : ℕ) → fuel ≤ 4000000000 → CountLaw (calculus s) (main s fuel) 4294967295 }
+    ensures few { (s : Setting) (fuel : ℕ) → fuel ≤ 4000000000 →
+        CountLaw (calculus s) (main s fuel) 4294967295 }
     ensures completion { (s : Setting) (fuel : ℕ) → CompletionLaw (calculus s) (main s fuel) }
 {}
 

@@ -103,7 +103,8 @@ pub fn try_programs()
     ensures tries_what_faults { Reports (usual x.tries_what_faults) usual_fuel true
         (traps "a[0] = 1\na[1] = 1\n" "trap: merge of a[0]: overflow at line 7 in revision main") }
     ensures tries_none { Traps x.tries_none "" "trap: join of none at line 1 in revision main" }
-    ensures tries_into_what_was_written { Reports (usual x.tries_into_what_was_written) usual_fuel true
+    ensures tries_into_what_was_written { Reports
+        (usual x.tries_into_what_was_written) usual_fuel true
         (prints "true\ntrue\nok = true\n") }
 {}
 

@@ -75,7 +75,11 @@ impl Model for Program {
 
     ghost Value = { Setting };
 
-    ghost view = { λ p. record { kinds = p.kinds.items; procedures = p.procedures.items; share = p.share } };
+    ghost view = { λ p. record {
+      kinds = p.kinds.items;
+      procedures = p.procedures.items;
+      share = p.share;
+    } };
 }
 
 impl Procedure {

@@ -64,7 +64,8 @@ pub fn start_program(
     fuel: u64,
 ) -> Result<GlobalState<State>, AllocError>
     requires { fuel ≤ 1000000000 }
-    ensures start { IfOk result (λ g. global_of g ≡ start_of (machine program.now) (first program.now fuel)) }
+    ensures start { IfOk result
+        (λ g. global_of g ≡ start_of (machine program.now) (first program.now fuel)) }
     ensures reached { IfOk result (λ g. IsWithin (rules program.now) (global_of g)) }
 {
     let main = State::first(alloc, program, fuel)?;

@@ -54,7 +54,16 @@ impl Model for State {
 
     ghost Value = { Local Path };
 
-    ghost view = { λ a. record { cells = a.cells.items; handles = a.handles.items; procedure = a.procedure; at = a.at; fuel = a.fuel; made = a.made; text = a.text.items; phase = a.phase } };
+    ghost view = { λ a. record {
+      cells = a.cells.items;
+      handles = a.handles.items;
+      procedure = a.procedure;
+      at = a.at;
+      fuel = a.fuel;
+      made = a.made;
+      text = a.text.items;
+      phase = a.phase;
+    } };
 }
 
 /// An equal value.
@@ -349,7 +358,8 @@ impl State {
         path: &Path,
     ) -> Result<Next<State>, AllocError>
         requires { self.old.made + weight self.old ≤ 4294967295 }
-        ensures event { IfOk result (λ n. event_of n self.new ≡ next program.now path.now self.old) }
+        ensures event { IfOk result
+            (λ n. event_of n self.new ≡ next program.now path.now self.old) }
         ensures still { IfOk result (λ n. IsStill n self.old self.new) }
     {
         match &self.phase {

@@ -34,5 +34,6 @@ pub trait Grammar {
 /// any nesting goes on as they do, or the first token that opens a level too many.
 pub fn parser_is_exact<G: Grammar>()
     ensures { (s : G) (n : ℕ) (ts : List G.alphabet.Token) →
-        Verdict G.alphabet (G.rules s) (G.whole s) n ts (parser G.alphabet (G.rules s) n (G.whole s) ts) }
+        Verdict G.alphabet (G.rules s) (G.whole s) n ts
+        (parser G.alphabet (G.rules s) n (G.whole s) ts) }
 {}

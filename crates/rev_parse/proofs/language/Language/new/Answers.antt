@@ -1,0 +1,5 @@
+use Rattle.rev_parse.proofs.Decides.{choices}
+use Rattle.rev_parse.proofs.language.Language.new.Goals as goal
+
+pub invariant_of-result : goal.invariant_of-result
+invariant_of-result c = record { choices = choices c.args.text.now }

@@ -1,0 +1,8 @@
+use Rattle.rev_parse.proofs.Decides.{choices}
+use Rattle.rev_parse.specs.declared.language.Language.{Language}
+use Rattle.rev_parse.proofs.laws.language_is_exact.Goals as goal
+
+pub returns : goal.returns
+returns c = λ bytes levels ts.
+    let here : Language = record { text = record { ref_ptr = (0, 0); now = bytes }; choices = choices bytes } in
+    c.parser_is_exact.ensures here levels ts
