@@ -26,7 +26,7 @@ use Rattle.revision_calculus.specs.Evaluation.{with_local}
 use Rattle.revision_calculus.specs.Step.{append, locals_of, frame_of}
 use Rattle.revision_calculus.specs.Held.{IsHandle}
 use Rattle.revision_calculus.specs.Kinded.{IsWithin}
-use Rattle.revision_calculus.proofs.ScopeKinds.{within_self, within_trans, statement_within, find-with_local, first_kind, find-params, param_apart}
+use Rattle.revision_calculus.proofs.ScopeKinds.{within_self, within_trans, statement_within, find-with_local, first_kind, find-params, apart_new, apart_within, apart_let, apart_set, apart_params}
 use Rattle.rev_affine.specs.Live.{live, passes, StatementOnce, StatementsOnce}
 use Rattle.rev_affine.specs.Owned.{RestOnce, LocalsRev, FrameOwn, Fits, FramesOwn, DeclarationsOnce}
 use Rattle.rev_affine.proofs.Readings.{PlainParams, Fit}
@@ -61,27 +61,16 @@ whole_once c result l (statements x xs) once = (l, once.0, within_self l, once.1
 
 module _ (c : Names) where
   pub shared_new : (scope : Locals) (waits : Option Name) (values : Table Value) (name : Name) (found : Option ValueKind) → LocalsRev c scope waits values → find name scope ≡ Some found → c.shared name ≡ None
-  shared_new scope waits values name found are h = by (c.shared name) refl
-    where
-      by : (o : Option Holder) → c.shared name ≡ o → c.shared name ≡ None
-      by None e = e
-      by (Some x) e = absurd (let clash : None ≡ Some found = sym (are.apart name x e).0 ∙ h in cc)
+  shared_new scope waits values name found are h = apart_new c scope values name found are.apart h
 
   pub locals_wait : (scope : Locals) (waits : Option Name) (values : Table Value) → LocalsRev c scope None values → LocalsRev c scope waits values
   locals_wait scope waits values are = record { rev = λ name t q differ h g. are.rev name t q (λ e. cc) h g; apart = are.apart }
 
   pub locals_within : (inner outer : Locals) (values : Table Value) → IsWithin inner outer → LocalsRev c outer None values → LocalsRev c inner None values
-  locals_within inner outer values inside are = record { rev = λ name t q differ h g. are.rev name t q differ (inside name (Some t) h) g; apart = apart }
-    where
-      apart : (name : Name) (h : Holder) → c.shared name ≡ Some h → (find name inner ≡ None) × (find name values ≡ None)
-      apart name h e = (by (find name inner) refl, (are.apart name h e).1)
-        where
-          by : (o : Option (Option ValueKind)) → find name inner ≡ o → find name inner ≡ None
-          by None q = q
-          by (Some t) q = absurd (let clash : None ≡ Some t = sym (are.apart name h e).0 ∙ inside name t q in cc)
+  locals_within inner outer values inside are = record { rev = λ name t q differ h g. are.rev name t q differ (inside name (Some t) h) g; apart = apart_within c inner outer values inside are.apart }
 
   pub locals_let : (scope : Locals) (w : PlacedName) (t : ValueKind) (values : Table Value) → IsNew c scope w → LocalsRev c scope None values → LocalsRev c (added scope w.text (Some t)) (Some w.text) values
-  locals_let scope w t values new are = record { rev = rev; apart = apart }
+  locals_let scope w t values new are = record { rev = rev; apart = apart_let c scope w t values new are.apart }
     where
       rev : (name : Name) (u : ValueKind) (q : Path) → Some w.text ≢ Some name → find name (added scope w.text (Some t)) ≡ Some (Some u) → find name values ≡ Some (v.Rev (Some q)) → u ≡ k.Rev
       rev name u q differ h g = by (same name w.text) refl (sym (find-added name w.text (Some t) scope) ∙ h)
@@ -89,13 +78,6 @@ module _ (c : Names) where
           by : (d : Bool) → same name w.text ≡ d → or_else (find name scope) (if d then Some (Some t) else None) ≡ Some (Some u) → u ≡ k.Rev
           by true e i = absurd (differ (ap Some (sym (same_equal name w.text e))))
           by false e i = are.rev name u q (λ d. cc) (sym (or_else-none (find name scope)) ∙ i) g
-
-      apart : (name : Name) (h : Holder) → c.shared name ≡ Some h → (find name (added scope w.text (Some t)) ≡ None) × (find name values ≡ None)
-      apart name h e = (find-added name w.text (Some t) scope ∙ by (same name w.text) refl, (are.apart name h e).1)
-        where
-          by : (d : Bool) → same name w.text ≡ d → or_else (find name scope) (if d then Some (Some t) else None) ≡ None
-          by true q = absurd (let clash : None ≡ Some h = sym new.1 ∙ ap c.shared (sym (same_equal name w.text q)) ∙ e in cc)
-          by false q = ap (λ o. or_else o None) (are.apart name h e).0
 
   pub let_fits : (scope : Locals) (w : PlacedName) (t : ValueKind) → IsNew c scope w → Fits c (added scope w.text (Some t)) (Some w.text) (Some t)
   let_fits scope w t new =
@@ -105,7 +87,7 @@ module _ (c : Names) where
 
   -- the name that waited has its value
   pub locals_set : (scope : Locals) (w : Name) (t : ValueKind) (x : Value) (values : Table Value) → LocalsRev c scope (Some w) values → find w scope ≡ Some (Some t) → ((q : Path) → IsHandle x q → t ≡ k.Rev) → LocalsRev c scope None (with_local values w x)
-  locals_set scope w t x values are found is = record { rev = rev; apart = apart }
+  locals_set scope w t x values are found is = record { rev = rev; apart = apart_set c scope w t x values found are.apart }
     where
       rev : (name : Name) (u : ValueKind) (q : Path) → None ≢ Some name → find name scope ≡ Some (Some u) → find name (with_local values w x) ≡ Some (v.Rev (Some q)) → u ≡ k.Rev
       rev name u q differ h g = by (same name w) refl (sym (find-with_local values w x name) ∙ g)
@@ -118,16 +100,6 @@ module _ (c : Names) where
               let kinds : t ≡ u = cc in
               sym kinds ∙ first
           by false e i = are.rev name u q (λ p. other_text name w (sym e) (let f : w ≡ name = cc in sym f)) h i
-
-      apart : (name : Name) (h : Holder) → c.shared name ≡ Some h → (find name scope ≡ None) × (find name (with_local values w x) ≡ None)
-      apart name h e = (old.0, find-with_local values w x name ∙ by (same name w) refl)
-        where
-          old : (find name scope ≡ None) × (find name values ≡ None)
-          old = are.apart name h e
-
-          by : (d : Bool) → same name w ≡ d → cond d (Some x) (find name values) ≡ None
-          by true q = absurd (let clash : None ≡ Some (Some t) = sym (are.apart name h e).0 ∙ ap (λ n. find n scope) (same_equal name w q) ∙ found in cc)
-          by false q = old.1
 
   -- the name that waits is that of a shared variable
   pub locals_shared : (scope : Locals) (w : Name) (h : Holder) (values : Table Value) → LocalsRev c scope (Some w) values → c.shared w ≡ Some h → LocalsRev c scope None values
@@ -151,7 +123,7 @@ module _ (c : Names) where
   params_locals : (ps : List Parameter) (xs : List Value) → ParamsNew c [] ps → Fit ps xs → LocalsRev c (with_params [] ps) None (locals_of (names_of ps) xs)
   params_locals ps xs new fit = record {
     rev = λ name u q differ h g. param_rev ps xs name u q fit (sym (find-params c [] ps name) ∙ h) g;
-    apart = λ name h e. let both = param_apart c [] ps xs name h new e in (find-params c [] ps name ∙ both.0, both.1);
+    apart = apart_params c ps xs new;
   }
 
   -- ---- procedures

@@ -135,12 +135,40 @@ returns_before (Some t) block rest h =
 
 -- where names mean this
 module _ (c : Names) where
-  pub shared_new : (scope : Locals) (waits : Option Name) (values : Table Value) (name : Name) (found : Option ValueKind) → LocalsAre c scope waits values → find name scope ≡ Some found → c.shared name ≡ None
-  shared_new scope waits values name found are h = by (c.shared name) refl
+  -- no shared variable has the name of a local
+  abbrev pub Apart : Locals → Table Value → Type 0
+  Apart scope values = (name : Name) (h : Holder) → c.shared name ≡ Some h → (find name scope ≡ None) × (find name values ≡ None)
+
+  pub apart_new : (scope : Locals) (values : Table Value) (name : Name) (found : Option ValueKind) → Apart scope values → find name scope ≡ Some found → c.shared name ≡ None
+  apart_new scope values name found apart h = by (c.shared name) refl
     where
       by : (o : Option Holder) → c.shared name ≡ o → c.shared name ≡ None
       by None e = e
-      by (Some x) e = absurd (let clash : None ≡ Some found = sym (are.apart name x e).0 ∙ h in cc)
+      by (Some x) e = absurd (let clash : None ≡ Some found = sym (apart name x e).0 ∙ h in cc)
+
+  pub apart_within : (inner outer : Locals) (values : Table Value) → IsWithin inner outer → Apart outer values → Apart inner values
+  apart_within inner outer values inside apart name h e = (by (find name inner) refl, (apart name h e).1)
+    where
+      by : (o : Option (Option ValueKind)) → find name inner ≡ o → find name inner ≡ None
+      by None q = q
+      by (Some t) q = absurd (let clash : None ≡ Some t = sym (apart name h e).0 ∙ inside name t q in cc)
+
+  pub apart_let : (scope : Locals) (w : PlacedName) (t : ValueKind) (values : Table Value) → IsNew c scope w → Apart scope values → Apart (added scope w.text (Some t)) values
+  apart_let scope w t values new apart name h e = (find-added name w.text (Some t) scope ∙ by (same name w.text) refl, (apart name h e).1)
+    where
+      by : (d : Bool) → same name w.text ≡ d → or_else (find name scope) (if d then Some (Some t) else None) ≡ None
+      by true q = absurd (let clash : None ≡ Some h = sym new.1 ∙ ap c.shared (sym (same_equal name w.text q)) ∙ e in cc)
+      by false q = ap (λ o. or_else o None) (apart name h e).0
+
+  pub apart_set : (scope : Locals) (w : Name) (t : ValueKind) (x : Value) (values : Table Value) → find w scope ≡ Some (Some t) → Apart scope values → Apart scope (with_local values w x)
+  apart_set scope w t x values found apart name h e = ((apart name h e).0, find-with_local values w x name ∙ by (same name w) refl)
+    where
+      by : (d : Bool) → same name w ≡ d → cond d (Some x) (find name values) ≡ None
+      by true q = absurd (let clash : None ≡ Some (Some t) = sym (apart name h e).0 ∙ ap (λ n. find n scope) (same_equal name w q) ∙ found in cc)
+      by false q = (apart name h e).1
+
+  pub shared_new : (scope : Locals) (waits : Option Name) (values : Table Value) (name : Name) (found : Option ValueKind) → LocalsAre c scope waits values → find name scope ≡ Some found → c.shared name ≡ None
+  shared_new scope waits values name found are h = apart_new scope values name found are.apart h
 
   -- a name that has a value may also wait for one
   pub locals_wait : (scope : Locals) (waits : Option Name) (values : Table Value) → LocalsAre c scope None values → LocalsAre c scope waits values
@@ -148,18 +176,11 @@ module _ (c : Names) where
 
   -- fewer names in scope
   pub locals_within : (inner outer : Locals) (values : Table Value) → IsWithin inner outer → LocalsAre c outer None values → LocalsAre c inner None values
-  locals_within inner outer values inside are = record { kinds = λ name t differ h. are.kinds name t differ (inside name (Some t) h); apart = apart }
-    where
-      apart : (name : Name) (h : Holder) → c.shared name ≡ Some h → (find name inner ≡ None) × (find name values ≡ None)
-      apart name h e = (by (find name inner) refl, (are.apart name h e).1)
-        where
-          by : (o : Option (Option ValueKind)) → find name inner ≡ o → find name inner ≡ None
-          by None q = q
-          by (Some t) q = absurd (let clash : None ≡ Some t = sym (are.apart name h e).0 ∙ inside name t q in cc)
+  locals_within inner outer values inside are = record { kinds = λ name t differ h. are.kinds name t differ (inside name (Some t) h); apart = apart_within inner outer values inside are.apart }
 
   -- a `let` puts its name in scope, which waits for its value
   pub locals_let : (scope : Locals) (w : PlacedName) (t : ValueKind) (values : Table Value) → IsNew c scope w → LocalsAre c scope None values → LocalsAre c (added scope w.text (Some t)) (Some w.text) values
-  locals_let scope w t values new are = record { kinds = kinds; apart = apart }
+  locals_let scope w t values new are = record { kinds = kinds; apart = apart_let scope w t values new are.apart }
     where
       kinds : (name : Name) (u : ValueKind) → Some w.text ≢ Some name → find name (added scope w.text (Some t)) ≡ Some (Some u) → IsSomeOf u (find name values)
       kinds name u differ h = by (same name w.text) refl (sym (find-added name w.text (Some t) scope) ∙ h)
@@ -167,13 +188,6 @@ module _ (c : Names) where
           by : (d : Bool) → same name w.text ≡ d → or_else (find name scope) (if d then Some (Some t) else None) ≡ Some (Some u) → IsSomeOf u (find name values)
           by true e q = absurd (differ (ap Some (sym (same_equal name w.text e))))
           by false e q = are.kinds name u (λ d. cc) (sym (or_else-none (find name scope)) ∙ q)
-
-      apart : (name : Name) (h : Holder) → c.shared name ≡ Some h → (find name (added scope w.text (Some t)) ≡ None) × (find name values ≡ None)
-      apart name h e = (find-added name w.text (Some t) scope ∙ by (same name w.text) refl, (are.apart name h e).1)
-        where
-          by : (d : Bool) → same name w.text ≡ d → or_else (find name scope) (if d then Some (Some t) else None) ≡ None
-          by true q = absurd (let clash : None ≡ Some h = sym new.1 ∙ ap c.shared (sym (same_equal name w.text q)) ∙ e in cc)
-          by false q = ap (λ o. or_else o None) (are.apart name h e).0
 
   pub let_takes : (scope : Locals) (w : PlacedName) (t : ValueKind) → IsNew c scope w → Takes c (added scope w.text (Some t)) (Some w.text) (Some t)
   let_takes scope w t new =
@@ -183,7 +197,7 @@ module _ (c : Names) where
 
   -- the name that waited has its value
   pub locals_set : (scope : Locals) (w : Name) (t : ValueKind) (x : Value) (values : Table Value) → LocalsAre c scope (Some w) values → find w scope ≡ Some (Some t) → IsOf t x → LocalsAre c scope None (with_local values w x)
-  locals_set scope w t x values are found is = record { kinds = kinds; apart = apart }
+  locals_set scope w t x values are found is = record { kinds = kinds; apart = apart_set scope w t x values found are.apart }
     where
       kinds : (name : Name) (u : ValueKind) → None ≢ Some name → find name scope ≡ Some (Some u) → IsSomeOf u (find name (with_local values w x))
       kinds name u differ h = subst (λ o. IsSomeOf u o) (sym (find-with_local values w x name)) (by (same name w) refl)
@@ -191,16 +205,6 @@ module _ (c : Names) where
           by : (d : Bool) → same name w ≡ d → IsSomeOf u (cond d (Some x) (find name values))
           by true e = is ∙ (let q : Some (Some t) ≡ Some (Some u) = sym found ∙ ap (λ n. find n scope) (sym (same_equal name w e)) ∙ h in cc)
           by false e = are.kinds name u (λ q. other_text name w (sym e) (let p : w ≡ name = cc in sym p)) h
-
-      apart : (name : Name) (h : Holder) → c.shared name ≡ Some h → (find name scope ≡ None) × (find name (with_local values w x) ≡ None)
-      apart name h e = (old.0, find-with_local values w x name ∙ by (same name w) refl)
-        where
-          old : (find name scope ≡ None) × (find name values ≡ None)
-          old = are.apart name h e
-
-          by : (d : Bool) → same name w ≡ d → cond d (Some x) (find name values) ≡ None
-          by true q = absurd (let clash : None ≡ Some (Some t) = sym (are.apart name h e).0 ∙ ap (λ n. find n scope) (same_equal name w q) ∙ found in cc)
-          by false q = old.1
 
   -- where the name that waits is that of a shared variable, all locals have their values
   pub locals_shared : (scope : Locals) (w : Name) (h : Holder) (values : Table Value) → LocalsAre c scope (Some w) values → c.shared w ≡ Some h → LocalsAre c scope None values
@@ -231,7 +235,7 @@ module _ (c : Names) where
       by true q rest = are.0 ∙ cc
       by false q rest = rest q
 
-  pub param_apart : (scope : Locals) (ps : List Parameter) (xs : List Value) (name : Name) (h : Holder) → ParamsNew c scope ps → c.shared name ≡ Some h → (first_kind name ps ≡ None) × (find name (locals_of (names_of ps) xs) ≡ None)
+  param_apart : (scope : Locals) (ps : List Parameter) (xs : List Value) (name : Name) (h : Holder) → ParamsNew c scope ps → c.shared name ≡ Some h → (first_kind name ps ≡ None) × (find name (locals_of (names_of ps) xs) ≡ None)
   param_apart scope [] xs name h new e = (refl, refl)
   param_apart scope (p ∷ ps) xs name h new e = by (λ ys. param_apart (added scope p.name.text (Some p.kind)) ps ys name h new.1 e) (same name p.name.text) refl xs
     where
@@ -241,10 +245,13 @@ module _ (c : Names) where
       by later false q [] = ((later []).0, refl)
       by later false q (y ∷ ys) = ((later ys).0, ap (λ d. cond d (Some y) (find name (locals_of (names_of ps) ys))) q ∙ (later ys).1)
 
+  pub apart_params : (ps : List Parameter) (xs : List Value) → ParamsNew c [] ps → Apart (with_params [] ps) (locals_of (names_of ps) xs)
+  apart_params ps xs new name h e = let both = param_apart [] ps xs name h new e in (find-params [] ps name ∙ both.0, both.1)
+
   params_locals : (ps : List Parameter) (xs : List Value) → ParamsNew c [] ps → ArgsAre ps xs → LocalsAre c (with_params [] ps) None (locals_of (names_of ps) xs)
   params_locals ps xs new are = record {
     kinds = λ name u differ h. param_kinds ps xs name u are (sym (find-params [] ps name) ∙ h);
-    apart = λ name h e. let both = param_apart [] ps xs name h new e in (find-params [] ps name ∙ both.0, both.1);
+    apart = apart_params ps xs new;
   }
 
   -- ---- procedures
