@@ -1,5 +1,5 @@
 -- Equations of the parser of expressions, one for each way that a function of it goes.
-use Rattle.std.proofs.Common.{◌≡◌, ◌≢◌, ℕ, suc, Bool, true, false, cond, ◌&&◌, ◌||◌, List, [], ◌∷◌, length, Option, Some, None, refl, sym, ap, ◌∙◌, subst}
+use Rattle.std.proofs.Common.{◌≡◌, ◌≢◌, ℕ, suc, true, false, cond, ◌&&◌, ◌||◌, List, [], ◌∷◌, length, Option, Some, None, refl, sym, ap, ◌∙◌, subst}
 use Rattle.rev_syntax.specs.declared.token.Token.{Token}
 use Rattle.rev_syntax.specs.declared.token.TokenKind.{TokenKind}
 use Rattle.rev_syntax.specs.declared.token.TokenKind.TheVariants as k
@@ -13,7 +13,7 @@ use Rattle.rev_expressions.specs.declared.expression.Rank.TheVariants as r
 use Rattle.rev_expressions.specs.Classes.{Class, is_same}
 use Rattle.rev_expressions.specs.Source.{word_of}
 use Rattle.token_grammar.specs.Outcome.{Outcome, Read, Failed, and_then, after, next, Unexpected, TooDeep}
-use Rattle.token_grammar.specs.Reader.{begins, first, nullable, passes, next_kind, is_next, read, below, taken, inside_of, Inside}
+use Rattle.token_grammar.specs.Reader.{begins, first, nullable, passes, next_kind, is_next, read, below, inside_of, Inside}
 use Rattle.rev_expressions.specs.Grammar.{alphabet, Inner, Value, Operand, Parens, Index, Arguments, Parts, rank_sign, bracketed, choice, name, name_tail, primary, unary, product, sum, comparison, conjunction, expr, parens, index, arguments, parts, listed, listing, joined, moved}
 use Rattle.rev_expressions.specs.Declarations.{inner}
 use Rattle.rev_expressions.specs.Parse.{expected, parse, inside, links, of_name, of_parts, sign_at, expr_begins}
