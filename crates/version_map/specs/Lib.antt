@@ -1,3 +1,5 @@
 pub mod Masks
 pub mod Deltas
 pub mod Overlay
+pub mod Endings
+pub mod Composing

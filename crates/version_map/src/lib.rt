@@ -1,10 +1,17 @@
-//! What a revision writes, and what it reads under its writes.
+//! What a revision writes, what it reads under its writes, what it leaves when it has ended, and what
+//! a joiner takes over of that.
 #![tactic(auto)]
 
 mod delta;
+mod end;
+mod first;
+mod joining;
 mod snapshot;
 mod whole;
 
 pub use delta::{Delta, mask_rows};
+pub use end::{CodeTrap, EndValue, Finish, Written};
+pub use first::First;
+pub use joining::{MergeBy, MergeTrap, compose};
 pub use snapshot::{Collapsed, How, Snapshot, collapse_all};
 pub use whole::Whole;

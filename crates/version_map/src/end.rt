@@ -1,0 +1,50 @@
+//! What a revision leaves when it has ended.
+
+ghost use Rattle.std.specs.Prelude.{◌≡◌};
+ghost use Rattle.version_map.specs.Endings.{of_join};
+
+use rev_num::{Bytes, Cause, Items};
+
+/// A location that a revision wrote: the word that it has there, and the word that was there when
+/// the revision was forked.
+#[derive(Clone, Copy, PartialEq, Eq, Debug)]
+pub struct Written {
+    pub location: u32,
+    pub value: u64,
+    pub root: u64,
+}
+
+/// How a revision of running code trapped: the cause, the line of the statement, and the number of
+/// the revision that trapped first. No number means the revision itself.
+#[derive(Clone, Copy, PartialEq, Eq, Debug)]
+pub struct CodeTrap {
+    pub cause: Cause,
+    pub line: u32,
+    pub origin: Option<u32>,
+}
+
+impl CodeTrap {
+    /// Whether a join made the trap: its merges faulted, or the joined revision had trapped.
+    pub fn is_of_join(&self) -> bool
+        ensures { result ≡ of_join self.now }
+    {
+        self.origin.is_some() || matches!(self.cause, Cause::Merge { .. })
+    }
+}
+
+/// How a revision ended.
+#[derive(Clone, Copy, PartialEq, Eq, Debug)]
+pub enum Finish {
+    Done,
+    Trapped(CodeTrap),
+}
+
+/// What a revision leaves to the one that joins it: what it wrote, in ascending order of location,
+/// its text, the fuel that it did not use, and how it ended.
+#[derive(PartialEq, Eq, Debug, Drop)]
+pub struct EndValue {
+    pub written: Items<Written>,
+    pub text: Bytes,
+    pub fuel: u64,
+    pub finish: Finish,
+}
