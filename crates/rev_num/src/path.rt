@@ -47,6 +47,13 @@ impl Path {
         }
     }
 
+    /// The path of these numbers, from `main` on.
+    pub fn from_numbers(forks: Vec<u32>) -> Path
+        ensures { result ≡ forks.items }
+    {
+        Path { forks }
+    }
+
     /// The path of the revision's k-th fork.
     pub fn child(&self, alloc: Global, k: u32) -> Result<Path, AllocError>
         ensures { IfOk result (λ p. p ≡ child self.now k) }
