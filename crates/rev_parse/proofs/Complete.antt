@@ -1,7 +1,6 @@
 -- The list of classes of tokens has them all.
 use Rattle.std.proofs.Common.{◌≡◌, Bool, true, false, ◌&&◌, refl}
 use Rattle.std.specs.List.{list_all}
-use Rattle.rev_syntax.specs.declared.token.Fixed.{Fixed}
 use Rattle.rev_syntax.specs.Words as words
 use Rattle.rev_syntax.proofs.FixedWords.{each-fixed}
 use Rattle.rev_expressions.specs.Classes.{Class, classes}

@@ -2,7 +2,7 @@
 use Rattle.std.proofs.Common.{◌≡◌, ◌||◌, not, Bool, true, false, List, ℕ, refl}
 use Rattle.std.specs.List.{list_all}
 use Rattle.token_grammar.specs.Exact.{extends, is_decided, is_plain, Decided}
-use Rattle.rev_expressions.specs.Classes.{Class, classes}
+use Rattle.rev_expressions.specs.Classes.{classes}
 use Rattle.rev_expressions.specs.Grammar.{alphabet, Inner, Operand, Parens, Index, Arguments, Parts, Body, Params, Names, Cells, rank_sign, bracketed, choice, name, name_tail, primary, unary, product, sum, comparison, conjunction, expr, parens, index, arguments, parts}
 use Rattle.rev_expressions.specs.Statements.{block, actual, application, right_side, item, assigned, assignment, arm, else_part, else_parts, let_form, if_form, while_form, call_form, return_form, fork_form, join_form, print_form, assert_form, statement, statements, body}
 use Rattle.rev_expressions.specs.Declarations.{kind, constant, cells, size, first_value, param, params, names, formal, head, meaning, fun_form, merge_form, variable, versioned_form, cumulative_form, proc_form, declaration, declarations, program, inner}

@@ -4,7 +4,6 @@ use Rattle.rev_syntax.specs.declared.token.Token.{Token}
 use Rattle.token_grammar.specs.Outcome.{left}
 use Rattle.token_grammar.specs.Form.{nothing, token, level, both, either, many, Lang, Opened, Many, Derives}
 use Rattle.rev_syntax.specs.declared.token.Fixed.{Fixed}
-use Rattle.rev_expressions.specs.Classes as class
 use Rattle.rev_expressions.specs.Classes.{Class, class_of, is_same}
 use Rattle.rev_expressions.specs.Grammar.{alphabet, Rule, Inner, Value, behind, before, all, listing}
 use Rattle.rev_parse.specs.Verdicts.{most_levels}

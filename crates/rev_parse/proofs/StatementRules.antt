@@ -6,7 +6,6 @@ use Rattle.rev_syntax.specs.declared.token.TokenKind.TheVariants as k
 use Rattle.rev_syntax.specs.Trees as t
 use Rattle.rev_syntax.specs.Trees.{PlacedName, Expression, RightSide, Statements, StatementForm}
 use Rattle.rev_syntax.specs.View.{expressions_of, statements_of, arms_of, choice}
-use Rattle.rev_syntax.specs.declared.token.Fixed.{Fixed}
 use Rattle.rev_syntax.specs.declared.token.Fixed.TheVariants as s
 use Rattle.rev_expressions.specs.Classes.{Class, is_same}
 use Rattle.rev_expressions.specs.Source.{word_of, text_of}

@@ -18,7 +18,6 @@ use Rattle.rev_syntax.specs.Words.{is_name}
 use Rattle.rev_syntax.specs.Small.{greatest}
 use Rattle.rev_syntax.specs.Tokens.{Spells, IsQuoted, IsSound, Piece, Leads, token_of, tokens_of, IsTokens, Ascend, IsToken}
 use Rattle.rev_syntax.proofs.Spans.{tokens-ascend, tokens-kinds}
-use Rattle.rev_syntax.specs.declared.token.Fixed.TheVariants as s
 use Rattle.rev_expressions.specs.Classes.{class_of, is_same}
 use Rattle.rev_expressions.specs.Source.{word_of, text_of, int_of}
 use Rattle.rev_expressions.specs.Classes as class

@@ -1,7 +1,6 @@
 -- A token of each class.
 use Rattle.std.specs.Prelude.{◌≡◌, true, pos, refl}
 use Rattle.rev_syntax.specs.declared.token.Token.{Token}
-use Rattle.rev_syntax.specs.declared.token.TokenKind.{TokenKind}
 use Rattle.rev_syntax.specs.declared.token.TokenKind.TheVariants as k
 use Rattle.rev_syntax.specs.declared.token.Fixed.{Fixed}
 use Rattle.rev_syntax.specs.declared.token.Fixed.TheVariants as s

@@ -1,7 +1,6 @@
 use Rattle.std.proofs.Common.{◌≡◌, true, false, arith, rules}
 use Rattle.std.proofs.lemmas.Grind.{common_steps}
 use Rattle.token_grammar.specs.Reader.{is_next}
-use Rattle.rev_syntax.specs.declared.token.Fixed.TheVariants as s
 use Rattle.rev_expressions.specs.Grammar.{alphabet}
 use Rattle.rev_parse.proofs.DeclarationRules.{params_no, params_yes}
 use Rattle.rev_parse.proofs.declaration.some_params.Goals as goal
