@@ -12,20 +12,6 @@ use Rattle.rev_syntax.specs.declared.tree.Node as node
 use Rattle.rev_syntax.specs.declared.tree.Node.TheOpen.{Node-F}
 use Rattle.rev_syntax.specs.declared.tree.Node.TheFolds.{fold-roll-Node, fold_out-Expr, fold_out-Link}
 use Rattle.rev_syntax.specs.declared.tree.Node.TheVariants.{rolls-Chain, rolls-Apply, rolls-Pick, rolls-Unary, rolls-Cell, rolls-Input, rolls-Int, rolls-Bool, rolls-NoRev, rolls-Var, rolls-Inputs}
-use Rattle.std.specs.Borrow.{Bor}
-use Rattle.rev_num.specs.declared.value.Value.{Value}
-use Rattle.merge_decl.specs.Names.{Name as Word}
-use Rattle.merge_decl.specs.Value.{bind, bind_all, nothing}
-use Rattle.merge_decl.specs.Definitions.{names_of}
-use Rattle.rev_syntax.specs.View.{parameter}
-use Rattle.rev_syntax.specs.declared.tree.Param.{Param}
-use Rattle.merge_decl.specs.Flat.{flat, local, locals_step}
-use Rattle.merge_decl.specs.declared.flat.Flat.{Flat}
-use Rattle.merge_decl.specs.declared.flat.Locals as locals
-use Rattle.merge_decl.specs.declared.flat.Locals.{Locals}
-use Rattle.merge_decl.specs.declared.flat.Locals.TheOpen.{Locals-F}
-use Rattle.merge_decl.specs.declared.flat.Locals.TheFolds.{fold-roll-Locals}
-use Rattle.merge_decl.specs.declared.flat.Locals.TheVariants.{rolls-Empty, rolls-Bound, rolls-Passed}
 
 pub expression_form-Chain : (first : Box Expr Global) (rest : Vec Link Global) → expression_form (node.Chain first rest) ≡ t.chain (expression first.value) (links rest.items)
 expression_form-Chain first rest =
@@ -73,22 +59,6 @@ expression-placed e = fold_out-Expr ExpressionForm Expression (BinaryOp × Expre
 
 pub link-parts : (l : Link) → link l ≡ (l.op, expression l.part)
 link-parts l = fold_out-Link ExpressionForm Expression (BinaryOp × Expression) expression_form_level expression_level link_level l
-
--- ---- locals
-
-pub local-Empty : local locals.Empty ≡ nothing
-local-Empty = ap local (sym rolls-Empty) ∙ fold-roll-Locals (Word → Option Value) locals_step Locals-F.Empty
-
-pub local-Bound : (name : Bor Word) (value : Flat) (rest : Bor Locals) → local (locals.Bound name value rest) ≡ bind (local rest.now) name.now (flat value)
-local-Bound name value rest =
-    ap local (sym (rolls-Bound name value rest)) ∙ fold-roll-Locals (Word → Option Value) locals_step (Locals-F.Bound name value rest)
-
-pub local-Passed : (params : Bor (List Param)) (values : Bor (List Flat)) (rest : Bor Locals)
-    → local (locals.Passed params values rest) ≡ bind_all (local rest.now) (names_of (map parameter params.now)) (map flat values.now)
-local-Passed params values rest =
-    ap local (sym (rolls-Passed params values rest)) ∙ fold-roll-Locals (Word → Option Value) locals_step (Locals-F.Passed params values rest)
-
-pub ruleset local_values = (local-Empty, local-Bound, local-Passed)
 
 -- ---- links
 

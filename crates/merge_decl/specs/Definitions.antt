@@ -23,15 +23,16 @@ funs_after fs (proc name params result body ∷ es) = funs_after fs es
 abbrev pub funs_in : ProgramTree → List FunDef
 funs_in p = funs_after [] p.declarations
 
--- a merge: its name, the names of the joiner's, the joinee's and the root's value, the value, and the
--- funs that it may apply, which are those declared before it
+-- a merge: its name, the names of the joiner's, the joinee's and the root's value, the value, and
+-- the funs that it may apply, which are those declared before it
 pub record MergeDef : Type 0 where
   pub name : Name
   pub params : List Name
   pub body : Expression
   pub funs : List FunDef
 
-abbrev pub merge_def : List FunDef → PlacedName → PlacedName → PlacedName → PlacedName → Expression → MergeDef
+abbrev pub merge_def
+    : List FunDef → PlacedName → PlacedName → PlacedName → PlacedName → Expression → MergeDef
 merge_def fs name m j r body =
     record { name = name.text; params = m.text ∷ j.text ∷ r.text ∷ []; body = body; funs = fs }
 

@@ -26,9 +26,11 @@ abbrev mutual
 
   pub expression_form_uses : ℕ → ExpressionForm → List Use
   expression_form_uses n (cell w index) = expression_uses n index
-  expression_form_uses n (apply w args) = record { name = w; args = count args; within = n } ∷ expressions_uses n args
+  expression_form_uses n (apply w args) =
+      record { name = w; args = count args; within = n } ∷ expressions_uses n args
   expression_form_uses n (input at index) = expression_uses n index
-  expression_form_uses n (pick test a b) = expression_uses n test ++ expression_uses n a ++ expression_uses n b
+  expression_form_uses n (pick test a b) =
+      expression_uses n test ++ expression_uses n a ++ expression_uses n b
   expression_form_uses n (unary op part) = expression_uses n part
   expression_form_uses n (chain first rest) = expression_uses n first ++ links_uses n rest
   expression_form_uses n (int z) = []
@@ -71,7 +73,8 @@ abbrev mutual
   pub statement_form_uses : ℕ → StatementForm → List Use
   statement_form_uses n (bind w r) = right_side_uses n r
   statement_form_uses n (assign w r) = right_side_uses n r
-  statement_form_uses n (assign_cell w index value) = expression_uses n index ++ expression_uses n value
+  statement_form_uses n (assign_cell w index value) =
+      expression_uses n index ++ expression_uses n value
   statement_form_uses n (choose arms) = arms_uses n arms
   statement_form_uses n (choose_or arms last) = arms_uses n arms ++ statements_uses n last
   statement_form_uses n (repeat test body) = expression_uses n test ++ statements_uses n body
@@ -88,7 +91,8 @@ abbrev mutual
 
   pub arms_uses : ℕ → Arms → List Use
   arms_uses n no_arms = []
-  arms_uses n (arm test body rest) = expression_uses n test ++ statements_uses n body ++ arms_uses n rest
+  arms_uses n (arm test body rest) =
+      expression_uses n test ++ statements_uses n body ++ arms_uses n rest
 
 -- the applications in the declaration of this number, in a program of n declarations: the body of a
 -- fun or a merge may use those before it, and a procedure may use all

@@ -31,7 +31,8 @@ module _ {F : Type 0} (place rank : F → ℕ) where
   abbrev pub IsBefore : F → F → Type 0
   IsBefore f g = (place f < place g) ⊎ ((place f ≡ place g) × (rank f ≤ rank g))
 
-  -- f is among the faults, and each of them is at a later place, or at the same and of no lesser rank
+  -- f is among the faults, and each of them is at a later place, or at the same and of no lesser
+  -- rank
   pub record IsFirst (fs : List F) (f : F) : Type 0 where
     pub among : Among fs f
     pub first : (g : F) → Among fs g → IsBefore f g

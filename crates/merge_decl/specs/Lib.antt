@@ -1,7 +1,6 @@
 pub mod Definitions
 pub mod Evaluation
 pub mod Expands
-pub mod Flat
 pub mod FunRules
 pub mod Least
 pub mod Names
@@ -9,4 +8,3 @@ pub mod Table
 pub mod Uses
 pub mod Value
 pub mod Weights
-pub mod Work

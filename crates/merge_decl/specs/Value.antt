@@ -171,19 +171,23 @@ abbrev mutual
   expression_form_value fs e (bool b) = flag b
   expression_form_value fs e no_rev = Ok (v.Rev None)
   expression_form_value fs e (var w) = read (e.local w.text) (e.shared w.text)
-  expression_form_value fs e (cell w index) = and_then (value_by fs e index) (λ i. read_cell (e.shared w.text) (number_of i))
+  expression_form_value fs e (cell w index) =
+      and_then (value_by fs e index) (λ i. read_cell (e.shared w.text) (number_of i))
   expression_form_value fs e (apply w args) = and_then (values_by fs e args) (called (fs w.text))
-  expression_form_value fs e (input at index) = and_then (value_by fs e index) (λ i. read_input e.inputs (number_of i))
+  expression_form_value fs e (input at index) =
+      and_then (value_by fs e index) (λ i. read_input e.inputs (number_of i))
   expression_form_value fs e (inputs at) = Ok (v.Int (pos (length e.inputs)))
   expression_form_value fs e (pick test a b) =
       and_then (value_by fs e test) (λ c. if truth_of c then value_by fs e a else value_by fs e b)
   expression_form_value fs e (unary op part) = and_then (value_by fs e part) (reversed op)
-  expression_form_value fs e (chain first rest) = and_then (value_by fs e first) (λ x. chained fs e x rest)
+  expression_form_value fs e (chain first rest) =
+      and_then (value_by fs e first) (λ x. chained fs e x rest)
 
   -- the values of arguments, from left to right
   pub values_by : Funs → Env → Expressions → Result (List Value) Cause
   values_by fs e no_expressions = Ok []
-  values_by fs e (expression x xs) = and_then (value_by fs e x) (λ y. and_then (values_by fs e xs) (λ ys. Ok (y ∷ ys)))
+  values_by fs e (expression x xs) =
+      and_then (value_by fs e x) (λ y. and_then (values_by fs e xs) (λ ys. Ok (y ∷ ys)))
 
   -- a chain is worked link by link
   pub chained : Funs → Env → Value → Links → Answer
@@ -232,9 +236,11 @@ earlier_of None later = later
 abbrev pub funs_of : List FunDef → Funs
 funs_of [] name = None
 funs_of (f ∷ before) name =
-    earlier_of (funs_of before name) (if same name f.name then Some (fun_value (funs_of before) f) else None)
+    earlier_of (funs_of before name)
+    (if same name f.name then Some (fun_value (funs_of before) f) else None)
 
--- the value of an expression where all these funs, from the last declared to the first, may be applied
+-- the value of an expression where all these funs, from the last declared to the first, may be
+-- applied
 abbrev pub value : List FunDef → Env → Expression → Answer
 value funs e t = value_by (funs_of funs) e t
 

@@ -24,8 +24,10 @@ abbrev mutual
   expression_form_weight ws (inputs at) = 1
   expression_form_weight ws (cell w index) = 1 + expression_weight ws index
   expression_form_weight ws (input at index) = 1 + expression_weight ws index
-  expression_form_weight ws (apply w args) = 1 + known_weight (find w.text ws) + expressions_weight ws args
-  expression_form_weight ws (pick test x y) = 1 + expression_weight ws test + expression_weight ws x + expression_weight ws y
+  expression_form_weight ws (apply w args) =
+      1 + known_weight (find w.text ws) + expressions_weight ws args
+  expression_form_weight ws (pick test x y) =
+      1 + expression_weight ws test + expression_weight ws x + expression_weight ws y
   expression_form_weight ws (unary op part) = 1 + expression_weight ws part
   expression_form_weight ws (chain first rest) = expression_weight ws first + links_weight ws rest
 

@@ -71,9 +71,12 @@ pub struct Expanded {
     ghost small: { IsSmall (whole program) },
     ghost few: { length program.decls.items < 2 ^ 32 },
     ghost keeps_rules: { rule.fun_faults (whole program) ≡ [] },
-    ghost funs_listed: { decls_of_funs funs ≡ rule.fun_decls 0 (map declaration program.decls.items) },
-    ghost merges_listed: { decls_of_merges merges ≡ rule.merge_decls 0 (map declaration program.decls.items) },
-    ghost uses_numbered: { uses ≡ rule.numbers_of (rule.fun_named (whole program)) (rule.uses_in (whole program)) },
+    ghost funs_listed: { decls_of_funs funs
+        ≡ rule.fun_decls 0 (map declaration program.decls.items) },
+    ghost merges_listed: { decls_of_merges merges
+        ≡ rule.merge_decls 0 (map declaration program.decls.items) },
+    ghost uses_numbered: { uses
+        ≡ rule.numbers_of (rule.fun_named (whole program)) (rule.uses_in (whole program)) },
     ghost funs_found: { (name : Name) → find name table ≡ rule.fun_named (whole program) name },
 }
 
@@ -100,7 +103,7 @@ fn rank(fault: MergeFault) -> u8
 }
 
 /// Whether a fault is at a lesser place than another, or at the same with a lesser rank.
-fn precedes(f: MergeFault, g: MergeFault) -> bool
+pub fn precedes(f: MergeFault, g: MergeFault) -> bool
     ensures { result ≡ is_less (rule.place f) (rule.rank f) (rule.place g) (rule.rank g) }
 {
     if place(f) < place(g) {
@@ -112,7 +115,8 @@ fn precedes(f: MergeFault, g: MergeFault) -> bool
     }
 }
 
-fn first(a: Option<MergeFault>, b: Option<MergeFault>) -> Option<MergeFault>
+/// The first of two faults, either of which may be absent.
+pub fn first(a: Option<MergeFault>, b: Option<MergeFault>) -> Option<MergeFault>
     ensures { result ≡ first_of rule.place rule.rank a b }
 {
     match (a, b) {
@@ -276,9 +280,12 @@ fn assembled(
     requires few { length program.decls.items < 2 ^ 32 }
     requires found { (name : Name) → find name table ≡ rule.fun_named (whole program) name }
     requires keeps { rule.broken_in (λ name. find name table) (rule.uses_in (whole program)) ≡ [] }
-    requires funs_listed { decls_of_funs funs.items ≡ rule.fun_decls 0 (map declaration program.decls.items) }
-    requires merges_listed { decls_of_merges merges.items ≡ rule.merge_decls 0 (map declaration program.decls.items) }
-    requires numbered { uses.items ≡ rule.numbers_of (λ name. find name table) (rule.uses_in (whole program)) }
+    requires funs_listed { decls_of_funs funs.items
+        ≡ rule.fun_decls 0 (map declaration program.decls.items) }
+    requires merges_listed { decls_of_merges merges.items
+        ≡ rule.merge_decls 0 (map declaration program.decls.items) }
+    requires numbered { uses.items
+        ≡ rule.numbers_of (λ name. find name table) (rule.uses_in (whole program)) }
     ensures same { whole result.program ≡ whole program }
     ensures kept { rule.fun_faults (whole program) ≡ [] }
 {

@@ -52,7 +52,8 @@ impl<V: Copy + Drop> NameTable<V> {
         self.index.get(name).copied()
     }
 
-    /// Enters the name with the value, unless the name is there already: then its first value stays.
+    /// Enters the name with the value, unless the name is there already: then its first value
+    /// stays.
     pub fn add(&mut self, alloc: Global, name: &[u8], value: V) -> Result<(), AllocError>
         ensures ok { OnOk result (self.new ≡ added self.old name.now value) }
         ensures err { OnErr result (self.new ≡ self.old) }

@@ -96,7 +96,8 @@ fn add_links<'a>(
     rest: &'a [Link],
 ) -> Result<(), AllocFailed<Use<'a>>>
     ensures { OnOk result
-        (uses_of uses.new.items ≡ uses_of uses.old.items ++ rule.links_uses within (links rest.now)) }
+        (uses_of uses.new.items
+        ≡ uses_of uses.old.items ++ rule.links_uses within (links rest.now)) }
 {
     for link in rest {
         add_expression(uses, within, &link.part)?;

@@ -10,7 +10,8 @@ ghost use Rattle.rev_types.specs.Limits.{cells};
 ghost use Rattle.rev_types.specs.Program as program;
 
 use crate::tables::{SharedInfo, Tables};
-use merge_decl::{Expanded, merge_value};
+use merge_decl::Expanded;
+use rev_evaluator::merge_value;
 use rev_num::{Items, NumFault};
 
 /// A program that breaks no static rule and no limit, with the tables that its runs go by: its
@@ -30,7 +31,7 @@ pub struct Typed {
 
 impl Typed {
     /// The value of the merge of this number, counted from 0 in order of declaration, of the
-    /// joiner's, the joinee's and the root's value, or its fault, as `merge_decl` answers it. It
+    /// joiner's, the joinee's and the root's value, or its fault, as `rev_evaluator` answers it. It
     /// takes no memory.
     pub fn merge_value(&self, merge: u32, main: i64, join: i64, root: i64) -> Result<i64, NumFault>
         requires { merge < length self.now.expanded.merges }

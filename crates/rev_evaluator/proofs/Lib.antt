@@ -1,0 +1,6 @@
+mod Bindings
+mod Counts
+mod Evaluations
+mod Meanings
+mod Weighed
+mod Works
