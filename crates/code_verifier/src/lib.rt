@@ -18,5 +18,3 @@ pub use fault::CodeFault;
 pub use verified::Verified;
 pub use verifier::verify;
 
-#[cfg(test)]
-mod tests;

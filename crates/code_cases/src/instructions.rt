@@ -1,6 +1,6 @@
-//! Code that breaks a rule, one for each kind of each rule.
+//! Code whose instructions break a rule, one for each kind of each rule.
 
-use crate::*;
+use code_verifier::{CodeFault, verify};
 use rev_code::{BlockClass, Code, CodeBlock, Instr, LayoutItem};
 use rev_num::{Items, ValueKind};
 use std::alloc::Global;
@@ -253,6 +253,91 @@ fn two_blocks(rt: HostRuntime) -> Result<(), Fail> {
         let mut blocks = Vec::new(alloc);
         blocks.push(block(alloc, class, result_kind, first)?)?;
         blocks.push(block(alloc, BlockClass::Main, None, main)?)?;
+        assert_eq!(rt; fault_of(alloc, blocks)?, fault);
+    }
+    Ok(())
+}
+
+/// So many words on the stack, and then none.
+fn deep(alloc: Global, words: usize, end: &[Instr]) -> Result<Vec<Instr>, Fail> {
+    let mut instrs = vec![in alloc; Instr::PushInt(1); words]?;
+    for _ in 0..words {
+        instrs.push(Instr::Pop)?;
+    }
+    instrs.extend_from_slice(end)?;
+    Ok(instrs)
+}
+
+#[test]
+fn deep_stacks(rt: HostRuntime) -> Result<(), Fail> {
+    let alloc = rt.alloc();
+    let one = [Instr::PushInt(1), Instr::Return];
+    // A fun has a limit of its own, which counts its locals too.
+    let rows: [(
+        BlockClass,
+        Option<ValueKind>,
+        usize,
+        &[Instr],
+        Option<CodeFault>,
+    ); 4] = [
+        (BlockClass::Proc, None, 4_096, &one[1..], None),
+        (
+            BlockClass::Proc,
+            None,
+            4_097,
+            &one[1..],
+            Some(CodeFault::LimitOf {
+                block: 0,
+                at: 4_096,
+            }),
+        ),
+        (BlockClass::Fun, Some(ValueKind::Int), 65_535, &one, None),
+        (
+            BlockClass::Fun,
+            Some(ValueKind::Int),
+            65_536,
+            &one,
+            Some(CodeFault::LimitOf {
+                block: 0,
+                at: 65_535,
+            }),
+        ),
+    ];
+    for (class, result_kind, words, end, fault) in rows {
+        let instrs = deep(alloc, words, end)?;
+        let mut blocks = Vec::new(alloc);
+        blocks.push(block(alloc, class, result_kind, instrs.as_slice())?)?;
+        blocks.push(block(alloc, BlockClass::Main, None, &[Instr::Return])?)?;
+        assert_eq!(rt; fault_of(alloc, blocks)?, fault);
+    }
+    Ok(())
+}
+
+#[test]
+fn long_funs(rt: HostRuntime) -> Result<(), Fail> {
+    let alloc = rt.alloc();
+    let rows: [(usize, Option<CodeFault>); 2] = [
+        (262_142, None),
+        (
+            262_143,
+            Some(CodeFault::LimitOf {
+                block: 0,
+                at: 262_144,
+            }),
+        ),
+    ];
+    for (negations, fault) in rows {
+        let mut instrs = vec![in alloc; Instr::Neg; negations + 2]?;
+        instrs[0] = Instr::PushInt(1);
+        instrs[negations + 1] = Instr::Return;
+        let mut blocks = Vec::new(alloc);
+        blocks.push(block(
+            alloc,
+            BlockClass::Fun,
+            Some(ValueKind::Int),
+            instrs.as_slice(),
+        )?)?;
+        blocks.push(block(alloc, BlockClass::Main, None, &[Instr::Return])?)?;
         assert_eq!(rt; fault_of(alloc, blocks)?, fault);
     }
     Ok(())

@@ -1,0 +1,7 @@
+//! Wrong code: tables with the fault at which the verifier refuses each, one for each kind of each rule.
+#![tactic(auto)]
+
+#[cfg(test)]
+mod instructions;
+#[cfg(test)]
+mod tables;
