@@ -1,105 +1,23 @@
 -- A block in which the pass finds no fault has a certificate.
-use Rattle.std.proofs.Common.{◌≡◌, ◌∙◌, ℕ, zero, suc, ◌+◌, ◌-◌, ◌<◌, ◌≤◌, Bool, true, false, cond, not, ◌&&◌, ◌||◌, List, [], ◌∷◌, ◌++◌, length, Option, Some, None, refl, sym, ap, subst, arith, true≢false, take}
+use Rattle.std.proofs.Common.{◌≡◌, ◌∙◌, ℕ, zero, suc, ◌+◌, ◌-◌, ◌<◌, ◌≤◌, Bool, true, false, not, ◌&&◌, ◌||◌, List, [], ◌∷◌, length, Option, Some, None, refl, sym, ap, subst, arith, true≢false, take}
 use Rattle.std.specs.Prelude.{slice_get, nat_lt, nat_eq, if◌then◌else◌, Result, Ok, Err}
 use Rattle.std.proofs.lemmas.Bool.Decides.{nat_tests}
-use Rattle.rev_num.specs.declared.value.ValueKind.{ValueKind}
-use Rattle.rev_num.specs.declared.value.ValueKind.TheVariants as k
 use Rattle.rev_code.specs.declared.code.Code.{Code}
 use Rattle.rev_code.specs.declared.code.CodeBlock.{CodeBlock}
 use Rattle.rev_code.specs.declared.code.Instr.{Instr}
-use Rattle.rev_code.specs.Words.{same_kind}
 use Rattle.code_rules.specs.declared.Cost.{Cost}
 use Rattle.code_rules.specs.declared.Rule.{Rule}
 use Rattle.code_rules.specs.declared.Rule.TheVariants as rule
-use Rattle.code_rules.specs.Shapes.{Shape, same_shape, takes, begins, shape_after}
+use Rattle.code_rules.specs.Shapes.{same_shape, takes, begins, shape_after}
 use Rattle.code_rules.specs.Pass as pass
 use Rattle.code_rules.specs.Pass.{Note, Passed, entry, after, known, arrival, before, gone, passed, fallen, jumped, joined, leads_to, meet, is_other, clashes, bad_jump, bad_operand, bad_local, falls_off, is_bare, is_paid_for, is_value_class, falls, target, bad_shape, wrong_kind, over_limit, broken, broken_with, broken_on_arrival, or_fault, scan, block_fault, most_words}
+use Rattle.code_certificate.proofs.Basics.{and_parts, same_is, not_false, if_none, parts, no_length, some_within, within_some, before_next, before_length}
+use Rattle.code_certificate.proofs.Meeting.{meet_now, meet_mark, fits_on, joined_fits, leads_self, leads_is}
 use Rattle.code_certificate.specs.Certificate.{Fits, leaves, IsNoted, IsCertified, note_at}
-
--- ---- kinds and tests
-
-kind_is : (x y : ValueKind) → same_kind x y ≡ true → x ≡ y
-kind_is k.Int k.Int h = refl
-kind_is k.Bool k.Bool h = refl
-kind_is k.Rev k.Rev h = refl
-kind_is k.Int k.Bool h = absurd (true≢false (sym h))
-kind_is k.Int k.Rev h = absurd (true≢false (sym h))
-kind_is k.Bool k.Int h = absurd (true≢false (sym h))
-kind_is k.Bool k.Rev h = absurd (true≢false (sym h))
-kind_is k.Rev k.Int h = absurd (true≢false (sym h))
-kind_is k.Rev k.Bool h = absurd (true≢false (sym h))
-
-and_parts : (d e : Bool) → d && e ≡ true → (d ≡ true) × (e ≡ true)
-and_parts true e h = (refl, h)
-and_parts false e h = absurd (true≢false (sym h))
-
-same_is : (xs ys : Shape) → same_shape xs ys ≡ true → xs ≡ ys
-same_is [] [] h = refl
-same_is [] (y ∷ ys) h = absurd (true≢false (sym h))
-same_is (x ∷ xs) [] h = absurd (true≢false (sym h))
-same_is (x ∷ xs) (y ∷ ys) h = let z = and_parts (same_kind x y) (same_shape xs ys) h in let a = kind_is x y z.0 in let b = same_is xs ys z.1 in λ i. a i ∷ b i
-
-not_false : (d : Bool) → not d ≡ false → d ≡ true
-not_false true h = refl
-not_false false h = absurd (true≢false h)
-
-if_none : (d : Bool) (w : Rule) (r : Option Rule) → (if d then Some w else r) ≡ None → (d ≡ false) × (r ≡ None)
-if_none true w r h = absurd (let z : Some w ≡ None = h in cc)
-if_none false w r h = (refl, h)
-
-parts : (p q r s : Bool) → (p || q || r || s) ≡ false → (p ≡ false) × (q ≡ false) × (r ≡ false) × (s ≡ false)
-parts false false false false h = (refl, refl, refl, refl)
-parts true q r s h = absurd (true≢false h)
-parts false true r s h = absurd (true≢false h)
-parts false false true s h = absurd (true≢false h)
-parts false false false true h = absurd (true≢false h)
-
-no_length : (s : Shape) → nat_lt 0 (length s) ≡ false → s ≡ []
-no_length [] h = refl
-no_length (x ∷ s) h = absurd (let z : 0 < length (x ∷ s) = omega arith in grind (arith, nat_tests, h, z))
-
-some_within : {A : Type 0} (xs : List A) (n : ℕ) (x : A) → slice_get xs n ≡ Some x → n < length xs
-some_within [] n x h = absurd (let z : None ≡ Some x = h in cc)
-some_within (y ∷ xs) zero x h = omega arith
-some_within (y ∷ xs) (suc n) x h = let r = some_within xs n x h in omega (arith, r)
-
-within_some : {A : Type 0} (xs : List A) (n : ℕ) → n < length xs → (x : A) × (slice_get xs n ≡ Some x)
-within_some [] n h = absurd (omega (arith, h))
-within_some (y ∷ xs) zero h = (y, refl)
-within_some (y ∷ xs) (suc n) h = within_some xs n (omega (arith, h))
-
-some_eq : {A : Type 0} (x y : A) → Some x ≡ Some y → x ≡ y
-some_eq x y h = cc
-
--- ---- the instructions before a place
-
-take_some : {A : Type 0} (xs : List A) (n : ℕ) (x : A) → slice_get xs n ≡ Some x → take (suc n) xs ≡ take n xs ++ x ∷ []
-take_some [] n x h = absurd (let z : None ≡ Some x = h in cc)
-take_some (y ∷ xs) zero x h = let e : y ≡ x = cc in ap (λ z. z ∷ []) e
-take_some (y ∷ xs) (suc n) x h = ap (λ z. y ∷ z) (take_some xs n x h)
-
-length_take : {A : Type 0} (xs : List A) (n : ℕ) → n ≤ length xs → length (take n xs) ≡ n
-length_take xs zero h = refl
-length_take [] (suc n) h = absurd (omega (arith, h))
-length_take (x ∷ xs) (suc n) h = ap suc (length_take xs n (omega (arith, h)))
-
-gone_snoc : (code : Code) (b : CodeBlock) (done : List Passed) (xs : List Instr) (x : Instr) → gone code b done (xs ++ x ∷ []) ≡ passed code b (gone code b done xs) x ∷ gone code b done xs
-gone_snoc code b done [] x = refl
-gone_snoc code b done (y ∷ xs) x = gone_snoc code b (passed code b done y ∷ done) xs x
-
-gone_length : (code : Code) (b : CodeBlock) (done : List Passed) (xs : List Instr) → length (gone code b done xs) ≡ length done + length xs
-gone_length code b done [] = omega arith
-gone_length code b done (x ∷ xs) = let r = gone_length code b (passed code b done x ∷ done) xs in omega (arith, r)
-
-before_next : (code : Code) (b : CodeBlock) (at : ℕ) (x : Instr) → slice_get b.instrs at ≡ Some x → before code b (suc at) ≡ passed code b (before code b at) x ∷ before code b at
-before_next code b at x h = ap (gone code b []) (take_some b.instrs at x h) ∙ gone_snoc code b [] (take at b.instrs) x
-
-before_length : (code : Code) (b : CodeBlock) (at : ℕ) → at ≤ length b.instrs → length (before code b at) ≡ at
-before_length code b at h = let a = gone_length code b [] (take at b.instrs) in let l = length_take b.instrs at h in omega (arith, a, l)
 
 -- ---- no rule is broken anywhere
 
-or_none : {A : Type 0} (at : ℕ) (o : Option Rule) (r : Result A (ℕ × Rule)) (c : A) → or_fault at o r ≡ Ok c → (o ≡ None) × (r ≡ Ok c)
+pub or_none : {A : Type 0} (at : ℕ) (o : Option Rule) (r : Result A (ℕ × Rule)) (c : A) → or_fault at o r ≡ Ok c → (o ≡ None) × (r ≡ Ok c)
 or_none at None r c h = (refl, h)
 or_none at (Some w) r c h = absurd (let z : Err (at, w) ≡ Ok c = h in cc)
 
@@ -115,20 +33,21 @@ module _ (code : Code) (costs : List Cost) (n : ℕ) (b : CodeBlock) (cost : Cos
       let p = or_none (length done) (broken code costs n b done y (arrival code b done)) (scan code costs n b (passed code b done y ∷ done) xs) cost h in
       all_whole xs (passed code b done y ∷ done) p.1 i x e
 
-  record Whole (at : ℕ) (x : Instr) : Type 0 where
-    arrives : arrival code b (before code b at) ≡ Some (note_at code b at)
-    jump : bad_jump b at (target x) ≡ false
-    operand : bad_operand code n b x ≡ false
-    few : nat_lt (length (note_at code b at).shape) (length (takes code b (note_at code b at).shape x)) ≡ false
-    many : (is_bare x && nat_lt (length (takes code b (note_at code b at).shape x)) (length (note_at code b at).shape)) ≡ false
-    unpaid : (is_paid_for x && not (note_at code b at).paid) ≡ false
-    clash : clashes code b (before code b at) (shape_after code b (note_at code b at).shape x) (target x) ≡ false
-    found : begins (takes code b (note_at code b at).shape x) (note_at code b at).shape ≡ true
-    local : bad_local b x ≡ false
-    inside : falls_off b at x ≡ false
-    small : over_limit code costs b (before code b at) (record { instr = x; note = note_at code b at }) ≡ false
+  -- no rule is broken at a place: what the tests of the pass say
+  pub record Whole (at : ℕ) (x : Instr) : Type 0 where
+    pub arrives : arrival code b (before code b at) ≡ Some (note_at code b at)
+    pub jump : bad_jump b at (target x) ≡ false
+    pub operand : bad_operand code n b x ≡ false
+    pub few : nat_lt (length (note_at code b at).shape) (length (takes code b (note_at code b at).shape x)) ≡ false
+    pub many : (is_bare x && nat_lt (length (takes code b (note_at code b at).shape x)) (length (note_at code b at).shape)) ≡ false
+    pub unpaid : (is_paid_for x && not (note_at code b at).paid) ≡ false
+    pub clash : clashes code b (before code b at) (shape_after code b (note_at code b at).shape x) (target x) ≡ false
+    pub found : begins (takes code b (note_at code b at).shape x) (note_at code b at).shape ≡ true
+    pub local : bad_local b x ≡ false
+    pub inside : falls_off b at x ≡ false
+    pub small : over_limit code costs b (before code b at) (record { instr = x; note = note_at code b at }) ≡ false
 
-  whole_with : (at : ℕ) (x : Instr) → at ≤ length b.instrs → (o : Option Note) → arrival code b (before code b at) ≡ o → broken code costs n b (before code b at) x (arrival code b (before code b at)) ≡ None → Whole at x
+  pub whole_with : (at : ℕ) (x : Instr) → at ≤ length b.instrs → (o : Option Note) → arrival code b (before code b at) ≡ o → broken code costs n b (before code b at) x (arrival code b (before code b at)) ≡ None → Whole at x
   whole_with at x le None e h = absurd (
       let h' : broken code costs n b (before code b at) x None ≡ None = ap (broken code costs n b (before code b at) x) (sym e) ∙ h in
       let a = if_none (bad_jump b (length (before code b at)) (target x)) rule.BadJump _ h' in
@@ -168,41 +87,11 @@ module _ (code : Code) (costs : List Cost) (n : ℕ) (b : CodeBlock) (cost : Cos
     arrives_at : (at : ℕ) → at < length b.instrs → arrival code b (before code b at) ≡ Some (note_at code b at)
     arrives_at at h = let x = within_some b.instrs at h in (whole at x.0 x.1).arrives
 
-    meet_now : (m : Note) (o : Option Note) (u : Note) → meet (Some m) o ≡ Some u → Fits m u
-    meet_now m None u e = (let z : m ≡ u = cc in record { shape = ap (λ y. y.shape) z; paid = λ h. ap (λ y. y.paid) z ∙ h })
-    meet_now m (Some q) u e = by (same_shape m.shape q.shape) e
-      where
-        by : (d : Bool) → cond d (Some (record { shape = m.shape; paid = m.paid && q.paid })) None ≡ Some u → Fits m u
-        by true e = (let z : record { shape = m.shape; paid = m.paid && q.paid } ≡ u = cc in record { shape = ap (λ y. y.shape) z; paid = λ h. (and_parts m.paid q.paid (ap (λ y. y.paid) z ∙ h)).0 })
-        by false e = absurd (let z : None ≡ Some u = e in cc)
-
-    meet_mark : (o : Option Note) (m u : Note) → meet o (Some m) ≡ Some u → Fits m u
-    meet_mark None m u e = (let z : m ≡ u = cc in record { shape = ap (λ y. y.shape) z; paid = λ h. ap (λ y. y.paid) z ∙ h })
-    meet_mark (Some q) m u e = by (same_shape q.shape m.shape) refl e
-      where
-        by : (d : Bool) → same_shape q.shape m.shape ≡ d → cond d (Some (record { shape = q.shape; paid = q.paid && m.paid })) None ≡ Some u → Fits m u
-        by true s e = (let z : record { shape = q.shape; paid = q.paid && m.paid } ≡ u = cc in record { shape = sym (same_is q.shape m.shape s) ∙ ap (λ y. y.shape) z; paid = λ h. (and_parts q.paid m.paid (ap (λ y. y.paid) z ∙ h)).1 })
-        by false s e = absurd (let z : None ≡ Some u = e in cc)
-
-    fits_on : (m u v : Note) → Fits m u → Fits u v → Fits m v
-    fits_on m u v f h = record { shape = f.shape ∙ h.shape; paid = λ e. f.paid (h.paid e) }
-
     -- what a jump brings is kept up to its target
     record Kept (found : Note) (to k' : ℕ) : Type 0 where
       mark : Note
       there : jumped code b to (before code b k') ≡ Some mark
       fits : Fits found mark
-
-    joined_fits : (o : Option Note) (m : Note) → Fits m (joined o m)
-    joined_fits None m = record { shape = refl; paid = λ h. h }
-    joined_fits (Some q) m = record { shape = refl; paid = λ h. (and_parts q.paid m.paid h).1 }
-
-    leads_self : (to : ℕ) → leads_to to (Some to) ≡ true
-    leads_self to = grind (arith, nat_tests)
-
-    leads_is : (to : ℕ) (o : Option ℕ) → leads_to to o ≡ true → o ≡ Some to
-    leads_is to None h = absurd (true≢false (sym h))
-    leads_is to (Some u) h = ap Some (let z : u ≡ to = grind (arith, nat_tests, h) in z)
 
     at_jump : (at to : ℕ) (x : Instr) → slice_get b.instrs at ≡ Some x → target x ≡ Some to → Kept (leaves code b (note_at code b at) x) to (suc at)
     at_jump at to x h tg =

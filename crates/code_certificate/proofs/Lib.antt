@@ -1,1 +1,4 @@
+pub mod Basics
+pub mod Meeting
 pub mod Accepted
+pub mod Costs

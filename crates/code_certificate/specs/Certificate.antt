@@ -2,6 +2,7 @@
 --   Fits          what is found fits what was noted: the same shape, and paid where the note says so
 --   IsNoted       what an instruction finds and leaves, by the notes
 --   IsCertified   all instructions of a block
+--   AllCertified  all blocks of code
 --   note_at       the note that the pass makes at a place
 use Rattle.std.specs.Prelude.{ℕ, suc, ◌≡◌, ◌<◌, ◌≤◌, true, false, List, [], length, Some, Ok, slice_get}
 use Rattle.rev_code.specs.declared.code.Code.{Code}
@@ -45,6 +46,10 @@ pub record IsCertified (code : Code) (n : ℕ) (b : CodeBlock) (notes : ℕ → 
   pub some : 0 < length b.instrs
   pub start : Fits entry (notes 0)
   pub each : (at : ℕ) (x : Instr) → slice_get b.instrs at ≡ Some x → IsNoted code n b notes at x
+
+-- each block of the code has a certificate
+abbrev pub AllCertified : Code → (ℕ → ℕ → Note) → Type 0
+AllCertified code notes = (n : ℕ) (b : CodeBlock) → slice_get code.blocks n ≡ Some b → IsCertified code n b (notes n)
 
 abbrev pub note_at : Code → CodeBlock → ℕ → Note
 note_at code b at = known (arrival code b (before code b at))

@@ -4,18 +4,14 @@
 --   place, total    what a frame costs at a place, and a revision
 --   leg_prices      every instruction uses up 1: they bound a leg
 --   entry_prices    events alone use up something: they bound a schedule
-use Rattle.std.specs.Prelude.{◌≡◌, ℕ, suc, ◌+◌, ◌-◌, ◌*◌, ◌≤◌, ◌<◌, Bool, cond, Option, Some, None, List, [], ◌∷◌, length, slice_get}
+use Rattle.std.specs.Prelude.{ℕ, suc, ◌+◌, ◌-◌, ◌*◌, ◌≤◌, ◌<◌, Bool, cond, Option, Some, None, List, [], ◌∷◌, length, slice_get}
 use Rattle.rev_code.specs.declared.code.Code.{Code}
 use Rattle.rev_code.specs.declared.code.CodeBlock.{CodeBlock}
 use Rattle.rev_code.specs.declared.code.Instr.{Instr}
 use Rattle.rev_code.specs.declared.code.Instr.TheVariants as i
 use Rattle.rev_code.specs.State.{State, Frame}
 use Rattle.code_rules.specs.Pass.{Note}
-use Rattle.code_certificate.specs.Certificate.{IsCertified}
-
--- each block of the code has a certificate
-abbrev pub AllCertified : Code → (ℕ → ℕ → Note) → Type 0
-AllCertified code notes = (n : ℕ) (b : CodeBlock) → slice_get code.blocks n ≡ Some b → IsCertified code n b (notes n)
+pub use Rattle.code_certificate.specs.Certificate.{AllCertified}
 
 pub record Prices : Type 0 where
   -- of a unit of fuel

@@ -2,6 +2,7 @@
 
 ghost use Rattle.std.specs.Prelude.{◌≡◌};
 ghost use Rattle.code_verifier.specs.Verdicts.{KeepsRules};
+ghost use Rattle.code_soundness.specs.Whole.{IsAccepted, notes_of};
 
 use rev_code::Code;
 
@@ -13,10 +14,11 @@ pub struct Verified {
 }
 
 impl Verified {
-    /// The code.
+    /// The code. It is all that `code_soundness` asks of code.
     pub fn code(&self) -> &Code
         ensures code { result.now ≡ self.now.code }
         ensures sound { KeepsRules result.now }
+        ensures accepted { IsAccepted result.now (notes_of result.now) }
     {
         &self.code
     }

@@ -1,0 +1,11 @@
+pub mod Lists
+pub mod Rooms
+pub mod Accepting
+pub mod Variables
+pub mod Well
+pub mod Cases
+pub mod Places
+pub mod Frames
+pub mod Acting
+pub mod Evaluating
+pub mod Reaching

@@ -1,0 +1,4 @@
+pub mod Typed
+pub mod Whole
+pub mod Funs
+pub mod Safe

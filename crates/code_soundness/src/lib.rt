@@ -1,0 +1,38 @@
+//! What the rules on code are for: code in which the verifier finds no fault never fails when it runs.
+//!
+//! Each law is an empty function. Those that speak of states take what a handle is as the type `H`: a
+//! revision's number, or its path.
+#![tactic(auto)]
+
+ghost use Rattle.code_soundness.specs.Whole.{NoFaultIsAccepted, NoFaultIsWithinLimits};
+ghost use Rattle.code_soundness.specs.Funs.{FunsHaveValues, MergesHaveInts};
+ghost use Rattle.code_soundness.specs.Funs.{ValuesAreByBlocks, FunsStart, FunStepsAreSafe};
+ghost use Rattle.code_soundness.specs.Safe.{MainStarts, ProceduresStart, StatesHaveSteps};
+ghost use Rattle.code_soundness.specs.Safe.{StepsAreSafe, ReachedStatesNeverFail};
+
+/// Code without a fault has certificates of all its blocks, and its funs and merges keep their limits.
+pub fn whole_code_law()
+    ensures accepted { NoFaultIsAccepted }
+    ensures limits { NoFaultIsWithinLimits }
+{}
+
+/// The block of a fun or merge always has a value of its result's kind, or a fault of arithmetic: its first
+/// state is typed, and each step leads to a later typed state, to such a fault or to the result.
+pub fn fun_laws<H>()
+    ensures funs { FunsHaveValues H }
+    ensures merges { MergesHaveInts H }
+    ensures blocks { ValuesAreByBlocks H }
+    ensures starts { FunsStart H }
+    ensures steps { FunStepsAreSafe H }
+{}
+
+/// The first states of revisions are typed. A typed state has an instruction, which finds what it takes
+/// and comes to an event, and each event leads to typed states again. So no state that is reached is
+/// without a step or has a stack of more than 4,096 words.
+pub fn soundness_laws<H>()
+    ensures main { MainStarts H }
+    ensures procedures { ProceduresStart H }
+    ensures progress { StatesHaveSteps H }
+    ensures preserved { StepsAreSafe H }
+    ensures reached { ReachedStatesNeverFail H }
+{}

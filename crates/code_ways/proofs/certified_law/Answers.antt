@@ -1,0 +1,5 @@
+use Rattle.code_ways.proofs.Certified.{certified_accepted}
+use Rattle.code_ways.proofs.certified_law.Goals as goal
+
+pub returns : goal.returns
+returns c = certified_accepted

@@ -1,0 +1,5 @@
+pub mod Ways
+pub mod Breaks
+pub mod First
+pub mod OfCode
+pub mod Certified
