@@ -54,7 +54,7 @@ stores_sound (Some h) at p i = let r = rev_sound (Some (Some h.kind)) at p i in 
 
 -- ---- what is in scope
 
-scope_behind : (c : Names) (x : Statement) (l l' : Locals) → Behind c l x l' → l' ≡ statement_scope c l x
+pub scope_behind : (c : Names) (x : Statement) (l l' : Locals) → Behind c l x l' → l' ≡ statement_scope c l x
 scope_behind c (statement at line (bind w r)) l l' b = b.2 ∙ ap (λ o. added l w.text o) (sym (right_side_is c l r b.0 b.1))
 scope_behind c (statement at line (assign w r)) l l' b = b
 scope_behind c (statement at line (assign_cell w index e)) l l' b = b
@@ -68,7 +68,7 @@ scope_behind c (statement at line (join handle)) l l' b = b
 scope_behind c (statement at line (print items)) l l' b = b
 scope_behind c (statement at line (assert test)) l l' b = b
 
-typed_behind : (c : Names) (result : Option ValueKind) (x : Statement) (l l' : Locals) → StatementTyped c result l x l' → Behind c l x l'
+pub typed_behind : (c : Names) (result : Option ValueKind) (x : Statement) (l l' : Locals) → StatementTyped c result l x l' → Behind c l x l'
 typed_behind c result (statement at line (bind w r)) l l' typed = typed.1
 typed_behind c result (statement at line (assign w r)) l l' typed = typed.1
 typed_behind c result (statement at line (assign_cell w index e)) l l' typed = typed.1

@@ -1,0 +1,19 @@
+use Rattle.std.proofs.Common.{ap, map, refl, false}
+use Rattle.rev_syntax.specs.View.{declaration, program as whole}
+use Rattle.rev_kinds.specs.declared.names.Checker.{Checker}
+use Rattle.affine_check.proofs.Decided.{program_found}
+use Rattle.affine_check.proofs.checker.first_broken.Goals as goal
+
+pub returns : goal.returns
+returns c =
+    let checker : Checker = record {
+      shared = record { ref_ptr = (0, 0); now = c.in_ok-shared.shared };
+      procs = record { ref_ptr = (0, 0); now = c.in_ok-procs.procs };
+      funs = record { ref_ptr = (0, 0); now = c.in_ok-funs.funs };
+      inside = false;
+    } in
+    program_found (whole c.args.p.now) checker _ _ _ _ _ _ _
+    (ap (λ ds. map declaration ds) c.deref.ensures.value) (ap (λ ds. map declaration ds) c.deref-2.ensures.value)
+    (ap (λ ds. map declaration ds) c.deref-3.ensures.value) (ap (λ ds. map declaration ds) c.deref-4.ensures.value)
+    refl c.in_ok-shared.ensures c.in_ok-procs.ensures c.in_ok-funs.ensures
+    c.in_ok-declared.ensures c.in_ok-broken_body.ensures c.first.ensures

@@ -1,0 +1,16 @@
+//! The checker of the affine rule on handles.
+//!
+//! `checker` goes over the statements with the locals in scope, and from where a handle comes into scope
+//! `trail` follows it to the end of its block; `copies` looks for its name in expressions.
+#![tactic(auto)]
+
+mod checker;
+mod copies;
+mod fault;
+mod trail;
+
+pub use checker::affine;
+pub use fault::AffineFault;
+
+#[cfg(test)]
+mod tests;
