@@ -20,7 +20,7 @@ use merge_decl::NameTable;
 use rev_kinds::{Checker, Locals, same_kind};
 use rev_num::ValueKind;
 use rev_syntax::{Arm, Block, Decl, Form, Name, Param, Program, Rhs, Stmt};
-use rev_types::{Typed, fun_table, proc_table, shared_table};
+use rev_types::{Typed, name_tables};
 use std::alloc::{AllocError, Global};
 
 /// Where the walk is: the locals in scope, and whether some path comes here.
@@ -320,13 +320,11 @@ fn broken_decls(
 fn first_broken(alloc: Global, p: &Program) -> Result<Option<AffineFault>, AllocError>
     ensures { IfOk result (λ f. f ≡ rule.broken_in_program (whole p.now)) }
 {
-    let shared = shared_table(alloc, &p.decls)?;
-    let procs = proc_table(alloc, &p.decls)?;
-    let funs = fun_table(alloc, &p.decls)?;
+    let tables = name_tables(alloc, &p.decls)?;
     let checker = Checker {
-        shared: &shared,
-        procs: &procs,
-        funs: &funs,
+        shared: &tables.shared,
+        procs: &tables.procs,
+        funs: &tables.funs,
         inside: false,
     };
     let declared = broken_decls(alloc, &checker, &p.decls)?;

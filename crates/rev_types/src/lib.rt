@@ -12,6 +12,6 @@ mod typed;
 
 pub use checker::check;
 pub use laws::{name_laws, program_laws};
-pub use lookup::{fun_table, proc_table, shared_table};
+pub use lookup::{NameTables, name_tables};
 pub use tables::SharedInfo;
 pub use typed::Typed;

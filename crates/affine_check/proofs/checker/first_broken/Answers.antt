@@ -7,13 +7,13 @@ use Rattle.affine_check.proofs.checker.first_broken.Goals as goal
 pub returns : goal.returns
 returns c =
     let checker : Checker = record {
-      shared = record { ref_ptr = (0, 0); now = c.in_ok-shared.shared };
-      procs = record { ref_ptr = (0, 0); now = c.in_ok-procs.procs };
-      funs = record { ref_ptr = (0, 0); now = c.in_ok-funs.funs };
+      shared = record { ref_ptr = (0, 0); now = c.in_ok-tables.tables.shared };
+      procs = record { ref_ptr = (0, 0); now = c.in_ok-tables.tables.procs };
+      funs = record { ref_ptr = (0, 0); now = c.in_ok-tables.tables.funs };
       inside = false;
     } in
     program_found (whole c.args.p.now) checker _ _ _ _ _ _ _
+    (ap (λ ds. map declaration ds) c.deref.ensures.value) (ap (λ ds. map declaration ds) c.deref.ensures.value)
     (ap (λ ds. map declaration ds) c.deref.ensures.value) (ap (λ ds. map declaration ds) c.deref-2.ensures.value)
-    (ap (λ ds. map declaration ds) c.deref-3.ensures.value) (ap (λ ds. map declaration ds) c.deref-4.ensures.value)
-    refl c.in_ok-shared.ensures c.in_ok-procs.ensures c.in_ok-funs.ensures
+    refl c.in_ok-tables.ensures.shared c.in_ok-tables.ensures.procs c.in_ok-tables.ensures.funs
     c.in_ok-declared.ensures c.in_ok-broken_body.ensures c.first.ensures
