@@ -1,5 +1,5 @@
 -- The revision at a place, as it joins another.
-use Rattle.std.proofs.Common.{◌≡◌, ◌≢◌, ℕ, ◌+◌, ◌<◌, ◌≤◌, true, false, List, None, ◌++◌, length, get_or, set, take, drop, Some, sym, ap, ◌∙◌, subst}
+use Rattle.std.proofs.Common.{◌≡◌, ◌≢◌, ℕ, ◌+◌, ◌<◌, ◌≤◌, true, false, List, None, ◌++◌, length, get_or, set, take, drop, Some, refl, sym, ap, ◌∙◌, subst}
 use Rattle.rev_num.specs.Path.{Path}
 use Rattle.revision_machine.specs.Machine.{Joins, Ended, Machine, Plain, Twice, Live, step}
 use Rattle.revision_machine.specs.Conditions.{Counts, Handles, Spends}
@@ -8,6 +8,7 @@ use Rattle.revision_machine.specs.declared.state.Revision.{Revision}
 use Rattle.revision_machine.specs.RevisionList.{paths, entry_with, globe}
 use Rattle.revision_machine.specs.StepOutcomes.{WaitsOn, IsReached}
 use Rattle.revision_machine.specs.ListStep.{IsAt, with_state, with_mark}
+use Rattle.revision_machine.proofs.RevisionList.{paths_two}
 use Rattle.revision_machine.proofs.Splits.{written_all}
 use Rattle.revision_machine.proofs.Steps.{Reads, shown_at, twice, waits, differ, apart_paths, joins_both, distinct_both, reads, at_place, read_is, revision_at}
 use Rattle.revision_machine.proofs.Reached.{target_stands, room_two}
@@ -21,6 +22,17 @@ IsAfter M revisions i j new =
 pub after_of : (M : Machine) (revisions res new : List (Revision M.Local)) (i j n : ℕ) → res ≡ revisions → length new ≡ length res → n ≡ length revisions → IsAfter M res i j new → IsAfter M revisions i j (take n (new ++ drop (length new) revisions))
 after_of M revisions res new i j n value kept len after =
     subst (IsAfter M revisions i j) (sym (written_all revisions new n (kept ∙ ap length value ∙ sym len))) (subst (λ v. IsAfter M v i j new) value after)
+
+-- the paths stay as they were
+pub after_paths : (M : Machine) (revisions : List (Revision M.Local)) (i : ℕ) (q : Path) → i < length revisions → (j : ℕ) → IsAt revisions j q → Revision M.Local
+    → (new : List (Revision M.Local)) → IsAfter M revisions i j new → paths new ≡ paths revisions
+after_paths M revisions i q lt j there d new after = ap paths (after d) ∙ paths_two revisions i j d _ _ lt there.within refl refl
+
+-- one that is read to have ended has done so, read with any default
+pub ends_at : (M : Machine) (revisions : List (Revision M.Local)) (q : Path) (j : ℕ) → IsAt revisions j q → (y : Revision M.Local) → Reads revisions j y
+    → M.next q y.state ≡ Ended → (d : Revision M.Local) → M.next (get_or revisions j d).path (get_or revisions j d).state ≡ Ended
+ends_at M revisions q j there y s ended d =
+    ap (λ p. M.next p (get_or revisions j d).state) (there.path d) ∙ ap (λ v. M.next q v.state) (sym (read_is revisions j there.within d y s)) ∙ ended
 
 module _ (M : Machine) (revisions : List (Revision M.Local)) (i : ℕ) (q : Path) (distinct : IsDistinct (paths revisions)) (lt : i < length revisions) (plain : (d : Revision M.Local) → (get_or revisions i d).joined ≡ false) (joins : (d : Revision M.Local) → M.next (get_or revisions i d).path (get_or revisions i d).state ≡ Joins q) where
   here : (d : Revision M.Local) → globe revisions (get_or revisions i d).path ≡ Some (Plain (get_or revisions i d).state)

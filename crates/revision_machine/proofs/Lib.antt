@@ -19,6 +19,7 @@ pub mod Schedules
 pub mod ByNumber
 pub mod Legs
 pub mod RevisionList
+pub mod PathIndex
 pub mod Splits
 pub mod Steps
 pub mod Reached

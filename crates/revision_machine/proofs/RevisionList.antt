@@ -1,7 +1,5 @@
 -- How the state of a list of revisions changes with the list.
-use Rattle.std.proofs.Common.{◌≡◌, ◌≢◌, ◌⊎◌, inl, inr, ℕ, zero, suc, ◌+◌, ◌<◌, Bool, true, false, cond, List, [], ◌∷◌, ◌++◌, length, get_or, set, Some, None, refl, sym, ap, ◌∙◌, subst, arith}
-use Rattle.std.proofs.lemmas.Bool.{cases_order}
-use Rattle.std.proofs.lemmas.List.{get_or_default}
+use Rattle.std.proofs.Common.{◌≡◌, ◌≢◌, ◌⊎◌, inl, inr, ℕ, zero, suc, ◌<◌, Bool, true, false, cond, List, [], ◌∷◌, ◌++◌, length, get_or, set, Some, None, refl, sym, ap, ◌∙◌, subst, arith, length-set}
 use Rattle.rev_num.specs.Path.{Path, same}
 use Rattle.revision_machine.specs.PathMap.{with_at}
 use Rattle.revision_machine.specs.Machine.{Entry}
@@ -11,11 +9,7 @@ use Rattle.revision_machine.specs.declared.state.Revision.{Revision}
 use Rattle.revision_machine.specs.RevisionList.{paths, entry_of, globe}
 use Rattle.revision_machine.specs.ListStep.{IsAt}
 
--- none of the first n revisions has this path
-abbrev pub NoneBefore : {L : Type 0} → List (Revision L) → ℕ → Path → Type 0
-NoneBefore {L} revisions n p = (k : ℕ) (d : Revision L) → k < n → same (get_or revisions k d).path p ≡ false
-
-in-push : (ps : List Path) (p q : Path) → IsIn q (ps ++ p ∷ []) → IsIn q ps ⊎ (q ≡ p)
+pub in-push : (ps : List Path) (p q : Path) → IsIn q (ps ++ p ∷ []) → IsIn q ps ⊎ (q ≡ p)
 in-push [] p q (inl e) = inr e
 in-push [] p q (inr none) = absurd none
 in-push (r ∷ ps) p q (inl e) = inl (inl e)
@@ -37,10 +31,10 @@ distinct-push (q ∷ ps) p distinct out = (λ v. go (in-push ps p q v), distinct
     go (inr e) = out (inl (sym e))
 
 module _ {L : Type 0} where
-  pub globe_apart : (ss : List (Revision L)) (p : Path) → NoneBefore ss (length ss) p → globe ss p ≡ None
-  globe_apart [] p h = refl
-  globe_apart (s ∷ ss) p h =
-      ap (λ b. cond b (Some (entry_of s)) (globe ss p)) (h 0 s (omega arith)) ∙ globe_apart ss p (λ k d lt. h (suc k) d (omega arith))
+  -- a path that no revision has
+  pub globe_out : (ss : List (Revision L)) (p : Path) → (IsIn p (paths ss) → ⊥) → globe ss p ≡ None
+  globe_out [] p out = refl
+  globe_out (s ∷ ss) p out = at_other (globe ss) s.path (entry_of s) p (λ e. out (inl (sym e))) ∙ globe_out ss p (λ i. out (inr i))
 
   pub in_globe : (ss : List (Revision L)) (p : Path) → globe ss p ≡ None → IsIn p (paths ss) → ⊥
   in_globe [] p e none = none
@@ -73,10 +67,25 @@ module _ {L : Type 0} where
       let apart : t.path ≢ s.path = λ e. distinct.0 (subst (λ v. IsIn v (paths ss)) (sym is ∙ e) (in_paths ss i d (omega arith))) in
       ap (λ m. with_at m s.path (entry_of s)) (globe-set ss i d t distinct.1 (omega arith) is) ∙ swap (globe ss) t.path s.path (entry_of t) (entry_of s) apart
 
+  -- the path at a place stays
+  path_set : (ss : List (Revision L)) (i j : ℕ) (d t : Revision L) → i < length ss → j < length ss → t.path ≡ (get_or ss i d).path → (get_or (set ss i t) j d).path ≡ (get_or ss j d).path
+  path_set [] i j d t lt lu e = refl
+  path_set (s ∷ ss) zero zero d t lt lu e = e
+  path_set (s ∷ ss) zero (suc j) d t lt lu e = refl
+  path_set (s ∷ ss) (suc i) zero d t lt lu e = refl
+  path_set (s ∷ ss) (suc i) (suc j) d t lt lu e = path_set ss i j d t (omega arith) (omega arith) e
+
   pub paths-set : (ss : List (Revision L)) (i : ℕ) (d t : Revision L) → i < length ss → t.path ≡ (get_or ss i d).path → paths (set ss i t) ≡ paths ss
   paths-set [] i d t lt is = refl
   paths-set (s ∷ ss) zero d t lt is = ap (λ v. v ∷ paths ss) is
   paths-set (s ∷ ss) (suc i) d t lt is = ap (λ v. s.path ∷ v) (paths-set ss i d t (omega arith) is)
+
+  -- two with their states or marks changed
+  pub paths_two : (ss : List (Revision L)) (i j : ℕ) (d t u : Revision L) → i < length ss → j < length ss → t.path ≡ (get_or ss i d).path → u.path ≡ (get_or ss j d).path
+      → paths (set (set ss i t) j u) ≡ paths ss
+  paths_two ss i j d t u lt lu e f =
+      let within : j < length (set ss i t) = subst (λ n. j < n) (sym (length-set ss i t)) lu in
+      paths-set (set ss i t) j d u within (f ∙ sym (path_set ss i j d t lt lu e)) ∙ paths-set ss i d t lt e
 
   -- a revision for a new path
   pub globe-push : (ss : List (Revision L)) (t : Revision L) → (IsIn t.path (paths ss) → ⊥) → globe (ss ++ t ∷ []) ≡ with_at (globe ss) t.path (entry_of t)
@@ -84,23 +93,16 @@ module _ {L : Type 0} where
   globe-push (s ∷ ss) t out =
       ap (λ m. with_at m s.path (entry_of s)) (globe-push ss t (λ v. out (inr v))) ∙ swap (globe ss) t.path s.path (entry_of t) (entry_of s) (λ e. out (inl e))
 
-  paths-push : (ss : List (Revision L)) (t : Revision L) → paths (ss ++ t ∷ []) ≡ paths ss ++ t.path ∷ []
+  pub length-paths : (ss : List (Revision L)) → length (paths ss) ≡ length ss
+  length-paths [] = refl
+  length-paths (s ∷ ss) = ap suc (length-paths ss)
+
+  pub paths-push : (ss : List (Revision L)) (t : Revision L) → paths (ss ++ t ∷ []) ≡ paths ss ++ t.path ∷ []
   paths-push [] t = refl
   paths-push (s ∷ ss) t = ap (λ v. s.path ∷ v) (paths-push ss t)
 
   pub distinct_revisions-push : (ss : List (Revision L)) (t : Revision L) → IsDistinct (paths ss) → (IsIn t.path (paths ss) → ⊥) → IsDistinct (paths (ss ++ t ∷ []))
   distinct_revisions-push ss t distinct out = subst IsDistinct (sym (paths-push ss t)) (distinct-push (paths ss) t.path distinct out)
-
-  pub none_more : (ss : List (Revision L)) (i : ℕ) (p : Path) (x : Revision L) → NoneBefore ss i p → i < length ss → same (get_or ss i x).path p ≡ false → NoneBefore ss (i + 1) p
-  none_more ss i p x none lt e k d below = go (cases_order k i)
-    where
-      go : (k ≡ i) ⊎ ((k < i) ⊎ (i < k)) → same (get_or ss k d).path p ≡ false
-      go (inl is) = ap (λ v. same (get_or ss v d).path p) is ∙ ap (λ v. same v.path p) (get_or_default ss i d x lt) ∙ e
-      go (inr (inl h)) = none k d h
-      go (inr (inr h)) = absurd (omega arith)
-
-  pub found : (ss : List (Revision L)) (i : ℕ) (p : Path) (x : Revision L) → i < length ss → same (get_or ss i x).path p ≡ true → IsAt ss i p
-  found ss i p x lt e = record { within = lt; path = λ d. ap (λ v. v.path) (get_or_default ss i d x lt) ∙ same-eq (get_or ss i x).path p e }
 
   -- a path that stands in the state is that of a revision
   pub where_stands : (ss : List (Revision L)) (p : Path) (e : Entry L) → globe ss p ≡ Some e → (i : ℕ) × IsAt ss i p × Revision L

@@ -8,6 +8,7 @@ pub mod Simulation
 pub mod Numbered
 pub mod Schedules
 pub mod Rules
+pub mod PathIndex
 pub mod RevisionList
 pub mod States
 pub mod StepOutcomes

@@ -16,6 +16,7 @@ ghost use Rattle.revision_machine.specs.Machine.{Live, start as start_of, Final}
 ghost use Rattle.revision_machine.specs.Conditions.{HoldsNone};
 ghost use Rattle.revision_machine.specs.Laws.{IsDistinct};
 ghost use Rattle.revision_machine.specs.Rules.{machine_of, start_by, IsFirst, IsWithin};
+ghost use Rattle.revision_machine.specs.PathIndex.{IsIndexed};
 ghost use Rattle.revision_machine.specs.RevisionList.{paths, globe};
 ghost use Rattle.revision_machine.specs.States.{global_of};
 ghost use Rattle.revision_machine.specs.StepOutcomes.{IsEnd};
@@ -24,6 +25,7 @@ ghost use Rattle.revision_machine.specs.Progress.{Tries, TriesEach, TriesSome, m
 use crate::language::Language;
 use crate::list::step_at;
 use crate::one_step::StepOutcome;
+use crate::place_table::{PlaceTable, places_of};
 use crate::state::{GlobalState, Revision, Revisions};
 use rev_num::Path;
 use std::alloc::{AllocError, Global};
@@ -52,7 +54,8 @@ pub fn start<L: Language>(
         state: main,
         joined: false,
     })?;
-    Ok(GlobalState::Live(Revisions { list }))
+    let places = places_of(alloc, list.as_slice())?;
+    Ok(GlobalState::Live(Revisions { list, places }))
 }
 
 /// Steps the revision at this place. One that moved is to be tried again, and before it a child that it forked.
@@ -60,21 +63,24 @@ fn try_step<L: Language>(
     language: &L,
     alloc: Global,
     list: &mut Vec<Revision<L::State>>,
+    places: &mut PlaceTable,
     place: usize,
     todo: &mut Vec<usize>,
 ) -> Result<Progress, AllocError>
     requires within { place < length list.old.items }
     requires distinct { IsDistinct (paths list.old.items) }
+    requires indexed { IsIndexed places.old.map (paths list.old.items) }
     requires reached { IsWithin (L.rules language.now) (Live (globe list.old.items)) }
     requires todo { All (λ k. k < length list.old.items) todo.old.items }
     ensures progress { IfOk result (λ p. Tries (L.rules language.now) place p list.old list.new) }
     ensures distinct { OnOk result (IsDistinct (paths list.new.items)) }
+    ensures indexed { OnOk result (IsIndexed places.new.map (paths list.new.items)) }
     ensures longer { OnOk result (length list.old.items ≤ length list.new.items) }
     ensures todo { OnOk result (All (λ k. k < length list.new.items) todo.new.items) }
     ensures more { IfOk result (λ p. vec_len todo.new ≤ vec_len todo.old + most_of p) }
 {
     let before = list.len();
-    match step_at(language, alloc, list, place)? {
+    match step_at(language, alloc, list, places, place)? {
         StepOutcome::Moved => {}
         StepOutcome::Twice => return Ok(Progress::Twice),
         StepOutcome::Waits { .. } | StepOutcome::Ended | StepOutcome::NoSuch => return Ok(
@@ -104,17 +110,20 @@ fn run_these<L: Language>(
     language: &L,
     alloc: Global,
     list: &mut Vec<Revision<L::State>>,
+    places: &mut PlaceTable,
     mut todo: Vec<usize>,
 ) -> Result<Progress, AllocError>
     requires distinct { IsDistinct (paths list.old.items) }
+    requires indexed { IsIndexed places.old.map (paths list.old.items) }
     requires reached { IsWithin (L.rules language.now) (Live (globe list.old.items)) }
     requires todo { All (λ k. k < length list.old.items) todo.items }
     ensures progress { IfOk result (λ p. TriesSome (L.rules language.now) p list.old list.new) }
     ensures distinct { OnOk result (IsDistinct (paths list.new.items)) }
+    ensures indexed { OnOk result (IsIndexed places.new.map (paths list.new.items)) }
     ensures longer { OnOk result (length list.old.items ≤ length list.new.items) }
 {
     while let Some(place) = todo.pop() {
-        match try_step(language, alloc, list, place, &mut todo)? {
+        match try_step(language, alloc, list, places, place, &mut todo)? {
             Progress::Twice => return Ok(Progress::Twice),
             Progress::Moved | Progress::Stuck => {}
         }
@@ -127,18 +136,21 @@ fn run_from<L: Language>(
     language: &L,
     alloc: Global,
     list: &mut Vec<Revision<L::State>>,
+    places: &mut PlaceTable,
     place: usize,
 ) -> Result<Progress, AllocError>
     requires within { place < length list.old.items }
     requires distinct { IsDistinct (paths list.old.items) }
+    requires indexed { IsIndexed places.old.map (paths list.old.items) }
     requires reached { IsWithin (L.rules language.now) (Live (globe list.old.items)) }
     ensures progress { IfOk result (λ p. Tries (L.rules language.now) place p list.old list.new) }
     ensures distinct { OnOk result (IsDistinct (paths list.new.items)) }
+    ensures indexed { OnOk result (IsIndexed places.new.map (paths list.new.items)) }
     ensures longer { OnOk result (length list.old.items ≤ length list.new.items) }
 {
     let mut todo = Vec::new(alloc);
-    match try_step(language, alloc, list, place, &mut todo)? {
-        Progress::Moved => run_these(language, alloc, list, todo),
+    match try_step(language, alloc, list, places, place, &mut todo)? {
+        Progress::Moved => run_these(language, alloc, list, places, todo),
         Progress::Stuck => Ok(Progress::Stuck),
         Progress::Twice => Ok(Progress::Twice),
     }
@@ -149,15 +161,18 @@ fn run_each<L: Language>(
     language: &L,
     alloc: Global,
     list: &mut Vec<Revision<L::State>>,
+    places: &mut PlaceTable,
 ) -> Result<Progress, AllocError>
     requires distinct { IsDistinct (paths list.old.items) }
+    requires indexed { IsIndexed places.old.map (paths list.old.items) }
     requires reached { IsWithin (L.rules language.now) (Live (globe list.old.items)) }
     ensures progress { IfOk result (λ p. TriesEach (L.rules language.now) p list.old list.new) }
     ensures distinct { OnOk result (IsDistinct (paths list.new.items)) }
+    ensures indexed { OnOk result (IsIndexed places.new.map (paths list.new.items)) }
 {
     let mut moved = false;
     for place in 0..list.len() {
-        let progress = run_from(language, alloc, list, place)?;
+        let progress = run_from(language, alloc, list, places, place)?;
         match progress {
             Progress::Twice => return Ok(Progress::Twice),
             Progress::Moved | Progress::Stuck => {}
@@ -190,14 +205,17 @@ pub fn run<L: Language>(
     requires { IsFirst (L.rules language.now) main }
     ensures { IfOk result (λ s. IsEnd (machine_of (L.rules language.now)) main (global_of s)) }
 {
-    let mut list = match start(language, alloc, main)? {
-        GlobalState::Live(live) => live.list,
+    let Revisions {
+        mut list,
+        mut places,
+    } = match start(language, alloc, main)? {
+        GlobalState::Live(live) => live,
         GlobalState::Twice => return Ok(GlobalState::Twice),
     };
     loop {
-        match run_each(language, alloc, &mut list)? {
+        match run_each(language, alloc, &mut list, &mut places)? {
             Progress::Moved => {}
-            Progress::Stuck => return Ok(GlobalState::Live(Revisions { list })),
+            Progress::Stuck => return Ok(GlobalState::Live(Revisions { list, places })),
             Progress::Twice => return Ok(GlobalState::Twice),
         }
     }

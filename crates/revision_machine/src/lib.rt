@@ -13,6 +13,7 @@ mod language;
 mod laws;
 mod list;
 mod one_step;
+mod place_table;
 mod state;
 mod two_orders;
 

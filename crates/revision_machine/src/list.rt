@@ -1,4 +1,4 @@
-//! A step as a change of the list of list.
+//! A step as a change of the list of revisions.
 
 ghost use Rattle.std.specs.Prelude.{
   ◌≡◌,
@@ -12,17 +12,14 @@ ghost use Rattle.std.specs.Prelude.{
   get_or,
   IfOk,
   OnOk,
-  MatchOption,
-  Some,
-  None,
   false,
 };
 ghost use Rattle.revision_machine.specs.Machine.{Live, Joins, Ended};
 ghost use Rattle.revision_machine.specs.Laws.{IsDistinct};
 ghost use Rattle.revision_machine.specs.Rules.{machine_of, AreRoomy, IsWithin};
+ghost use Rattle.revision_machine.specs.PathIndex.{IsIndexed};
 ghost use Rattle.revision_machine.specs.RevisionList.{paths, globe};
 ghost use Rattle.revision_machine.specs.ListStep.{
-  IsAt,
   StepsAt,
   NextIs,
   JoinsPlace,
@@ -35,34 +32,26 @@ ghost use Rattle.revision_machine.specs.ListStep.{
 
 use crate::language::{Language, Next};
 use crate::one_step::StepOutcome;
+use crate::place_table::PlaceTable;
 use crate::state::Revision;
 use rev_num::Path;
 use std::alloc::{AllocError, Global};
-
-/// The place of the revision with this path.
-pub fn find<R>(list: &[Revision<R>], path: &Path) -> Option<usize>
-    ensures { MatchOption result (globe list.now path.now ≡ None) (λ i. IsAt list.now i path.now) }
-{
-    for i in 0..list.len() {
-        if list[i].path.is(path) {
-            return Some(i);
-        }
-    }
-    None
-}
 
 /// Steps the revision at this place.
 pub fn step_at<L: Language>(
     language: &L,
     alloc: Global,
     list: &mut Vec<Revision<L::State>>,
+    places: &mut PlaceTable,
     i: usize,
 ) -> Result<StepOutcome, AllocError>
     requires within { i < length list.old.items }
     requires distinct { IsDistinct (paths list.old.items) }
+    requires indexed { IsIndexed places.old.map (paths list.old.items) }
     requires reached { IsWithin (L.rules language.now) (Live (globe list.old.items)) }
     ensures step { IfOk result (λ s. StepsAt (L.rules language.now) i s list.old list.new) }
     ensures distinct { OnOk result (IsDistinct (paths list.new.items)) }
+    ensures indexed { OnOk result (IsIndexed places.new.map (paths list.new.items)) }
     ensures longer { OnOk result (length list.old.items ≤ length list.new.items) }
 {
     if list[i].joined {
@@ -75,6 +64,7 @@ pub fn step_at<L: Language>(
         Next::Ended => Ok(StepOutcome::Ended),
         Next::Forked(state) => {
             let path = revision.path.child(alloc, made)?;
+            places.enter(alloc, &path, list.len())?;
             list.push(Revision {
                 path,
                 state,
@@ -82,7 +72,7 @@ pub fn step_at<L: Language>(
             })?;
             Ok(StepOutcome::Moved)
         }
-        Next::Joins(on) => join_at(language, alloc, list, i, on),
+        Next::Joins(on) => join_at(language, alloc, list, places, i, on),
     }
 }
 
@@ -91,19 +81,22 @@ fn join_at<L: Language>(
     language: &L,
     alloc: Global,
     list: &mut Vec<Revision<L::State>>,
+    places: &PlaceTable,
     i: usize,
     on: Path,
 ) -> Result<StepOutcome, AllocError>
     requires within { i < length list.old.items }
     requires distinct { IsDistinct (paths list.old.items) }
+    requires indexed { IsIndexed places.now.map (paths list.old.items) }
     requires reached { IsWithin (L.rules language.now) (Live (globe list.old.items)) }
     requires plain { (d : _) → (get_or list.old.items i d).joined ≡ false }
     requires joins { NextIs (L.rules language.now) list.old.items i (Joins on) }
     ensures step { IfOk result (λ s. StepsAt (L.rules language.now) i s list.old list.new) }
     ensures distinct { OnOk result (IsDistinct (paths list.new.items)) }
+    ensures same { OnOk result (paths list.new.items ≡ paths list.old.items) }
     ensures longer { OnOk result (length list.old.items ≤ length list.new.items) }
 {
-    let j = match find(list.as_slice(), &on) {
+    let j = match places.find(&on) {
         Some(j) => j,
         None => unreachable!(),
     };

@@ -3,11 +3,13 @@
 ghost use Rattle.std.specs.Prelude.{◌≡◌, ◌+◌, IfOk};
 ghost use Rattle.revision_machine.specs.Rules.{machine_of, IsWithin};
 ghost use Rattle.revision_machine.specs.Laws.{IsDistinct};
+ghost use Rattle.revision_machine.specs.PathIndex.{IsIndexed};
 ghost use Rattle.revision_machine.specs.RevisionList.{paths};
 ghost use Rattle.revision_machine.specs.States.{global_of, global_after, Answers};
 
 use crate::language::Language;
-use crate::list::{find, step_at};
+use crate::list::step_at;
+use crate::place_table::PlaceTable;
 use crate::state::{GlobalState, Revision, Revisions};
 use rev_num::Path;
 use std::alloc::{AllocError, Global};
@@ -39,25 +41,36 @@ pub fn step<L: Language>(
     ensures answers { IfOk result (λ r. Answers (L.rules language.now) path.now state r) }
     ensures reached { IfOk result (λ r. IsWithin (L.rules language.now) (global_of r.0)) }
 {
-    let mut list = match state {
+    let Revisions {
+        mut list,
+        mut places,
+    } = match state {
         GlobalState::Twice => return Ok((GlobalState::Twice, StepOutcome::Twice)),
-        GlobalState::Live(live) => live.list,
+        GlobalState::Live(live) => live,
     };
-    let i = match find(list.as_slice(), path) {
+    let i = match places.find(path) {
         Some(i) => i,
-        None => return Ok((GlobalState::Live(Revisions { list }), StepOutcome::NoSuch)),
+        None => return Ok((
+            GlobalState::Live(Revisions { list, places }),
+            StepOutcome::NoSuch,
+        )),
     };
-    let outcome = step_at(language, alloc, &mut list, i)?;
-    Ok((state_after(list, &outcome), outcome))
+    let outcome = step_at(language, alloc, &mut list, &mut places, i)?;
+    Ok((state_after(list, places, &outcome), outcome))
 }
 
-fn state_after<R: Drop>(list: Vec<Revision<R>>, outcome: &StepOutcome) -> GlobalState<R>
-    requires { IsDistinct (paths list.items) }
+fn state_after<R: Drop>(
+    list: Vec<Revision<R>>,
+    places: PlaceTable,
+    outcome: &StepOutcome,
+) -> GlobalState<R>
+    requires distinct { IsDistinct (paths list.items) }
+    requires indexed { IsIndexed places.map (paths list.items) }
     ensures { global_of result ≡ global_after outcome.now list.items }
 {
     match outcome {
         StepOutcome::Twice => GlobalState::Twice,
         StepOutcome::Moved | StepOutcome::Waits { .. } | StepOutcome::Ended | StepOutcome::NoSuch =>
-            { GlobalState::Live(Revisions { list }) }
+            { GlobalState::Live(Revisions { list, places }) }
     }
 }

@@ -1,8 +1,12 @@
 //! The states of a run: the revisions with their paths, local states and marks, or Twice.
 
+ghost use Rattle.std.specs.Prelude.{◌≡◌, None, MatchOption};
 ghost use Rattle.revision_machine.specs.Laws.{IsDistinct};
-ghost use Rattle.revision_machine.specs.RevisionList.{paths, distinct_prop};
+ghost use Rattle.revision_machine.specs.ListStep.{IsAt};
+ghost use Rattle.revision_machine.specs.PathIndex.{IsIndexed, indexed_prop};
+ghost use Rattle.revision_machine.specs.RevisionList.{globe, paths, distinct_prop};
 
+use crate::place_table::PlaceTable;
 use rev_num::Path;
 
 /// A revision: its path, its local state, and whether it is marked Joined.
@@ -13,11 +17,23 @@ pub struct Revision<R> {
     pub joined: bool,
 }
 
-/// The revisions of a state, in the order of their forks. No two have the same path.
+/// The revisions of a state, in the order of their forks, and the places of their paths. No two have the same path.
 #[derive(Drop)]
 pub struct Revisions<R> {
     pub list: Vec<Revision<R>>,
+    pub(crate) places: PlaceTable,
     ghost distinct: { IsDistinct (paths list.items) } by { distinct_prop (paths list.items) },
+    ghost indexed: { IsIndexed places.map (paths list.items) } by { indexed_prop places.map (paths list.items) },
+}
+
+impl<R> Revisions<R> {
+    /// The place of the revision with this path.
+    pub fn find(&self, path: &Path) -> Option<usize>
+        ensures { MatchOption result (globe self.now.list.items path.now ≡ None)
+            (λ i. IsAt self.now.list.items i path.now) }
+    {
+        self.places.find(path)
+    }
 }
 
 /// A global state.

@@ -8,6 +8,7 @@ ghost use Rattle.revision_machine.specs.TwoOrders.{IsDiamond, StepsTo, StaysWith
 
 use crate::language::Language;
 use crate::one_step::{StepOutcome, step};
+use crate::place_table::places_of;
 use crate::state::{GlobalState, Revision, Revisions};
 use rev_num::Path;
 use std::alloc::{AllocError, Global};
@@ -39,8 +40,9 @@ pub fn copy_state<L: Language>(
         GlobalState::Twice => return Ok(GlobalState::Twice),
         GlobalState::Live(revisions) => revisions,
     };
-    let revisions = copy_revisions(language, alloc, revisions.list.as_slice())?;
-    Ok(GlobalState::Live(Revisions { list: revisions }))
+    let list = copy_revisions(language, alloc, revisions.list.as_slice())?;
+    let places = places_of(alloc, list.as_slice())?;
+    Ok(GlobalState::Live(Revisions { list, places }))
 }
 
 fn copy_revisions<L: Language>(

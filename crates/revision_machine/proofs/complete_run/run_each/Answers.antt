@@ -22,6 +22,7 @@ loop-place-preserved g c =
     let goes = kept M (CannotStep M old c.loop-place.place) old new p c.in-Moved.is c.in_ok-progress.ensures.progress in
     record {
       distinct = c.in_ok-progress.ensures.distinct;
+      indexed = c.in_ok-progress.ensures.indexed;
       reached = goes_on M (g.L.Language.rules c.args.language.now).holds (g.L.Language.rules c.args.language.now).weight (g.L.Language.rules c.args.language.now).limit (g.met.L.Language.keeps c.args.language.now).counts (g.met.L.Language.keeps c.args.language.now).handles (g.met.L.Language.keeps c.args.language.now).spends goes.0 (Live (globe old)) (Live (globe new)) c.loop-place.invariant.reached goes.1;
       longer = (let a = c.loop-place.invariant.longer in let b = c.in_ok-progress.ensures.longer in omega arith);
       so_far = subst (λ b. PassSoFar M b c.args.list.now.items new (c.loop-place.place + 1)) (sym c.has_moved-moved.ensures) (pass_on M c.loop-place.moved p c.args.list.now.items old new c.loop-place.place c.in-Moved.is c.loop-place.invariant.so_far c.in_ok-progress.ensures.progress);

@@ -28,6 +28,7 @@ loop-place-preserved g c =
     let goes = kept M (CannotStep M old c.in-Some.place) old new c.in_ok-try_step.field-0 c.in-Moved.is c.in_ok-try_step.ensures.progress in
     record {
       distinct = c.in_ok-try_step.ensures.distinct;
+      indexed = c.in_ok-try_step.ensures.indexed;
       reached = reached_by M (g.L.Language.rules c.args.language.now).holds (g.L.Language.rules c.args.language.now).weight (g.L.Language.rules c.args.language.now).limit (g.met.L.Language.keeps c.args.language.now).counts (g.met.L.Language.keeps c.args.language.now).handles (g.met.L.Language.keeps c.args.language.now).spends goes.0 (Live (globe old)) (Live (globe new)) c.loop-place.invariant.reached goes.1;
       todo = c.in_ok-try_step.ensures.todo;
       goes = goes_on M 0 0 0 c.args.list.now.items old new c.loop-place.invariant.goes goes (omega arith);

@@ -1,11 +1,15 @@
-use Rattle.std.proofs.Common.{◌≡◌, ◌+◌, get_or, sym, ap, ◌∙◌, subst, refl, Some}
+use Rattle.std.proofs.Common.{◌≡◌, ◌+◌, length, set, get_or, sym, ap, ◌∙◌, subst, refl, Some, arith, length-set}
 use Rattle.rev_num.specs.Path.{child}
 use Rattle.revision_machine.specs.Machine.{Live, step}
 use Rattle.revision_machine.specs.Laws.{IsDistinct}
 use Rattle.revision_machine.specs.declared.state.Revision.{Revision}
 use Rattle.revision_machine.specs.Rules.{machine_of, event_of, IsStill}
+use Rattle.revision_machine.specs.PathIndex.{IsIndexed}
+use Rattle.revision_machine.specs.ListStep.{with_state}
 use Rattle.revision_machine.specs.RevisionList.{globe, paths}
 use Rattle.revision_machine.specs.StepOutcomes.{IsReached}
+use Rattle.revision_machine.proofs.RevisionList.{paths-set}
+use Rattle.revision_machine.proofs.PathIndex.{indexed_forked}
 use Rattle.revision_machine.proofs.Steps.{same_read}
 use Rattle.revision_machine.proofs.Places.{over_marked_at, over_ended_at, moved_at, room_at, forks_at, forks_distinct, distinct_at, unchanged}
 use Rattle.revision_machine.proofs.list.step_at.Goals as goal
@@ -82,3 +86,31 @@ returns-in_ok-push-in-Forked-clause-distinct g c =
     let path = c.in_ok-path-in-Forked.ensures ∙ ap (child x.path) number in
     subst (λ v. IsDistinct (paths v)) (sym c.in_ok-push-in-Forked.ensures.items)
     (forks_distinct M list c.args.i c.requires.distinct c.requires.within x r plain (g.L.Language.rules c.args.language.now).holds (g.L.Language.rules c.args.language.now).weight (g.L.Language.rules c.args.language.now).limit (g.met.L.Language.keeps c.args.language.now).counts (g.met.L.Language.keeps c.args.language.now).handles (g.met.L.Language.keeps c.args.language.now).spends c.requires.reached c.advance.new.state c.in-Forked.state _ path)
+
+pub returns-in-Moved-clause-indexed : goal.returns-in-Moved-clause-indexed
+returns-in-Moved-clause-indexed g c =
+    let x = c.index_mut-revision.result.now in
+    let r = c.index_mut-revision.ensures.value in
+    subst (IsIndexed c.args.places.now.map) (sym (paths-set c.args.list.now.items c.args.i x (with_state x c.advance.new.state) c.requires.within (ap (λ v. v.path) r))) c.requires.indexed
+
+pub returns-in-Ended-clause-indexed : goal.returns-in-Ended-clause-indexed
+returns-in-Ended-clause-indexed g c =
+    let x = c.index_mut-revision.result.now in
+    let r = c.index_mut-revision.ensures.value in
+    subst (IsIndexed c.args.places.now.map) (sym (paths-set c.args.list.now.items c.args.i x (with_state x c.advance.new.state) c.requires.within (ap (λ v. v.path) r))) c.requires.indexed
+
+pub join_at-requires-clause-indexed : goal.join_at-requires-clause-indexed
+join_at-requires-clause-indexed g c =
+    let x = c.index_mut-revision.result.now in
+    let r = c.index_mut-revision.ensures.value in
+    subst (IsIndexed c.args.places.now.map) (sym (paths-set c.args.list.now.items c.args.i x (with_state x c.advance.new.state) c.requires.within (ap (λ v. v.path) r))) c.requires.indexed
+
+pub returns-in_ok-push-in-Forked-clause-indexed : goal.returns-in_ok-push-in-Forked-clause-indexed
+returns-in_ok-push-in-Forked-clause-indexed g c =
+    let list = c.args.list.now.items in
+    let x = c.index_mut-revision.result.now in
+    let set_is = paths-set list c.args.i x (with_state x c.advance.new.state) c.requires.within (ap (λ v. v.path) c.index_mut-revision.ensures.value) in
+    let place : c.len.result ≡ length (set list c.args.i (with_state x c.advance.new.state)) =
+    (let kept = length-set list c.args.i (with_state x c.advance.new.state) in let n = c.args.list.now.ok.0 in let e = c.len.ensures in omega arith) in
+    subst (λ v. IsIndexed c.enter.new.self.map (paths v)) (sym c.in_ok-push-in-Forked.ensures.items)
+    (indexed_forked c.args.places.now.map c.enter.new.self.map list (set list c.args.i (with_state x c.advance.new.state)) _ _ c.len.result set_is refl place c.requires.indexed c.in_ok-enter-in-Forked.ensures.ok)

@@ -1,0 +1,11 @@
+use Rattle.std.proofs.Common.{arith}
+use Rattle.calculus_rules.specs.Meets.{keeps, is_first, is_small}
+use Rattle.calculus_rules.proofs.laws.rule_laws.Goals as goal
+
+pub returns : goal.returns
+returns c = record {
+  keeps = keeps;
+  first = is_first;
+  small = is_small;
+  both = λ s l m room. omega arith;
+}

@@ -1,0 +1,10 @@
+use Rattle.std.proofs.Common.{◌++◌}
+use Rattle.revision_calculus.specs.Outcome.{show_cells}
+use Rattle.plain_runner.proofs.Showing.{cells_more}
+use Rattle.plain_runner.proofs.values.show_array.Goals as goal
+
+pub loop-cell-preserved : goal.loop-cell-preserved
+loop-cell-preserved c =
+    cells_more c.args.name.now c.args.locations.now c.args.row.base c.args.row.cells c.loop-cell.cell
+    (c.args.shown.now.items ++ show_cells c.args.name.now c.args.locations.now c.args.row.base 0 c.args.row.cells)
+    c.loop-cell.shown.items c.push.new.self.items c.in_ok-value.value c.loop-cell-test.true c.in_ok-value.ensures c.in_ok-push.ensures.items c.loop-cell.invariant
