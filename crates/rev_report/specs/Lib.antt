@@ -5,3 +5,4 @@ pub mod Faults
 pub mod Limits
 pub mod Messages
 pub mod Outcome
+pub mod Modes

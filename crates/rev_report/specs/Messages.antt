@@ -25,7 +25,6 @@ message refusals.ReadFault = codes "error: read fault"
 message refusals.TooLong = codes "error: source too long"
 message (refusals.Text place fault) = at_place place (name_of_fault fault)
 message (refusals.OverLimit place limit which) = at_place place (more_than limit which)
-message refusals.NotBuilt = codes "error: not built yet"
 
 abbrev pub status_of : Refusal → ℕ
 status_of refusals.Usage = usage_status
@@ -33,7 +32,6 @@ status_of refusals.ReadFault = read_fault_status
 status_of refusals.TooLong = refused_status
 status_of (refusals.Text place fault) = refused_status
 status_of (refusals.OverLimit place limit which) = refused_status
-status_of refusals.NotBuilt = refused_status
 
 -- the message and a line feed on standard error
 abbrev pub refused : Refusal → Output

@@ -1,13 +1,13 @@
 //! What a call of the program writes, and the status with which it ends.
 //!
 //! A report is what standard output and standard error get, and a status. There is one for each
-//! outcome of a run, which has what `main` printed and the message of its trap, and one for each
-//! refusal, which has its message alone.
+//! outcome of a run, which has what `main` printed and the message of its trap, one for each refusal,
+//! which has its message alone, and one for a text that keeps all rules.
 #![tactic(auto)]
 
 mod fault;
 mod limit;
-mod lines;
+mod modes;
 mod outcome;
 mod refusal;
 mod report;
@@ -15,10 +15,10 @@ pub mod status;
 
 pub use fault::{Place, TextFault};
 pub use limit::Limit;
-pub use lines::append_line;
+pub use modes::{accepted_report, summary_report};
 pub use outcome::outcome_bytes;
 pub use refusal::{Refusal, no_memory_message, refusal_bytes};
-pub use report::{Report, printed_report};
+pub use report::Report;
 
 #[cfg(test)]
 mod tests {
@@ -26,17 +26,7 @@ mod tests {
     use std::test::Fail;
 
     #[test]
-    fn reports(rt: HostRuntime) -> Result<(), Fail> {
-        let lists = vec![in rt.alloc();
-            vec![in rt.alloc(); 7]?,
-            vec![in rt.alloc(); 0, -1, 9223372036854775807, -9223372036854775808]?,
-        ]?;
-        let report = printed_report(rt.alloc(), lists.as_slice())?;
-        let want = "7\n0 -1 9223372036854775807 -9223372036854775808\n";
-        assert!(rt; report.out.as_slice() == want.as_bytes());
-        assert!(rt; report.err.is_empty());
-        assert!(rt; report.status == 0);
-
+    fn refusals(rt: HostRuntime) -> Result<(), Fail> {
         let wants = [
             (
                 Refusal::Usage,
@@ -45,7 +35,6 @@ mod tests {
             ),
             (Refusal::ReadFault, "error: read fault\n", 5),
             (Refusal::TooLong, "error: source too long\n", 2),
-            (Refusal::NotBuilt, "error: not built yet\n", 2),
         ];
         for (refusal, message, status) in wants {
             let report = refusal_bytes(rt.alloc(), &refusal)?;

@@ -30,8 +30,6 @@ pub enum Refusal {
         limit: u32,
         which: Limit,
     },
-    /// The text is a program that does not run yet.
-    NotBuilt,
 }
 
 /// What is said of a place of a text.
@@ -64,7 +62,6 @@ fn message(alloc: Global, refusal: &Refusal) -> Result<String, AllocError>
             limit,
             which,
         } => located(alloc, *place, more_than(alloc, *limit, *which)?.as_str()),
-        Refusal::NotBuilt => String::from_str(alloc, "error: not built yet"),
     }
 }
 
@@ -81,7 +78,6 @@ fn status_of(refusal: &Refusal) -> u8
             limit: _,
             which: _,
         } => status::REFUSED,
-        Refusal::NotBuilt => status::REFUSED,
     }
 }
 

@@ -155,7 +155,6 @@ IsOfText (refusals.OverLimit place limit w) = Unit {0}
 IsOfText refusals.Usage = ⊥
 IsOfText refusals.ReadFault = ⊥
 IsOfText refusals.TooLong = ⊥
-IsOfText refusals.NotBuilt = ⊥
 
 pub status_of_text : (r : Refusal) → IsOfText r → status_of r ≡ 2
 status_of_text (refusals.Text place f) is = refl
@@ -163,7 +162,6 @@ status_of_text (refusals.OverLimit place limit w) is = refl
 status_of_text refusals.Usage is = absurd is
 status_of_text refusals.ReadFault is = absurd is
 status_of_text refusals.TooLong is = absurd is
-status_of_text refusals.NotBuilt is = absurd is
 
 same_refusal : (r s : Refusal) → IsOfText r → Some r ≡ Some s → IsOfText s
 same_refusal r s is same = let e : r ≡ s = cc in subst (λ (x : Refusal). IsOfText x) e is

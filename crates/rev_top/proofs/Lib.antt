@@ -1,7 +1,9 @@
-pub mod Causes
+pub mod Answering
 pub mod Faults
 pub mod Findings
 pub mod Kept
-pub mod Prints
+pub mod OneAnswers
+pub mod Real
 pub mod Stages
 pub mod Steps
+pub mod WhyStatus

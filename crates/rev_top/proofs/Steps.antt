@@ -1,11 +1,16 @@
 -- From the facts of a stage to those of the call.
-use Rattle.std.proofs.Common.{ℕ, subst}
-use Rattle.std.specs.Prelude.{Option}
+use Rattle.std.proofs.Common.{ℕ, List, [], subst, refl, arith}
+use Rattle.std.specs.Prelude.{Option, Some, None}
 use Rattle.rev_io.specs.Stream.{Stream}
 use Rattle.rev_words.specs.declared.Words.{Words}
 use Rattle.rev_report.specs.Report.{Output}
-use Rattle.rev_top.specs.Answer.{IsReport}
+use Rattle.rev_top.specs.Answer.{IsReport, Takes}
 use Rattle.rev_top.specs.Delivery.{Delivered, Happened, answered}
+
+-- what leaves its source as it was took nothing
+pub takes_nothing : (r : Option ℕ) (s : Stream) → Takes r s s
+takes_nothing None s = refl
+takes_nothing (Some limit) s = ([], omega arith, λ all told. (all, told, refl))
 
 -- what was written of a report was written of its answer
 pub happens : (w : Option Words) (source source' out out' err err' : Stream) (status : ℕ) (o : Output)

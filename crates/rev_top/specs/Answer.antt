@@ -1,65 +1,107 @@
--- What a call answers, by the words and by what the source gave.
-use Rattle.std.specs.Prelude.{ℕ, ℤ, List, ◌≡◌, ◌≤◌, ◌<◌, ◌⊎◌, ◌+◌, length, Option, Some, None, Result, Ok, Err}
+-- What a call answers, by its words and by the bytes that it reads.
+--
+-- `reads` is how much of the source a call reads. `SaysAs` is what each mode says of what it read,
+-- stage after stage: the text, then the run. `Says` is the answer to words and bytes: usage, then the
+-- length, then the mode; `Answers` is the same of a source, which may fail.
+use Rattle.std.specs.Prelude.{ℕ, List, [], ◌≡◌, ◌≤◌, ◌<◌, ◌⊎◌, ◌+◌, length, Option, Some, None, Result, Ok, Err}
 use Rattle.rev_io.specs.Stream.{Stream, Gave, GaveAtMost, Rose}
+use Rattle.rev_num.specs.declared.outcome.Outcome.{Outcome}
+use Rattle.rev_words.specs.Load.{load_text}
 use Rattle.rev_words.specs.declared.Mode.{Mode}
 use Rattle.rev_words.specs.declared.Mode.TheVariants as modes
 use Rattle.rev_words.specs.declared.Words.{Words}
-use Rattle.rev_report.specs.Lines.{lines}
-use Rattle.rev_report.specs.Report.{Output, done}
+use Rattle.rev_report.specs.Report.{Output}
+use Rattle.rev_report.specs.Outcome.{report}
+use Rattle.rev_report.specs.Modes.{accepted, summary}
 use Rattle.rev_report.specs.Messages.{shown}
 use Rattle.rev_report.specs.declared.refusal.Refusal.{Refusal}
 use Rattle.rev_report.specs.declared.refusal.Refusal.TheVariants as refusals
 use Rattle.rev_syntax.specs.Trees.{ProgramTree}
 use Rattle.rev_parse.specs.SmallTree.{most_bytes}
+use Rattle.revision_calculus.specs.Program.{Setting}
+use Rattle.revision_calculus.specs.Complete.{HasOutcome}
 use Rattle.rev_top.specs.Stages.{Then}
 use Rattle.rev_top.specs.Texts.{Checks}
-use Rattle.rev_top.specs.Prints.{Prints}
 
 abbrev pub Answer : Type 0
 Answer = Result Output Refusal
+
+-- ---- what a call reads
 
 -- the most bytes that a text may have
 abbrev pub source_limit : ℕ
 source_limit = most_bytes
 
--- ---- one relation for each mode: this answer belongs to this text
+-- the whole source, which may have so many bytes, or none of it
+abbrev pub reads_of : Mode → Option ℕ
+reads_of modes.Run = Some source_limit
+reads_of modes.Check = Some source_limit
+reads_of modes.Load = None
 
--- the lines that the program prints; a program that does more is not built yet
-abbrev pub RunsProgram : ProgramTree → Answer → Type 0
-RunsProgram p (Ok o) = (lists : List (List ℤ)) × Prints p lists × (o ≡ done (lines lists))
-RunsProgram p (Err f) = (f ≡ refusals.NotBuilt) × ((lists : List (List ℤ)) → Prints p lists → ⊥)
+-- words without a reading read nothing
+abbrev pub reads : Option Words → Option ℕ
+reads None = None
+reads (Some w) = reads_of w.mode
 
-unfoldable pub Runs : List ℕ → Answer → Type 0
-Runs text = Then (Checks text) RunsProgram
+-- ---- what a mode says
 
--- ---- the order of the refusals: words, read fault, length, text
+-- what a run of the program is given
+abbrev pub setting : Words → ProgramTree → Setting
+setting w p = record { program = p; inputs = w.numbers; share = w.share }
 
--- what the source gave up to its end, or why that is no text
-abbrev pub Given : ℕ → Stream → Stream → Result (List ℕ) Refusal → Type 0
-Given limit old new (Ok text) = Gave old text new × (length text ≤ limit)
+-- what is written of the outcome that every complete run of the program has
+abbrev pub RunsTo : Words → (Outcome → Output) → ProgramTree → Answer → Type 0
+RunsTo w write p a = (o : Outcome) × HasOutcome (setting w p) w.fuel o × (a ≡ Ok (write o))
+
+-- the program keeps all rules, and no more is asked
+abbrev pub Accepts : ProgramTree → Answer → Type 0
+Accepts p a = a ≡ Ok accepted
+
+-- what each mode says of the bytes that it read: of its text, and then of the run
+unfoldable pub SaysAs : Mode → Words → List ℕ → Answer → Type 0
+SaysAs modes.Run w text = Then (Checks text) (RunsTo w (report w.values))
+SaysAs modes.Check w text = Then (Checks text) Accepts
+SaysAs modes.Load w nothing =
+    Then (Checks (load_text w.seed w.size)) (RunsTo w (summary w.seed w.size))
+
+-- ---- the order of the refusals: words, read fault, length, and what the mode says
+
+-- what is read of all bytes of a source that does not fail: all of them, if they are not too many
+abbrev pub Fits : Option ℕ → List ℕ → Result (List ℕ) Refusal → Type 0
+Fits None all found = found ≡ Ok []
+Fits (Some limit) all (Ok text) = (text ≡ all) × (length all ≤ limit)
+Fits (Some limit) all (Err f) = (f ≡ refusals.TooLong) × (limit < length all)
+
+-- the answer to these words and to all bytes of a source that does not fail
+abbrev pub Says : Option Words → List ℕ → Answer → Type 0
+Says None all a = a ≡ Err refusals.Usage
+Says (Some w) all a = Then (Fits (reads_of w.mode) all) (SaysAs w.mode w) a
+
+-- what is read of a source: what it gave up to its end, or why that is nothing to go on with
+abbrev pub Given : Option ℕ → Stream → Stream → Result (List ℕ) Refusal → Type 0
+Given None old new found = (found ≡ Ok []) × (new ≡ old)
+Given (Some limit) old new (Ok text) = Gave old text new × (length text ≤ limit)
     × ((all : List ℕ) → old.told ≡ Some all → all ≡ text)
-Given limit old new (Err f) = ((f ≡ refusals.TooLong) × (new.faults ≡ old.faults)
+Given (Some limit) old new (Err f) = ((f ≡ refusals.TooLong) × (new.faults ≡ old.faults)
     × ((all : List ℕ) → old.told ≡ Some all → limit < length all))
     ⊎ ((f ≡ refusals.ReadFault) × Rose old new)
-
--- the source was read to its end, and the answer belongs to what it gave
-abbrev pub FromSource : ℕ → (List ℕ → Answer → Type 0) → Stream → Stream → Answer → Type 0
-FromSource limit Says old new = Then (Given limit old new) Says
-
-abbrev pub AnswersAs : Mode → Stream → Stream → Answer → Type 0
-AnswersAs modes.Run old new a = FromSource source_limit Runs old new a
 
 -- this answer belongs to these words and to what the source gave
 abbrev pub Answers : Option Words → Stream → Stream → Answer → Type 0
 Answers None old new a = (a ≡ Err refusals.Usage) × (new ≡ old)
-Answers (Some w) old new a = AnswersAs w.mode old new a
+Answers (Some w) old new a = Then (Given (reads_of w.mode) old new) (SaysAs w.mode w) a
 
 -- the output is what is shown of an answer that belongs there
 abbrev pub IsReport : Option Words → Stream → Stream → Output → Type 0
 IsReport words old new o = (a : Answer) × Answers words old new a × (o ≡ shown a)
 
--- what any call does to its source: nothing where the words have no reading, and never does it take
--- more than one byte past the limit
-pub record Touches (words : Option Words) (old new : Stream) : Type 0 where
-  pub unread : words ≡ None → new ≡ old
-  pub most : GaveAtMost (source_limit + 1) old new
+-- what any call takes of its source: nothing where it does not read it, and never more than one byte
+-- past the limit
+abbrev pub Takes : Option ℕ → Stream → Stream → Type 0
+Takes None old new = new ≡ old
+Takes (Some limit) old new = GaveAtMost (limit + 1) old new
+
+-- so many bytes are not too many
+abbrev pub IsWithin : Option ℕ → ℕ → Type 0
+IsWithin None n = Unit {0}
+IsWithin (Some limit) n = n ≤ limit

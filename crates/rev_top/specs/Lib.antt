@@ -1,8 +1,8 @@
 pub mod Answer
 pub mod Delivery
 pub mod Findings
-pub mod Prints
 pub mod Promises
 pub mod Stages
+pub mod Statuses
 pub mod Stops
 pub mod Texts

@@ -1,80 +1,174 @@
 //! The report that belongs to the words and to what the source gives.
-ghost use Rattle.std.specs.Prelude.{◌<◌, ◌≤◌, ◌^◌, ◌+◌, ◌≡◌, IfOk, length, map};
+ghost use Rattle.std.specs.Prelude.{ℕ, List, ◌<◌, ◌≤◌, ◌^◌, ◌≡◌, IfOk, IfSome, length, map};
 ghost use Rattle.std.specs.String.{string_bytes};
-ghost use Rattle.rev_io.specs.Stream.{GaveAtMost};
 ghost use Rattle.rev_syntax.specs.View.{program as whole};
 ghost use Rattle.rev_words.specs.Reading.{reading};
+ghost use Rattle.rev_words.specs.Load as spec;
 ghost use Rattle.rev_report.specs.Report.{output};
-ghost use Rattle.rev_top.specs.Answer.{Answers, AnswersAs, FromSource, Given, IsReport, Runs, RunsProgram, Touches, source_limit};
+ghost use Rattle.rev_report.specs.Outcome.{report};
+ghost use Rattle.rev_report.specs.Modes.{summary};
+ghost use Rattle.revision_calculus.specs.Complete.{HasOutcome};
+ghost use Rattle.rev_top.specs.Answer.{Accepts, Answers, Given, IsReport, IsWithin, RunsTo, SaysAs, Takes, reads, reads_of, setting, source_limit};
 ghost use Rattle.rev_top.specs.Stops.{Meets};
+ghost use Rattle.rev_top.specs.Texts.{Checks};
 
-use crate::print::printed_lists;
 use crate::stop::Stop;
 use crate::text::checked;
+use plain_runner::run_plain;
 use rev_io::{Source, read_text};
-use rev_report::{Refusal, Report, printed_report, refusal_bytes};
-use rev_syntax::Program;
-use rev_words::{Mode, read_words};
+use rev_num::Outcome;
+use rev_report::{Report, accepted_report, outcome_bytes, refusal_bytes, summary_report};
+use rev_types::Typed;
+use rev_words::{Mode, Words, load_text, read_words};
 use std::alloc::{AllocError, Global};
 
 /// The most bytes that the text of a program may have.
 const SOURCE_LIMIT: usize = 1_048_576;
 
-/// The report of a program that only prints numbers.
-fn run_program(alloc: Global, program: &Program) -> Result<Report, Stop>
-    ensures { Meets output result (RunsProgram (whole program.now)) }
+/// The outcome of the program with the input numbers, the share and the fuel of the words.
+fn outcome_of(alloc: Global, words: &Words, typed: &Typed) -> Result<Outcome, AllocError>
+    requires { words.now.fuel ≤ 4000000000 }
+    ensures { IfOk result (λ o. HasOutcome
+        (setting words.now (whole typed.now.expanded.program)) words.now.fuel o) }
 {
-    match printed_lists(alloc, program)? {
-        Some(lists) => Ok(printed_report(alloc, lists.as_slice())?),
-        None => Err(Stop::Refused(Refusal::NotBuilt)),
+    run_plain(
+        alloc,
+        typed,
+        words.numbers.as_slice(),
+        words.share,
+        words.fuel,
+    )
+}
+
+/// The report of a run, with the values of `main` where they are asked for.
+fn run_program(alloc: Global, words: &Words, typed: &Typed) -> Result<Report, Stop>
+    requires { words.now.fuel ≤ 4000000000 }
+    ensures { Meets output result
+        (RunsTo words.now (report words.now.values) (whole typed.now.expanded.program)) }
+{
+    let outcome = outcome_of(alloc, words, typed)?;
+    Ok(outcome_bytes(alloc, &outcome, words.values)?)
+}
+
+/// The report of a run behind the line that names seed and size.
+fn load_program(alloc: Global, words: &Words, typed: &Typed) -> Result<Report, Stop>
+    requires { words.now.fuel ≤ 4000000000 }
+    ensures { Meets output result (RunsTo words.now
+        (summary words.now.seed words.now.size) (whole typed.now.expanded.program)) }
+{
+    let outcome = outcome_of(alloc, words, typed)?;
+    Ok(summary_report(alloc, words.seed, words.size, &outcome)?)
+}
+
+/// The report of a program that keeps all rules.
+fn accept(alloc: Global, typed: &Typed) -> Result<Report, Stop>
+    ensures { Meets output result (Accepts (whole typed.now.expanded.program)) }
+{
+    Ok(accepted_report(alloc)?)
+}
+
+fn run(alloc: Global, words: &Words, text: &[u8]) -> Result<Report, Stop>
+    requires limit { length text.now ≤ source_limit }
+    requires fuel { words.now.fuel ≤ 4000000000 }
+    ensures { Meets output result (SaysAs Mode.Run words.now text.now) }
+{
+    let typed = checked(alloc, text)?;
+    run_program(alloc, words, &typed)
+}
+
+fn check(alloc: Global, words: &Words, text: &[u8]) -> Result<Report, Stop>
+    requires { length text.now ≤ source_limit }
+    ensures { Meets output result (SaysAs Mode.Check words.now text.now) }
+{
+    let typed = checked(alloc, text)?;
+    accept(alloc, &typed)
+}
+
+/// The program that `load` makes.
+fn loaded(alloc: Global, words: &Words) -> Result<Typed, Stop>
+    ensures { Meets (λ t. whole t.expanded.program) result
+        (Checks (spec.load_text words.now.seed words.now.size)) }
+{
+    let text = load_text(alloc, words.seed, words.size)?;
+    checked(alloc, text.as_slice())
+}
+
+fn load(alloc: Global, words: &Words) -> Result<Report, Stop>
+    requires { words.now.fuel ≤ 4000000000 }
+    ensures { (read : List ℕ) → Meets output result (SaysAs Mode.Load words.now read) }
+{
+    let typed = loaded(alloc, words)?;
+    load_program(alloc, words, &typed)
+}
+
+/// What the mode says of the bytes that it read.
+fn say(alloc: Global, words: &Words, bytes: &[u8]) -> Result<Report, Stop>
+    requires limit { IsWithin (reads_of words.now.mode) (length bytes.now) }
+    requires fuel { words.now.fuel ≤ 4000000000 }
+    ensures { Meets output result (SaysAs words.now.mode words.now bytes.now) }
+{
+    match words.mode {
+        Mode::Run => run(alloc, words, bytes),
+        Mode::Check => check(alloc, words, bytes),
+        Mode::Load => load(alloc, words),
     }
 }
 
-fn run_text(alloc: Global, text: &[u8]) -> Result<Report, Stop>
-    requires { length text.now ≤ source_limit }
-    ensures { Meets output result (Runs text.now) }
+/// The most bytes that the source may have, where the mode reads it.
+fn limit_of(mode: Mode) -> Option<usize>
+    ensures limit { result ≡ reads_of mode }
+    ensures small { IfSome result (λ n. n < 2 ^ 32) }
 {
-    let typed = checked(alloc, text)?;
-    run_program(alloc, &typed.expanded.program)
+    match mode {
+        Mode::Run => Some(SOURCE_LIMIT),
+        Mode::Check => Some(SOURCE_LIMIT),
+        Mode::Load => None,
+    }
 }
 
 /// All bytes up to the end of the source.
-fn whole_text<S: Source>(alloc: Global, source: &mut S, limit: usize) -> Result<Vec<u8>, Stop>
+fn whole_source<S: Source>(alloc: Global, source: &mut S, limit: usize) -> Result<Vec<u8>, Stop>
     requires { limit < 2 ^ 32 }
     ensures meets { Meets (λ v. v.items) result
-        (Given limit (S.stream source.old) (S.stream source.new)) }
-    ensures most { GaveAtMost (limit + 1) (S.stream source.old) (S.stream source.new) }
+        (Given (Some limit) (S.stream source.old) (S.stream source.new)) }
+    ensures takes { Takes (Some limit) (S.stream source.old) (S.stream source.new) }
+    ensures within { IfOk result (λ v. length v.items ≤ limit) }
 {
     Ok(read_text(alloc, source, limit)?)
 }
 
-fn run<S: Source>(alloc: Global, source: &mut S) -> Result<Report, Stop>
-    ensures meets { Meets output result
-        (FromSource source_limit Runs (S.stream source.old) (S.stream source.new)) }
-    ensures most { GaveAtMost (source_limit + 1) (S.stream source.old) (S.stream source.new) }
+/// What the mode reads of the source.
+fn read_source<S: Source>(alloc: Global, mode: Mode, source: &mut S) -> Result<Vec<u8>, Stop>
+    ensures meets { Meets (λ v. v.items) result
+        (Given (reads_of mode) (S.stream source.old) (S.stream source.new)) }
+    ensures takes { Takes (reads_of mode) (S.stream source.old) (S.stream source.new) }
+    ensures within { IfOk result (λ v. IsWithin (reads_of mode) (length v.items)) }
 {
-    let text = whole_text(alloc, source, SOURCE_LIMIT)?;
-    run_text(alloc, text.as_slice())
+    match limit_of(mode) {
+        Some(limit) => whole_source(alloc, source, limit),
+        None => Ok(Vec::new(alloc)),
+    }
 }
 
-fn answer_as<S: Source>(alloc: Global, mode: Mode, source: &mut S) -> Result<Report, Stop>
+/// The answer to words that have a reading.
+fn answer_to<S: Source>(alloc: Global, words: &Words, source: &mut S) -> Result<Report, Stop>
+    requires { words.now.fuel ≤ 4000000000 }
     ensures meets { Meets output result
-        (AnswersAs mode (S.stream source.old) (S.stream source.new)) }
-    ensures most { GaveAtMost (source_limit + 1) (S.stream source.old) (S.stream source.new) }
+        (Answers (Some words.now) (S.stream source.old) (S.stream source.new)) }
+    ensures takes { Takes (reads_of words.now.mode) (S.stream source.old) (S.stream source.new) }
 {
-    match mode {
-        Mode::Run => run(alloc, source),
-    }
+    let bytes = read_source(alloc, words.mode, source)?;
+    say(alloc, words, bytes.as_slice())
 }
 
 fn answer<S: Source>(alloc: Global, words: &[String], source: &mut S) -> Result<Report, Stop>
     ensures meets { Meets output result (Answers (reading (map string_bytes words.now))
         (S.stream source.old) (S.stream source.new)) }
-    ensures touches { Touches (reading (map string_bytes words.now))
+    ensures takes { Takes (reads (reading (map string_bytes words.now)))
         (S.stream source.old) (S.stream source.new) }
 {
     let words = read_words(alloc, words)?;
-    answer_as(alloc, words.mode, source)
+    answer_to(alloc, &words, source)
 }
 
 /// The report of the call, unless memory runs out.
@@ -85,7 +179,7 @@ pub fn make_report<S: Source>(
 ) -> Result<Report, AllocError>
     ensures report { IfOk result (λ r. IsReport (reading (map string_bytes words.now))
         (S.stream source.old) (S.stream source.new) (output r)) }
-    ensures touches { Touches (reading (map string_bytes words.now))
+    ensures takes { Takes (reads (reading (map string_bytes words.now)))
         (S.stream source.old) (S.stream source.new) }
 {
     match answer(alloc, words, source) {

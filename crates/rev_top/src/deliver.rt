@@ -6,7 +6,7 @@ ghost use Rattle.rev_words.specs.Reading.{reading};
 ghost use Rattle.rev_report.specs.Report.{output};
 ghost use Rattle.rev_report.specs.Messages.{no_memory};
 ghost use Rattle.rev_report.specs.Status.{no_memory_status};
-ghost use Rattle.rev_top.specs.Answer.{Touches};
+ghost use Rattle.rev_top.specs.Answer.{Takes, reads};
 ghost use Rattle.rev_top.specs.Delivery.{Delivered, Happened};
 
 use crate::answer::make_report;
@@ -50,7 +50,7 @@ pub fn happen<S: Source, O: Sink, E: Sink>(
     ensures happened { Happened (reading (map string_bytes words.now))
         (S.stream source.old) (S.stream source.new) (O.stream out.old) (O.stream out.new)
         (E.stream err.old) (E.stream err.new) result }
-    ensures touches { Touches (reading (map string_bytes words.now))
+    ensures takes { Takes (reads (reading (map string_bytes words.now)))
         (S.stream source.old) (S.stream source.new) }
 {
     match make_report(alloc, words, source) {

@@ -1,10 +1,17 @@
 //! Laws of the definitions: functions that do nothing, whose clauses are the laws.
 ghost use Rattle.rev_top.specs.Findings.{FrontEnd};
-ghost use Rattle.rev_top.specs.Promises.{OneAnswer};
+ghost use Rattle.rev_top.specs.Statuses.{OneAnswer, StatusLaw};
 
-/// To the same words and bytes there is one answer at most.
+/// To the same words and bytes there is one answer, and no other.
 pub fn one_answer()
     ensures { OneAnswer }
+{}
+
+/// Why an answer to words with a reading has its status: 1 exactly where `main` trapped, 3 exactly
+/// where a revision was joined twice, and 2 exactly where the source is too long or its text is at
+/// fault, of which the first fault is reported.
+pub fn statuses()
+    ensures { StatusLaw }
 {}
 
 /// A text that is not too long is at fault in its tokens, its syntax, its funs or another static

@@ -9,7 +9,6 @@ ghost use Rattle.rev_top.specs.Promises.{Keeps};
 mod answer;
 mod deliver;
 mod law;
-mod print;
 mod stop;
 #[cfg(test)]
 mod tests;
@@ -17,7 +16,7 @@ mod text;
 
 use deliver::happen;
 pub use deliver::out_of_memory;
-pub use law::{one_answer, one_finding};
+pub use law::{one_answer, one_finding, statuses};
 use rev_io::{Sink, Source};
 
 /// One call of the program, with the words that follow its name. It writes the bytes of the report
@@ -26,7 +25,9 @@ use rev_io::{Sink, Source};
 /// | Status | Meaning |
 /// |---|---|
 /// | 0 | done |
-/// | 2 | the text is too long, is no program that keeps all rules, or is one that does not run yet |
+/// | 1 | `main` trapped |
+/// | 2 | the text is too long, or is no program that keeps all rules |
+/// | 3 | a revision was joined twice |
 /// | 4 | the words have no reading |
 /// | 5 | the source failed |
 /// | 6 | a sink failed |

@@ -1,5 +1,6 @@
 // Whole calls: the words and the source, and then both outputs and the status.
 mod merges;
+mod runs;
 mod texts;
 
 use super::*;
@@ -60,6 +61,8 @@ fn lengths_and_words(rt: HostRuntime) -> Result<(), Fail> {
     let wants = [
         ("run", 1_048_559, seven),
         ("run", 1_048_560, too_long),
+        ("check", 1_048_559, ("ok\n", "", 0)),
+        ("check", 1_048_560, too_long),
         ("run --fuel=7 3 --values -- -4", 0, seven),
         ("run --schedule 0,1 --workers 64", 0, seven),
     ];
@@ -108,7 +111,8 @@ fn read_faults(rt: HostRuntime) -> Result<(), Fail> {
 #[test]
 fn write_faults(rt: HostRuntime) -> Result<(), Fail> {
     let number = "main { print 12345; }";
-    let sum = "main { print 1 + 1; }";
+    let faulty = "main { print y; }";
+    let message = "error: line 1 column 14: unknown name\n";
     let wants = [
         (number, 3, 1, "123", "", 6),
         (number, 1, 0, "", "", 6),
@@ -118,9 +122,9 @@ fn write_faults(rt: HostRuntime) -> Result<(), Fail> {
         (number, 1, 4, "1234", "", 6),
         (number, 1, 5, "12345", "", 6),
         (number, 1, 6, "12345\n", "", 0),
-        (sum, 5, 0, "", "", 6),
-        (sum, 5, 2, "", "error: not", 6),
-        (sum, 5, 5, "", "error: not built yet\n", 2),
+        (faulty, 5, 0, "", "", 6),
+        (faulty, 5, 2, "", "error: lin", 6),
+        (faulty, 5, 8, "", message, 2),
     ];
     let words = words_of(&rt, "run")?;
     for (text, step, call, held_out, held_err, want) in wants {

@@ -1,11 +1,12 @@
 -- What is read keeps its ranges.
 use Rattle.std.proofs.Common.{◌≡◌, subst, ℕ, ◌≤◌, Bool, true, false, List, [], ◌∷◌, length, refl, arith, rules}
 use Rattle.std.specs.Prelude.{ℤ, Option, Some, None, Result, Ok, Err, IfOk, codes, nat_le, ◌&&◌, if◌then◌else◌, option_and_then, option_map, unwrap_or}
-use Rattle.clap.specs.Words.{Row, Text, all_of, first_of}
+use Rattle.clap.specs.Words.{Row, Text, all_of, first_of, matches_of}
 use Rattle.rev_num.specs.Decimal.{decimal_in}
 use Rattle.rev_words.specs.Answer.{Gives}
+use Rattle.rev_words.specs.Command.{command}
 use Rattle.rev_words.specs.Each.{each_said}
-use Rattle.rev_words.specs.Reading.{◌>>=◌, KeepsRanges, few_numbers_in, is_flagged, mode_named, natural_of, said, schedule_said, setting, within}
+use Rattle.rev_words.specs.Reading.{◌>>=◌, KeepsRanges, few_numbers_in, is_flagged, is_taken, mode_named, natural_of, reading, said, schedule_said, setting, within}
 use Rattle.rev_words.specs.Schedule.{schedule_in}
 use Rattle.rev_words.specs.declared.Mode.{Mode}
 use Rattle.rev_words.specs.declared.Words.{Words}
@@ -138,3 +139,11 @@ pub answer_keeps : (rows : List Row) (r : Result Words WordsFault) → Gives (λ
 answer_keeps rows (Ok w) h = said_keeps rows w h
 answer_keeps rows (Err faults.Usage) h = tt
 answer_keeps rows (Err faults.OutOfMemory) h = tt
+
+-- what words say keeps its ranges
+pub reading_keeps : (texts : List Text) (w : Words) → reading texts ≡ Some w → KeepsRanges w
+reading_keeps texts w h = go (is_taken texts) h
+  where
+    go : (b : Bool) → (if b then said (matches_of command texts) else None) ≡ Some w → KeepsRanges w
+    go true is = said_keeps (matches_of command texts) w is
+    go false is = cc

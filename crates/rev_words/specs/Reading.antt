@@ -18,7 +18,11 @@ use Rattle.rev_words.specs.declared.Words.{Words}
 
 -- the modes that are built
 abbrev pub mode_named : Text → Option Mode
-mode_named text = if bytes_eq text (codes "run") then Some modes.Run else None
+mode_named text =
+    if bytes_eq text (codes "run") then Some modes.Run
+    else if bytes_eq text (codes "check") then Some modes.Check
+    else if bytes_eq text (codes "load") then Some modes.Load
+    else None
 
 -- the numbers that the texts spell, if each is a decimal in 64 bits
 abbrev pub numbers_in : List Text → Option (List ℤ)

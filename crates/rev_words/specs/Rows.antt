@@ -34,10 +34,15 @@ pub record RowsAreRead : Type 0 where
   pub schedule : reading (words_in (codes "run --schedule 0,0,1"))
       ≡ Some (record run_alone { schedule = 0 ∷ 0 ∷ 1 ∷ [] })
   pub empty_schedule : reading (words_in (codes "run --schedule=")) ≡ Some run_alone
+  pub check : reading (words_in (codes "check")) ≡ Some (record run_alone { mode = modes.Check })
+  pub load : reading (words_in (codes "load --seed 9 --size 3"))
+      ≡ Some (record run_alone { mode = modes.Load; seed = 9; size = 3 })
 
 pub record RowsAreUsage : Type 0 where
   pub no_words : reading [] ≡ None
   pub other_mode : reading (words_in (codes "walk")) ≡ None
+  pub capital : reading (words_in (codes "Check")) ≡ None
+  pub no_size : reading (words_in (codes "load --size 501")) ≡ None
   pub no_workers : reading (words_in (codes "run --workers 0")) ≡ None
   pub no_number : reading (words_in (codes "run x")) ≡ None
   pub no_value : reading (words_in (codes "run --fuel")) ≡ None

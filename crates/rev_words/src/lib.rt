@@ -27,10 +27,15 @@ use rev_num::Items;
 use settings::{is_flagged, mode_of, setting, small_setting};
 use std::alloc::Global;
 
-/// What a call does: `run` reads the text of a program, runs it and reports its outcome.
+/// What a call does.
 #[derive(Clone, Copy, PartialEq, Eq, Debug)]
 pub enum Mode {
+    /// Reads the text of a program, runs it and reports its outcome.
     Run,
+    /// Reads the text of a program and says whether it keeps all rules.
+    Check,
+    /// Makes the text of a program from a seed and a size, runs it and reports its outcome.
+    Load,
 }
 
 /// What words say.

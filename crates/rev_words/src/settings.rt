@@ -65,6 +65,8 @@ fn mode_named(text: &str) -> Option<Mode>
 {
     match text {
         "run" => Some(Mode::Run),
+        "check" => Some(Mode::Check),
+        "load" => Some(Mode::Load),
         _ => None,
     }
 }

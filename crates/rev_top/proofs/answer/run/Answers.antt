@@ -1,16 +1,20 @@
-use Rattle.std.proofs.Common.{Vec, Global, ℕ, List, subst}
+use Rattle.rev_syntax.specs.View.{program as whole}
+use Rattle.rev_types.specs.declared.typed.Typed.{Typed}
+use Rattle.rev_report.specs.Outcome.{report}
 use Rattle.rev_report.specs.Report.{output}
-use Rattle.rev_top.specs.Answer.{Given, Runs, source_limit}
-use Rattle.rev_top.specs.Stops.{Meets}
+use Rattle.rev_top.specs.Answer.{RunsTo, SaysAs}
+use Rattle.rev_top.specs.Texts.{Checks}
 use Rattle.rev_top.proofs.Stages.{goes_on, leaves}
 use Rattle.rev_top.proofs.answer.run.Goals as goal
 
-pub returns-in_err-text-clause-meets : goal.returns-in_err-text-clause-meets
-returns-in_err-text-clause-meets g c =
-    leaves (Given source_limit _ _) Runs (λ (v : Vec ℕ Global). v.items) output
-    _ c.in_err-text.field-0.0 c.from_residual.ensures.1 c.in_err-text.ensures.meets
+pub returns-in_err-typed : goal.returns-in_err-typed
+unfolding SaysAs
+returns-in_err-typed c =
+    leaves (Checks c.args.text.now) (RunsTo c.args.words.now (report c.args.words.now.values)) (λ (t : Typed). whole t.expanded.program) output
+    _ c.in_err-typed.field-0.0 c.from_residual.ensures.1 c.in_err-typed.ensures
 
-pub returns-clause-meets : goal.returns-clause-meets
-returns-clause-meets g c =
-    goes_on (Given source_limit _ _) Runs output c.in_ok-text.text.items c.run_text.result c.in_ok-text.ensures.meets
-    (subst (λ (t : List ℕ). Meets output c.run_text.result (Runs t)) c.as_slice.ensures.value c.run_text.ensures)
+pub returns : goal.returns
+unfolding SaysAs
+returns c =
+    goes_on (Checks c.args.text.now) (RunsTo c.args.words.now (report c.args.words.now.values)) output
+    (whole c.in_ok-typed.typed.expanded.program) c.run_program.result c.in_ok-typed.ensures c.run_program.ensures

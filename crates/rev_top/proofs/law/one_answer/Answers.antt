@@ -1,4 +1,4 @@
-use Rattle.rev_top.proofs.Causes.{one_answer_to}
+use Rattle.rev_top.proofs.OneAnswers.{one_answer_to}
 use Rattle.rev_top.proofs.law.one_answer.Goals as goal
 
 pub returns : goal.returns

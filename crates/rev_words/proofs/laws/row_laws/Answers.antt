@@ -12,6 +12,8 @@ returns-clause-read c = record {
   between_numbers = refl;
   schedule = refl;
   empty_schedule = refl;
+  check = refl;
+  load = refl;
 }
 
 pub returns-clause-usage : goal.returns-clause-usage
@@ -19,6 +21,8 @@ unfolding clap_on_literals command
 returns-clause-usage c = record {
   no_words = refl;
   other_mode = refl;
+  capital = refl;
+  no_size = refl;
   no_workers = refl;
   no_number = refl;
   no_value = refl;

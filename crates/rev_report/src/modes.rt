@@ -1,0 +1,65 @@
+//! What the modes `check` and `load` write.
+ghost use Rattle.std.specs.Prelude.{◌≡◌, IfOk};
+ghost use Rattle.std.specs.String.{string_bytes};
+ghost use Rattle.rev_report.specs.Report.{output};
+ghost use Rattle.rev_report.specs.Modes as spec;
+
+use crate::outcome::outcome_bytes;
+use crate::report::Report;
+use crate::status;
+use rev_num::Outcome;
+use std::alloc::{AllocError, Global};
+
+/// The report of a text that keeps all rules.
+pub fn accepted_report(alloc: Global) -> Result<Report, AllocError>
+    ensures { IfOk result (λ r. output r ≡ spec.accepted) }
+{
+    Ok(Report {
+        out: Vec::from_slice(alloc, b"ok\n")?,
+        err: Vec::new(alloc),
+        status: status::DONE,
+    })
+}
+
+/// The line that stands before what a generated program prints, without its line feed.
+fn first_line(alloc: Global, seed: u32, size: u32) -> Result<String, AllocError>
+    ensures { IfOk result (λ s. string_bytes s ≡ spec.first_line seed size) }
+{
+    format!(in alloc; "load seed {seed} size {size}")
+}
+
+/// The report with a line before what it writes on standard output.
+fn behind(line: String, report: Report) -> Result<Report, AllocError>
+    ensures { IfOk result (λ r. output r ≡ spec.behind (string_bytes line) (output report)) }
+{
+    let mut out = line.into_bytes();
+    out.push(b'\n')?;
+    out.extend_from_slice(report.out.as_slice())?;
+    Ok(Report {
+        out,
+        err: report.err,
+        status: report.status,
+    })
+}
+
+/// The report of the outcome of the program that is generated from a seed and a size, behind a line
+/// that names both. Where a revision was joined twice, nothing is written on standard output.
+pub fn summary_report(
+    alloc: Global,
+    seed: u32,
+    size: u32,
+    outcome: &Outcome,
+) -> Result<Report, AllocError>
+    ensures { IfOk result (λ r. output r ≡ spec.summary seed size outcome.now) }
+{
+    let report = outcome_bytes(alloc, outcome, false)?;
+    match outcome {
+        Outcome::Done { text: _, values: _ } => behind(first_line(alloc, seed, size)?, report),
+        Outcome::Trapped {
+            text: _,
+            values: _,
+            trap: _,
+        } => behind(first_line(alloc, seed, size)?, report),
+        Outcome::Twice => Ok(report),
+    }
+}

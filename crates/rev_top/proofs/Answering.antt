@@ -1,0 +1,140 @@
+-- What an answer to words and a source is like: its status, what it writes on `out`, and the bytes that it answers.
+use Rattle.std.proofs.Common.{◌≡◌, ◌∙◌, refl, sym, subst, List, [], ℕ, ◌≤◌, ◌⊎◌, inl, inr, arith, true, length, ap}
+use Rattle.std.specs.Prelude.{Option, Some, None, Result, Ok, Err, Bool, is_some}
+use Rattle.rev_io.specs.Stream.{Stream, Rose}
+use Rattle.rev_num.specs.declared.outcome.Outcome.{Outcome}
+use Rattle.rev_num.specs.declared.outcome.Outcome.TheVariants as o
+use Rattle.rev_words.specs.Load.{load_text}
+use Rattle.rev_words.specs.declared.Mode.{Mode}
+use Rattle.rev_words.specs.declared.Mode.TheVariants as modes
+use Rattle.rev_words.specs.declared.Words.{Words}
+use Rattle.rev_syntax.specs.Trees.{ProgramTree}
+use Rattle.rev_report.specs.Report.{Output}
+use Rattle.rev_report.specs.Outcome.{report}
+use Rattle.rev_report.specs.Modes.{summary}
+use Rattle.rev_report.specs.Messages.{shown, status_of}
+use Rattle.rev_report.specs.declared.refusal.Refusal.{Refusal}
+use Rattle.rev_report.specs.declared.refusal.Refusal.TheVariants as refusals
+use Rattle.rev_top.specs.Stages.{Onward, Then}
+use Rattle.rev_top.specs.Texts.{Checks}
+use Rattle.rev_top.specs.Answer.{Accepts, Answer, Answers, Fits, Given, RunsTo, Says, SaysAs, reads, reads_of}
+use Rattle.rev_top.specs.Promises.{Feeds, IsRefused}
+use Rattle.rev_top.proofs.Faults.{check_of_text, status_of_text}
+
+-- ---- the status of what a mode says
+
+unfoldable pub end_status : Outcome → ℕ
+end_status (o.Done text values) = 0
+end_status (o.Trapped text values t) = 1
+end_status o.Twice = 3
+
+pub report_status : (asked : Bool) (x : Outcome) → (report asked x).status ≡ end_status x
+unfolding end_status
+report_status asked (o.Done text values) = refl
+report_status asked (o.Trapped text values t) = refl
+report_status asked o.Twice = refl
+
+pub summary_status : (seed size : ℕ) (x : Outcome) → (summary seed size x).status ≡ end_status x
+unfolding end_status
+summary_status seed size (o.Done text values) = refl
+summary_status seed size (o.Trapped text values t) = refl
+summary_status seed size o.Twice = refl
+
+-- a run's own status
+abbrev IsEnd : ℕ → Type 0
+IsEnd n = (n ≤ 3) × (n ≡ 2 → ⊥)
+
+is_end : (x : Outcome) → IsEnd (end_status x)
+unfolding end_status
+is_end (o.Done text values) = (omega arith, λ is. absurd (omega arith))
+is_end (o.Trapped text values t) = (omega arith, λ is. absurd (omega arith))
+is_end o.Twice = (omega arith, λ is. absurd (omega arith))
+
+-- an output of a run or of a check, or a refusal of the text, which writes nothing on `out`
+pub data IsPlain (a : Answer) : Type 0 where
+  ends : IsEnd (shown a).status → IsPlain a
+  refuses : (shown a).out ≡ [] → (shown a).status ≡ 2 → IsPlain a
+
+run_ends : (write : Outcome → Output) → ((x : Outcome) → (write x).status ≡ end_status x)
+    → (w : Words) (p : ProgramTree) (a : Answer) → RunsTo w write p a → IsEnd (shown a).status
+run_ends write writes w p a h =
+    subst (λ (n : ℕ). IsEnd n) (sym (ap (λ (x : Answer). (shown x).status) h.2 ∙ writes h.0)) (is_end h.0)
+
+accept_ends : (p : ProgramTree) (a : Answer) → Accepts p a → IsEnd (shown a).status
+accept_ends p a h =
+    subst (λ (n : ℕ). IsEnd n) (sym (ap (λ (x : Answer). (shown x).status) h)) (omega arith, λ is. absurd (omega arith))
+
+of_text : (text : List ℕ) (Second : ProgramTree → Answer → Type 0) → ((p : ProgramTree) (a : Answer) → Second p a → IsEnd (shown a).status)
+    → (a : Answer) → Then (Checks text) Second a → IsPlain a
+of_text text Second second a h = go h.0 h.1 h.2
+  where
+    go : (found : Result ProgramTree Refusal) → Checks text found → Onward Second found a → IsPlain a
+    go (Ok p) s on = ends (second p a on)
+    go (Err f) s on =
+        refuses (ap (λ (x : Answer). (shown x).out) on)
+        (ap (λ (x : Answer). (shown x).status) on ∙ status_of_text f (check_of_text text f s))
+
+-- one line for each mode
+says_plain : (m : Mode) (w : Words) (read : List ℕ) (a : Answer) → SaysAs m w read a → IsPlain a
+unfolding SaysAs
+says_plain modes.Run w read a h = of_text read (RunsTo w (report w.values)) (run_ends (report w.values) (report_status w.values) w) a h
+says_plain modes.Check w read a h = of_text read Accepts accept_ends a h
+says_plain modes.Load w read a h =
+    of_text (load_text w.seed w.size) (RunsTo w (summary w.seed w.size)) (run_ends (summary w.seed w.size) (summary_status w.seed w.size) w) a h
+
+at_most_3 : (a : Answer) → IsPlain a → (shown a).status ≤ 3
+at_most_3 a (ends is) = is.0
+at_most_3 a (refuses none is) = omega (arith, is)
+
+-- ---- why an answer has its status
+
+pub data Why (w : Option Words) (old new : Stream) (status : ℕ) : Type 0 where
+  unread : w ≡ None → status ≡ 4 → Why w old new status
+  failed : is_some w ≡ true → (reads w ≡ None → ⊥) → Rose old new → status ≡ 5 → Why w old new status
+  plain : is_some w ≡ true → new.faults ≡ old.faults → status ≤ 3 → Why w old new status
+
+module _ (w : Words) (old new : Stream) (a : Answer) where
+  why_read : (r : Option ℕ) → reads_of w.mode ≡ r → (found : Result (List ℕ) Refusal) → Given r old new found → Onward (SaysAs w.mode w) found a → Why (Some w) old new (shown a).status
+  why_read None is (Ok read) g on = plain refl (ap (λ (x : Stream). x.faults) g.1) (at_most_3 a (says_plain w.mode w read a on))
+  why_read None is (Err f) g on = cc
+  why_read (Some limit) is (Ok read) g on = plain refl g.0.calm (at_most_3 a (says_plain w.mode w read a on))
+  why_read (Some limit) is (Err f) (inl g) on =
+      plain refl g.1 (omega (arith, ap (λ (x : Answer). (shown x).status) on, ap status_of g.0))
+  why_read (Some limit) is (Err f) (inr g) on =
+      failed refl (λ none. let e : Some limit ≡ None = sym is ∙ none in cc) g.1 (ap (λ (x : Answer). (shown x).status) on ∙ ap status_of g.0)
+
+  out_read : (r : Option ℕ) (found : Result (List ℕ) Refusal) → Given r old new found → Onward (SaysAs w.mode w) found a → IsRefused (shown a).status → (shown a).out ≡ []
+  out_read r (Err f) g on refused = ap (λ (x : Answer). (shown x).out) on
+  out_read r (Ok read) g on refused = go (says_plain w.mode w read a on) refused
+    where
+      go : IsPlain a → IsRefused (shown a).status → (shown a).out ≡ []
+      go (refuses none is) r = none
+      go (ends is) (inl two) = absurd (is.1 two)
+      go (ends is) (inr (inl four)) = let most = is.0 in absurd (omega (arith, four, most))
+      go (ends is) (inr (inr five)) = let most = is.0 in absurd (omega (arith, five, most))
+
+pub why : (w : Option Words) (old new : Stream) (a : Answer) → Answers w old new a → Why w old new (shown a).status
+why None old new a h = unread refl (ap (λ (x : Answer). (shown x).status) h.0)
+why (Some w) old new a h = why_read w old new a (reads_of w.mode) refl h.0 h.1 h.2
+
+pub out_of : (w : Option Words) (old new : Stream) (a : Answer) → Answers w old new a → IsRefused (shown a).status → (shown a).out ≡ []
+out_of None old new a h refused = ap (λ (x : Answer). (shown x).out) h.0
+out_of (Some w) old new a h refused = out_read w old new a (reads_of w.mode) h.0 h.1 h.2 refused
+
+pub at_most_5 : (w : Option Words) (old new : Stream) (n : ℕ) → Why w old new n → n ≤ 5
+at_most_5 w old new n (unread a is) = omega arith
+at_most_5 w old new n (failed a b c is) = omega arith
+at_most_5 w old new n (plain a b most) = omega arith
+
+-- ---- where the source told its bytes and did not fail, the answer is the one to these bytes
+
+fits : (r : Option ℕ) (old new : Stream) (all : List ℕ) (found : Result (List ℕ) Refusal) → Given r old new found → Feeds r old new all → Fits r all found
+fits None old new all found g fed = g.0
+fits (Some limit) old new all (Ok text) g fed =
+    let whole = g.2 all fed.0 in (sym whole, subst (λ (t : List ℕ). length t ≤ limit) (sym whole) g.1)
+fits (Some limit) old new all (Err f) (inl g) fed = (g.0, g.2 all fed.0)
+fits (Some limit) old new all (Err f) (inr g) fed = absurd (fed.1 g.1)
+
+pub answer_to : (w : Option Words) (old new : Stream) (a : Answer) → Answers w old new a → (all : List ℕ) → Feeds (reads w) old new all → Says w all a
+answer_to None old new a h all fed = h.0
+answer_to (Some w) old new a h all fed = (h.0, fits (reads_of w.mode) old new all h.0 h.1 fed, h.2)
