@@ -1,5 +1,7 @@
 -- Lists of references.
-use Rattle.std.proofs.Common.{◌≡◌, ◌≢◌, ◌⊎◌, ℕ, zero, suc, ◌+◌, ◌*◌, ◌≤◌, List, [], ◌∷◌, length, map, sym, refl, ap, ◌∙◌, subst, arith, inl, inr, Option, Bool, true, false, cond, eqb, eq-eqb, ne_eqb, MatchBool}
+use Rattle.std.proofs.Common.{◌≡◌, ◌≢◌, ◌⊎◌, ℕ, zero, suc, ◌+◌, ◌*◌, ◌≤◌, List, [], ◌∷◌, length}
+use Rattle.std.proofs.Common.{map, sym, refl, ap, ◌∙◌, subst, arith, inl, inr, Option, Bool, true}
+use Rattle.std.proofs.Common.{false, cond, eqb, eq-eqb, ne_eqb, MatchBool}
 use mathlib.Core.Option as m
 use mathlib.Core.Logic.{dite}
 use native.Mathlib.Decide.{ℕ_discrete}
@@ -20,9 +22,12 @@ copies_length zero c = refl
 copies_length (suc n) c = let r = copies_length n c in omega arith
 
 pub copies_apart : (n k a b : ℕ) → copies n a ≡ copies k b → n ≡ k
-copies_apart n k a b e = sym (copies_length n a) ∙ (ap (λ (xs : List ℕ). length xs) e ∙ copies_length k b)
+copies_apart n k a b e = sym (copies_length n a)
+    ∙ (ap (λ (xs : List ℕ). length xs) e ∙ copies_length k b)
 
-pub refers_by : (ls : List (List ℕ)) (h : ℕ) (xs ys : List ℕ) (b : Bool) → get_elem? ls h ≡ m.some xs → MatchBool b (xs ≡ ys) (¬ (xs ≡ ys)) → MatchBool b (get_elem? ls h ≡ m.some ys) (¬ (get_elem? ls h ≡ m.some ys))
+pub refers_by : (ls : List (List ℕ)) (h : ℕ) (xs ys : List ℕ) (b : Bool)
+    → get_elem? ls h ≡ m.some xs → MatchBool b (xs ≡ ys) (¬ (xs ≡ ys))
+    → MatchBool b (get_elem? ls h ≡ m.some ys) (¬ (get_elem? ls h ≡ m.some ys))
 refers_by ls h xs ys true has t = has ∙ ap m.some t
 refers_by ls h xs ys false has t = λ e. t (m.some-injective xs ys (sym has ∙ e))
 
@@ -31,8 +36,10 @@ joined_suc p = ap (λ (b : Bool). cond b [] (suc p ∷ [])) (ne_eqb (suc p) 0 (�
 
 pub joined_short : (p : ℕ) → length (joined p []) ≤ 1
 joined_short p = dite (ℕ_discrete p 0)
-    (λ e. subst (λ (xs : List ℕ). length xs ≤ 1) (sym (ap (λ (b : Bool). cond b [] (p ∷ [])) (eq-eqb p 0 e))) (omega arith))
-    (λ ne. subst (λ (xs : List ℕ). length xs ≤ 1) (sym (ap (λ (b : Bool). cond b [] (p ∷ [])) (ne_eqb p 0 ne))) (omega arith))
+    (λ e. subst (λ (xs : List ℕ). length xs ≤ 1)
+    (sym (ap (λ (b : Bool). cond b [] (p ∷ [])) (eq-eqb p 0 e))) (omega arith))
+    (λ ne. subst (λ (xs : List ℕ). length xs ≤ 1)
+    (sym (ap (λ (b : Bool). cond b [] (p ∷ [])) (ne_eqb p 0 ne))) (omega arith))
 
 head_or : List ℕ → ℕ
 head_or [] = 0
@@ -43,17 +50,25 @@ tail [] = []
 tail (x ∷ xs) = xs
 
 -- a list of a holder that begins with c has c once or twice
-pub one_or_two : (holders : List References) (h c : ℕ) (xs : List ℕ) → get_elem? (map list_of holders) h ≡ m.some (c ∷ xs)
-    → (get_elem? (map list_of holders) h ≡ m.some (copies 1 c)) ⊎ (get_elem? (map list_of holders) h ≡ m.some (copies 2 c))
+pub one_or_two : (holders : List References) (h c : ℕ) (xs : List ℕ)
+    → get_elem? (map list_of holders) h ≡ m.some (c ∷ xs)
+    → (get_elem? (map list_of holders) h ≡ m.some (copies 1 c))
+    ⊎ (get_elem? (map list_of holders) h ≡ m.some (copies 2 c))
 unfolding head_or tail
 one_or_two holders h c xs e = let q = map_from list_of holders h (c ∷ xs) e in go q.0 q.2 where
-  go : (r : References) → list_of r ≡ c ∷ xs → (get_elem? (map list_of holders) h ≡ m.some (copies 1 c)) ⊎ (get_elem? (map list_of holders) h ≡ m.some (copies 2 c))
-  go refer.Empty q = let n : 0 ≡ suc (length xs) = ap (λ (ys : List ℕ). length ys) q in absurd (omega arith)
+  go : (r : References) → list_of r ≡ c ∷ xs
+      → (get_elem? (map list_of holders) h ≡ m.some (copies 1 c))
+      ⊎ (get_elem? (map list_of holders) h ≡ m.some (copies 2 c))
+  go refer.Empty q = let n : 0 ≡ suc (length xs) = ap (λ (ys : List ℕ). length ys) q in
+      absurd (omega arith)
   go (refer.Once o) q = inl (e ∙ ap (λ (ys : List ℕ). m.some (c ∷ ys)) (sym (ap tail q)))
-  go (refer.Twice o) q = inr (e ∙ (ap (λ (ys : List ℕ). m.some (c ∷ ys)) (sym (ap tail q)) ∙ ap (λ (z : ℕ). m.some (c ∷ z ∷ [])) (ap head_or q)))
+  go (refer.Twice o) q =
+      inr (e ∙ (ap (λ (ys : List ℕ). m.some (c ∷ ys)) (sym (ap tail q))
+      ∙ ap (λ (z : ℕ). m.some (c ∷ z ∷ [])) (ap head_or q)))
 
 is_at_few : (c p : ℕ) → is_at c p ≤ 1
-is_at_few c p = elim (eqb p c) as (λ (b : Bool). cond b 1 0 ≤ 1) [ true ↦ omega arith | false ↦ omega arith ]
+is_at_few c p = elim (eqb p c) as (λ (b : Bool). cond b 1 0 ≤ 1)
+    [ true ↦ omega arith | false ↦ omega arith ]
 
 list_few : (c : ℕ) (r : References) → times c (list_of r) ≤ 2
 list_few c refer.Empty = omega arith
@@ -73,7 +88,8 @@ ups_few : (c : ℕ) (gs : List Segment) → total (up_is c) (map seg_of gs) ≤ 
 ups_few c [] = omega arith
 ups_few c (g ∷ gs) = let a = up_few c (seg_of g) in let b = ups_few c gs in omega arith
 
-pub refs_few : (items : List Segment) (holders : List References) (n c : ℕ) → refs (core_in items holders n) c ≤ 2 * length holders + length items
+pub refs_few : (items : List Segment) (holders : List References) (n c : ℕ)
+    → refs (core_in items holders n) c ≤ 2 * length holders + length items
 refs_few items holders n c = let a = lists_few c holders in let b = ups_few c items in omega arith
 
 abbrev IsFree : Stage → Type 0

@@ -22,4 +22,5 @@ Makes old s new answer = answer ≡ applied.Done → Steps (core_of old) s (core
 
 -- nothing changed, and the step cannot be made
 abbrev pub Refuses : Cells → CoreStep → Cells → Applied → Type 0
-Refuses old s new answer = answer ≡ applied.Refused → (new ≡ old) × ((k : Core) → ¬ (Steps (core_of old) s k))
+Refuses old s new answer = answer ≡ applied.Refused → (new ≡ old)
+    × ((k : Core) → ¬ (Steps (core_of old) s k))

@@ -1,11 +1,13 @@
 -- Segments, and the references of holders to them, as plain data.
 -- A segment is named by a number from 1 on; 0 names none.
---   Seg            free, building by a holder with a delta so far, or live with a delta, a parent, a count
+--   Seg            free, building by a holder with a delta so far, or live with a delta, a parent,
+--   a count
 --   Core           the segments, each holder's list of references, and how many locations there are
 --   refs k c       the references to c: in all lists, and the live segments whose parent it is
 --   Counted k      each live count is the number of references and at least 1
 --   base_of        the words of initial under the deltas along the parents
-use Rattle.std.specs.Prelude.{◌≡◌, ℕ, zero, suc, ◌+◌, ◌<◌, List, [], ◌∷◌, cond, ◌==◌, Option, None, Some}
+use Rattle.std.specs.Prelude.{◌≡◌, ℕ, zero, suc, ◌+◌, ◌<◌, List, [], ◌∷◌, cond, ◌==◌, Option, None}
+use Rattle.std.specs.Prelude.{Some}
 use mathlib.Core.Option as m
 use lib.ListN.{get_elem?}
 
@@ -68,4 +70,5 @@ through bare parent l m.none = bare
 -- the word of the location l along at most n parents, from the segment c
 abbrev pub base_of : ℕ → (ℕ → ℕ) → List Seg → ℕ → ℕ → ℕ
 base_of zero initial segs c l = initial l
-base_of (suc n) initial segs c l = through (initial l) (λ p. base_of n initial segs p l) l (get_elem? segs c)
+base_of (suc n) initial segs c l = through (initial l) (λ p. base_of n initial segs p l) l
+    (get_elem? segs c)

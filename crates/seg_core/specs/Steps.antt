@@ -4,7 +4,8 @@
 --   Reached k           some steps lead to k from a core with all segments free and no references
 --   IsFreedAtLast k k'  what becomes of each live segment
 --   SameBase k k' g     the holder g has the same base
-use Rattle.std.specs.Prelude.{◌≡◌, ◌≢◌, ℕ, ◌+◌, ◌-◌, ◌<◌, List, [], ◌∷◌, length, cond, ◌==◌, slice_set, Option, None, Some, ◌⊎◌, replicate}
+use Rattle.std.specs.Prelude.{◌≡◌, ◌≢◌, ℕ, ◌+◌, ◌-◌, ◌<◌, List, [], ◌∷◌, length, cond, ◌==◌}
+use Rattle.std.specs.Prelude.{slice_set, Option, None, Some, ◌⊎◌, replicate}
 use Rattle.seg_core.specs.Core.{Seg, free, building, live, Core, refs, At, Has, base_of}
 
 pub data CoreStep : Type 0 where
@@ -38,14 +39,22 @@ list_to k h xs = record k { lists = slice_set k.lists h xs }
 
 -- what the step needs, and what it makes of the core
 abbrev pub Steps : Core → CoreStep → Core → Type 0
-Steps k (claim h c) k' = (0 < c) × At k c free × BuildsNone k h × (h < length k.lists) × (k' ≡ seg_to k c (building h no_delta))
-Steps k (put h c l w) k' = (d : ℕ → Option ℕ) × (0 < c) × At k c (building h d) × (l < k.locations) × (k' ≡ seg_to k c (building h (with_word d l w)))
-Steps k (publish h c) k' = (d : ℕ → Option ℕ) × (p : ℕ) × (0 < c) × At k c (building h d) × Has k h (joined p []) × (k' ≡ list_to (seg_to k c (live d p 2)) h (c ∷ c ∷ []))
-Steps k (share h c) k' = (d : ℕ → Option ℕ) × (p n : ℕ) × (0 < c) × At k c (live d p n) × Has k h (c ∷ []) × (k' ≡ list_to (seg_to k c (live d p (n + 1))) h (c ∷ c ∷ []))
-Steps k (hand_on h c to) k' = (0 < c) × (to ≢ h) × Has k h (c ∷ c ∷ []) × Has k to [] × BuildsNone k to × (k' ≡ list_to (list_to k h (c ∷ [])) to (c ∷ []))
-Steps k (release h c) k' = (d : ℕ → Option ℕ) × (p n : ℕ) × (xs : List ℕ) × (0 < c) × At k c (live d p n) × Has k h (c ∷ xs)
-    × (((n ≡ 1) × (k' ≡ list_to (seg_to k c free) h (joined p xs))) ⊎ ((1 < n) × (k' ≡ list_to (seg_to k c (live d p (n - 1))) h xs)))
-Steps k (collapse h c) k' = (d : ℕ → Option ℕ) × (p : ℕ) × (0 < c) × At k c (live d p 1) × Has k h (c ∷ []) × (k' ≡ list_to (seg_to k c free) h (joined p []))
+Steps k (claim h c) k' = (0 < c) × At k c free × BuildsNone k h × (h < length k.lists)
+    × (k' ≡ seg_to k c (building h no_delta))
+Steps k (put h c l w) k' = (d : ℕ → Option ℕ) × (0 < c) × At k c (building h d) × (l < k.locations)
+    × (k' ≡ seg_to k c (building h (with_word d l w)))
+Steps k (publish h c) k' = (d : ℕ → Option ℕ) × (p : ℕ) × (0 < c) × At k c (building h d)
+    × Has k h (joined p []) × (k' ≡ list_to (seg_to k c (live d p 2)) h (c ∷ c ∷ []))
+Steps k (share h c) k' = (d : ℕ → Option ℕ) × (p n : ℕ) × (0 < c) × At k c (live d p n)
+    × Has k h (c ∷ []) × (k' ≡ list_to (seg_to k c (live d p (n + 1))) h (c ∷ c ∷ []))
+Steps k (hand_on h c to) k' = (0 < c) × (to ≢ h) × Has k h (c ∷ c ∷ []) × Has k to []
+    × BuildsNone k to × (k' ≡ list_to (list_to k h (c ∷ [])) to (c ∷ []))
+Steps k (release h c) k' = (d : ℕ → Option ℕ) × (p n : ℕ) × (xs : List ℕ) × (0 < c)
+    × At k c (live d p n) × Has k h (c ∷ xs)
+    × (((n ≡ 1) × (k' ≡ list_to (seg_to k c free) h (joined p xs)))
+    ⊎ ((1 < n) × (k' ≡ list_to (seg_to k c (live d p (n - 1))) h xs)))
+Steps k (collapse h c) k' = (d : ℕ → Option ℕ) × (p : ℕ) × (0 < c) × At k c (live d p 1)
+    × Has k h (c ∷ []) × (k' ≡ list_to (seg_to k c free) h (joined p []))
 
 abbrev pub holder : CoreStep → ℕ
 holder (claim h c) = h
@@ -67,10 +76,12 @@ SameBase k k' g = ((xs : List ℕ) → Has k g xs → Has k' g xs)
     × ((c : ℕ) (xs : List ℕ) → 0 < c → Has k g (c ∷ xs) → (n l : ℕ) (initial : ℕ → ℕ)
     → base_of n initial k'.segs c l ≡ base_of n initial k.segs c l)
 
--- a live segment is free after the step, which took its last reference, or it has the same delta and parent and still some reference
+-- a live segment is free after the step, which took its last reference, or it has the same delta
+-- and parent and still some reference
 abbrev pub IsFreedAtLast : Core → Core → Type 0
 IsFreedAtLast k k' = (c : ℕ) (d : ℕ → Option ℕ) (p n : ℕ) → 0 < c → At k c (live d p n)
-    → (At k' c free × (refs k c ≡ 1) × (refs k' c ≡ 0)) ⊎ ((m : ℕ) × At k' c (live d p m) × (m ≡ refs k' c) × (0 < m))
+    → (At k' c free × (refs k c ≡ 1) × (refs k' c ≡ 0))
+    ⊎ ((m : ℕ) × At k' c (live d p m) × (m ≡ refs k' c) × (0 < m))
 
 -- all segments free, and no references
 abbrev pub empty : ℕ → ℕ → ℕ → Core
@@ -83,4 +94,5 @@ Runs k [] k' = k' ≡ k
 Runs k (s ∷ ss) k' = (j : Core) × Runs k ss j × Steps j s k'
 
 abbrev pub Reached : Core → Type 0
-Reached k = (segments holders locations : ℕ) × (ss : List CoreStep) × Runs (empty segments holders locations) ss k
+Reached k = (segments holders locations : ℕ) × (ss : List CoreStep)
+    × Runs (empty segments holders locations) ss k

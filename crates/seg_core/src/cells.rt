@@ -1,5 +1,6 @@
 //! The cells of a state: its segments and what its holders refer to.
-ghost use Rattle.std.specs.Prelude.{◌≡◌, ◌≢◌, ℕ, ◌+◌, ◌<◌, ◌^◌, suc, vec_len, Option, List, Some, None, MatchBool};
+ghost use Rattle.std.specs.Prelude.{◌≡◌, ◌≢◌, ℕ, ◌+◌, ◌<◌, ◌^◌, suc, vec_len, Option, List, Some};
+ghost use Rattle.std.specs.Prelude.{None, MatchBool};
 ghost use mathlib.Core.Option.{some};
 ghost use lib.ListN.{get_elem?};
 ghost use Rattle.version_map.specs.Deltas as deltas;
@@ -23,7 +24,8 @@ pub struct Cells {
     pub holders: Vec<References>,
     pub locations: u32,
     ghost long: { (vec_len segments < 2 ^ 32) × (vec_len holders ≡ 65536) },
-    ghost sized: { (i : ℕ) (g : Segment) → get_elem? segments.items i ≡ some g → deltas.locations g.delta ≡ locations },
+    ghost sized: { (i : ℕ) (g : Segment) → get_elem? segments.items i ≡ some g
+        → deltas.locations g.delta ≡ locations },
 }
 
 impl Cells {
@@ -31,7 +33,8 @@ impl Cells {
 
     /// How the segment stands, where there is one.
     pub fn stage(&self, segment: u32) -> Option<Stage>
-        ensures some { (x : Stage) → result ≡ Some x → (d : ℕ → Option ℕ) × At (core_of self.now) (suc segment) (shape x d) }
+        ensures some { (x : Stage) → result ≡ Some x → (d : ℕ → Option ℕ)
+            × At (core_of self.now) (suc segment) (shape x d) }
         ensures none { result ≡ None → (x : Seg) → ¬ (At (core_of self.now) (suc segment) x) }
     {
         let at = segment as usize;
@@ -43,7 +46,8 @@ impl Cells {
 
     /// What the holder refers to, where there is such a holder.
     pub fn references(&self, holder: u32) -> Option<References>
-        ensures some { (r : References) → result ≡ Some r → Has (core_of self.now) holder (list_of r) }
+        ensures some { (r : References) → result ≡ Some r
+            → Has (core_of self.now) holder (list_of r) }
         ensures none { result ≡ None → (xs : List ℕ) → ¬ (Has (core_of self.now) holder xs) }
     {
         let at = holder as usize;
@@ -55,7 +59,8 @@ impl Cells {
 
     /// Whether the holder builds a segment.
     pub fn builds(&self, holder: u32) -> bool
-        ensures { MatchBool result (¬ (BuildsNone (core_of self.now) holder)) (BuildsNone (core_of self.now) holder) }
+        ensures { MatchBool result (¬ (BuildsNone (core_of self.now) holder))
+            (BuildsNone (core_of self.now) holder) }
     {
         for at in 0..self.segments.len() {
             if self.segments[at].is_built_by(holder) {
@@ -68,26 +73,33 @@ impl Cells {
     /// The free segment begins to be built.
     pub fn begin(&mut self, segment: u32, holder: u32)
         requires { At (core_of self.old) (suc segment) free }
-        ensures { core_of self.new ≡ seg_to (core_of self.old) (suc segment) (building holder no_delta) }
+        ensures { core_of self.new ≡ seg_to (core_of self.old) (suc segment)
+            (building holder no_delta) }
     {
         self.segments[segment as usize].begin(holder);
     }
 
     /// The segment that is built gets a word.
     pub fn write(&mut self, segment: u32, location: u32, word: u64)
-        requires built { (h : ℕ) × (d : ℕ → Option ℕ) × At (core_of self.old) (suc segment) (building h d) }
+        requires built { (h : ℕ) × (d : ℕ → Option ℕ)
+            × At (core_of self.old) (suc segment) (building h d) }
         requires inside { location < self.old.locations }
         ensures { (h : ℕ) (d : ℕ → Option ℕ) → At (core_of self.old) (suc segment) (building h d)
-            → core_of self.new ≡ seg_to (core_of self.old) (suc segment) (building h (with_word d location word)) }
+            → core_of self.new
+            ≡ seg_to (core_of self.old) (suc segment) (building h (with_word d location word)) }
     {
         self.segments[segment as usize].write(location, word);
     }
 
     /// The segment stands otherwise, with the same words.
     pub fn turn(&mut self, segment: u32, stage: Stage)
-        requires { (x : Stage) × (d : ℕ → Option ℕ) × At (core_of self.old) (suc segment) (shape x d) }
-        ensures words { (x : Stage) (d : ℕ → Option ℕ) → x ≢ stages.Free → At (core_of self.old) (suc segment) (shape x d) → core_of self.new ≡ seg_to (core_of self.old) (suc segment) (shape stage d) }
-        ensures free { stage ≡ stages.Free → core_of self.new ≡ seg_to (core_of self.old) (suc segment) free }
+        requires { (x : Stage) × (d : ℕ → Option ℕ)
+            × At (core_of self.old) (suc segment) (shape x d) }
+        ensures words { (x : Stage) (d : ℕ → Option ℕ) → x ≢ stages.Free
+            → At (core_of self.old) (suc segment) (shape x d)
+            → core_of self.new ≡ seg_to (core_of self.old) (suc segment) (shape stage d) }
+        ensures free { stage ≡ stages.Free
+            → core_of self.new ≡ seg_to (core_of self.old) (suc segment) free }
     {
         self.segments[segment as usize].turn(stage);
     }

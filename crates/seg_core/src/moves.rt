@@ -1,5 +1,6 @@
 //! Each step on the cells.
-ghost use Rattle.std.specs.Prelude.{◌≡◌, ℕ, ◌+◌, ◌<◌, suc, Option, List, [], ◌∷◌, Some, None, MatchBool};
+ghost use Rattle.std.specs.Prelude.{◌≡◌, ℕ, ◌+◌, ◌<◌, suc, Option, List, [], ◌∷◌, Some, None};
+ghost use Rattle.std.specs.Prelude.{MatchBool};
 ghost use Rattle.seg_core.specs.Core.{free, live, At, Has, Counted};
 ghost use Rattle.seg_core.specs.Steps as core;
 ghost use Rattle.seg_core.specs.Shape.{name_of, list_of, step_of};
@@ -12,7 +13,8 @@ use crate::step::{Applied, SegStep};
 
 impl Cells {
     fn is_free(&self, segment: u32) -> bool
-        ensures { MatchBool result (At (core_of self.now) (suc segment) free) (¬ (At (core_of self.now) (suc segment) free)) }
+        ensures { MatchBool result (At (core_of self.now) (suc segment) free)
+            (¬ (At (core_of self.now) (suc segment) free)) }
     {
         match self.stage(segment) {
             Some(Stage::Free) => true,
@@ -23,7 +25,8 @@ impl Cells {
     }
 
     fn is_built(&self, segment: u32, holder: u32) -> bool
-        ensures { MatchBool result (Builds (core_of self.now) (suc segment) holder) (¬ (Builds (core_of self.now) (suc segment) holder)) }
+        ensures { MatchBool result (Builds (core_of self.now) (suc segment) holder)
+            (¬ (Builds (core_of self.now) (suc segment) holder)) }
     {
         match self.stage(segment) {
             Some(Stage::Building(builder)) => builder == holder,
@@ -35,8 +38,10 @@ impl Cells {
 
     // The parent and the count of a live segment.
     fn live(&self, segment: u32) -> Option<(Option<u32>, u64)>
-        ensures some { (p : Option ℕ) (n : ℕ) → result ≡ Some (p, n) → (d : ℕ → Option ℕ) × At (core_of self.now) (suc segment) (live d (name_of p) n) }
-        ensures none { result ≡ None → (d : ℕ → Option ℕ) (p n : ℕ) → ¬ (At (core_of self.now) (suc segment) (live d p n)) }
+        ensures some { (p : Option ℕ) (n : ℕ) → result ≡ Some (p, n) → (d : ℕ → Option ℕ)
+            × At (core_of self.now) (suc segment) (live d (name_of p) n) }
+        ensures none { result ≡ None → (d : ℕ → Option ℕ) (p n : ℕ)
+            → ¬ (At (core_of self.now) (suc segment) (live d p n)) }
     {
         match self.stage(segment) {
             Some(Stage::Live(parent, count)) => Some((parent, count)),
@@ -48,8 +53,10 @@ impl Cells {
 
     // The segment that the holder refers to, or none, where it has at most one reference.
     fn single(&self, holder: u32) -> Option<Option<u32>>
-        ensures some { (p : Option ℕ) → result ≡ Some p → Has (core_of self.now) holder (core.joined (name_of p) []) }
-        ensures none { result ≡ None → (p : ℕ) → ¬ (Has (core_of self.now) holder (core.joined p [])) }
+        ensures some { (p : Option ℕ) → result ≡ Some p
+            → Has (core_of self.now) holder (core.joined (name_of p) []) }
+        ensures none { result ≡ None → (p : ℕ)
+            → ¬ (Has (core_of self.now) holder (core.joined p [])) }
     {
         match self.references(holder) {
             Some(References::Empty) => Some(None),
@@ -61,7 +68,8 @@ impl Cells {
 
     // Whether the holder's references are this many to this segment.
     fn refers(&self, holder: u32, segment: u32, times: u32) -> bool
-        ensures { MatchBool result (Has (core_of self.now) holder (copies times (suc segment))) (¬ (Has (core_of self.now) holder (copies times (suc segment)))) }
+        ensures { MatchBool result (Has (core_of self.now) holder (copies times (suc segment)))
+            (¬ (Has (core_of self.now) holder (copies times (suc segment)))) }
     {
         match self.references(holder) {
             Some(References::Empty) => times == 0,
@@ -89,8 +97,10 @@ impl Cells {
     }
 
     fn put(&mut self, holder: u32, segment: u32, location: u32, word: u64) -> Applied
-        ensures done { Makes self.old (core.put holder (suc segment) location word) self.new result }
-        ensures refused { Refuses self.old (core.put holder (suc segment) location word) self.new result }
+        ensures done { Makes self.old (core.put holder (suc segment) location word) self.new
+            result }
+        ensures refused { Refuses self.old (core.put holder (suc segment) location word) self.new
+            result }
     {
         if !self.is_built(segment, holder) {
             return Applied::Refused;
@@ -139,9 +149,12 @@ impl Cells {
 
     // The segment gets free, and its parent, if any, is what the holder refers to.
     fn free(&mut self, holder: u32, segment: u32, parent: Option<u32>)
-        requires live { (d : ℕ → Option ℕ) × (n : ℕ) × At (core_of self.old) (suc segment) (live d (name_of parent) n) }
+        requires live { (d : ℕ → Option ℕ) × (n : ℕ)
+            × At (core_of self.old) (suc segment) (live d (name_of parent) n) }
         requires inside { holder < 65536 }
-        ensures { core_of self.new ≡ core.list_to (core.seg_to (core_of self.old) (suc segment) free) holder (core.joined (name_of parent) []) }
+        ensures { core_of self.new ≡ core.list_to
+            (core.seg_to (core_of self.old) (suc segment) free) holder
+            (core.joined (name_of parent) []) }
     {
         self.turn(segment, Stage::Free);
         self.refer(holder, to_parent(parent));
@@ -149,7 +162,8 @@ impl Cells {
 
     // A release of a live segment with this parent and this count.
     fn give_up(&mut self, holder: u32, segment: u32, parent: Option<u32>, count: u64) -> Applied
-        requires live { (d : ℕ → Option ℕ) × At (core_of self.old) (suc segment) (live d (name_of parent) count) }
+        requires live { (d : ℕ → Option ℕ)
+            × At (core_of self.old) (suc segment) (live d (name_of parent) count) }
         requires counted { Counted (core_of self.old) }
         ensures done { Makes self.old (core.release holder (suc segment)) self.new result }
         ensures refused { Refuses self.old (core.release holder (suc segment)) self.new result }
@@ -262,7 +276,8 @@ fn to_parent(parent: Option<u32>) -> References
 // Whether both are as many references to the same segment, of which there are some.
 fn are_same(own: u32, have: u32, segment: u32, times: u32) -> bool
     requires { 0 < have }
-    ensures { MatchBool result (copies have (suc own) ≡ copies times (suc segment)) (¬ (copies have (suc own) ≡ copies times (suc segment))) }
+    ensures { MatchBool result (copies have (suc own) ≡ copies times (suc segment))
+        (¬ (copies have (suc own) ≡ copies times (suc segment))) }
 {
     if have != times {
         return false;

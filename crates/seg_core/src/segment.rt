@@ -36,7 +36,8 @@ impl Segment {
 
     /// Whether this holder builds it.
     pub fn is_built_by(&self, holder: u32) -> bool
-        ensures { MatchBool result (IsBuiltBy (seg_of self.now) holder) (¬ (IsBuiltBy (seg_of self.now) holder)) }
+        ensures { MatchBool result (IsBuiltBy (seg_of self.now) holder)
+            (¬ (IsBuiltBy (seg_of self.now) holder)) }
     {
         match self.stage {
             Stage::Free => false,

@@ -1,5 +1,6 @@
 //! A state of segments and holders.
-ghost use Rattle.std.specs.Prelude.{◌≡◌, ℕ, ◌<◌, ◌^◌, suc, length, vec_len, map, replicate, IfOk, []};
+ghost use Rattle.std.specs.Prelude.{◌≡◌, ℕ, ◌<◌, ◌^◌, suc, length, vec_len, map, replicate, IfOk};
+ghost use Rattle.std.specs.Prelude.{[]};
 ghost use mathlib.Core.Option.{some};
 ghost use lib.ListN.{get_elem?};
 ghost use Rattle.version_map.specs.Deltas as deltas;
@@ -30,7 +31,8 @@ impl SegState {
     /// All segments free, over these initial words, and no references.
     pub fn empty(alloc: Global, segments: u32, initial: &[u64]) -> Result<SegState, AllocError>
         requires { length initial.now < 2 ^ 32 }
-        ensures core { IfOk result (λ s. state_core s ≡ empty (suc segments) 65536 (length initial.now)) }
+        ensures core { IfOk result (λ s. state_core s ≡ empty (suc segments) 65536
+            (length initial.now)) }
         ensures size { IfOk result (λ s. vec_len s.cells.segments ≡ segments) }
     {
         let locations = initial.len() as u32;
@@ -49,7 +51,8 @@ pub fn apply(state: &mut SegState, step: &SegStep) -> Applied
         → Steps (core_of state.old.cells) (step_of step.now) (core_of state.new.cells) }
     ensures same { result ≡ Refused → state.new.cells ≡ state.old.cells }
     ensures size { vec_len state.new.cells.segments ≡ vec_len state.old.cells.segments }
-    ensures refused { result ≡ Refused → (k : Core) → ¬ (Steps (core_of state.old.cells) (step_of step.now) k) }
+    ensures refused { result ≡ Refused → (k : Core)
+        → ¬ (Steps (core_of state.old.cells) (step_of step.now) k) }
 {
     state.cells.apply(step)
 }

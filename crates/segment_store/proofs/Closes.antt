@@ -1,7 +1,9 @@
--- Where all holds were gathered, no block is live.
-use Rattle.std.proofs.Common.{Bool, true, false, eqb, cond, eq-eqb, ◌*◌, mul-le-mul_right, ◌≡◌, ℕ, zero, suc, ◌+◌, ◌-◌, ◌%◌, ◌<◌, ◌≤◌, ◌≢◌, List, [], ◌∷◌, get_or, sym, refl, ap, ◌∙◌, subst, arith, inl}
+-- Where all holds were gathered, no segment is live.
+use Rattle.std.proofs.Common.{Bool, true, false, eqb, cond, eq-eqb, ◌*◌, mul-le-mul_right, ◌≡◌, ℕ}
+use Rattle.std.proofs.Common.{zero, suc, ◌+◌, ◌-◌, ◌%◌, ◌<◌, ◌≤◌, ◌≢◌, List, [], ◌∷◌, get_or, sym}
+use Rattle.std.proofs.Common.{refl, ap, ◌∙◌, subst, arith, inl}
 use Rattle.std.proofs.Math.Nat.{mul-mod_left}
-use Rattle.segment_store.specs.Live.{live_blocks}
+use Rattle.segment_store.specs.Live.{live_segments}
 use mathlib.Core.Option.{some, some-injective, some-ne-none}
 use mathlib.Core.Logic.{dite}
 use native.Mathlib.Decide.{ℕ_discrete}
@@ -9,16 +11,19 @@ use lib.ListN.{get_elem?}
 use Rattle.atomic_table.specs.Table.{State}
 use Rattle.segment_store.specs.Entry.{Entry}
 use Rattle.segment_store.specs.declared.board.View.{View}
-use Rattle.segment_store.specs.Store.{building, total, is_at, refs_in, refs, builds, held, IsBlock, Kept}
+use Rattle.segment_store.specs.Store.{building, total, is_at, refs_in, refs, builds, held}
+use Rattle.segment_store.specs.Store.{IsSegment, Kept}
 use Rattle.segment_store.proofs.Sums.{total_one, total_two, is_at_other}
 
 module _ {A : Type 0} (f : A → ℕ) where
   total_zero : (l : List A) → ((i : ℕ) (a : A) → get_elem? l i ≡ some a → f a ≡ 0) → total f l ≡ 0
   total_zero [] h = refl
-  total_zero (x ∷ xs) h = let a = h zero x refl in let b = total_zero xs (λ i. h (suc i)) in omega arith
+  total_zero (x ∷ xs) h = let a = h zero x refl in let b = total_zero xs (λ i. h (suc i)) in
+      omega arith
 
   -- a sum above 0 has a part above 0
-  pub total_some : (l : List A) → 0 < total f l → (i : ℕ) × (a : A) × (get_elem? l i ≡ some a) × (0 < f a)
+  pub total_some : (l : List A) → 0 < total f l → (i : ℕ) × (a : A) × (get_elem? l i ≡ some a)
+      × (0 < f a)
   total_some [] h = absurd (omega arith)
   total_some (x ∷ xs) h = dite (ℕ_discrete (f x) 0)
       (λ e. let t = total_some xs (omega arith) in (suc t.0, t.1, t.2, t.3))
@@ -32,71 +37,114 @@ highest rank (suc n) = rank n + highest rank n
 pub is_highest : (rank : ℕ → ℕ) (n d : ℕ) → d < n → rank d ≤ highest rank n
 unfolding highest
 is_highest rank zero d h = absurd (omega arith)
-is_highest rank (suc n) d h = dite (ℕ_discrete d n) (λ e. let q : rank d ≡ rank n = ap rank e in omega arith) (λ ne. let r = is_highest rank n d (omega arith) in omega arith)
+is_highest rank (suc n) d h = dite (ℕ_discrete d n) (λ e. let q : rank d ≡ rank n = ap rank e in
+    omega arith) (λ ne. let r = is_highest rank n d (omega arith) in omega arith)
 
-module _ (words stride : ℕ) (s : State (Unit {0}) View) (r : Kept words stride s) (none_refers : (c : ℕ) → total (refs c) s.views ≡ 0) (none_builds : (c : ℕ) → 0 < c → total (builds c) s.views ≡ 0) where
-  -- a live block has a child of a higher rank, and so on
-  climbs : (k c : ℕ) → IsBlock words stride c → highest r.rank words < r.rank c + k → get_or s.words c 0 ≡ 0
+module _ (words stride : ℕ) (s : State (Unit {0}) View) (r : Kept words stride s)
+    (none_refers : (c : ℕ) → total (refs c) s.views ≡ 0) (none_builds : (c : ℕ) → 0 < c
+    → total (builds c) s.views ≡ 0) where
+  -- a live segment has a child of a higher rank, and so on
+  climbs : (k c : ℕ) → IsSegment words stride c → highest r.rank words < r.rank c + k
+      → get_or s.words c 0 ≡ 0
   climbs zero c b far = let i = b.2 in let h = is_highest r.rank words c i in absurd (omega arith)
-  climbs (suc k) c b far = let n = r.counted c b in let pos = b.0 in dite (ℕ_discrete (get_or s.words c 0) 0) (λ e. e) (λ ne.
+  climbs (suc k) c b far = let n = r.counted c b in let pos = b.0 in
+      dite (ℕ_discrete (get_or s.words c 0) 0) (λ e. e) (λ ne.
       let no_builder = none_builds c pos in let none_ref = none_refers c in
-      let not_building : get_or s.words c 0 ≢ building = λ e. let q = (n.0 e).1 in omega arith in let is = (n.1 not_building).0 in
+      let not_building : get_or s.words c 0 ≢ building = λ e. let q = (n.0 e).1 in omega arith in
+      let is = (n.1 not_building).0 in
       let t = total_some (is_at c) r.ups (omega arith) in let d : ℕ = t.0 in let above = t.3 in
-      let up : t.1 ≡ c = dite (ℕ_discrete t.1 c) (λ e. e) (λ other. let z = is_at_other c t.1 other in absurd (omega arith)) in
-      let here : get_elem? r.ups d ≡ some c = t.2 ∙ ap some up in let rk = r.ranked d c here pos in let rk' = rk.0 in
-      let dead = climbs k d rk.1 (omega arith) in let bare = (r.counted d rk.1).2 (inl dead) in let z : c ≡ 0 = some-injective c 0 (sym here ∙ bare) in absurd (omega arith))
+      let up : t.1 ≡ c = dite (ℕ_discrete t.1 c) (λ e. e) (λ other. let z =
+      is_at_other c t.1 other in absurd (omega arith)) in
+      let here : get_elem? r.ups d ≡ some c = t.2 ∙ ap some up in let rk = r.ranked d c here pos in
+      let rk' = rk.0 in
+      let dead = climbs k d rk.1 (omega arith) in let bare = (r.counted d rk.1).2 (inl dead) in
+      let z : c ≡ 0 = some-injective c 0 (sym here ∙ bare) in absurd (omega arith))
 
-pub closes : (words stride : ℕ) (s : State (Unit {0}) View) → Kept words stride s → (id : ℕ) (v : View) → get_elem? s.views id ≡ some v → v.chain ≡ [] → v.build ≡ 0 → total held s.views ≡ held v
-    → (c : ℕ) → IsBlock words stride c → get_or s.words c 0 ≡ 0
+pub closes : (words stride : ℕ) (s : State (Unit {0}) View) → Kept words stride s
+    → (id : ℕ) (v : View) → get_elem? s.views id ≡ some v → v.chain ≡ [] → v.build ≡ 0
+    → total held s.views ≡ held v
+    → (c : ℕ) → IsSegment words stride c → get_or s.words c 0 ≡ 0
 closes words stride s r id v at no_chain no_build alone c b = climbs words stride s r
-    (λ d. total_zero (refs d) s.views (λ j u e. ap (λ (es : List Entry). refs_in d es u.extra) (idles j u e).0))
-    (λ d dp. total_zero (builds d) s.views (λ j u e. ap (is_at d) (idles j u e).1 ∙ is_at_other d 0 (λ q. omega arith)))
+    (λ d. total_zero (refs d) s.views
+    (λ j u e. ap (λ (es : List Entry). refs_in d es u.extra) (idles j u e).0))
+    (λ d dp. total_zero (builds d) s.views (λ j u e. ap (is_at d) (idles j u e).1
+    ∙ is_at_other d 0 (λ q. omega arith)))
     (suc (highest r.rank words)) c b (omega arith) where
       idles : (j : ℕ) (u : View) → get_elem? s.views j ≡ some u → (u.chain ≡ []) × (u.build ≡ 0)
       idles j u e = dite (ℕ_discrete j id)
-          (λ is. let same : v ≡ u = some-injective v u (sym at ∙ (ap (get_elem? s.views) (sym is) ∙ e)) in (subst (λ (x : View). x.chain ≡ []) same no_chain, subst (λ (x : View). x.build ≡ 0) same no_build))
-          (λ ne. (r.seats j u e).idle_is (let t = total_two held s.views id j v u ne at e in omega arith))
+          (λ is. let same : v ≡ u =
+          some-injective v u (sym at ∙ (ap (get_elem? s.views) (sym is) ∙ e)) in (
+            subst (λ (x : View). x.chain ≡ []) same no_chain,
+            subst (λ (x : View). x.build ≡ 0) same no_build,
+          ))
+          (λ ne. (r.seats j u e).idle_is (let t = total_two held s.views id j v u ne at e in
+          omega arith))
 
--- the k-th block
-nth_block : (words stride segments k : ℕ) → 1 < stride → words ≡ (segments + 1) * stride → k < segments → IsBlock words stride ((k + 1) * stride)
-nth_block words stride segments k big is h = let lo : 1 * stride ≤ (k + 1) * stride = mul-le-mul_right stride (omega arith) in
-    let hi : (k + 2) * stride ≤ (segments + 1) * stride = mul-le-mul_right stride (omega arith) in let next : (k + 2) * stride ≡ (k + 1) * stride + stride = omega arith in
+-- the k-th segment
+nth_segment : (words stride segments k : ℕ) → 1 < stride → words ≡ (segments + 1) * stride
+    → k < segments → IsSegment words stride ((k + 1) * stride)
+nth_segment words stride segments k big is h = let lo : 1 * stride ≤ (k + 1) * stride =
+    mul-le-mul_right stride (omega arith) in
+    let hi : (k + 2) * stride ≤ (segments + 1) * stride = mul-le-mul_right stride (omega arith) in
+    let next : (k + 2) * stride ≡ (k + 1) * stride + stride = omega arith in
     (omega arith, mul-mod_left (k + 1) stride, omega arith)
 
-none_live : (words stride segments : ℕ) (ws : List ℕ) → 1 < stride → words ≡ (segments + 1) * stride → ((c : ℕ) → IsBlock words stride c → get_or ws c 0 ≡ 0) → (k : ℕ) → k ≤ segments → live_blocks stride ws k ≡ 0
+none_live : (words stride segments : ℕ) (ws : List ℕ) → 1 < stride → words ≡ (segments + 1) * stride
+    → ((c : ℕ) → IsSegment words stride c → get_or ws c 0 ≡ 0) → (k : ℕ) → k ≤ segments
+    → live_segments stride ws k ≡ 0
 none_live words stride segments ws big is dead zero h = refl
-none_live words stride segments ws big is dead (suc k) h = let r = none_live words stride segments ws big is dead k (omega arith) in
-    let z = dead ((k + 1) * stride) (nth_block words stride segments k big is (omega arith)) in
-    let q : cond (eqb (get_or ws ((k + 1) * stride) 0) 0) 0 1 ≡ 0 = ap (λ (b : Bool). cond b 0 1) (eq-eqb (get_or ws ((k + 1) * stride) 0) 0 z) in (λ i. r i + q i)
+none_live words stride segments ws big is dead (suc k) h = let r =
+    none_live words stride segments ws big is dead k (omega arith) in
+    let z = dead ((k + 1) * stride) (nth_segment words stride segments k big is (omega arith)) in
+    let q : cond (eqb (get_or ws ((k + 1) * stride) 0) 0) 0 1 ≡ 0 =
+    ap (λ (b : Bool). cond b 0 1) (eq-eqb (get_or ws ((k + 1) * stride) 0) 0 z) in
+    (λ i. r i + q i)
 
-pub found_is : {A : Type 0} (l : List A) (i : ℕ) (a d : A) → get_elem? l i ≡ some a → get_or l i d ≡ a
+pub found_is : {A : Type 0} (l : List A) (i : ℕ) (a d : A) → get_elem? l i ≡ some a
+    → get_or l i d ≡ a
 found_is [] i a d e = absurd (some-ne-none a (sym e))
 found_is (x ∷ xs) zero a d e = some-injective x a e
 found_is (x ∷ xs) (suc i) a d e = found_is xs i a d e
 
 -- what `close` answers
-pub answers : (words stride segments : ℕ) → 1 < stride → words ≡ (segments + 1) * stride → (s : State (Unit {0}) View) → Kept words stride s → (id : ℕ) (v : View) → get_elem? s.views id ≡ some v → v.chain ≡ [] → v.build ≡ 0 → v.left ≡ 0
-    → (ws : List ℕ) → s.words ≡ ws → (word live : ℕ) → get_elem? ws 0 ≡ some word → live ≡ live_blocks stride ws segments
-    → (made : ℕ) × (v.holds ≤ made) × (made < 18446744073709551616 → ((word + (18446744073709551616 - v.holds)) % 18446744073709551616 ≡ made - v.holds)
+pub answers : (words stride segments : ℕ) → 1 < stride → words ≡ (segments + 1) * stride
+    → (s : State (Unit {0}) View) → Kept words stride s → (id : ℕ) (v : View)
+    → get_elem? s.views id ≡ some v → v.chain ≡ [] → v.build ≡ 0 → v.left ≡ 0
+    → (ws : List ℕ) → s.words ≡ ws → (word live : ℕ) → get_elem? ws 0 ≡ some word
+    → live ≡ live_segments stride ws segments
+    → (made : ℕ) × (v.holds ≤ made)
+    × (made < 18446744073709551616
+    → ((word + (18446744073709551616 - v.holds)) % 18446744073709551616 ≡ made - v.holds)
     × ((word + (18446744073709551616 - v.holds)) % 18446744073709551616 ≡ 0 → live ≡ 0))
-answers words stride segments big rooms s r id v at no_chain no_build none_left ws is word live w0 counts = let made : ℕ = total held s.views in let mine = total_one held s.views id v at in
-    let tally : word ≡ made % 18446744073709551616 = sym (found_is ws 0 word 0 w0) ∙ (ap (λ (l : List ℕ). get_or l 0 0) (sym is) ∙ r.tally) in (
+answers words stride segments big rooms s r id v at no_chain no_build none_left ws is word live w0
+    counts = let made : ℕ = total held s.views in let mine = total_one held s.views id v at in
+    let tally : word ≡ made % 18446744073709551616 = sym (found_is ws 0 word 0 w0)
+    ∙ (ap (λ (l : List ℕ). get_or l 0 0) (sym is) ∙ r.tally) in (
       made,
       omega arith,
       λ fits. (
         omega arith,
-        λ all. counts ∙ none_live words stride segments ws big rooms (λ c b. ap (λ (l : List ℕ). get_or l c 0) (sym is) ∙ closes words stride s r id v at no_chain no_build (omega arith) c b) segments (omega arith),
+        λ all. counts ∙ none_live words stride segments ws big rooms
+            (λ c b. ap (λ (l : List ℕ). get_or l c 0) (sym is)
+            ∙ closes words stride s r id v at no_chain no_build (omega arith) c b) segments
+            (omega arith),
       ),
     )
 
--- one more block is counted
-pub counts_next : (stride : ℕ) (ws : List ℕ) (k live x y : ℕ) → live ≡ live_blocks stride ws k → get_elem? ws ((k + 1) * stride) ≡ some x → y ≡ cond (eqb x 0) 0 1 → live + y ≡ live_blocks stride ws (k + 1)
-counts_next stride ws k live x y a found e = let q : y ≡ cond (eqb (get_or ws ((k + 1) * stride) 0) 0) 0 1 = e ∙ ap (λ (z : ℕ). cond (eqb z 0) 0 1) (sym (found_is ws ((k + 1) * stride) x 0 found)) in let next : suc k ≡ k + 1 = omega arith in (λ i. a i + q i) ∙ ap (live_blocks stride ws) next
+-- one more segment is counted
+pub counts_next : (stride : ℕ) (ws : List ℕ) (k live x y : ℕ) → live ≡ live_segments stride ws k
+    → get_elem? ws ((k + 1) * stride) ≡ some x → y ≡ cond (eqb x 0) 0 1
+    → live + y ≡ live_segments stride ws (k + 1)
+counts_next stride ws k live x y a found e =
+    let q : y ≡ cond (eqb (get_or ws ((k + 1) * stride) 0) 0) 0 1 = e
+    ∙ ap (λ (z : ℕ). cond (eqb z 0) 0 1) (sym (found_is ws ((k + 1) * stride) x 0 found)) in
+    let next : suc k ≡ k + 1 = omega arith in (λ i. a i + q i) ∙ ap (live_segments stride ws) next
 
 pub one_at_most : (b : Bool) → cond b 0 1 ≤ 1
 one_at_most true = omega arith
 one_at_most false = omega arith
 
-pub live_at_most : (stride : ℕ) (ws : List ℕ) (k : ℕ) → live_blocks stride ws k ≤ k
+pub live_at_most : (stride : ℕ) (ws : List ℕ) (k : ℕ) → live_segments stride ws k ≤ k
 live_at_most stride ws zero = omega arith
-live_at_most stride ws (suc k) = let r = live_at_most stride ws k in let q = one_at_most (eqb (get_or ws ((k + 1) * stride) 0) 0) in omega arith
+live_at_most stride ws (suc k) = let r = live_at_most stride ws k in
+    let q = one_at_most (eqb (get_or ws ((k + 1) * stride) 0) 0) in omega arith

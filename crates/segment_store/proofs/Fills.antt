@@ -1,5 +1,6 @@
--- A block is laid down word by word.
-use Rattle.std.proofs.Common.{◌≡◌, ◌≢◌, ℕ, ◌+◌, ◌<◌, Bool, cond, List, [], ◌∷◌, slice_index, sym, refl, ap, ◌∙◌, subst, arith, eq-eqb, ne_eqb, Option, None, Some}
+-- A segment is laid down word by word.
+use Rattle.std.proofs.Common.{◌≡◌, ◌≢◌, ℕ, ◌+◌, ◌<◌, Bool, cond, List, [], ◌∷◌, slice_index, sym}
+use Rattle.std.proofs.Common.{refl, ap, ◌∙◌, subst, arith, eq-eqb, ne_eqb, Option, None, Some}
 use mathlib.Core.Option as m
 use mathlib.Core.Logic.{dite}
 use native.Mathlib.Decide.{ℕ_discrete}
@@ -13,18 +14,21 @@ use Rattle.segment_store.specs.Store.{look, puts}
 use Rattle.segment_store.specs.Same.{Becomes}
 use Rattle.segment_store.specs.Base.{IsLaid, filled}
 
-pub look_here : (ps : List Put) (i j w : ℕ) → i ≡ j → look (record { at = i; word = w } ∷ ps) j ≡ m.some w
+pub look_here : (ps : List Put) (i j w : ℕ) → i ≡ j
+    → look (record { at = i; word = w } ∷ ps) j ≡ m.some w
 look_here ps i j w e = ap (λ (b : Bool). cond b (m.some w) (look ps j)) (eq-eqb i j e)
 
-pub look_else : (ps : List Put) (i j w : ℕ) → i ≢ j → look (record { at = i; word = w } ∷ ps) j ≡ look ps j
+pub look_else : (ps : List Put) (i j w : ℕ) → i ≢ j
+    → look (record { at = i; word = w } ∷ ps) j ≡ look ps j
 look_else ps i j w ne = ap (λ (b : Bool). cond b (m.some w) (look ps j)) (ne_eqb i j ne)
 
 -- the parent, the first k mask words and the values of the first l locations are laid down
-pub record Filling (block parent masks : ℕ) (d : Delta) (k l : ℕ) (made : List Put) : Type 0 where
-  pub parent_is : look made (block + 1) ≡ m.some parent
-  pub mask_is : (j : ℕ) → j < k → look made (block + (2 + j)) ≡ m.some (slice_index (mask_of d) j)
-  pub value_is : (j w : ℕ) → j < l → at d j ≡ Some w → look made (block + (2 + masks + j)) ≡ m.some w
-  pub none_is : (j : ℕ) → (j < l → at d j ≡ None) → look made (block + (2 + masks + j)) ≡ m.none
+pub record Filling (segment parent masks : ℕ) (d : Delta) (k l : ℕ) (made : List Put) : Type 0 where
+  pub parent_is : look made (segment + 1) ≡ m.some parent
+  pub mask_is : (j : ℕ) → j < k → look made (segment + (2 + j)) ≡ m.some (slice_index (mask_of d) j)
+  pub value_is : (j w : ℕ) → j < l → at d j ≡ Some w
+      → look made (segment + (2 + masks + j)) ≡ m.some w
+  pub none_is : (j : ℕ) → (j < l → at d j ≡ None) → look made (segment + (2 + masks + j)) ≡ m.none
 
 pub none_some : {A : Type 0} (w : A) (o : Option A) → o ≡ None → o ≡ Some w → ⊥
 none_some {A} w o p q = subst is_none (sym p ∙ q) tt where
@@ -32,35 +36,50 @@ none_some {A} w o p q = subst is_none (sym p ∙ q) tt where
   is_none None = Unit {0}
   is_none (Some x) = ⊥
 
-module _ (block parent masks : ℕ) (d : Delta) where
-  pub filling_starts : (made : List Put) → made ≡ [] → Filling block parent masks d 0 0 (record { at = block + 1; word = parent } ∷ made)
+module _ (segment parent masks : ℕ) (d : Delta) where
+  pub filling_starts : (made : List Put) → made ≡ []
+      → Filling segment parent masks d 0 0 (record { at = segment + 1; word = parent } ∷ made)
   filling_starts made e = record {
-    parent_is = look_here made (block + 1) (block + 1) parent refl;
+    parent_is = look_here made (segment + 1) (segment + 1) parent refl;
     mask_is = λ j h. absurd (omega arith);
     value_is = λ j w h. absurd (omega arith);
-    none_is = λ j h. look_else made (block + 1) (block + (2 + masks + j)) parent (λ q. omega arith) ∙ ap (λ (ps : List Put). look ps (block + (2 + masks + j))) e;
+    none_is = λ j h. look_else made (segment + 1) (segment + (2 + masks + j)) parent
+        (λ q. omega arith) ∙ ap (λ (ps : List Put). look ps (segment + (2 + masks + j))) e;
   }
 
-  pub filling_mask : (k : ℕ) (made : List Put) → Filling block parent masks d k 0 made → k < masks → Filling block parent masks d (k + 1) 0 (record { at = block + (2 + k); word = slice_index (mask_of d) k } ∷ made)
+  pub filling_mask : (k : ℕ) (made : List Put) → Filling segment parent masks d k 0 made → k < masks
+      → Filling segment parent masks d (k + 1) 0
+      (record { at = segment + (2 + k); word = slice_index (mask_of d) k } ∷ made)
   filling_mask k made f h = let w : ℕ = slice_index (mask_of d) k in record {
-    parent_is = look_else made (block + (2 + k)) (block + 1) w (λ q. omega arith) ∙ f.parent_is;
+    parent_is = look_else made (segment + (2 + k)) (segment + 1) w (λ q. omega arith) ∙ f.parent_is;
     mask_is = λ j lt. dite (ℕ_discrete j k)
-        (λ is. look_here made (block + (2 + k)) (block + (2 + j)) w (omega arith) ∙ ap (λ (z : ℕ). m.some (slice_index (mask_of d) z)) (sym is))
-        (λ ne. look_else made (block + (2 + k)) (block + (2 + j)) w (λ q. ne (omega arith)) ∙ f.mask_is j (omega arith));
+        (λ is. look_here made (segment + (2 + k)) (segment + (2 + j)) w (omega arith)
+        ∙ ap (λ (z : ℕ). m.some (slice_index (mask_of d) z)) (sym is))
+        (λ ne. look_else made (segment + (2 + k)) (segment + (2 + j)) w (λ q. ne (omega arith))
+        ∙ f.mask_is j (omega arith));
     value_is = λ j x lt. absurd (omega arith);
-    none_is = λ j z. look_else made (block + (2 + k)) (block + (2 + masks + j)) w (λ q. omega arith) ∙ f.none_is j z;
+    none_is = λ j z. look_else made (segment + (2 + k)) (segment + (2 + masks + j)) w
+        (λ q. omega arith) ∙ f.none_is j z;
   }
 
-  pub filling_value : (l w : ℕ) (made : List Put) → Filling block parent masks d masks l made → at d l ≡ Some w → Filling block parent masks d masks (l + 1) (record { at = block + (2 + masks + l); word = w } ∷ made)
+  pub filling_value : (l w : ℕ) (made : List Put) → Filling segment parent masks d masks l made
+      → at d l ≡ Some w
+      → Filling segment parent masks d masks (l + 1)
+      (record { at = segment + (2 + masks + l); word = w } ∷ made)
   filling_value l w made f is_some = record {
-    parent_is = look_else made (block + (2 + masks + l)) (block + 1) w (λ q. omega arith) ∙ f.parent_is;
-    mask_is = λ j lt. look_else made (block + (2 + masks + l)) (block + (2 + j)) w (λ q. omega arith) ∙ f.mask_is j lt;
+    parent_is = look_else made (segment + (2 + masks + l)) (segment + 1) w (λ q. omega arith)
+        ∙ f.parent_is;
+    mask_is = λ j lt. look_else made (segment + (2 + masks + l)) (segment + (2 + j)) w
+        (λ q. omega arith) ∙ f.mask_is j lt;
     value_is = λ j x lt e. dite (ℕ_discrete j l)
-        (λ is. look_here made (block + (2 + masks + l)) (block + (2 + masks + j)) w (omega arith) ∙ ap m.some (same w x (sym is_some ∙ (ap (at d) (sym is) ∙ e))))
-        (λ ne. look_else made (block + (2 + masks + l)) (block + (2 + masks + j)) w (λ q. ne (omega arith)) ∙ f.value_is j x (omega arith) e);
+        (λ is. look_here made (segment + (2 + masks + l)) (segment + (2 + masks + j)) w
+        (omega arith) ∙ ap m.some (same w x (sym is_some ∙ (ap (at d) (sym is) ∙ e))))
+        (λ ne. look_else made (segment + (2 + masks + l)) (segment + (2 + masks + j)) w
+        (λ q. ne (omega arith)) ∙ f.value_is j x (omega arith) e);
     none_is = λ j z. dite (ℕ_discrete j l)
         (λ is. absurd (none_some w (at d j) (z (omega arith)) (ap (at d) is ∙ is_some)))
-        (λ ne. look_else made (block + (2 + masks + l)) (block + (2 + masks + j)) w (λ q. ne (omega arith)) ∙ f.none_is j (λ lt. z (omega arith)));
+        (λ ne. look_else made (segment + (2 + masks + l)) (segment + (2 + masks + j)) w
+        (λ q. ne (omega arith)) ∙ f.none_is j (λ lt. z (omega arith)));
   } where
     same : (a b : ℕ) → Some a ≡ Some b → a ≡ b
     same a b e = ap (λ (o : Option ℕ). or_zero o) e where
@@ -68,7 +87,8 @@ module _ (block parent masks : ℕ) (d : Delta) where
       or_zero None = 0
       or_zero (Some x) = x
 
-  pub filling_skips : (l : ℕ) (made : List Put) → Filling block parent masks d masks l made → at d l ≡ None → Filling block parent masks d masks (l + 1) made
+  pub filling_skips : (l : ℕ) (made : List Put) → Filling segment parent masks d masks l made
+      → at d l ≡ None → Filling segment parent masks d masks (l + 1) made
   filling_skips l made f is_none = record {
     parent_is = f.parent_is;
     mask_is = f.mask_is;
@@ -78,7 +98,8 @@ module _ (block parent masks : ℕ) (d : Delta) where
     none_is = λ j z. f.none_is j (λ lt. z (omega arith));
   }
 
-  pub filled_whole : (stride n : ℕ) (made : List Put) → stride ≡ 2 + masks + n → Filling block parent masks d masks n made → IsLaid block parent stride masks d made
+  pub filled_whole : (stride n : ℕ) (made : List Put) → stride ≡ 2 + masks + n
+      → Filling segment parent masks d masks n made → IsLaid segment parent stride masks d made
   filled_whole stride n made is f = record {
     parent_is = f.parent_is;
     mask_is = f.mask_is;
@@ -87,13 +108,17 @@ module _ (block parent masks : ℕ) (d : Delta) where
   }
 
 -- one more word
-pub puts_more : (s t u : Seat (Unit {0}) View) (i w : ℕ) → Becomes s t (filled s.me.0 t.me.0.made) → Becomes t u (puts t.me.0 i w)
-    → Becomes s u (filled s.me.0 u.me.0.made) × (record { at = i; word = w } ∷ t.me.0.made ≡ u.me.0.made)
-puts_more s t u i w a b = let made : u.me.0.made ≡ record { at = i; word = w } ∷ t.me.0.made = ap (λ (x : Me (Unit {0}) View). x.0.made) b.2 in (
-  (
-    b.0 ∙ a.0,
-    b.1 ∙ a.1,
-    b.2 ∙ (ap (λ (x : Me (Unit {0}) View). (puts x.0 i w, x.1)) a.2 ∙ ap (λ (ps : List Put). (filled s.me.0 ps, s.me.1)) (sym made)),
-  ),
-  sym made,
-)
+pub puts_more : (s t u : Seat (Unit {0}) View) (i w : ℕ) → Becomes s t (filled s.me.0 t.me.0.made)
+    → Becomes t u (puts t.me.0 i w)
+    → Becomes s u (filled s.me.0 u.me.0.made)
+    × (record { at = i; word = w } ∷ t.me.0.made ≡ u.me.0.made)
+puts_more s t u i w a b = let made : u.me.0.made ≡ record { at = i; word = w } ∷ t.me.0.made =
+    ap (λ (x : Me (Unit {0}) View). x.0.made) b.2 in (
+      (
+        b.0 ∙ a.0,
+        b.1 ∙ a.1,
+        b.2 ∙ (ap (λ (x : Me (Unit {0}) View). (puts x.0 i w, x.1)) a.2
+            ∙ ap (λ (ps : List Put). (filled s.me.0 ps, s.me.1)) (sym made)),
+      ),
+      sym made,
+    )

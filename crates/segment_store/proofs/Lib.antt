@@ -2,6 +2,7 @@ pub mod Sums
 pub mod Frames
 pub mod Depths
 pub mod Keeps
+pub mod Cuts
 pub mod Closes
 pub mod Walk
 pub mod Fills

@@ -1,5 +1,6 @@
--- Sums over the views, words by block and offset, and chains.
-use Rattle.std.proofs.Common.{◌≡◌, ℕ, zero, suc, ◌+◌, ◌%◌, ◌<◌, ◌≤◌, ◌≢◌, Bool, cond, List, [], ◌∷◌, ◌++◌, set, sym, refl, ap, ◌∙◌, subst, arith, ⊎_elim, eq-eqb, ne_eqb}
+-- Sums over the views, words by segment and offset, and chains.
+use Rattle.std.proofs.Common.{◌≡◌, ℕ, zero, suc, ◌+◌, ◌%◌, ◌<◌, ◌≤◌, ◌≢◌, Bool, cond, List, [], ◌∷◌}
+use Rattle.std.proofs.Common.{◌++◌, set, sym, refl, ap, ◌∙◌, subst, arith, ⊎_elim, eq-eqb, ne_eqb}
 use mathlib.Core.Option.{some, some-injective, some-ne-none}
 use mathlib.Core.Logic.{dite}
 use native.Mathlib.Decide.{dec_le}
@@ -9,7 +10,8 @@ use Rattle.atomic_table.proofs.Lists.{one_turn}
 use Rattle.segment_store.specs.Store.{total, first_of, refs_in, is_at, Chain, Has}
 
 module _ {A : Type 0} (f : A → ℕ) where
-  pub total_set : (l : List A) (i : ℕ) (v w : A) → get_elem? l i ≡ some v → total f (set l i w) + f v ≡ total f l + f w
+  pub total_set : (l : List A) (i : ℕ) (v w : A) → get_elem? l i ≡ some v
+      → total f (set l i w) + f v ≡ total f l + f w
   total_set [] i v w e = absurd (some-ne-none v (sym e))
   total_set (x ∷ xs) zero v w e = let is : f x ≡ f v = ap f (some-injective x v e) in omega arith
   total_set (x ∷ xs) (suc i) v w e = let r = total_set xs i v w e in omega arith
@@ -23,12 +25,16 @@ module _ {A : Type 0} (f : A → ℕ) where
   total_one (x ∷ xs) zero v e = let is : f x ≡ f v = ap f (some-injective x v e) in omega arith
   total_one (x ∷ xs) (suc i) v e = let r = total_one xs i v e in omega arith
 
-  pub total_two : (l : List A) (i j : ℕ) (v w : A) → j ≢ i → get_elem? l i ≡ some v → get_elem? l j ≡ some w → f v + f w ≤ total f l
+  pub total_two : (l : List A) (i j : ℕ) (v w : A) → j ≢ i → get_elem? l i ≡ some v
+      → get_elem? l j ≡ some w → f v + f w ≤ total f l
   total_two [] i j v w n e d = absurd (some-ne-none v (sym e))
   total_two (x ∷ xs) zero zero v w n e d = absurd (n refl)
-  total_two (x ∷ xs) zero (suc j) v w n e d = let is : f x ≡ f v = ap f (some-injective x v e) in let r = total_one xs j w d in omega arith
-  total_two (x ∷ xs) (suc i) zero v w n e d = let is : f x ≡ f w = ap f (some-injective x w d) in let r = total_one xs i v e in omega arith
-  total_two (x ∷ xs) (suc i) (suc j) v w n e d = let r = total_two xs i j v w (λ h. n (ap suc h)) e d in omega arith
+  total_two (x ∷ xs) zero (suc j) v w n e d = let is : f x ≡ f v = ap f (some-injective x v e) in
+      let r = total_one xs j w d in omega arith
+  total_two (x ∷ xs) (suc i) zero v w n e d = let is : f x ≡ f w = ap f (some-injective x w d) in
+      let r = total_one xs i v e in omega arith
+  total_two (x ∷ xs) (suc i) (suc j) v w n e d = let r =
+      total_two xs i j v w (λ h. n (ap suc h)) e d in omega arith
 
 pub is_at_same : (k : ℕ) → is_at k k ≡ 1
 is_at_same k = let f : Bool → ℕ = λ b. cond b 1 0 in ap f (eq-eqb k k refl)
@@ -36,8 +42,9 @@ is_at_same k = let f : Bool → ℕ = λ b. cond b 1 0 in ap f (eq-eqb k k refl)
 pub is_at_other : (k p : ℕ) → p ≢ k → is_at k p ≡ 0
 is_at_other k p n = let f : Bool → ℕ = λ b. cond b 1 0 in ap f (ne_eqb p k n)
 
--- a chain that begins with the block c refers to it
-pub refs_is : (c x : ℕ) (es : List Entry) → 0 < first_of es → first_of es ≡ c → refs_in c es x ≡ 1 + x
+-- a chain that begins with the segment c refers to it
+pub refs_is : (c x : ℕ) (es : List Entry) → 0 < first_of es → first_of es ≡ c
+    → refs_in c es x ≡ 1 + x
 refs_is c x [] h e = absurd (omega arith)
 refs_is c x (a ∷ more) h e = subst (λ b. cond b (1 + x) 0 ≡ 1 + x) (sym (eq-eqb a.seg c e)) refl
 
@@ -47,24 +54,35 @@ refs_not c x (a ∷ more) n = subst (λ b. cond b (1 + x) 0 ≡ 0) (sym (ne_eqb 
 
 pub refs_none : (c x : ℕ) (es : List Entry) → 0 < c → refs_in c es x ≡ 0 → first_of es ≢ c
 refs_none c x [] h e n = omega arith
-refs_none c x (a ∷ more) h e n = let is = subst (λ b. cond b (1 + x) 0 ≡ 0) (eq-eqb a.seg c n) e in omega arith
+refs_none c x (a ∷ more) h e n = let is = subst (λ b. cond b (1 + x) 0 ≡ 0) (eq-eqb a.seg c n) e in
+    omega arith
 
--- two blocks that share a word are one
-pub one_block : (c d i n : ℕ) → c % n ≡ 0 → d % n ≡ 0 → c ≤ i → i < c + n → d ≤ i → i < d + n → c ≡ d
-one_block c d i n hc hd a b x y = dite (dec_le c d)
+-- two segments that share a word are one
+pub one_segment : (c d i n : ℕ) → c % n ≡ 0 → d % n ≡ 0 → c ≤ i → i < c + n → d ≤ i → i < d + n
+    → c ≡ d
+one_segment c d i n hc hd a b x y = dite (dec_le c d)
     (λ h. one_turn c d n h (omega arith) (hc ∙ sym hd))
     (λ h. sym (one_turn d c n (omega arith) (omega arith) (hd ∙ sym hc)))
 
 module _ (words stride : ℕ) where
-  pub chain_map : (B C : Entry → Type 0) → ((e : Entry) → B e → C e) → (es : List Entry) → Chain words stride B es → Chain words stride C es
+  pub chain_map : (B C : Entry → Type 0) → ((e : Entry) → B e → C e) → (es : List Entry)
+      → Chain words stride B es → Chain words stride C es
   chain_map B C keep [] c = tt
   chain_map B C keep (e ∷ es) c = (keep e c.0, c.1, chain_map B C keep es c.2)
 
-  -- a chain that does not begin with c, where no block has c for its parent
-  pub chain_keeps : (B C : Entry → Type 0) (c : ℕ) → ((e : Entry) → B e → e.up ≢ c) → ((e : Entry) → e.seg ≢ c → B e → C e) → (es : List Entry) → first_of es ≢ c → Chain words stride B es → Chain words stride C es
+  -- a chain that does not begin with c, where no segment has c for its parent
+  pub chain_keeps : (B C : Entry → Type 0) (c : ℕ) → ((e : Entry) → B e → e.up ≢ c)
+      → ((e : Entry) → e.seg ≢ c → B e → C e) → (es : List Entry) → first_of es ≢ c
+      → Chain words stride B es → Chain words stride C es
   chain_keeps B C c none_up keep [] n h = tt
-  chain_keeps B C c none_up keep (e ∷ es) n h = (keep e n h.0, h.1, chain_keeps B C c none_up keep es (λ q. none_up e h.0 (h.1 ∙ q)) h.2)
+  chain_keeps B C c none_up keep (e ∷ es) n h = (
+    keep e n h.0,
+    h.1,
+    chain_keeps B C c none_up keep es (λ q. none_up e h.0 (h.1 ∙ q)) h.2,
+  )
 
-  pub chain_has : (B : Entry → Type 0) (es : List Entry) (e : Entry) → Chain words stride B es → Has e es → B e
+  pub chain_has : (B : Entry → Type 0) (es : List Entry) (e : Entry) → Chain words stride B es
+      → Has e es → B e
   chain_has B [] e h at = absurd at
-  chain_has B (x ∷ xs) e h at = ⊎_elim (λ (q : x ≡ e). subst B q h.0) (λ q. chain_has B xs e h.2 q) at
+  chain_has B (x ∷ xs) e h at = ⊎_elim (λ (q : x ≡ e). subst B q h.0) (λ q. chain_has B xs e h.2 q)
+      at

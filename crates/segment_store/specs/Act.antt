@@ -1,5 +1,5 @@
 -- What a seat has done to the core, without its own number: the steps but Put, which stands in what
--- the view says of the block that it builds.
+-- the view says of the segment that it builds.
 --   acts s         what the step s does
 --   acts_of i ss   what the holder i does in the steps ss
 use Rattle.std.proofs.Common.{◌≡◌, ℕ, zero, suc, List, [], ◌∷◌, ◌++◌, cond, eqb, refl, sym, ap, ◌∙◌}
@@ -40,7 +40,8 @@ kind_back (release c) = refl
 kind_back (collapse c) = refl
 
 abbrev pub act_coded : Coded Act
-act_coded = coded_via (coded× coded_ℕ coded_ℕ) kind (λ x y e. sym (kind_back x) ∙ (ap (λ (p : ℕ × ℕ). of_kind p.0 p.1) e ∙ kind_back y))
+act_coded = coded_via (coded× coded_ℕ coded_ℕ) kind (λ x y e. sym (kind_back x)
+    ∙ (ap (λ (p : ℕ × ℕ). of_kind p.0 p.1) e ∙ kind_back y))
 
 abbrev pub acts : core.CoreStep → List Act
 acts (core.claim h c) = claim c ∷ []

@@ -1,6 +1,8 @@
--- What a chain of blocks says of each location.
--- A block has its count, its parent, a row of mask words with a bit for each location, and a word for each location.
-use Rattle.std.specs.Prelude.{◌≡◌, ℕ, ◌+◌, ◌<◌, ◌≤◌, length, List, [], ◌∷◌, ◌++◌, slice_index, cond, ◌==◌, ◌%◌, ◌/◌, ◌-◌, Option, None, Some, ◌⊎◌}
+-- What a chain of segments says of each location.
+-- A segment has its count, its parent, a row of mask words with a bit for each location, and a word
+-- for each location.
+use Rattle.std.specs.Prelude.{◌≡◌, ℕ, ◌+◌, ◌<◌, ◌≤◌, length, List, [], ◌∷◌, ◌++◌, slice_index, cond}
+use Rattle.std.specs.Prelude.{◌==◌, ◌%◌, ◌/◌, ◌-◌, Option, None, Some, ◌⊎◌}
 use Rattle.std.specs.Int.{bit_at}
 use mathlib.Core.Option as m
 use Rattle.version_map.specs.declared.delta.Delta.{Delta}
@@ -9,7 +11,7 @@ use Rattle.version_map.specs.Overlay.{under}
 use Rattle.version_map.specs.Deltas.{at, mask_of}
 use Rattle.segment_store.specs.Entry.{Put, Entry, Look}
 use Rattle.segment_store.specs.declared.board.View.{View}
-use Rattle.segment_store.specs.Store.{look, first_of, Has, IsBlock}
+use Rattle.segment_store.specs.Store.{look, first_of, sees, pops, Has, IsSegment}
 
 abbrev pub known_or : m.Option ℕ → ℕ
 known_or (m.some w) = w
@@ -18,32 +20,35 @@ known_or m.none = 0
 abbrev pub word_of : Entry → ℕ → ℕ
 word_of e i = known_or (look e.body (e.seg + i))
 
--- the bit of the location l in the block's mask
+-- the bit of the location l in the segment's mask
 abbrev pub bit_of : Entry → ℕ → ℕ
 bit_of e l = bit_at (word_of e (2 + l / 64)) (l % 64)
 
 -- the value of the location l
 abbrev pub value : ℕ → List ℕ → List Entry → ℕ → ℕ
 value masks root [] l = slice_index root l
-value masks root (e ∷ es) l = cond (bit_of e l == 1) (word_of e (2 + masks + l)) (value masks root es l)
+value masks root (e ∷ es) l = cond (bit_of e l == 1) (word_of e (2 + masks + l))
+    (value masks root es l)
 
 abbrev pub Known : Entry → ℕ → Type 0
 Known e i = look e.body (e.seg + i) ≡ m.some (word_of e i)
 
 -- the parent, the mask and each value whose bit is set are known
 pub record Whole (words stride masks : ℕ) (e : Entry) : Type 0 where
-  pub block : IsBlock words stride e.seg
+  pub segment : IsSegment words stride e.seg
   pub room : e.seg + stride ≤ words
   pub header : (i : ℕ) → 0 < i → i < 2 + masks → Known e i
   pub values : (l : ℕ) → 2 + masks + l < stride → bit_of e l ≡ 1 → Known e (2 + masks + l)
 
 abbrev pub Sound : ℕ → ℕ → ℕ → List Entry → Type 0
 Sound words stride masks [] = Unit {0}
-Sound words stride masks (e ∷ es) = Whole words stride masks e × (word_of e 1 ≡ first_of es) × Sound words stride masks es
+Sound words stride masks (e ∷ es) = Whole words stride masks e × (word_of e 1 ≡ first_of es)
+    × Sound words stride masks es
 
 -- the same with no recursion, as a type's fact needs it
 abbrev pub AllWhole : ℕ → ℕ → ℕ → List Entry → Type 0
-AllWhole words stride masks es = (e : Entry) (before after : List Entry) → es ≡ before ++ e ∷ after → Whole words stride masks e × (word_of e 1 ≡ first_of after)
+AllWhole words stride masks es = (e : Entry) (before after : List Entry) → es ≡ before ++ e ∷ after
+    → Whole words stride masks e × (word_of e 1 ≡ first_of after)
 
 -- a hold between two calls
 pub record Rests (words stride masks first depth : ℕ) (v : View) : Type 0 where
@@ -56,12 +61,15 @@ pub record Rests (words stride masks first depth : ℕ) (v : View) : Type 0 wher
   pub deep : depth ≡ length v.chain
   pub whole : AllWhole words stride masks v.chain
 
--- the words that were put in a block are this parent and this delta, and no others
-pub record IsLaid (block parent stride masks : ℕ) (d : Delta) (made : List Put) : Type 0 where
-  pub parent_is : look made (block + 1) ≡ m.some parent
-  pub mask_is : (k : ℕ) → k < masks → look made (block + (2 + k)) ≡ m.some (slice_index (mask_of d) k)
-  pub value_is : (l w : ℕ) → 2 + masks + l < stride → at d l ≡ Some w → look made (block + (2 + masks + l)) ≡ m.some w
-  pub none_is : (l : ℕ) → 2 + masks + l < stride → at d l ≡ None → look made (block + (2 + masks + l)) ≡ m.none
+-- the words that were put in a segment are this parent and this delta, and no others
+pub record IsLaid (segment parent stride masks : ℕ) (d : Delta) (made : List Put) : Type 0 where
+  pub parent_is : look made (segment + 1) ≡ m.some parent
+  pub mask_is : (k : ℕ) → k < masks
+      → look made (segment + (2 + k)) ≡ m.some (slice_index (mask_of d) k)
+  pub value_is : (l w : ℕ) → 2 + masks + l < stride → at d l ≡ Some w
+      → look made (segment + (2 + masks + l)) ≡ m.some w
+  pub none_is : (l : ℕ) → 2 + masks + l < stride → at d l ≡ None
+      → look made (segment + (2 + masks + l)) ≡ m.none
 
 abbrev pub filled : View → List Put → View
 filled v made = record v { made = made }
@@ -69,12 +77,14 @@ filled v made = record v { made = made }
 abbrev pub logged : View → List Look → View
 logged v log = record v { log = log }
 
--- a fork by a new block
-pub record Forked (root : List ℕ) (words stride masks block depth : ℕ) (d : Delta) (v w child : View) : Type 0 where
-  pub parent_rests : Rests words stride masks block (depth + 1) w
-  pub child_rests : Rests words stride masks block (depth + 1) child
+-- a fork by a new segment
+pub record Forked (root : List ℕ) (words stride masks segment depth : ℕ) (d : Delta)
+    (v w child : View) : Type 0 where
+  pub parent_rests : Rests words stride masks segment (depth + 1) w
+  pub child_rests : Rests words stride masks segment (depth + 1) child
   pub one_chain : child.chain ≡ w.chain
-  pub base : (l : ℕ) → 2 + masks + l < stride → value masks root w.chain l ≡ under d (value masks root v.chain) l
+  pub base : (l : ℕ) → 2 + masks + l < stride
+      → value masks root w.chain l ≡ under d (value masks root v.chain) l
 
 -- a value under a delta's own
 abbrev pub absorbed : ℕ → Entry → Option ℕ → ℕ → Option ℕ
@@ -82,26 +92,33 @@ absorbed masks e (Some w) l = Some w
 absorbed masks e None l = chosen (bit_of e l) (word_of e (2 + masks + l))
 
 abbrev pub IsTaken : ℕ → ℕ → ℕ → ℕ → ℕ → List Entry → Option ℕ → Option ℕ → Type 0
-IsTaken words stride masks block l chain old new = (e : Entry) → Has e chain → block ≡ e.seg → Whole words stride masks e → new ≡ absorbed masks e old l
+IsTaken words stride masks segment l chain old new = (e : Entry) → Has e chain → segment ≡ e.seg
+    → Whole words stride masks e → new ≡ absorbed masks e old l
 
--- after the first block was given up
-pub record Popped (root : List ℕ) (words stride masks up depth : ℕ) (old new : Delta) (v w : View) : Type 0 where
+-- after the first segment was given up
+pub record Popped (root : List ℕ) (words stride masks up depth : ℕ) (old new : Delta)
+    (v w : View) : Type 0 where
   pub rests : Rests words stride masks up (depth - 1) w
   pub some_depth : 0 < depth
-  pub base : (l : ℕ) → 2 + masks + l < stride → under new (value masks root w.chain) l ≡ under old (value masks root v.chain) l
+  pub view : w ≡ pops (sees v)
+  pub values : (e : Entry) (more : List Entry) → v.chain ≡ e ∷ more → (l : ℕ)
+      → 2 + masks + l < stride → at new l ≡ absorbed masks e (at old l) l
+  pub base : (l : ℕ) → 2 + masks + l < stride
+      → under new (value masks root w.chain) l ≡ under old (value masks root v.chain) l
 
--- a fork of the first block with no new one
+-- a fork of the first segment with no new one
 pub record IsShared (words stride masks first depth : ℕ) (v w child : View) : Type 0 where
   pub parent_rests : Rests words stride masks first depth w
   pub child_rests : Rests words stride masks first depth child
   pub same : w.chain ≡ v.chain
   pub one_chain : child.chain ≡ v.chain
 
--- a look found the block's count not 0
+-- a look found the segment's count not 0
 abbrev pub Found : ℕ → List Look → Type 0
 Found c [] = ⊥
-Found c (x ∷ xs) = ((x.block ≡ c) × (0 < x.count)) ⊎ Found c xs
+Found c (x ∷ xs) = ((x.segment ≡ c) × (0 < x.count)) ⊎ Found c xs
 
--- between two logs every block's count was found, and none was 0
+-- between two logs every segment's count was found, and none was 0
 abbrev pub FoundAll : ℕ → ℕ → List Look → List Look → Type 0
-FoundAll words stride old new = (seen : List Look) × (new ≡ seen ++ old) × ((c : ℕ) → IsBlock words stride c → Found c seen)
+FoundAll words stride old new = (seen : List Look) × (new ≡ seen ++ old)
+    × ((c : ℕ) → IsSegment words stride c → Found c seen)

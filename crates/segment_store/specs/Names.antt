@@ -1,16 +1,62 @@
 -- A hold and its store.
-use Rattle.std.specs.Prelude.{◌≡◌, ℕ}
+use Rattle.std.specs.Prelude.{◌≡◌, ℕ, ◌<◌, List, ◌∷◌, vec_len, Option}
+use Rattle.atomic_table.specs.declared.shared.Seat.{Seat}
+use Rattle.version_map.specs.declared.delta.Delta.{Delta}
+use Rattle.version_map.specs.Deltas.{at, locations}
+use Rattle.segment_store.specs.declared.board.View.{View}
+use Rattle.segment_store.specs.Entry.{Entry, Look}
+use Rattle.segment_store.specs.Store.{sees, pops, IsSegment}
 use Rattle.segment_store.specs.declared.store.Store.{Store}
 use Rattle.segment_store.specs.declared.store.Hold.{Hold}
 use Rattle.segment_store.specs.Own.{root_in}
-use Rattle.segment_store.specs.Base.{value}
+use Rattle.segment_store.specs.Base.{value, absorbed, Sound, Rests, Forked, IsTaken, Popped}
+use Rattle.segment_store.specs.Base.{IsShared, FoundAll}
 
 abbrev pub IsOf : Store → Hold → Type 0
 IsOf s h = (h.seat.table_id ≡ s.table.shared.table_id) × (h.stride ≡ s.stride) × (h.masks ≡ s.masks)
 
+abbrev pub IsSeatOf : Store → Seat (Unit {0}) View → Type 0
+IsSeatOf s seat = seat.table_id ≡ s.table.shared.table_id
+
+-- a delta with a place for each of its locations
+abbrev pub IsDeltaOf : Store → Delta → Type 0
+IsDeltaOf s d = locations d ≡ vec_len s.initial
+
 abbrev pub IsSameHold : Hold → Hold → Type 0
 IsSameHold h k = (k.seat.me.0.chain ≡ h.seat.me.0.chain) × (k.own ≡ h.own)
+
+-- what is said of this store's words
+abbrev pub IsSegmentIn : Store → ℕ → Type 0
+IsSegmentIn s c = IsSegment s.words s.stride c
+
+abbrev pub SoundIn : Store → List Entry → Type 0
+SoundIn s es = Sound s.words s.stride s.masks es
+
+abbrev pub RestsIn : Store → ℕ → ℕ → View → Type 0
+RestsIn s first depth v = Rests s.words s.stride s.masks first depth v
+
+abbrev pub FoundAllIn : Store → List Look → List Look → Type 0
+FoundAllIn s old new = FoundAll s.words s.stride old new
+
+abbrev pub ForkedIn : Store → List ℕ → ℕ → ℕ → Delta → View → View → View → Type 0
+ForkedIn s root segment depth d v w child =
+    Forked root s.words s.stride s.masks segment depth d v w child
+
+abbrev pub IsSharedIn : Store → ℕ → ℕ → View → View → View → Type 0
+IsSharedIn s first depth v w child = IsShared s.words s.stride s.masks first depth v w child
+
+abbrev pub IsTakenIn : Store → ℕ → ℕ → List Entry → Option ℕ → Option ℕ → Type 0
+IsTakenIn s segment l chain old new = IsTaken s.words s.stride s.masks segment l chain old new
+
+abbrev pub PoppedIn : Store → List ℕ → ℕ → ℕ → Delta → Delta → View → View → Type 0
+PoppedIn s root up depth old new v w = Popped root s.words s.stride s.masks up depth old new v w
 
 -- the base of the hold: its own words where it has some, else the store's, under its chain
 abbrev pub base : Store → Hold → ℕ → ℕ
 base s h l = value s.masks (root_in s.initial h.own) h.seat.me.0.chain l
+
+-- the first segment was given up, and its values are in the delta where it had none
+abbrev pub TookFirst : Store → Hold → Hold → Delta → Delta → Type 0
+TookFirst s h k old new = (k.seat.me.0 ≡ pops (sees h.seat.me.0))
+    × ((e : Entry) (more : List Entry) → h.seat.me.0.chain ≡ e ∷ more
+    → (l : ℕ) → l < vec_len s.initial → at new l ≡ absorbed s.masks e (at old l) l)

@@ -1,5 +1,5 @@
 -- The rule of the table: what the words and all views are to each other and to the pure core.
---   Fit              a block has room for its mask words, and these have a bit for each location
+--   Fit              a segment has room for its mask words, and these have a bit for each location
 --   Traced           words and views show the core to which the steps that the seats noted lead
 --   Rule             all that holds between any two atomic steps
 --   Reaches          what Rule says of the core alone
@@ -26,15 +26,18 @@ module _ (words stride masks : ℕ) where
   -- the steps lead from the empty core to one that the words and views show, for any number of
   -- holders that suffices; the holders that are no seat yet have no reference
   abbrev pub Led : List ℕ → List View → List CoreStep → ℕ → Type 0
-  Led ws views steps holders = (k : Core) × Runs (empty words holders (stride - (2 + masks))) steps k
-      × Shown words stride masks ws views k × ((h : ℕ) → length views ≤ h → h < holders → Has k h [])
+  Led ws views steps holders = (k : Core)
+      × Runs (empty words holders (stride - (2 + masks))) steps k
+      × Shown words stride masks ws views k
+      × ((h : ℕ) → length views ≤ h → h < holders → Has k h [])
 
   pub record Traced (ws : List ℕ) (views : List View) : Type 0 where
     -- the steps of all seats, in the order in which they were made, the latest first
     pub steps : List CoreStep
     pub led : (holders : ℕ) → length views ≤ holders → Led ws views steps holders
     -- each seat has noted its own, until it is spent
-    pub own : (i : ℕ) (v : View) → get_elem? views i ≡ some v → 0 < v.holds → acts_of i steps ≡ v.did
+    pub own : (i : ℕ) (v : View) → get_elem? views i ≡ some v → 0 < v.holds
+        → acts_of i steps ≡ v.did
     pub fresh : (i : ℕ) → length views ≤ i → acts_of i steps ≡ []
 
   pub record Rule (s : St) : Type 0 where

@@ -13,6 +13,6 @@ IsSameSeat s t = (t.table_id ≡ s.table_id) × (t.id ≡ s.id) × (t.me ≡ s.m
 abbrev pub Becomes : Seat (Unit {0}) View → Seat (Unit {0}) View → View → Type 0
 Becomes s t v = (t.table_id ≡ s.table_id) × (t.id ≡ s.id) × (t.me ≡ (v, s.me.1))
 
--- x is the word i, where a block of the chain has it
+-- x is the word i, where a segment of the chain has it
 abbrev pub IsWord : Seat (Unit {0}) View → ℕ → ℕ → Type 0
 IsWord s i x = (e : Entry) (w : ℕ) → Has e s.me.0.chain → look e.body i ≡ some w → x ≡ w

@@ -1,5 +1,6 @@
 -- The rule of the words and of all views.
-use Rattle.std.specs.Prelude.{◌≡◌, ◌≢◌, ℕ, ◌+◌, ◌-◌, ◌%◌, ◌<◌, ◌≤◌, List, [], ◌∷◌, length, slice_index, cond, ◌==◌, ◌⊎◌}
+use Rattle.std.specs.Prelude.{◌≡◌, ◌≢◌, ℕ, ◌+◌, ◌-◌, ◌%◌, ◌<◌, ◌≤◌, List, [], ◌∷◌, length}
+use Rattle.std.specs.Prelude.{slice_index, cond, ◌==◌, ◌⊎◌}
 use mathlib.Core.Option.{Option, none, some}
 use lib.ListN.{get_elem?}
 use Rattle.atomic_table.specs.Table.{State, Me, Step}
@@ -11,7 +12,17 @@ abbrev pub building : ℕ
 building = 9223372036854775808
 
 abbrev pub idle : ℕ → ℕ → View
-idle holds left = record { chain = []; extra = 0; alone = 0; build = 0; made = []; holds = holds; left = left; did = []; log = [] }
+idle holds left = record {
+  chain = [];
+  extra = 0;
+  alone = 0;
+  build = 0;
+  made = [];
+  holds = holds;
+  left = left;
+  did = [];
+  log = [];
+}
 
 -- f of each, added up
 abbrev pub total : {A : Type 0} → (A → ℕ) → List A → ℕ
@@ -34,7 +45,7 @@ rest_of (e ∷ es) = es
 abbrev pub is_at : ℕ → ℕ → ℕ
 is_at c p = cond (p == c) 1 0
 
--- how often a view refers to the block c
+-- how often a view refers to the segment c
 abbrev pub refs_in : ℕ → List Entry → ℕ → ℕ
 refs_in c [] extra = 0
 refs_in c (e ∷ es) extra = cond (e.seg == c) (1 + extra) 0
@@ -50,40 +61,47 @@ held v = v.holds + v.left
 
 -- a count, its references and builders, and the parent that the ghost list has
 abbrev pub Counts : ℕ → ℕ → ℕ → Option ℕ → Type 0
-Counts c n b up = (c ≡ building → (n ≡ 0) × (b ≡ 1)) × (c ≢ building → (c ≡ n) × (c ≤ 4294967296) × (b ≡ 0)) × ((c ≡ 0) ⊎ (c ≡ building) → up ≡ some 0)
+Counts c n b up = (c ≡ building → (n ≡ 0) × (b ≡ 1))
+    × (c ≢ building → (c ≡ n) × (c ≤ 4294967296) × (b ≡ 0))
+    × ((c ≡ 0) ⊎ (c ≡ building) → up ≡ some 0)
 
 module _ (words stride : ℕ) where
-  -- a block is named by the index of its count
-  abbrev pub IsBlock : ℕ → Type 0
-  IsBlock c = (0 < c) × (c % stride ≡ 0) × (c < words)
+  -- a segment is named by the index of its count
+  abbrev pub IsSegment : ℕ → Type 0
+  IsSegment c = (0 < c) × (c % stride ≡ 0) × (c < words)
 
   abbrev pub Shows : List ℕ → ℕ → List Put → Type 0
-  Shows ws c ps = (i w : ℕ) → look ps i ≡ some w → (c < i) × (i < c + stride) × (slice_index ws i ≡ w)
+  Shows ws c ps = (i w : ℕ) → look ps i ≡ some w → (c < i) × (i < c + stride)
+      × (slice_index ws i ≡ w)
 
-  -- the entry is a block, whose words and parent are as it says
-  abbrev pub Block : List ℕ → List ℕ → Entry → Type 0
-  Block ws ups e = IsBlock e.seg × (get_elem? ups e.seg ≡ some e.up) × (look e.body (e.seg + 1) ≡ some e.up) × Shows ws e.seg e.body
+  -- the entry is a segment, whose words and parent are as it says
+  abbrev pub IsEntry : List ℕ → List ℕ → Entry → Type 0
+  IsEntry ws ups e = IsSegment e.seg × (get_elem? ups e.seg ≡ some e.up)
+      × (look e.body (e.seg + 1) ≡ some e.up) × Shows ws e.seg e.body
 
   abbrev pub Chain : (Entry → Type 0) → List Entry → Type 0
   Chain B [] = Unit {0}
   Chain B (e ∷ es) = B e × (e.up ≡ first_of es) × Chain B es
 
   pub record Knows (ws ups : List ℕ) (v : View) : Type 0 where
-    pub chained : Chain (Block ws ups) v.chain
-    pub building_own : 0 < v.build → IsBlock v.build × (slice_index ws v.build ≡ building) × Shows ws v.build v.made
+    pub chained : Chain (IsEntry ws ups) v.chain
+    pub building_own : 0 < v.build → IsSegment v.build × (slice_index ws v.build ≡ building)
+        × Shows ws v.build v.made
     pub alone_is : 0 < v.alone → (0 < first_of v.chain) × (slice_index ws (first_of v.chain) ≡ 1)
     pub idle_is : v.holds ≡ 0 → (v.chain ≡ []) × (v.build ≡ 0)
 
   pub record Kept (s : State (Unit {0}) View) : Type 0 where
-    -- the parent of each live block, and 0 elsewhere
+    -- the parent of each live segment, and 0 elsewhere
     pub ups : List ℕ
     pub rank : ℕ → ℕ
     pub roomy : 1 < stride
     pub small : words ≤ 1099511627776
     pub long : length s.words ≡ words
     pub many : length ups ≡ words
-    pub counted : (c : ℕ) → IsBlock c → Counts (slice_index s.words c) (total (refs c) s.views + total (is_at c) ups) (total (builds c) s.views) (get_elem? ups c)
-    pub ranked : (c p : ℕ) → get_elem? ups c ≡ some p → 0 < p → (rank p < rank c) × IsBlock c
+    pub counted : (c : ℕ) → IsSegment c
+        → Counts (slice_index s.words c) (total (refs c) s.views + total (is_at c) ups)
+        (total (builds c) s.views) (get_elem? ups c)
+    pub ranked : (c p : ℕ) → get_elem? ups c ≡ some p → 0 < p → (rank p < rank c) × IsSegment c
     pub seats : (i : ℕ) (v : View) → get_elem? s.views i ≡ some v → Knows s.words ups v
     pub tally : slice_index s.words 0 ≡ total held s.views % 18446744073709551616
 
@@ -92,7 +110,7 @@ abbrev pub sees : View → View
 sees v = record v { alone = 1 }
 
 abbrev pub notes : View → ℕ → ℕ → View
-notes v c n = record v { log = record { block = c; count = n } ∷ v.log }
+notes v c n = record v { log = record { segment = c; count = n } ∷ v.log }
 
 abbrev pub claims : View → ℕ → View
 claims v c = record v { build = c; made = []; did = act.claim c ∷ v.did }
@@ -101,7 +119,15 @@ abbrev pub puts : View → ℕ → ℕ → View
 puts v i w = record v { made = record { at = i; word = w } ∷ v.made }
 
 abbrev pub publishes : View → View
-publishes v = record v { chain = record { seg = v.build; up = first_of v.chain; body = v.made } ∷ v.chain; extra = 1; alone = 0; build = 0; made = []; did = act.publish v.build ∷ v.did }
+publishes v = record v {
+  chain = record { seg = v.build; up = first_of v.chain; body = v.made }
+      ∷ v.chain;
+  extra = 1;
+  alone = 0;
+  build = 0;
+  made = [];
+  did = act.publish v.build ∷ v.did;
+}
 
 abbrev pub shares : View → View
 shares v = record v { extra = 1; alone = 0; did = act.share (first_of v.chain) ∷ v.did }
@@ -111,7 +137,12 @@ abbrev pub gave_up : ℕ → ℕ → act.Act
 gave_up alone c = cond (alone == 0) (act.release c) (act.collapse c)
 
 abbrev pub pops : View → View
-pops v = record v { chain = rest_of v.chain; alone = 0; did = gave_up v.alone (first_of v.chain) ∷ v.did }
+pops v = record v {
+  chain = rest_of v.chain;
+  alone = 0;
+  did = gave_up v.alone (first_of v.chain)
+      ∷ v.did;
+}
 
 abbrev pub drops : View → View
 drops v = record v { chain = []; alone = 0; did = act.release (first_of v.chain) ∷ v.did }
@@ -130,13 +161,15 @@ abbrev pub Then : Type 1
 Then = Step (Unit {0}) → Sat → ℕ → Sat → Type 0
 
 abbrev pub looked : Then
-looked st m r m' = (m' ≡ m) × ((e : Entry) (w : ℕ) → Has e m.0.chain → look e.body st.word ≡ some w → r ≡ w)
+looked st m r m' = (m' ≡ m) × ((e : Entry) (w : ℕ) → Has e m.0.chain → look e.body st.word ≡ some w
+    → r ≡ w)
 
 abbrev pub saw : Then
 saw st m r m' = (0 < r) × (r ≡ 1 → m' ≡ (sees m.0, m.1)) × (r ≢ 1 → m' ≡ (notes m.0 st.word r, m.1))
 
 abbrev pub claimed : Then
-claimed st m r m' = (r ≡ 0 → m' ≡ (claims m.0 st.word, m.1)) × (r ≢ 0 → m' ≡ (notes m.0 st.word r, m.1))
+claimed st m r m' = (r ≡ 0 → m' ≡ (claims m.0 st.word, m.1))
+    × (r ≢ 0 → m' ≡ (notes m.0 st.word r, m.1))
 
 abbrev pub wrote : Then
 wrote st m r m' = m' ≡ (puts m.0 st.word st.first, m.1)
@@ -148,17 +181,33 @@ abbrev pub shared : Then
 shared st m r m' = (r ≡ st.first → m' ≡ (shares m.0, m.1)) × (r ≢ st.first → m' ≡ m)
 
 abbrev pub released : Then
-released st m r m' = (0 < r) × (r ≡ 1 → m' ≡ (pops m.0, m.1)) × (r ≢ 1 → m' ≡ (drops m.0, m.1)) × (0 < m.0.alone → r ≡ 1)
+released st m r m' = (0 < r) × (r ≡ 1 → m' ≡ (pops m.0, m.1)) × (r ≢ 1 → m' ≡ (drops m.0, m.1))
+    × (0 < m.0.alone → r ≡ 1)
 
 abbrev pub tallied : Then
 tallied st m r m' = m' ≡ (counts m.0, m.1)
 
 -- how a fork and a gather cut and join views
 abbrev pub hands_left : View → View
-hands_left v = record v { extra = 0; left = v.left - 1; did = act.hand_on (first_of v.chain) ∷ v.did }
+hands_left v = record v {
+  extra = 0;
+  left = v.left - 1;
+  did = act.hand_on (first_of v.chain)
+      ∷ v.did;
+}
 
 abbrev pub hands_right : View → View
-hands_right v = record { chain = v.chain; extra = 0; alone = 0; build = 0; made = []; holds = 1; left = 0; did = []; log = [] }
+hands_right v = record {
+  chain = v.chain;
+  extra = 0;
+  alone = 0;
+  build = 0;
+  made = [];
+  holds = 1;
+  left = 0;
+  did = [];
+  log = [];
+}
 
 abbrev pub parts_left : View → View
 parts_left v = record v { left = v.left - 1 }

@@ -1,5 +1,6 @@
 //! The table and what its seats know.
-//! Each `stride` words are a block: its count, then its body. A block is named by the index of its count. The first is none: its first word counts the holds.
+//! Each `stride` words are a segment: its count, then its body. A segment is named by the index of
+//! its count. The first is none: its first word counts the holds.
 ghost use Rattle.std.specs.Prelude.{ℕ, List};
 ghost use Rattle.std.specs.Borrow.{ftrue};
 ghost use base.Stored.{coded_list};
@@ -8,7 +9,7 @@ ghost use Rattle.segment_store.specs.Act.{Act, act_coded};
 
 use std::marker::Model;
 
-/// How many words a store has, how many a block, and how many of these are mask words.
+/// How many words a store has, how many a segment, and how many of these are mask words.
 #[derive(Drop)]
 pub struct Size {
     pub words: u64,
@@ -18,13 +19,13 @@ pub struct Size {
 
 /// What a seat knows and refers to. No value of it is made.
 pub struct View {
-    // The blocks along the parents, from the one that it refers to.
+    // The segments along the parents, from the one that it refers to.
     pub ghost chain: { List Entry } by { coded_list entry_coded },
-    // One more reference to the first block of the chain, or none.
+    // One more reference to the first segment of the chain, or none.
     pub ghost extra: { ℕ },
-    // 1 where it has found the count 1 on that block.
+    // 1 where it has found the count 1 on that segment.
     pub ghost alone: { ℕ },
-    // The block that it builds, or 0, and the words that it has put.
+    // The segment that it builds, or 0, and the words that it has put.
     pub ghost build: { ℕ },
     pub ghost made: { List Put } by { coded_list put_coded },
     // The holds that it stands for, and the holds that it has counted and not made.

@@ -2,7 +2,7 @@
 ghost use Rattle.std.specs.Prelude.{◌≡◌, ℕ};
 ghost use Rattle.atomic_table.specs.Seated.{TableId};
 ghost use Rattle.segment_store.specs.Group.{group_of};
-ghost use Rattle.segment_store.specs.Depth.{IsDepthBound};
+ghost use Rattle.segment_store.specs.Depth.{IsDepthBound, LiveIsHeld};
 ghost use Rattle.segment_store.specs.Rule.{Reaches, BasesTie};
 
 /// Between any two atomic steps the words and views show a core that the steps of the core lead to
@@ -12,9 +12,14 @@ pub fn core_laws()
     ensures bases { (words stride masks : ℕ) → BasesTie words stride masks }
 {}
 
-/// No chain is longer than the blocks are many.
+/// No chain is longer than the segments are many.
 pub fn depth_bound()
     ensures { IsDepthBound }
+{}
+
+/// Each segment that has a count is in the chain of some seat.
+pub fn held_law()
+    ensures { LiveIsHeld }
 {}
 
 /// The group of a store names it: no other store has the same.

@@ -1,4 +1,5 @@
-//! Reference-counted blocks of atomic words, whose contents never change while they are referred to.
+//! Reference-counted segments of atomic words, whose contents never change while they are referred
+//! to.
 #![tactic(auto)]
 
 mod board;
@@ -11,6 +12,6 @@ mod tests;
 
 pub use board::{Size, View};
 pub use held::Held;
-pub use laws::{core_laws, depth_bound, group_law};
+pub use laws::{core_laws, depth_bound, group_law, held_law};
 pub use plays::Law;
 pub use store::{Closed, Hold, Spent, Store};

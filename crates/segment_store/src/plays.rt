@@ -1,6 +1,8 @@
 //! What each step tells.
 ghost use Rattle.segment_store.specs.Rule.{Rule};
-ghost use Rattle.segment_store.specs.Store.{idle, looked, saw, claimed, wrote, published, shared, released, tallied, hands_left, hands_right, parts_left, gathers};
+ghost use Rattle.segment_store.specs.Store.{idle, looked, saw, claimed, wrote, published, shared};
+ghost use Rattle.segment_store.specs.Store.{released, tallied, hands_left, hands_right, parts_left};
+ghost use Rattle.segment_store.specs.Store.{gathers};
 
 use crate::board::{Size, View};
 use atomic_table::{Join, Play, Split, TableRule};

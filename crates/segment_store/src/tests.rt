@@ -1,11 +1,14 @@
-ghost use Rattle.std.specs.Prelude.{◌≡◌, vec_len};
+ghost use Rattle.std.specs.Prelude.{◌≡◌, ◌≤◌, ◌^◌, vec_len, IfOk};
 ghost use Rattle.segment_store.specs.Names.{IsOf};
 ghost use Rattle.version_map.specs.Deltas.{locations};
 
 use crate::{Hold, Spent, Store};
+use std::alloc::{AllocError, Global};
 use std::test::Fail;
 use std::thread::join;
 use version_map::{Delta, How};
+
+const ROUNDS: u32 = 100_000;
 
 fn look(store: &Store, mut hold: Hold) -> (u64, u64, Spent)
     requires { IsOf store.now hold × (vec_len store.now.initial ≡ 70) }
@@ -43,12 +46,15 @@ fn two_threads_read_what_they_forked_from(rt: HostRuntime) -> Result<(), Fail> {
     let (a, b) = join(
         &rt,
         move || -> (u64, u64, Spent)
-            requires { IsOf shared.now child × (vec_len shared.now.initial ≡ 70) × (locations more ≡ 70) }
-            ensures { (result.2.seat.table_id ≡ shared.entry.now.table.shared.table_id) × (result.2.holds ≡ 1) }
+            requires { IsOf shared.now child × (vec_len shared.now.initial ≡ 70)
+                × (locations more ≡ 70) }
+            ensures { (result.2.seat.table_id ≡ shared.entry.now.table.shared.table_id)
+                × (result.2.holds ≡ 1) }
         { work(shared, child, more) },
         move || -> (u64, u64, Spent)
             requires { IsOf shared.now main × (vec_len shared.now.initial ≡ 70) }
-            ensures { (result.2.seat.table_id ≡ shared.entry.now.table.shared.table_id) × (result.2.holds ≡ 1) }
+            ensures { (result.2.seat.table_id ≡ shared.entry.now.table.shared.table_id)
+                × (result.2.holds ≡ 1) }
         { look(shared, main) },
     );
     assert!(rt; a.0 == 5 && b.0 == 5 && b.1 == 7);
@@ -56,6 +62,65 @@ fn two_threads_read_what_they_forked_from(rt: HostRuntime) -> Result<(), Fail> {
     store.gather(&mut all, b.2);
     store.gather(&mut all, copied);
     let closed = store.close(all);
+    assert!(rt; closed.out() == 0 && closed.live() == 0);
+    Ok(())
+}
+
+// Forks, reads, collapses and releases, so many times, and gives all back. The number says how
+// often a read was wrong.
+fn rounds(
+    alloc: Global,
+    store: &Store,
+    mut hold: Hold,
+    count: u32,
+) -> Result<(u64, Spent), AllocError>
+    requires { IsOf store.now hold × (vec_len store.now.initial ≡ 70) }
+    ensures { IfOk result (λ r. (r.1.seat.table_id ≡ store.now.table.shared.table_id)
+        × (r.1.holds ≤ 2 ^ 33)) }
+{
+    let mut delta = Delta::new(alloc, 70)?;
+    let (first, _) = store.fork(alloc, &mut hold, &mut delta)?;
+    let mut all = store.release(first);
+    let mut wrong: u64 = 0;
+    for round in 0..count {
+        delta.set(69, round as u64);
+        let (mut child, _) = store.fork(alloc, &mut hold, &mut delta)?;
+        if store.read(&mut child, 69) != round as u64 {
+            wrong = wrong.saturating_add(1);
+        }
+        store.gather(&mut all, store.release(child));
+        store.collapse(&mut hold, &mut delta);
+    }
+    store.gather(&mut all, store.release(hold));
+    Ok((wrong, all))
+}
+
+#[test]
+fn two_threads_leave_no_segment_in_use(rt: HostRuntime) -> Result<(), Fail> {
+    let alloc = rt.alloc();
+    let words = vec![in alloc; 5; 70]?;
+    let (store, mut main) = Store::open(alloc, 2, words)?;
+    let mut none = Delta::new(alloc, 70)?;
+    let (child, _) = store.fork(alloc, &mut main, &mut none)?;
+    let shared = &store;
+    let (a, b) = join(
+        &rt,
+        move || -> Result<(u64, Spent), AllocError>
+            requires { IsOf shared.now child × (vec_len shared.now.initial ≡ 70) }
+            ensures { IfOk result (λ r. (r.1.seat.table_id
+                ≡ shared.entry.now.table.shared.table_id) × (r.1.holds ≤ 2 ^ 33)) }
+        { rounds(alloc, shared, child, ROUNDS) },
+        move || -> Result<(u64, Spent), AllocError>
+            requires { IsOf shared.now main × (vec_len shared.now.initial ≡ 70) }
+            ensures { IfOk result (λ r. (r.1.seat.table_id
+                ≡ shared.entry.now.table.shared.table_id) × (r.1.holds ≤ 2 ^ 33)) }
+        { rounds(alloc, shared, main, ROUNDS) },
+    );
+    let (wrong, mut all) = a?;
+    let (more, rest) = b?;
+    store.gather(&mut all, rest);
+    let closed = store.close(all);
+    assert!(rt; wrong == 0 && more == 0);
     assert!(rt; closed.out() == 0 && closed.live() == 0);
     Ok(())
 }

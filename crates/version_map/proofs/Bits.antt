@@ -3,7 +3,9 @@
 --   bit_set          a location's bit after its mask word was written
 --   bit_else         the other locations' bits then
 --   row_is_zero      a mask word none of whose bits is set is 0
-use Rattle.std.proofs.Common.{◌≡◌, ◌≢◌, ℕ, ◌+◌, ◌-◌, ◌/◌, ◌%◌, ◌<◌, ◌≤◌, ◌*◌, ◌^◌, List, length, get_or, set, sym, ap, ◌∙◌, arith, get_or-set_same, get_or-set_other, None, Some, Option, subst}
+use Rattle.std.proofs.Common.{◌≡◌, ◌≢◌, ℕ, ◌+◌, ◌-◌, ◌/◌, ◌%◌, ◌<◌, ◌≤◌, ◌*◌, ◌^◌, List, length}
+use Rattle.std.proofs.Common.{get_or, set, sym, ap, ◌∙◌, arith, get_or-set_same, get_or-set_other}
+use Rattle.std.proofs.Common.{None, Some, Option, subst}
 use Rattle.std.specs.Int.{bit_at}
 use Rattle.std.proofs.lemmas.Nat.Bits.{bit_at-zero, bit_at-lt, same_from_bits_below}
 use mathlib.Core.Logic.{dite}
@@ -16,13 +18,18 @@ rows_over n l h = omega arith
 pub rows_few : (n : ℕ) → n ≤ 4096 → rows n ≤ 64
 rows_few n h = omega arith
 
-pub bit_set : (mask : List ℕ) (l x : ℕ) → l / 64 < length mask → bit_in (set mask (l / 64) x) l ≡ bit_at x (l % 64)
+pub bit_set : (mask : List ℕ) (l x : ℕ) → l / 64 < length mask
+    → bit_in (set mask (l / 64) x) l ≡ bit_at x (l % 64)
 bit_set mask l x h = ap (λ (z : ℕ). bit_at z (l % 64)) (get_or-set_same mask (l / 64) x 0 h)
 
-pub bit_else : (mask : List ℕ) (l k x : ℕ) → l / 64 < length mask → k ≢ l → ((i : ℕ) → i ≢ l % 64 → bit_at x i ≡ bit_at (get_or mask (l / 64) 0) i) → bit_in (set mask (l / 64) x) k ≡ bit_in mask k
+pub bit_else : (mask : List ℕ) (l k x : ℕ) → l / 64 < length mask → k ≢ l
+    → ((i : ℕ) → i ≢ l % 64 → bit_at x i ≡ bit_at (get_or mask (l / 64) 0) i)
+    → bit_in (set mask (l / 64) x) k ≡ bit_in mask k
 bit_else mask l k x h ne keep = dite (ℕ_discrete (k / 64) (l / 64))
-    (λ e. ap (λ (z : ℕ). bit_at (get_or (set mask (l / 64) x) z 0) (k % 64)) e ∙ (ap (λ (z : ℕ). bit_at z (k % 64)) (get_or-set_same mask (l / 64) x 0 h)
-    ∙ (keep (k % 64) (λ q. ne (omega arith)) ∙ ap (λ (z : ℕ). bit_at (get_or mask z 0) (k % 64)) (sym e))))
+    (λ e. ap (λ (z : ℕ). bit_at (get_or (set mask (l / 64) x) z 0) (k % 64)) e
+    ∙ (ap (λ (z : ℕ). bit_at z (k % 64)) (get_or-set_same mask (l / 64) x 0 h)
+    ∙ (keep (k % 64) (λ q. ne (omega arith))
+    ∙ ap (λ (z : ℕ). bit_at (get_or mask z 0) (k % 64)) (sym e))))
     (λ n. ap (λ (z : ℕ). bit_at z (k % 64)) (get_or-set_other mask (l / 64) (k / 64) x 0 n))
 
 pub chosen_one : (b w x : ℕ) → b ≡ 1 → w ≡ x → chosen b w ≡ Some x
@@ -43,12 +50,19 @@ not_chosen b w h e = dite (ℕ_discrete b 1)
     (λ one. absurd (subst IsNone (sym (ap (λ (z : ℕ). chosen z w) one) ∙ e) tt))
     (λ ne. omega arith)
 
-pub row_is_zero : (mask : List ℕ) (row : ℕ) → get_or mask row 0 < 2 ^ 64 → ((l : ℕ) → bit_in mask l ≡ 0) → get_or mask row 0 ≡ 0
-row_is_zero mask row fits none = same_from_bits_below 64 (get_or mask row 0) 0 fits (omega arith) (λ i h. let l : ℕ = row * 64 + i in
+pub row_is_zero : (mask : List ℕ) (row : ℕ) → get_or mask row 0 < 2 ^ 64
+    → ((l : ℕ) → bit_in mask l ≡ 0) → get_or mask row 0 ≡ 0
+row_is_zero mask row fits none = same_from_bits_below 64 (get_or mask row 0) 0 fits (omega arith)
+    (λ i h. let l : ℕ = row * 64 + i in
     let at_row : l / 64 ≡ row = omega arith in let at_bit : l % 64 ≡ i = omega arith in
-    subst (λ (k : ℕ). bit_at (get_or mask k 0) i ≡ 0) at_row (subst (λ (b : ℕ). bit_at (get_or mask (l / 64) 0) b ≡ 0) at_bit (none l)) ∙ sym (bit_at-zero i))
+    subst (λ (k : ℕ). bit_at (get_or mask k 0) i ≡ 0) at_row
+    (subst (λ (b : ℕ). bit_at (get_or mask (l / 64) 0) b ≡ 0) at_bit (none l))
+    ∙ sym (bit_at-zero i))
 
-pub no_bits : (mask : List ℕ) (words : ℕ → ℕ) (n : ℕ) → ((l : ℕ) → l < n → chosen (bit_in mask l) (words l) ≡ None) → ((l : ℕ) → n ≤ l → bit_in mask l ≡ 0) → (l : ℕ) → bit_in mask l ≡ 0
+pub no_bits : (mask : List ℕ) (words : ℕ → ℕ) (n : ℕ)
+    → ((l : ℕ) → l < n → chosen (bit_in mask l) (words l) ≡ None)
+    → ((l : ℕ) → n ≤ l → bit_in mask l ≡ 0) → (l : ℕ) → bit_in mask l ≡ 0
 no_bits mask words n inside beyond l = dite (ℕ_discrete (n - l) 0)
     (λ e. beyond l (omega arith))
-    (λ ne. not_chosen (bit_in mask l) (words l) (bit_at-lt (get_or mask (l / 64) 0) (l % 64)) (inside l (omega arith)))
+    (λ ne. not_chosen (bit_in mask l) (words l) (bit_at-lt (get_or mask (l / 64) 0) (l % 64))
+    (inside l (omega arith)))

@@ -64,10 +64,12 @@ pub trait Snapshot: Sized {
         ensures size { size self.new ≡ size self.old }
         ensures group { group self.new ≡ group self.old }
         ensures locations { locations delta.new ≡ locations delta.old }
-        ensures child { IfOk result (λ r. Agree (size self.old) (base r.0) (under delta.old (base self.old))) }
+        ensures child { IfOk result
+            (λ r. Agree (size self.old) (base r.0) (under delta.old (base self.old))) }
         ensures child_size { IfOk result (λ r. size r.0 ≡ size self.old) }
         ensures child_group { IfOk result (λ r. group r.0 ≡ group self.old) }
-        ensures parent { Agree (size self.old) (under delta.new (base self.new)) (under delta.old (base self.old)) }
+        ensures parent { Agree (size self.old) (under delta.new (base self.new))
+            (under delta.old (base self.old)) }
         ensures shared { IfOk result (λ r. r.1 ≡ Shared → IsEmpty delta.new) }
         ensures copied { IfOk result (λ r. r.1 ≡ Copied → delta.new ≡ delta.old) }
         ensures failed { IfErr result (λ _. delta.new ≡ delta.old) }
@@ -80,7 +82,8 @@ pub trait Snapshot: Sized {
         ensures size { size self.new ≡ size self.old }
         ensures group { group self.new ≡ group self.old }
         ensures locations { locations into.new ≡ locations into.old }
-        ensures base { Agree (size self.old) (under into.new (base self.new)) (under into.old (base self.old)) }
+        ensures base { Agree (size self.old) (under into.new (base self.new))
+            (under into.old (base self.old)) }
         ensures took { result ≡ collapsed.Took → depth self.new < depth self.old };
 
     /// Gives the snapshot back.

@@ -8,7 +8,16 @@ pub apply-requires : goal.apply-requires
 apply-requires c = to_counted (core_of c.args.state.now.cells) c.args.state.now.counted
 
 pub invariant_of-state : goal.invariant_of-state
-invariant_of-state c = record { counted = of_counted (core_of c.apply.new.self) (kept c.args.state.now.cells c.apply.new.self (step_of c.args.step.now) c.apply.result (to_counted (core_of c.args.state.now.cells) c.args.state.now.counted) c.apply.ensures.done c.apply.ensures.refused) }
+invariant_of-state c =
+    record {
+      counted = of_counted (core_of c.apply.new.self)
+          (kept c.args.state.now.cells c.apply.new.self (step_of c.args.step.now) c.apply.result
+          (to_counted (core_of c.args.state.now.cells) c.args.state.now.counted)
+          c.apply.ensures.done
+          c.apply.ensures.refused);
+    }
 
 pub returns-clause-size : goal.returns-clause-size
-returns-clause-size c = let same = sized c.args.state.now.cells c.apply.new.self (step_of c.args.step.now) c.apply.result c.apply.ensures.done c.apply.ensures.refused in omega arith
+returns-clause-size c = let same = sized c.args.state.now.cells c.apply.new.self
+    (step_of c.args.step.now) c.apply.result c.apply.ensures.done c.apply.ensures.refused in
+    omega arith

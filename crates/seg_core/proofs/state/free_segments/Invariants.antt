@@ -8,5 +8,7 @@ use Rattle.seg_core.specs.Shape.{seg_of}
 use Rattle.seg_core.proofs.state.free_segments.Given as goal
 
 abbrev pub invariant-loop-made : goal.invariant-loop-made
-invariant-loop-made l = (map seg_of l.segments.items ≡ replicate l.made free) × (vec_len l.segments ≡ l.made)
-    × ((i : ℕ) (g : Segment) → get_elem? l.segments.items i ≡ some g → deltas.locations g.delta ≡ l.fn.locations)
+invariant-loop-made l = (map seg_of l.segments.items ≡ replicate l.made free)
+    × (vec_len l.segments ≡ l.made)
+    × ((i : ℕ) (g : Segment) → get_elem? l.segments.items i ≡ some g
+    → deltas.locations g.delta ≡ l.fn.locations)

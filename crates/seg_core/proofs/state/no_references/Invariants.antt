@@ -3,4 +3,5 @@ use Rattle.seg_core.specs.Shape.{list_of}
 use Rattle.seg_core.proofs.state.no_references.Given as goal
 
 abbrev pub invariant-loop-made : goal.invariant-loop-made
-invariant-loop-made l = (map list_of l.holders.items ≡ replicate {A = List ℕ} l.made []) × (vec_len l.holders ≡ l.made)
+invariant-loop-made l = (map list_of l.holders.items ≡ replicate {A = List ℕ} l.made [])
+    × (vec_len l.holders ≡ l.made)

@@ -2,4 +2,5 @@ use Rattle.segment_store.proofs.Depths.{chain_within}
 use Rattle.segment_store.proofs.laws.depth_bound.Goals as goal
 
 pub returns : goal.returns
-returns c = λ words stride segments s r rooms i v at. chain_within words stride s r segments rooms v.chain (r.seats i v at).chained
+returns c = λ words stride segments s r rooms i v at. chain_within words stride s r segments rooms
+    v.chain (r.seats i v at).chained

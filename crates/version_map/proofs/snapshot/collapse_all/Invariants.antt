@@ -4,8 +4,11 @@ use Rattle.version_map.specs.Overlay.{under, Agree}
 use Rattle.version_map.proofs.snapshot.collapse_all.Given as goal
 
 abbrev pub invariant-loop-last : goal.invariant-loop-last
-invariant-loop-last g l = (g.P.Snapshot.size l.snapshot ≡ g.P.Snapshot.size l.initial.snapshot) × (g.P.Snapshot.group l.snapshot ≡ g.P.Snapshot.group l.initial.snapshot) × (locations l.into ≡ locations l.initial.into)
-    × Agree (g.P.Snapshot.size l.initial.snapshot) (under l.into (g.P.Snapshot.base l.snapshot)) (under l.initial.into (g.P.Snapshot.base l.initial.snapshot))
+invariant-loop-last g l = (g.P.Snapshot.size l.snapshot ≡ g.P.Snapshot.size l.initial.snapshot)
+    × (g.P.Snapshot.group l.snapshot ≡ g.P.Snapshot.group l.initial.snapshot)
+    × (locations l.into ≡ locations l.initial.into)
+    × Agree (g.P.Snapshot.size l.initial.snapshot) (under l.into (g.P.Snapshot.base l.snapshot))
+    (under l.initial.into (g.P.Snapshot.base l.initial.snapshot))
 
 abbrev pub decreases-loop-last : goal.decreases-loop-last
 decreases-loop-last g l = g.P.Snapshot.depth l.snapshot

@@ -6,4 +6,5 @@ use Rattle.seg_core.specs.Shape.{seg_of, IsBuiltBy}
 use Rattle.seg_core.proofs.cells.Cells.builds.Given as goal
 
 abbrev pub invariant-loop-at : goal.invariant-loop-at
-invariant-loop-at l = (k : ℕ) → k < l.at → (g : Segment) → get_elem? l.fn.self.segments.items k ≡ some g → ¬ (IsBuiltBy (seg_of g) l.fn.holder)
+invariant-loop-at l = (k : ℕ) → k < l.at → (g : Segment)
+    → get_elem? l.fn.self.segments.items k ≡ some g → ¬ (IsBuiltBy (seg_of g) l.fn.holder)

@@ -8,10 +8,16 @@ use Rattle.seg_core.proofs.Refers.{building_not_free}
 use Rattle.seg_core.proofs.cells.Cells.publish.Goals as goal
 
 pub turn-requires : goal.turn-requires
-turn-requires c = (stage.Building c.args.holder, c.if-not-is_built.ensures.0, c.if-not-is_built.ensures.1)
+turn-requires c = (
+  stage.Building c.args.holder,
+  c.if-not-is_built.ensures.0,
+  c.if-not-is_built.ensures.1,
+)
 
 pub refer-requires : goal.refer-requires
-refer-requires c = let h = map_inside list_of c.args.self.now.holders.items c.args.holder _ (c.single.ensures.some c.in-Some.parent c.in-Some.is) in let long = c.args.self.now.long in let long1 = long.1 in omega arith
+refer-requires c = let h = map_inside list_of c.args.self.now.holders.items c.args.holder _
+    (c.single.ensures.some c.in-Some.parent c.in-Some.is) in let long = c.args.self.now.long in
+    let long1 = long.1 in omega arith
 
 pub returns-in-Some-clause-done : goal.returns-in-Some-clause-done
 returns-in-Some-clause-done c = λ done. let b = c.if-not-is_built.ensures in (
@@ -20,5 +26,8 @@ returns-in-Some-clause-done c = λ done. let b = c.if-not-is_built.ensures in (
   omega arith,
   b.1,
   c.single.ensures.some c.in-Some.parent c.in-Some.is,
-  c.refer.ensures ∙ ap (λ (k : Core). core.list_to k c.args.holder (suc c.args.segment ∷ suc c.args.segment ∷ [])) (c.turn.ensures.words (stage.Building c.args.holder) b.0 (building_not_free c.args.holder) b.1),
+  c.refer.ensures
+      ∙ ap (λ (k : Core). core.list_to k c.args.holder (suc c.args.segment ∷ suc c.args.segment
+      ∷ [])) (c.turn.ensures.words (stage.Building c.args.holder) b.0
+      (building_not_free c.args.holder) b.1),
 )

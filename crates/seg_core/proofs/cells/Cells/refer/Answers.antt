@@ -2,4 +2,5 @@ use Rattle.seg_core.proofs.Maps.{lists_to}
 use Rattle.seg_core.proofs.cells.Cells.refer.Goals as goal
 
 pub returns : goal.returns
-returns c = lists_to c.args.self.now.segments.items c.args.self.now.holders.items c.args.self.now.locations c.args.holder c.args.references
+returns c = lists_to c.args.self.now.segments.items c.args.self.now.holders.items
+    c.args.self.now.locations c.args.holder c.args.references

@@ -8,6 +8,10 @@ pub walk-requires-clause-chain : goal.walk-requires-clause-chain
 walk-requires-clause-chain c = let r = c.requires.rests.0 in (r.head, r.deep, sound _ _ _ _ r.whole)
 
 pub returns-in-Some-clause-value : goal.returns-in-Some-clause-value
-returns-in-Some-clause-value c = let r = c.requires.rests in let own = r.1 c.in-Some.words c.in-Some.is in let own0 = own.0 in let w = c.args.self.now.wide in let w0 = w.0 in let l = c.requires.inside in
-    let read = get_or_read_under c.in-Some.words.items c.args.location c.in-Some.words.len c.index.result.now 0 c.index.ensures (omega arith) (search rules) in
-    read ∙ sym (own_value _ _ _ _ _ _ c.args.self.now.initial c.in-Some.words c.args.own.now c.args.location r.0 r.1 c.in-Some.is)
+returns-in-Some-clause-value c = let r = c.requires.rests in
+    let own = r.1 c.in-Some.words c.in-Some.is in let own0 = own.0 in
+    let w = c.args.self.now.wide in let w0 = w.0 in let l = c.requires.inside in
+    let read = get_or_read_under c.in-Some.words.items c.args.location c.in-Some.words.len
+    c.index.result.now 0 c.index.ensures (omega arith) (search rules) in
+    read ∙ sym (own_value _ _ _ _ _ _ c.args.self.now.initial c.in-Some.words c.args.own.now
+    c.args.location r.0 r.1 c.in-Some.is)

@@ -5,14 +5,24 @@ use Rattle.segment_store.proofs.Walk.{rests_as}
 use Rattle.segment_store.proofs.store.Store.collapse.Goals as goal
 
 pub returns-then-hold-eq0-clause-bottom : goal.returns-then-hold-eq0-clause-bottom
-returns-then-hold-eq0-clause-bottom c = λ _. (empty _ _ _ _ _ _ c.args.hold.now.rests (search rules), refl, refl)
+returns-then-hold-eq0-clause-bottom c =
+    λ _. (empty _ _ _ _ _ _ c.args.hold.now.rests (search rules), refl, refl)
 
 pub invariant_of-hold : goal.invariant_of-hold
 invariant_of-hold c = let o = c.requires.own.0 in record {
-  rests = rests_as _ _ _ _ _ _ _ _ _ (c.in-Ok.ensures.took []).rests (ap (λ t. t.words) (c.in-Ok.ensures.same.0 ∙ o.0) ∙ c.args.self.now.sized.0) o.1 o.2;
+  rests = rests_as _ _ _ _ _ _ _ _ _ (c.in-Ok.ensures.took []).rests
+      (ap (λ t. t.words) (c.in-Ok.ensures.same.0 ∙ o.0) ∙ c.args.self.now.sized.0) o.1 o.2;
   no_slots = c.in-Ok.ensures.same.1 ∙ c.args.hold.now.no_slots;
   own_words = λ ws e. absurd (c.if-hold-eq0.false (c.args.hold.now.own_words ws e).1);
 }
 
 pub returns-in-Ok-clause-base : goal.returns-in-Ok-clause-base
-returns-in-Ok-clause-base c = λ l lt. (c.in-Ok.ensures.took (root_in c.args.self.now.initial c.args.hold.now.own)).base l (let w = c.args.self.now.wide in let w0 = w.0 in omega arith)
+returns-in-Ok-clause-base c =
+    λ l lt. (c.in-Ok.ensures.took (root_in c.args.self.now.initial c.args.hold.now.own)).base l
+    (let w = c.args.self.now.wide in let w0 = w.0 in omega arith)
+
+pub returns-in-Ok-clause-took : goal.returns-in-Ok-clause-took
+returns-in-Ok-clause-took c = λ _. let p = c.in-Ok.ensures.took [] in let q = p.rests.deep in
+    let some = p.some_depth in let d = c.args.hold.now.rests.deep in
+    let w = c.args.self.now.wide in let w0 = w.0 in
+    (omega arith, (p.view, λ e more is l lt. p.values e more is l (omega arith)))

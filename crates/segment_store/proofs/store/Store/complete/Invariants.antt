@@ -5,5 +5,6 @@ use Rattle.segment_store.proofs.store.Store.complete.Given as goal
 
 abbrev pub invariant-loop-l : goal.invariant-loop-l
 invariant-loop-l l = (locations l.delta ≡ locations l.initial.delta)
-    × ((k : ℕ) → k < l.l → at l.delta k ≡ Some (word_or (slice_index l.words.items k) (at l.initial.delta k)))
+    × ((k : ℕ) → k < l.l
+    → at l.delta k ≡ Some (word_or (slice_index l.words.items k) (at l.initial.delta k)))
     × ((k : ℕ) → l.l ≤ k → at l.delta k ≡ at l.initial.delta k)

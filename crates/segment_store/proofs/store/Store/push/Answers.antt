@@ -11,21 +11,46 @@ view_of : (m : Me (Unit {0}) View) (v : View) (l : List (ℕ × Unit {0})) → m
 view_of m v l e = ap (λ (x : Me (Unit {0}) View). x.0) e
 
 pub returns-clause-some : goal.returns-clause-some
-returns-clause-some c = let some = c.claim_any-block.ensures.some (let h = c.if-block-eq0.false in omega arith) in let made = c.fill.new.seat.me.0.made in let v = c.args.seat.now.me.0 in let log = c.claim_any-block.new.seat.me.0.log in
-    let e1 = view_of _ _ _ some.0.2 in let e2 = view_of _ _ _ c.fill.ensures.view.2 in let e3 = view_of _ _ _ c.publish.ensures.view.2 in let e4 = view_of _ _ _ c.tally.ensures.2 in
-    let e5 = view_of _ _ _ c.hand_on-child.ensures.kept.2 in let e6 = view_of _ _ _ c.hand_on-child.ensures.given.1 in
+returns-clause-some c = let some = c.claim_any-segment.ensures.some
+    (let h = c.if-segment-eq0.false in omega arith) in let made = c.fill.new.seat.me.0.made in
+    let v = c.args.seat.now.me.0 in let log = c.claim_any-segment.new.seat.me.0.log in
+    let e1 = view_of _ _ _ some.0.2 in let e2 = view_of _ _ _ c.fill.ensures.view.2 in
+    let e3 = view_of _ _ _ c.publish.ensures.view.2 in
+    let e4 = view_of _ _ _ c.tally.ensures.2 in
+    let e5 = view_of _ _ _ c.hand_on-child.ensures.kept.2 in
+    let e6 = view_of _ _ _ c.hand_on-child.ensures.given.1 in
     let before = e4 ∙ ap counts (e3 ∙ ap publishes (e2 ∙ ap (λ (u : View). filled u made) e1)) in
     let w = c.args.self.now.wide in let w0 = w.0 in
-    let done : (root : List ℕ) → Forked root c.args.self.now.words c.args.self.now.stride c.args.self.now.masks c.claim_any-block.result c.args.depth c.complete.new.delta v (hands_left (counts (publishes (filled (claims (logged v log) c.claim_any-block.result) made)))) (hands_right (counts (publishes (filled (claims (logged v log) c.claim_any-block.result) made)))) = λ root. unlogged root _ _ _ _ _ _ v log _ _ (forked root c.args.self.now.words c.args.self.now.stride c.args.self.now.masks c.claim_any-block.result c.args.first c.args.depth c.complete.new.delta (logged v log) made c.fill.ensures.laid
-    (λ l h. row_of _ _ l c.args.self.now.rowed.0 (omega arith)) (omega arith) (rests_log _ _ _ _ _ v log c.requires.rests) some.1 some.2) in (
-      (let h = c.if-block-eq0.false in omega arith),
-      c.hand_on-child.ensures.given.0 ∙ (c.tally.ensures.0 ∙ (c.publish.ensures.view.0 ∙ (c.fill.ensures.view.0 ∙ some.0.0))),
+    let done : (root : List ℕ)
+    → Forked root c.args.self.now.words c.args.self.now.stride c.args.self.now.masks
+    c.claim_any-segment.result c.args.depth c.complete.new.delta v
+    (hands_left (counts
+    (publishes (filled (claims (logged v log) c.claim_any-segment.result) made))))
+    (hands_right (counts
+    (publishes (filled (claims (logged v log) c.claim_any-segment.result) made)))) =
+    λ root. unlogged root _ _ _ _ _ _ v log _ _
+    (forked root c.args.self.now.words c.args.self.now.stride c.args.self.now.masks
+    c.claim_any-segment.result c.args.first c.args.depth c.complete.new.delta (logged v log)
+    made c.fill.ensures.laid
+    (λ l h. row_of _ _ l c.args.self.now.rowed.0 (omega arith)) (omega arith)
+    (rests_log _ _ _ _ _ v log c.requires.rests) some.1 some.2) in (
+      (let h = c.if-segment-eq0.false in omega arith),
+      c.hand_on-child.ensures.given.0
+          ∙ (c.tally.ensures.0 ∙ (c.publish.ensures.view.0 ∙ (c.fill.ensures.view.0 ∙ some.0.0))),
       ap (λ (x : Me (Unit {0}) View). x.1) c.hand_on-child.ensures.given.1,
-      subst (λ (z : View × View). (root : List ℕ) → Forked root c.args.self.now.words c.args.self.now.stride c.args.self.now.masks c.claim_any-block.result c.args.depth c.complete.new.delta v z.0 z.1)
+      subst (λ (z : View × View). (root : List ℕ)
+          → Forked root c.args.self.now.words c.args.self.now.stride c.args.self.now.masks
+          c.claim_any-segment.result c.args.depth c.complete.new.delta v z.0 z.1)
           (λ i. (sym (e5 ∙ ap hands_left before) i, sym (e6 ∙ ap hands_right before) i)) done,
     )
 
 pub publish-requires-clause-laid : goal.publish-requires-clause-laid
-publish-requires-clause-laid c = let some = c.claim_any-block.ensures.some (let h = c.if-block-eq0.false in omega arith) in let made = c.fill.new.seat.me.0.made in
-    let same : c.args.first ≡ first_of c.fill.new.seat.me.0.chain = c.requires.rests.head ∙ sym (ap (λ (m : Me (Unit {0}) View). first_of m.0.chain) c.fill.ensures.view.2 ∙ ap (λ (m : Me (Unit {0}) View). first_of m.0.chain) some.0.2) in
-    (c.complete.new.delta, subst (λ (n : ℕ). IsLaid c.claim_any-block.result n c.args.self.now.stride c.args.self.now.masks c.complete.new.delta made) same c.fill.ensures.laid)
+publish-requires-clause-laid c = let some = c.claim_any-segment.ensures.some
+    (let h = c.if-segment-eq0.false in omega arith) in let made = c.fill.new.seat.me.0.made in
+    let same : c.args.first ≡ first_of c.fill.new.seat.me.0.chain = c.requires.rests.head
+    ∙ sym (ap (λ (m : Me (Unit {0}) View). first_of m.0.chain) c.fill.ensures.view.2
+    ∙ ap (λ (m : Me (Unit {0}) View). first_of m.0.chain) some.0.2) in (
+      c.complete.new.delta,
+      subst (λ (n : ℕ). IsLaid c.claim_any-segment.result n c.args.self.now.stride
+          c.args.self.now.masks c.complete.new.delta made) same c.fill.ensures.laid,
+    )

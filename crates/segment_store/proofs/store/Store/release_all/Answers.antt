@@ -3,12 +3,28 @@ use Rattle.segment_store.proofs.Walk.{falls, falls_same, chain_of, head_word}
 use Rattle.segment_store.specs.Store.{first_of}
 use Rattle.segment_store.proofs.store.Store.release_all.Goals as goal
 
-pub loop-left-init : goal.loop-left-init
-loop-left-init c = let r = c.requires.rests in record { head = r.0; many = r.1; sounds = r.2; single = r.3; build = refl; holds = refl; left_same = refl; slots = refl; table = refl }
+pub loop-below-init : goal.loop-below-init
+loop-below-init c = let r = c.requires.rests in
+    record {
+      head = r.0;
+      many = r.1;
+      sounds = r.2;
+      single = r.3;
+      build = refl;
+      holds = refl;
+      left_same = refl;
+      slots = refl;
+      table = refl;
+    }
 
-pub loop-left-preserved : goal.loop-left-preserved
-loop-left-preserved c = let f = c.loop-left.invariant in let same = c.word-up.ensures.same in let g = falls_same _ _ _ _ _ c.args.seat.now c.loop-left.seat c.word-up.new.seat f same in let w = c.args.self.now.wide in let w0 = w.0 in
-    falls _ _ _ _ _ c.word-up.result c.args.seat.now c.word-up.new.seat c.release_one.new.seat g c.loop-left-test.true
-    (λ e more is whole. let is' = sym (chain_of c.loop-left.seat c.word-up.new.seat same.2) ∙ is in
-    head_word e more c.loop-left.seat c.loop-left.at 1 c.word-up.result is' (f.head ∙ ap first_of is') c.word-up.ensures.word (whole.header 1 (omega arith) (omega arith)))
+pub loop-below-preserved : goal.loop-below-preserved
+loop-below-preserved c = let f = c.loop-below.invariant in let same = c.word-up.ensures.same in
+    let g = falls_same _ _ _ _ _ c.args.seat.now c.loop-below.seat c.word-up.new.seat f same in
+    let w = c.args.self.now.wide in let w0 = w.0 in
+    falls _ _ _ _ _ c.word-up.result c.args.seat.now c.word-up.new.seat c.release_one.new.seat g
+    c.loop-below-test.true
+    (λ e more is whole. let is' = sym (chain_of c.loop-below.seat c.word-up.new.seat same.2) ∙ is in
+    head_word e more c.loop-below.seat c.loop-below.at 1 c.word-up.result is'
+    (f.head ∙ ap first_of is') c.word-up.ensures.word
+    (whole.header 1 (omega arith) (omega arith)))
     (c.release_one.ensures.last c.if-not-release_one.false)

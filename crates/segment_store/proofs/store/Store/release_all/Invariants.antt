@@ -1,8 +1,9 @@
 use Rattle.segment_store.proofs.Walk.{Falling}
 use Rattle.segment_store.proofs.store.Store.release_all.Given as goal
 
-abbrev pub invariant-loop-left : goal.invariant-loop-left
-invariant-loop-left l = Falling l.fn.self.words l.fn.self.stride l.fn.self.masks l.at l.left l.initial.seat l.seat
+abbrev pub invariant-loop-below : goal.invariant-loop-below
+invariant-loop-below l = Falling l.fn.self.words l.fn.self.stride l.fn.self.masks l.at l.below
+    l.initial.seat l.seat
 
-abbrev pub decreases-loop-left : goal.decreases-loop-left
-decreases-loop-left l = l.left
+abbrev pub decreases-loop-below : goal.decreases-loop-below
+decreases-loop-below l = l.below

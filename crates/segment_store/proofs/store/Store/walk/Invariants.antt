@@ -3,7 +3,9 @@ use Rattle.segment_store.proofs.Walk.{Going}
 use Rattle.segment_store.proofs.store.Store.walk.Given as goal
 
 abbrev pub invariant-loop-left : goal.invariant-loop-left
-invariant-loop-left l = IsSameSeat l.initial.seat l.seat × Going l.fn.self.initial.items l.fn.self.words l.fn.self.stride l.fn.self.masks l.fn.location l.at l.left l.initial.seat.me.0.chain
+invariant-loop-left l = IsSameSeat l.initial.seat l.seat
+    × Going l.fn.self.initial.items l.fn.self.words l.fn.self.stride l.fn.self.masks l.fn.location
+    l.at l.left l.initial.seat.me.0.chain
 
 abbrev pub decreases-loop-left : goal.decreases-loop-left
 decreases-loop-left l = l.left

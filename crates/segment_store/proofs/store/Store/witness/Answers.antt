@@ -3,4 +3,12 @@ use Rattle.segment_store.proofs.Lifts.{witness}
 use Rattle.segment_store.proofs.store.Store.witness.Goals as goal
 
 pub split_seat-requires : goal.split_seat-requires
-split_seat-requires c = (c.requires.own, (let s = c.args.self.now.sized in let s0 = s.0 in let s1 = s.1 in let w = c.args.self.now.wide in let w0 = w.0 in let w2 = w.2 in omega arith), witness c.args.self.now.table.shared.key.words c.args.self.now.table.shared.key.stride c.args.self.now.table.shared.key.masks (let s = c.args.self.now.sized in let w = c.args.self.now.wide in let s2 = s.2 in let w0 = w.0 in omega arith) _ _ c.requires.some)
+split_seat-requires c = (
+  c.requires.own,
+  (let s = c.args.self.now.sized in let s0 = s.0 in
+      let s1 = s.1 in let w = c.args.self.now.wide in let w0 = w.0 in let w2 = w.2 in omega arith),
+  witness c.args.self.now.table.shared.key.words c.args.self.now.table.shared.key.stride
+      c.args.self.now.table.shared.key.masks (let s = c.args.self.now.sized in
+      let w = c.args.self.now.wide in let s2 = s.2 in let w0 = w.0 in
+      omega arith) _ _ c.requires.some,
+)

@@ -3,5 +3,7 @@ use Rattle.version_map.specs.Overlay.{under, Agree}
 use Rattle.version_map.proofs.whole.WholeSnapshot.fork.Given as goal
 
 abbrev pub invariant-loop-location : goal.invariant-loop-location
-invariant-loop-location l = (l.self ≡ l.initial.self) × (l.delta ≡ l.initial.delta) × (vec_len l.words ≡ l.location)
-    × Agree l.location (slice_index l.words.items) (under l.initial.delta (slice_index l.initial.self.words.items))
+invariant-loop-location l = (l.self ≡ l.initial.self) × (l.delta ≡ l.initial.delta)
+    × (vec_len l.words ≡ l.location)
+    × Agree l.location (slice_index l.words.items)
+    (under l.initial.delta (slice_index l.initial.self.words.items))

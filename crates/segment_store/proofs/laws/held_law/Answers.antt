@@ -1,0 +1,6 @@
+use Rattle.segment_store.proofs.Reached.{reached}
+use Rattle.segment_store.proofs.laws.held_law.Goals as goal
+
+pub returns : goal.returns
+returns c = λ words stride s r d b live done. let p = reached words stride s r d b live done in
+    (p.seat, p.view, p.at, p.e, p.has, p.seg)

@@ -1,0 +1,14 @@
+use Rattle.std.proofs.Common.{◌≡◌, ℕ, ◌*◌, ◌<◌, ◌≤◌}
+use Rattle.version_map.specs.Deltas.{at, locations}
+use Rattle.segment_store.specs.Same.{IsSameSeat}
+use Rattle.segment_store.specs.Base.{IsTaken}
+use Rattle.segment_store.proofs.store.Store.absorb_row.Given as goal
+
+abbrev pub invariant-loop-l : goal.invariant-loop-l
+invariant-loop-l l = IsSameSeat l.initial.seat l.seat
+    × (locations l.into ≡ locations l.initial.into) × (64 * l.fn.row ≤ l.l)
+    × ((k : ℕ) → l.l ≤ k → at l.into k ≡ at l.initial.into k)
+    × ((k : ℕ) → k < 64 * l.fn.row → at l.into k ≡ at l.initial.into k)
+    × ((k : ℕ) → 64 * l.fn.row ≤ k → k < l.l
+    → IsTaken l.fn.self.words l.fn.self.stride l.fn.self.masks l.fn.segment k
+    l.initial.seat.me.0.chain (at l.initial.into k) (at l.into k))
