@@ -63,25 +63,64 @@ fn broken(rt: HostRuntime) -> Result<(), Fail> {
     let wants = [
         ("proc p() { } main { let h = rfork p(); let g = @h; }", 1),
         ("proc p() { } main { let h = rfork p(); let g = (@h); }", 1),
-        ("proc p() { } main { let h = rfork p(); let g = none; g = @h; }", 1),
-        ("proc p() { } main { let h = rfork p(); rjoin pick(true, @h, none); }", 1),
-        ("proc p() { } main { let h = rfork p(); rjoin h; let g = pick(false, none, @h); }", 1),
+        (
+            "proc p() { } main { let h = rfork p(); let g = none; g = @h; }",
+            1,
+        ),
+        (
+            "proc p() { } main { let h = rfork p(); rjoin pick(true, @h, none); }",
+            1,
+        ),
+        (
+            "proc p() { } main { let h = rfork p(); rjoin h; let g = pick(false, none, @h); }",
+            1,
+        ),
         ("versioned s: rev; proc p() { } main { @s = rfork p(); }", 2),
-        ("versioned s: rev[2]; proc p() { } main { let h = rfork p(); @s[0] = h; }", 2),
+        (
+            "versioned s: rev[2]; proc p() { } main { let h = rfork p(); @s[0] = h; }",
+            2,
+        ),
         ("versioned s: rev; main { @s = none; }", 2),
-        ("proc b() { } main { print 1; let h = rfork b(); rjoin h; rjoin @h; }", 3),
-        ("proc p() { } main { let h = rfork p(); let a = tryjoin h; let b = tryjoin (@h); }", 3),
-        ("proc q(h: rev) { rjoin h; } main { let h = none; call q(h); rjoin @h; }", 3),
-        ("proc q(g: rev, h: rev) { } main { let h = none; call q(h, @h); }", 3),
+        (
+            "proc b() { } main { print 1; let h = rfork b(); rjoin h; rjoin @h; }",
+            3,
+        ),
+        (
+            "proc p() { } main { let h = rfork p(); let a = tryjoin h; let b = tryjoin (@h); }",
+            3,
+        ),
+        (
+            "proc q(h: rev) { rjoin h; } main { let h = none; call q(h); rjoin @h; }",
+            3,
+        ),
+        (
+            "proc q(g: rev, h: rev) { } main { let h = none; call q(h, @h); }",
+            3,
+        ),
         ("proc q(h: rev): rev { rjoin h; return @h; } main { }", 3),
         ("main { let h = none; if true { rjoin h; } rjoin @h; }", 3),
         ("main { let h = none; while true { rjoin @h; } }", 3),
-        ("main { let h = none; while true { let g = none; while true { rjoin @g; } } }", 3),
-        ("proc p() { } main { let h = rfork p(); while true { rjoin @h; h = rfork p(); } }", 4),
-        ("proc p() { } main { let h = rfork p(); while true { rjoin @h; return; } }", 4),
+        (
+            "main { let h = none; while true { let g = none; while true { rjoin @g; } } }",
+            3,
+        ),
+        (
+            "proc p() { } main { let h = rfork p(); while true { rjoin @h; h = rfork p(); } }",
+            4,
+        ),
+        (
+            "proc p() { } main { let h = rfork p(); while true { rjoin @h; return; } }",
+            4,
+        ),
         ("main { return; let h = none; while true { rjoin @h; } }", 4),
-        ("main { let h = none; while true { rjoin @h; return; rjoin h; } }", 4),
-        ("main { let h = none; let g = none; rjoin g; rjoin h; rjoin @h; rjoin g; }", 3),
+        (
+            "main { let h = none; while true { rjoin @h; return; rjoin h; } }",
+            4,
+        ),
+        (
+            "main { let h = none; let g = none; rjoin g; rjoin h; rjoin @h; rjoin g; }",
+            3,
+        ),
     ];
     for (marked, number) in wants {
         let (before, behind) = marked.split_once('@').unwrap_or((marked, ""));

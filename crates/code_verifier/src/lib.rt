@@ -17,4 +17,3 @@ mod verifier;
 pub use fault::CodeFault;
 pub use verified::Verified;
 pub use verifier::verify;
-
