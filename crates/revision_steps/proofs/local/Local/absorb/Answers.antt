@@ -1,0 +1,10 @@
+use Rattle.std.proofs.Common.{ap, sym, ◌∙◌, length, arith}
+use Rattle.rev_syntax.specs.View.{program as whole}
+use Rattle.revision_steps.proofs.Merges.{merge_count}
+use Rattle.revision_steps.proofs.local.Local.absorb.Goals as goal
+
+pub compose-requires-clause-few : goal.compose-requires-clause-few
+compose-requires-clause-few c =
+    let p = whole c.args.setting.now.typed.now.expanded.program in
+    let e = ap length c.args.setting.now.merges_listed ∙ merge_count p ∙ sym c.args.setting.now.typed.now.located in
+    omega arith
