@@ -17,7 +17,8 @@ ghost use Rattle.calculus_rules.specs.Rules.{rules_of, most_fuel, IsSmall};
 /// - `both`: two that are within the limit together have together at most that fuel.
 pub fn rule_laws()
     ensures keeps { (s : Setting) → Keeps (rules_of s) }
-    ensures first { (s : Setting) (fuel : ℕ) → fuel ≤ most_fuel → IsFirst (rules_of s) (main s fuel) }
+    ensures first { (s : Setting) (fuel : ℕ) → fuel ≤ most_fuel
+        → IsFirst (rules_of s) (main s fuel) }
     ensures small { (s : Setting) (l : Local) → IsRoomy (rules_of s) l → IsSmall l }
     ensures both { (s : Setting) (l m : Local) → AreRoomy (rules_of s) l m
         → l.fuel + m.fuel ≤ most_fuel }

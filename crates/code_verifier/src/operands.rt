@@ -139,7 +139,8 @@ fn one_or_none(alloc: Global, kind: Option<ValueKind>) -> Result<Vec<ValueKind>,
 
 /// The parameters of a block, the last first.
 fn params(alloc: Global, blocks: &[CodeBlock], n: usize) -> Result<Vec<ValueKind>, AllocError>
-    ensures { IfOk result (λ kinds. kinds.items ≡ reverse (shape.param_kinds (slice_get blocks.now n))) }
+    ensures { IfOk result
+        (λ kinds. kinds.items ≡ reverse (shape.param_kinds (slice_get blocks.now n))) }
 {
     match blocks.get(n) {
         None => Ok(Vec::new(alloc)),
@@ -159,7 +160,8 @@ fn layout_kinds(
     layouts: &[Items<LayoutItem>],
     n: usize,
 ) -> Result<Vec<ValueKind>, AllocError>
-    ensures { IfOk result (λ kinds. kinds.items ≡ reverse (shape.layout_kinds (slice_get layouts.now n))) }
+    ensures { IfOk result
+        (λ kinds. kinds.items ≡ reverse (shape.layout_kinds (slice_get layouts.now n))) }
 {
     match layouts.get(n) {
         None => Ok(Vec::new(alloc)),
@@ -221,7 +223,8 @@ pub(crate) fn takes(
     top: Option<ValueKind>,
     x: Instr,
 ) -> Result<Vec<ValueKind>, AllocError>
-    ensures { IfOk result (λ kinds. kinds.items ≡ shape.takes code.now block.now (shape.one_or_none top) x) }
+    ensures { IfOk result
+        (λ kinds. kinds.items ≡ shape.takes code.now block.now (shape.one_or_none top) x) }
 {
     let vars = code.vars.as_slice();
     let blocks = code.blocks.as_slice();

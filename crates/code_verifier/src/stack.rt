@@ -31,7 +31,8 @@ pub(crate) fn effect_of(
     x: Instr,
 ) -> Result<Effect, AllocError>
     requires { id < length shapes.old }
-    ensures { IfOk result (λ effect. IsEffect code.now block.now shapes.old id x shapes.new effect) }
+    ensures { IfOk result
+        (λ effect. IsEffect code.now block.now shapes.old id x shapes.new effect) }
 {
     let wanted = takes(alloc, code, block, shapes.first(id), x)?;
     let words = shapes.depth(id);

@@ -55,8 +55,10 @@ impl<'a> Local<'a> {
         index: &Expr,
     ) -> Result<Result<usize, Cause>, AllocError>
         ensures { IfOk result
-            (λ a. a ≡ value.and_then (evaluation.eval (given setting.now) self.now (expression index.now))
-            (λ i. evaluation.cell_location (given setting.now) name.now.text.items (value.number_of i))) }
+            (λ a. a
+            ≡ value.and_then (evaluation.eval (given setting.now) self.now (expression index.now))
+            (λ i. evaluation.cell_location (given setting.now) name.now.text.items
+            (value.number_of i))) }
     {
         match self.value(alloc, setting, index)? {
             Ok(found) => Ok(setting.cell_location(&name.text, number_of(&found))),
@@ -77,7 +79,8 @@ impl<'a> Local<'a> {
             (λ n. own_event n self.new
             ≡ step.with_answer path.now self.old
             (evaluation.eval (given setting.now) self.old (expression e.now))
-            (λ x. Moves (record self.old { locations = state.write_at self.old.locations number x }))) }
+            (λ x. Moves
+            (record self.old { locations = state.write_at self.old.locations number x }))) }
     {
         match self.value(alloc, setting, e)? {
             Ok(found) => {

@@ -71,7 +71,8 @@ pub fn compose(
     joiner: &[Location],
     joinee: &[Location],
 ) -> Result<Result<Vec<Option<Value>>, Fault>, AllocError>
-    requires known { (k n : ℕ) → slice_get merges.now k ≡ Some (Some n) → n < length typed.now.expanded.merges }
+    requires known { (k n : ℕ) → slice_get merges.now k ≡ Some (Some n)
+        → n < length typed.now.expanded.merges }
     requires few { length merges.now < 2 ^ 32 }
     ensures { IfOk result
         (λ a. composed joiner.now a

@@ -26,7 +26,8 @@ impl<'a> Local<'a> {
         last: &'a [Stmt],
     ) -> Result<Result<&'a [Stmt], Cause>, AllocError>
         ensures { IfOk result
-            (λ a. block_of a ≡ step.select (given setting.now) self.now (arms all.now) (stmts last.now)) }
+            (λ a. block_of a
+            ≡ step.select (given setting.now) self.now (arms all.now) (stmts last.now)) }
     {
         for arm in all {
             match self.value(alloc, setting, &arm.test)? {

@@ -172,7 +172,11 @@ impl<'a> Model for Frame<'a> {
 
     ghost coded = { coded_frame };
 
-    ghost view = { λ f. record { locals = f.locals.items; rest = f.rest; left = option_copied f.left } };
+    ghost view = { λ f. record {
+      locals = f.locals.items;
+      rest = f.rest;
+      left = option_copied f.left;
+    } };
 }
 
 /// The place of the local of this name among these.
@@ -203,7 +207,12 @@ impl<'a> Frame<'a> {
         left: Option<&'a [u8]>,
     ) -> Result<Frame<'a>, AllocError>
         ensures { IfOk result
-            (λ f. f ≡ record { locals = locals.entry.items; rest = stmts block.now; left = option_copied left.entry }) }
+            (λ f. f
+            ≡ record {
+              locals = locals.entry.items;
+              rest = stmts block.now;
+              left = option_copied left.entry;
+            }) }
     {
         Ok(Frame {
             locals,
@@ -250,7 +259,9 @@ impl<'a> Frame<'a> {
     pub fn next(&mut self) -> Result<Option<&'a Stmt>, AllocError>
         ensures { IfOk result
             (λ found. self.old
-            ≡ record self.new { rest = before (option_map stmt (option_copied found)) self.new.rest }) }
+            ≡ record self.new {
+              rest = before (option_map stmt (option_copied found)) self.new.rest;
+            }) }
     {
         self.rest.next()
     }

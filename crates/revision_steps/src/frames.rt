@@ -69,7 +69,8 @@ impl<'a> Frames<'a> {
     /// Takes out the frame on top, if there is one.
     #[tactic(auto, using(crate::proofs::Blocks::topmost_push))]
     pub fn pop(&mut self) -> Option<Frame<'a>>
-        ensures { MatchOption result ((self.old ≡ []) × (self.new ≡ [])) (λ f. self.old ≡ f ∷ self.new) }
+        ensures { MatchOption result ((self.old ≡ []) × (self.new ≡ []))
+            (λ f. self.old ≡ f ∷ self.new) }
     {
         self.frames.pop()
     }
@@ -113,7 +114,8 @@ impl<'a> Frames<'a> {
     /// Takes the next statement out of the frame on top, if it has one.
     pub fn next(&mut self) -> Result<Option<&'a Stmt>, AllocError>
         requires { 0 < length self.old }
-        ensures { IfOk result (λ found. self.old ≡ with_next (option_map stmt (option_copied found)) self.new) }
+        ensures { IfOk result
+            (λ found. self.old ≡ with_next (option_map stmt (option_copied found)) self.new) }
     {
         match self.pop() {
             None => Ok(None),

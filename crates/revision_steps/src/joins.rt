@@ -32,7 +32,13 @@ impl<'a> Local<'a> {
     fn fail_merge(&mut self, alloc: Global, path: &Path, fault: Fault) -> Result<(), AllocError>
         ensures { OnOk result
             (self.new
-            ≡ record self.old { phase = state.trapped (record { cause = cause.Merge fault.location fault.fault; line = self.old.line; origin = path.now }) }) }
+            ≡ record self.old {
+              phase = state.trapped (record {
+                cause = cause.Merge fault.location fault.fault;
+                line = self.old.line;
+                origin = path.now;
+              });
+            }) }
     {
         let origin = path.copy(alloc)?;
         self.phase = Phase::Trapped(Trap {
@@ -136,8 +142,8 @@ impl<'a> Local<'a> {
         requires { self.old.fuel + ended.now.fuel < 2 ^ 64 }
         ensures { OnOk result
             (self.new
-            ≡ join.join_in (given setting.now) path.now self.old (option_copied left.entry) ended.now
-            ended.now.phase) }
+            ≡ join.join_in (given setting.now) path.now self.old (option_copied left.entry)
+            ended.now ended.now.phase) }
     {
         match &ended.phase {
             Phase::Done => self.absorb(alloc, setting, path, left, ended),

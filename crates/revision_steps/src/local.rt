@@ -42,7 +42,16 @@ impl<'a> Model for Local<'a> {
 
     ghost coded = { coded_local };
 
-    ghost view = { λ l. record { locations = l.locations.items; frames = l.frames; fuel = l.fuel; forks = l.forks; noted = map phases.noted l.noted.items; text = l.text.items; line = l.line; phase = phases.phase l.phase } };
+    ghost view = { λ l. record {
+      locations = l.locations.items;
+      frames = l.frames;
+      fuel = l.fuel;
+      forks = l.forks;
+      noted = map phases.noted l.noted.items;
+      text = l.text.items;
+      line = l.line;
+      phase = phases.phase l.phase;
+    } };
 }
 
 impl<'a> Local<'a> {

@@ -76,7 +76,8 @@ impl<'a> Setting<'a> {
 fn callee_of<'a>(decl: Option<&'a Decl>) -> Callee<'a>
     ensures params { names_of (map parameter result.params.now)
         ≡ params_of (option_map declaration (option_copied decl.entry)) }
-    ensures body { stmts result.body.now ≡ body_of (option_map declaration (option_copied decl.entry)) }
+    ensures body { stmts result.body.now
+        ≡ body_of (option_map declaration (option_copied decl.entry)) }
 {
     match decl {
         Some(
@@ -113,7 +114,8 @@ fn locals_of<'a>(
     values: Vec<Value>,
 ) -> Result<Vec<Binding<'a>>, AllocError>
     ensures { IfOk result
-        (λ locals. locals.items ≡ step.locals_of (names_of (map parameter params.now)) values.items) }
+        (λ locals. locals.items
+        ≡ step.locals_of (names_of (map parameter params.now)) values.items) }
 {
     let mut locals = Vec::with_capacity(alloc, values.len())?;
     for value in values {

@@ -105,7 +105,9 @@ impl<'a> Local<'a> {
     fn append_line(&mut self, texts: &[Vec<u8>]) -> Result<(), AllocError>
         ensures { OnOk result
             (self.new
-            ≡ record self.old { text = self.old.text ++ step.line_of (map (λ t. t.items) texts.now) }) }
+            ≡ record self.old {
+              text = self.old.text ++ step.line_of (map (λ t. t.items) texts.now);
+            }) }
     {
         append_texts(&mut self.text, texts)?;
         self.text.push(b'\n')?;

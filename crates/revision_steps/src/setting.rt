@@ -23,10 +23,14 @@ pub struct Setting<'a> {
     pub(crate) procedures: NameTable<u32>,
     /// The number of the merge of each location that has one.
     pub(crate) merges: Vec<Option<u32>>,
-    ghost variables_found: { (name : names.Name) → find name variables ≡ info_of (whole typed.now.expanded.program) name },
-    ghost procedures_found: { (name : names.Name) → find name procedures ≡ number_of (whole typed.now.expanded.program) name },
-    ghost merges_listed: { merges.items ≡ merges_of (layout.variables (whole typed.now.expanded.program)) },
-    ghost merges_known: { (k n : ℕ) → slice_get merges.items k ≡ Some (Some n) → n < length typed.now.expanded.merges },
+    ghost variables_found: { (name : names.Name) → find name variables
+        ≡ info_of (whole typed.now.expanded.program) name },
+    ghost procedures_found: { (name : names.Name) → find name procedures
+        ≡ number_of (whole typed.now.expanded.program) name },
+    ghost merges_listed: { merges.items
+        ≡ merges_of (layout.variables (whole typed.now.expanded.program)) },
+    ghost merges_known: { (k n : ℕ) → slice_get merges.items k ≡ Some (Some n)
+        → n < length typed.now.expanded.merges },
 }
 
 impl<'a> Setting<'a> {

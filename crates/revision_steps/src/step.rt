@@ -142,7 +142,9 @@ impl<'a> Local<'a> {
         requires { 0 < length self.old.frames }
         ensures { IfOk result
             (λ found. self.old
-            ≡ record self.new { frames = with_next (option_map stmt (option_copied found)) self.new.frames }) }
+            ≡ record self.new {
+              frames = with_next (option_map stmt (option_copied found)) self.new.frames;
+            }) }
     {
         self.frames.next()
     }

@@ -26,7 +26,8 @@ pub fn declared(typed: &Typed, number: u32) -> Option<&Decl>
 
 /// The name of a declared shared variable.
 fn name_of_shared(decl: Option<&Decl>) -> Option<&[u8]>
-    ensures { option_copied result ≡ shared_name (option_map declaration (option_copied decl.entry)) }
+    ensures { option_copied result
+        ≡ shared_name (option_map declaration (option_copied decl.entry)) }
 {
     match decl {
         Some(
@@ -128,7 +129,8 @@ fn enter_procedures(
 /// The number of the declaration of the first procedure of each name.
 fn procedure_table(alloc: Global, typed: &Typed) -> Result<NameTable<u32>, AllocError>
     ensures { IfOk result
-        (λ t. (name : names.Name) → find name t ≡ number_of (whole typed.now.expanded.program) name) }
+        (λ t. (name : names.Name) → find name t
+        ≡ number_of (whole typed.now.expanded.program) name) }
 {
     enter_procedures(alloc, typed, typed.procs.as_slice())
 }
@@ -161,7 +163,8 @@ fn merges_of_rows(alloc: Global, rows: &[SharedInfo]) -> Result<Vec<Option<u32>>
 
 /// The number of the merge of each location that has one.
 fn merge_list(alloc: Global, typed: &Typed) -> Result<Vec<Option<u32>>, AllocError>
-    ensures { IfOk result (λ list. list.items ≡ merges_of (layout.variables (whole typed.now.expanded.program))) }
+    ensures { IfOk result
+        (λ list. list.items ≡ merges_of (layout.variables (whole typed.now.expanded.program))) }
 {
     merges_of_rows(alloc, typed.shared.as_slice())
 }
@@ -175,9 +178,12 @@ fn make<'a>(
     procedures: NameTable<u32>,
     merges: Vec<Option<u32>>,
 ) -> Setting<'a>
-    requires variables { (name : names.Name) → find name variables ≡ info_of (whole typed.now.expanded.program) name }
-    requires procedures { (name : names.Name) → find name procedures ≡ number_of (whole typed.now.expanded.program) name }
-    requires merges { merges.items ≡ merges_of (layout.variables (whole typed.now.expanded.program)) }
+    requires variables { (name : names.Name) → find name variables
+        ≡ info_of (whole typed.now.expanded.program) name }
+    requires procedures { (name : names.Name) → find name procedures
+        ≡ number_of (whole typed.now.expanded.program) name }
+    requires merges { merges.items
+        ≡ merges_of (layout.variables (whole typed.now.expanded.program)) }
     ensures { given result
         ≡ record { program = whole typed.now.expanded.program; inputs = input.now; share = share } }
 {
@@ -201,7 +207,11 @@ impl<'a> Setting<'a> {
     ) -> Result<Setting<'a>, AllocError>
         ensures { IfOk result
             (λ s. given s
-            ≡ record { program = whole typed.now.expanded.program; inputs = input.now; share = share }) }
+            ≡ record {
+              program = whole typed.now.expanded.program;
+              inputs = input.now;
+              share = share;
+            }) }
     {
         let variables = variable_table(alloc, typed)?;
         let procedures = procedure_table(alloc, typed)?;
