@@ -13,7 +13,8 @@ use Rattle.rev_kinds.specs.declared.names.Holder.{Holder}
 use Rattle.rev_kinds.specs.Kinds.{Callee, Names, Locals, same_kind, name_kind, result_of, kind_in, expression_form_kind, links_kind, operand_kind, expression_place}
 use Rattle.rev_kinds.specs.Rules as r
 use Rattle.rev_kinds.proofs.Lists.{parts, whole, held, failed}
-use Rattle.rev_kinds.specs.Typing.{ScalarHas, ArrayHas, TakesLeft, TakesRightSide, TakesFirst, IsOfKind, HasKind, ExpressionFormHas, ArgsHave, LinksHave, AllKinded, IsKnown, Applies, ExpressionFormApplies, ExpressionsApply, LinksApply, HasLink, Sound, Complete, Only}
+use Rattle.rev_kinds.specs.Typing.{ScalarHas, ArrayHas, TakesLeft, TakesRightSide, TakesFirst, IsOfKind, HasKind, ExpressionFormHas, ArgsHave, LinksHave}
+use Rattle.rev_kinds.specs.Laws.{AllKinded, IsKnown, Applies, ExpressionFormApplies, ExpressionsApply, LinksApply, HasLink, Sound, Complete, Only}
 
 abbrev pub All : Type 0
 All = List TypeFault

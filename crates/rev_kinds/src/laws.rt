@@ -1,6 +1,6 @@
 //! What the rules on kinds say of expressions.
 
-ghost use Rattle.rev_kinds.specs.Typing.{Sound, Complete, Only};
+ghost use Rattle.rev_kinds.specs.Laws.{Sound, Complete, Only};
 
 /// An expression that breaks no rule has a kind by the typing rules, which is the kind that its
 /// outermost form fixes; an expression that has a kind by the typing rules breaks no rule; and it

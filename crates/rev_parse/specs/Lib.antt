@@ -1,4 +1,5 @@
 pub mod Instance
+pub mod Parsing
 pub mod Parts
 pub mod Pieces
 pub mod Samples

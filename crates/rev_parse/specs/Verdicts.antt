@@ -1,15 +1,10 @@
 -- What the parser promises of a text's tokens.
-use Rattle.std.specs.Prelude.{◌≡◌, ℕ, List, [], ◌∷◌, length, drop, Result, Ok, Err, ⊤}
+use Rattle.std.specs.Prelude.{◌≡◌, ℕ, List, [], ◌∷◌, length, drop}
 use Rattle.rev_syntax.specs.Trees.{ProgramTree}
-use Rattle.rev_syntax.specs.View.{program as view}
-use Rattle.rev_syntax.specs.declared.tree.Program.{Program}
 use Rattle.rev_syntax.specs.declared.token.Token.{Token}
 use Rattle.token_grammar.specs.First as first
 use Rattle.rev_expressions.specs.Grammar.{alphabet}
 use Rattle.rev_expressions.specs.Declarations.{inner, program}
-use Rattle.rev_parse.specs.SmallTree.{IsSmallTree}
-use Rattle.rev_parse.specs.declared.whole.SyntaxFault.{SyntaxFault}
-use Rattle.rev_parse.specs.declared.whole.SyntaxFault.TheVariants as f
 
 -- how many levels may be open at once
 abbrev pub most_levels : ℕ
@@ -55,10 +50,3 @@ OneVerdict = (bytes : List ℕ) (ts : List Token) (a b : Verdict) → IsVerdict 
 -- All tokens have a verdict.
 abbrev pub SomeVerdict : Type 0
 SomeVerdict = (bytes : List ℕ) (ts : List Token) → (v : Verdict) × IsVerdict bytes ts v
-
--- the answer is the verdict, and the tree of a text that is not too long is small
-abbrev pub Parses : List ℕ → List Token → Result Program SyntaxFault → Type 0
-Parses bytes ts (Ok p) = IsVerdict bytes ts (tree (view p)) × IsSmallTree bytes ts (view p)
-Parses bytes ts (Err (f.Unexpected at)) = IsVerdict bytes ts (unexpected at)
-Parses bytes ts (Err (f.TooDeep at)) = IsVerdict bytes ts (too_deep at)
-Parses bytes ts (Err f.OutOfMemory) = ⊤

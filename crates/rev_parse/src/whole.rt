@@ -1,6 +1,7 @@
 // Whole programs.
 ghost use Rattle.std.specs.Prelude.{◌≡◌, ◌<◌, ◌^◌, ◌-◌, All, length};
-ghost use Rattle.rev_parse.specs.Verdicts.{Parses, place_of};
+ghost use Rattle.rev_parse.specs.Verdicts.{place_of};
+ghost use Rattle.rev_parse.specs.Parsing.{Parses};
 ghost use Rattle.rev_syntax.specs.Tokens.{IsToken};
 
 use crate::declaration::program;

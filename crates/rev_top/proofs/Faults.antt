@@ -7,7 +7,8 @@ use Rattle.rev_syntax.specs.declared.token.Token.{Token}
 use Rattle.rev_syntax.specs.declared.scan.LexFault.{LexFault}
 use Rattle.rev_syntax.specs.declared.scan.LexFault.TheVariants as lex
 use Rattle.rev_syntax.proofs.Unique.{one-list, one-fault, no-fault}
-use Rattle.rev_parse.specs.Verdicts.{Verdict, tree, unexpected, too_deep, Parses}
+use Rattle.rev_parse.specs.Verdicts.{Verdict, tree, unexpected, too_deep}
+use Rattle.rev_parse.specs.Parsing.{Parses}
 use Rattle.rev_parse.specs.declared.whole.SyntaxFault.{SyntaxFault}
 use Rattle.rev_parse.specs.declared.whole.SyntaxFault.TheVariants as syntax
 use Rattle.rev_parse.proofs.OneVerdict.{one_verdict}
@@ -31,7 +32,9 @@ use Rattle.rev_report.specs.declared.refusal.Refusal.{Refusal}
 use Rattle.rev_report.specs.declared.refusal.Refusal.TheVariants as refusals
 use Rattle.rev_report.specs.Messages.{status_of}
 use Rattle.rev_types.proofs.Accepting.{accepts}
-use Rattle.static_rules.specs.Front.{IsFirstBroken}
+use Rattle.static_rules.specs.Funs.{IsFirstBrokenFun}
+use Rattle.static_rules.specs.Breaks.{IsFirstBroken}
+use Rattle.static_rules.proofs.FunFaults.{same_first_fun, funs_kept}
 use Rattle.static_rules.proofs.Fronts.{same_first}
 use Rattle.rev_top.specs.Stops.{Meets, report_of_syntax, stop_of}
 use Rattle.rev_top.specs.Texts.{Checks, ChecksTokens, ChecksTree, Cuts, KeepsFuns, KeepsTypes, Reads, Reports, fault_at, place_in, reading, report_of_funs, report_of_lexical, report_of_types, unexpected_at}
@@ -118,12 +121,18 @@ one_cuts text (Err r) (Err s) h k =
 one_reads : (text : List ℕ) (ts : List Token) → One (Reads text ts)
 one_reads text ts a b h k = h.2 ∙ ap (reading text) (one_verdict text ts h.0 k.0 h.1 k.1) ∙ sym k.2
 
+-- the first rule on funs that is broken is the first of the list
+of_fun_list : (text : List ℕ) (p : ProgramTree) (r : Refusal)
+    → Reports (IsFirstBrokenFun p) (report_of_funs text) r
+    → Reports (IsFirst funs.place funs.rank (funs.fun_faults p)) (report_of_funs text) r
+of_fun_list text p r h = record { fault = h.fault; comes = (same_first_fun p h.fault).1 h.comes; reported = h.reported }
+
 one_funs : (text : List ℕ) (p : ProgramTree) → One (KeepsFuns text p)
 one_funs text p (Ok q) (Ok r) h k = ap (λ (x : ProgramTree). Ok x) (h.0 ∙ sym k.0)
-one_funs text p (Ok q) (Err s) h k = absurd (no_first funs.place funs.rank (funs.fun_faults p) k.fault h.1 k.comes)
-one_funs text p (Err r) (Ok q) h k = absurd (no_first funs.place funs.rank (funs.fun_faults p) h.fault k.1 h.comes)
+one_funs text p (Ok q) (Err s) h k = absurd (h.1 k.fault k.comes.broken)
+one_funs text p (Err r) (Ok q) h k = absurd (k.1 h.fault h.comes.broken)
 one_funs text p (Err r) (Err s) h k =
-    ap (λ (x : Refusal). Err x) (one_report funs.place funs.rank (report_of_funs text) (funs_by text) (funs.fun_faults p) (λ f among. funs_by_rank text f) r s h k)
+    ap (λ (x : Refusal). Err x) (one_report funs.place funs.rank (report_of_funs text) (funs_by text) (funs.fun_faults p) (λ f among. funs_by_rank text f) r s (of_fun_list text p r h) (of_fun_list text p s k))
 
 -- the first rule that is broken is the first of the checker's list
 of_list : (text : List ℕ) (p : ProgramTree) (r : Refusal)
@@ -230,7 +239,7 @@ module _ {X : Type 0} (text : List ℕ) where
 
     pub no_funs : (p : ProgramTree) (f : MergeFault) (e : Stop) → e ≡ stop_of (report_of_funs text f)
         → expands.Refuses p f → Meets view (Err e) (KeepsFuns text p)
-    no_funs p f e is h = refuses (report_of_funs text) fun.OutOfMemory refl (IsFirst funs.place funs.rank (funs.fun_faults p)) (KeepsFuns text p) (λ r x. x) view f e is h
+    no_funs p f e is h = refuses (report_of_funs text) fun.OutOfMemory refl (IsFirstBrokenFun p) (KeepsFuns text p) (λ r x. x) view f e is (λ n. (same_first_fun p f).0 (h n))
 
     pub no_types : (p : ProgramTree) (f : TypeFault) (e : Stop) → e ≡ stop_of (report_of_types text f)
         → tables.Refuses p f → Meets view (Err e) (KeepsTypes text p)

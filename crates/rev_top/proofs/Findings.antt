@@ -17,6 +17,7 @@ use Rattle.rev_types.specs.Accepted.{IsWellTyped}
 use Rattle.rev_types.proofs.Accepting.{accepts}
 use Rattle.static_rules.specs.Front.{Outcome, fault_in}
 use Rattle.static_rules.specs.Front as outcome
+use Rattle.static_rules.proofs.FunFaults.{funs_kept}
 use Rattle.static_rules.proofs.Fronts.{has_one}
 use Rattle.rev_report.specs.declared.refusal.Refusal.{Refusal}
 use Rattle.rev_top.specs.Answer.{source_limit}
@@ -108,7 +109,7 @@ module _ (text : List ℕ) (short : length text ≤ source_limit) where
   -- ---- what is accepted
 
   is_ready : (p : ProgramTree) → IsFinding text (accepted p) → IsReady p
-  is_ready p h = record { small = small p h.0; funs = h.1; rules = accepts p h.2 }
+  is_ready p h = record { small = small p h.0; funs = (funs_kept p).1 h.1; rules = accepts p h.2 }
 
   of_kept : (ts : List Token) (p q : ProgramTree) → IsTokens text ts → IsVerdict text ts (tree p) → (a : Result ProgramTree Refusal) → KeepsFuns text p a → Onward (KeepsTypes text) a (Ok q) → IsFinding text (accepted q)
   of_kept ts p q cut v (Ok r) h k =

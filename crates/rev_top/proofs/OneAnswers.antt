@@ -92,7 +92,7 @@ module _ (text : List ℕ) where
   of_finding (lexical f) h = of_lexical f h
   of_finding (syntax v) h = of_syntax v h.0 h.1
   of_finding (of_funs p f) h =
-      let told = funs_told text p f h.1.among in
+      let told = funs_told text p f h.1.broken in
       of_tokens (tree p) h.0 (Err told.0) (Err told.0, record { fault = f; comes = h.1; reported = told.1 }, refl)
   of_finding (of_rules p f) h =
       let told = types_told text p f h.2.broken in

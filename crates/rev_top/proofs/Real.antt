@@ -1,16 +1,15 @@
 -- Want of memory is among no faults of a program, so each of them is reported.
-use Rattle.std.proofs.Common.{◌≡◌, refl, subst, inl, inr, List, [], ◌∷◌, ◌++◌, ℕ, Bool, true, false, nat_le, nat_eq, if◌then◌else◌}
+use Rattle.std.proofs.Common.{◌≡◌, refl, List, ℕ}
 use Rattle.std.specs.Prelude.{Option, Some, None}
 use Rattle.rev_syntax.specs.Tokens.{IsFirstFault}
 use Rattle.rev_syntax.specs.Trees.{ProgramTree}
 use Rattle.rev_syntax.specs.declared.scan.LexFault.{LexFault}
 use Rattle.rev_syntax.specs.declared.scan.LexFault.TheVariants as lex
-use Rattle.merge_decl.specs.Least.{Among}
-use Rattle.merge_decl.specs.FunRules.{Use, arity_here, broken_by, broken_in, fun_faults, fun_named, later_here, uses_in}
 use Rattle.merge_decl.specs.declared.expand.MergeFault.{MergeFault}
 use Rattle.merge_decl.specs.declared.expand.MergeFault.TheVariants as fun
 use Rattle.rev_kinds.specs.declared.fault.TypeFault.{TypeFault}
 use Rattle.rev_kinds.specs.declared.fault.TypeFault.TheVariants as type
+use Rattle.static_rules.specs.Funs.{BreaksFun, unknown_fun, later_fun, other_arity}
 use Rattle.static_rules.specs.Breaks.{Breaks, unknown_variable, unknown_procedure, unknown_merge, declared_again, parameter_again, parameter_of_shared, let_again, other_kind, is_handle, other_right_side, other_constant, other_use, no_result, cumulative_kind, fun_parameter, fun_result, input_inside, inputs_inside, return_without, return_with, other_count, no_cells, no_return, locations, procedures, declared_funs, parameters, local_parameter, local_let, too_many_items, too_heavy}
 use Rattle.rev_report.specs.declared.refusal.Refusal.{Refusal}
 use Rattle.rev_top.specs.Texts.{report_of_funs, report_of_lexical, report_of_types}
@@ -29,39 +28,10 @@ IsFun (fun.LaterFun at) = Unit {0}
 IsFun (fun.Arity at) = Unit {0}
 IsFun fun.OutOfMemory = ⊥
 
--- each of the list is one
-abbrev Each : List MergeFault → Type 0
-Each [] = Unit {0}
-Each (f ∷ fs) = IsFun f × Each fs
-
-each_append : (fs gs : List MergeFault) → Each fs → Each gs → Each (fs ++ gs)
-each_append [] gs h k = k
-each_append (f ∷ fs) gs h k = (h.0, each_append fs gs h.1 k)
-
-each_among : (fs : List MergeFault) (f : MergeFault) → Each fs → Among fs f → IsFun f
-each_among [] f h m = absurd m
-each_among (g ∷ gs) f h (inl is) = subst (λ x. IsFun x) is h.0
-each_among (g ∷ gs) f h (inr m) = each_among gs f h.1 m
-
-each_where : (b : Bool) (f : MergeFault) → IsFun f → Each (if b then f ∷ [] else [])
-each_where true f h = (h, tt)
-each_where false f h = tt
-
-each_unless : (b : Bool) (f : MergeFault) → IsFun f → Each (if b then [] else f ∷ [])
-each_unless true f h = tt
-each_unless false f h = (h, tt)
-
-each_use : (p : ProgramTree) (us : List Use) → Each (broken_in (fun_named p) us)
-each_use p [] = tt
-each_use p (u ∷ us) =
-    each_append (broken_by u (fun_named p u.name.text)) (broken_in (fun_named p) us)
-    (elim (fun_named p u.name.text) as (λ o. Each (broken_by u o)) [
-      | None ↦ (tt, tt)
-      | Some h ↦ each_append (later_here u h) (arity_here u h)
-          (each_where (nat_le u.within h.decl) (fun.LaterFun u.name.at) tt)
-          (each_unless (nat_eq u.args h.params) (fun.Arity u.name.at) tt)
-    ])
-    (each_use p us)
+is_fun : (p : ProgramTree) (f : MergeFault) → BreaksFun p f → IsFun f
+is_fun p _ (unknown_fun a b) = tt
+is_fun p _ (later_fun a b c) = tt
+is_fun p _ (other_arity a b c) = tt
 
 fun_is_told : (text : List ℕ) (f : MergeFault) → IsFun f → (r : Refusal) × (report_of_funs text f ≡ Some r)
 fun_is_told text (fun.UnknownFun at) h = (_, refl)
@@ -69,8 +39,8 @@ fun_is_told text (fun.LaterFun at) h = (_, refl)
 fun_is_told text (fun.Arity at) h = (_, refl)
 fun_is_told text fun.OutOfMemory h = absurd h
 
-pub funs_told : (text : List ℕ) (p : ProgramTree) (f : MergeFault) → Among (fun_faults p) f → (r : Refusal) × (report_of_funs text f ≡ Some r)
-funs_told text p f m = fun_is_told text f (each_among (fun_faults p) f (each_use p (uses_in p)) m)
+pub funs_told : (text : List ℕ) (p : ProgramTree) (f : MergeFault) → BreaksFun p f → (r : Refusal) × (report_of_funs text f ≡ Some r)
+funs_told text p f b = fun_is_told text f (is_fun p f b)
 
 -- ---- other static faults
 

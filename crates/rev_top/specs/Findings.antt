@@ -9,13 +9,13 @@ use Rattle.rev_syntax.specs.Tokens.{IsTokens, IsFirstFault}
 use Rattle.rev_syntax.specs.declared.token.Token.{Token}
 use Rattle.rev_syntax.specs.declared.scan.LexFault.{LexFault}
 use Rattle.rev_parse.specs.Verdicts.{Verdict, tree, unexpected, too_deep, IsVerdict}
-use Rattle.merge_decl.specs.Least.{IsFirst}
 use Rattle.merge_decl.specs.FunRules as funs
 use Rattle.merge_decl.specs.declared.expand.MergeFault.{MergeFault}
 use Rattle.rev_kinds.specs.declared.fault.TypeFault.{TypeFault}
 use Rattle.rev_types.specs.Accepted.{IsWellTyped}
 use Rattle.rev_types.specs.Program.{faults}
-use Rattle.static_rules.specs.Front.{IsFirstBroken}
+use Rattle.static_rules.specs.Funs.{IsFirstBrokenFun, KeepsFunRules}
+use Rattle.static_rules.specs.Breaks.{IsFirstBroken}
 use Rattle.rev_top.specs.Answer.{source_limit}
 use Rattle.rev_top.specs.Texts.{Checks}
 
@@ -42,9 +42,9 @@ IsSyntaxFault (too_deep at) = Unit {0}
 abbrev pub IsFinding : List ℕ → Finding → Type 0
 IsFinding text (lexical f) = IsFirstFault text f
 IsFinding text (syntax v) = HasVerdict text v × IsSyntaxFault v
-IsFinding text (of_funs p f) = HasVerdict text (tree p) × IsFirst funs.place funs.rank (funs.fun_faults p) f
-IsFinding text (of_rules p f) = HasVerdict text (tree p) × (funs.fun_faults p ≡ []) × IsFirstBroken p f
-IsFinding text (accepted p) = HasVerdict text (tree p) × (funs.fun_faults p ≡ []) × IsWellTyped p
+IsFinding text (of_funs p f) = HasVerdict text (tree p) × IsFirstBrokenFun p f
+IsFinding text (of_rules p f) = HasVerdict text (tree p) × KeepsFunRules p × IsFirstBroken p f
+IsFinding text (accepted p) = HasVerdict text (tree p) × KeepsFunRules p × IsWellTyped p
 
 -- a small program without a fault, of which the laws on kinds speak
 pub record IsReady (p : ProgramTree) : Type 0 where

@@ -2,7 +2,7 @@
 --
 -- A fault of the tokens, anywhere in the text, comes before one of the syntax, that before a fault of
 -- the funs, and that before the other static faults.
-use Rattle.std.specs.Prelude.{◌≡◌, ◌==◌, ℕ, if◌then◌else◌, List, [], length, Option, Some, None, Result, Ok, Err}
+use Rattle.std.specs.Prelude.{◌≡◌, ◌==◌, ℕ, if◌then◌else◌, List, length, Option, Some, None, Result, Ok, Err}
 use Rattle.rev_syntax.specs.Places.{line_of, column_of}
 use Rattle.rev_syntax.specs.Tokens.{IsTokens, IsFirstFault}
 use Rattle.rev_syntax.specs.Trees.{ProgramTree}
@@ -10,14 +10,13 @@ use Rattle.rev_syntax.specs.declared.token.Token.{Token}
 use Rattle.rev_syntax.specs.declared.scan.LexFault.{LexFault}
 use Rattle.rev_syntax.specs.declared.scan.LexFault.TheVariants as lex
 use Rattle.rev_parse.specs.Verdicts.{Verdict, tree, unexpected, too_deep, IsVerdict}
-use Rattle.merge_decl.specs.Least.{IsFirst}
-use Rattle.merge_decl.specs.FunRules as funs
 use Rattle.merge_decl.specs.declared.expand.MergeFault.{MergeFault}
 use Rattle.merge_decl.specs.declared.expand.MergeFault.TheVariants as fun
 use Rattle.rev_kinds.specs.declared.fault.TypeFault.{TypeFault}
 use Rattle.rev_kinds.specs.declared.fault.TypeFault.TheVariants as type
 use Rattle.rev_types.specs.Accepted.{IsWellTyped}
-use Rattle.static_rules.specs.Front.{IsFirstBroken}
+use Rattle.static_rules.specs.Funs.{IsFirstBrokenFun, KeepsFunRules}
+use Rattle.static_rules.specs.Breaks.{IsFirstBroken}
 use Rattle.rev_report.specs.declared.fault.Place.{Place}
 use Rattle.rev_report.specs.declared.fault.TextFault.{TextFault}
 use Rattle.rev_report.specs.declared.fault.TextFault.TheVariants as fault
@@ -83,8 +82,8 @@ Reads text ts r = (v : Verdict) × IsVerdict text ts v × (r ≡ reading text v)
 
 -- the program, where it has no fault of its funs, or the first of them
 abbrev pub KeepsFuns : List ℕ → ProgramTree → Result ProgramTree Refusal → Type 0
-KeepsFuns text p (Ok q) = (q ≡ p) × (funs.fun_faults p ≡ [])
-KeepsFuns text p (Err r) = Reports (IsFirst funs.place funs.rank (funs.fun_faults p)) (report_of_funs text) r
+KeepsFuns text p (Ok q) = (q ≡ p) × KeepsFunRules p
+KeepsFuns text p (Err r) = Reports (IsFirstBrokenFun p) (report_of_funs text) r
 
 -- the program, where it is well typed and within the limits, or the first of the other rules that it breaks
 abbrev pub KeepsTypes : List ℕ → ProgramTree → Result ProgramTree Refusal → Type 0

@@ -5,7 +5,8 @@ use Rattle.rev_syntax.specs.Small.{IsSmall}
 use Rattle.merge_decl.specs.FunRules.{fun_faults}
 use Rattle.merge_decl.specs.Least.{Among}
 use Rattle.rev_kinds.specs.declared.fault.TypeFault.{TypeFault}
-use Rattle.rev_types.specs.Accepted.{IsWellTyped, IsNotTyped, Typed, Accepts}
+use Rattle.rev_types.specs.Accepted.{IsWellTyped, IsNotTyped}
+use Rattle.rev_types.specs.Laws.{Typed, Accepts}
 use Rattle.rev_types.specs.Program.{faults}
 use Rattle.rev_types.specs.Tables.{Refuses}
 use Rattle.rev_types.proofs.DeclsSound.{program_typed}

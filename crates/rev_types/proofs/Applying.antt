@@ -7,7 +7,7 @@ use Rattle.merge_decl.specs.FunRules.{Use, count, head, later_here, broken_by, b
 use Rattle.merge_decl.specs.Names.{Name, same}
 use Rattle.merge_decl.specs.declared.expand.FunHead.{FunHead}
 use Rattle.rev_kinds.specs.Kinds.{Callee, Names}
-use Rattle.rev_kinds.specs.Typing.{IsKnown, Applies, ExpressionFormApplies, ExpressionsApply, LinksApply, HasLink}
+use Rattle.rev_kinds.specs.Laws.{IsKnown, Applies, ExpressionFormApplies, ExpressionsApply, LinksApply, HasLink}
 use Rattle.rev_kinds.proofs.Lists.{parts, whole, held, and_parts, equal}
 use Rattle.rev_types.specs.Scopes.{fun_named}
 

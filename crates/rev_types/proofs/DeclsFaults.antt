@@ -17,7 +17,7 @@ use Rattle.rev_kinds.specs.Kinds.{Names, Locals, same_kind, expression_place}
 use Rattle.rev_kinds.specs.Rules as r
 use Rattle.rev_kinds.proofs.Lists.{whole, passes, stops, not_found, is_unequal, added_unknown, known_more}
 use Rattle.rev_kinds.proofs.Typings.{All, one, app, wants_of, handle_not, complete}
-use Rattle.rev_types.specs.Accepted.{LimitsAlone}
+use Rattle.rev_types.specs.Laws.{LimitsAlone}
 use Rattle.rev_types.specs.Statements as s
 use Rattle.rev_types.specs.Scopes as scopes
 use Rattle.rev_types.specs.Program as p

@@ -15,7 +15,7 @@ use Rattle.rev_report.specs.declared.limit.Limit.TheVariants as limits
 use Rattle.rev_report.specs.Limits.{first_past}
 use Rattle.rev_kinds.specs.Kinds.{Names, Locals, same_kind}
 use Rattle.rev_kinds.specs.Rules as r
-use Rattle.rev_kinds.specs.Typing.{AllKinded, IsKnown}
+use Rattle.rev_kinds.specs.Laws.{AllKinded, IsKnown}
 use Rattle.rev_kinds.proofs.Lists.{parts, held, failed, and_parts, unequal, unknown_added, known_added}
 use Rattle.rev_kinds.proofs.Typings.{All, one, app, same_true, wanted_is}
 use Rattle.rev_types.specs.Statements as s

@@ -5,7 +5,7 @@ use Rattle.merge_decl.specs.Least.{Among}
 use Rattle.rev_kinds.specs.declared.fault.TypeFault.{TypeFault}
 use Rattle.rev_kinds.specs.declared.fault.TypeFault.TheVariants.{UnknownName, Redeclared, WrongType, WrongCount, NoReturn, LimitOf, OutOfMemory}
 use Rattle.rev_kinds.specs.Faults.{HasLimit, exceeded}
-use Rattle.rev_types.specs.Accepted.{OwnLimits}
+use Rattle.rev_types.specs.Laws.{OwnLimits}
 use Rattle.rev_types.specs.Program.{faults}
 use Rattle.rev_types.proofs.Gather.{program_first}
 

@@ -15,7 +15,8 @@ use Rattle.rev_kinds.specs.declared.names.Holder.{Holder}
 use Rattle.rev_report.specs.Limits.{first_past}
 use Rattle.rev_kinds.specs.Kinds.{Callee, Names, Locals, name_kind, result_of, kind_in, right_side_kind, right_side_place, expression_place}
 use Rattle.rev_kinds.specs.Rules as r
-use Rattle.rev_kinds.specs.Typing.{HasKind, AllKinded, IsKnown}
+use Rattle.rev_kinds.specs.Typing.{HasKind}
+use Rattle.rev_kinds.specs.Laws.{AllKinded, IsKnown}
 use Rattle.rev_kinds.proofs.Lists.{parts, held, and_parts, equal}
 use Rattle.rev_kinds.proofs.Typings.{All, one, app, no_handle, alike_is, scalar_sound, array_sound, args_sound, has_wanted, sound, Kinded}
 use Rattle.rev_types.specs.Statements as s

@@ -1,6 +1,7 @@
 pub mod Accepted
 pub mod Judgement
 pub mod Layout
+pub mod Laws
 pub mod Limits
 pub mod Naming
 pub mod Passing

@@ -1,6 +1,6 @@
 //! What the static rules say of programs.
 
-ghost use Rattle.rev_types.specs.Accepted.{Typed, Accepts, LimitsAlone, OwnLimits};
+ghost use Rattle.rev_types.specs.Laws.{Typed, Accepts, LimitsAlone, OwnLimits};
 ghost use Rattle.rev_types.specs.Layout.{LaidOut};
 ghost use Rattle.rev_types.specs.Naming.{FirstCounts};
 

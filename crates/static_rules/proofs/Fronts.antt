@@ -17,7 +17,11 @@ use Rattle.rev_types.specs.Program.{faults}
 use Rattle.rev_types.specs.Accepted.{IsWellTyped}
 use Rattle.rev_types.proofs.Accepting.{well_typed, accepts}
 use Rattle.rev_types.proofs.OwnLimits.{own_limits}
-use Rattle.static_rules.specs.Front.{IsFirstBroken, Decided, SameFirst, Outcome, of_funs, accepted, of_types, fault_in, OneOutcome}
+use Rattle.static_rules.specs.Front.{IsDecided, Outcome, of_funs, accepted, of_types, fault_in}
+use Rattle.static_rules.specs.Breaks.{IsFirstBroken}
+use Rattle.static_rules.specs.Laws.{Decided, SameFirst, OneOutcome}
+use Rattle.static_rules.specs.Funs.{IsFirstBrokenFun}
+use Rattle.static_rules.proofs.FunFaults.{same_first_fun, funs_kept}
 use Rattle.static_rules.proofs.Whole.{same}
 
 -- the fault of this place and number
@@ -64,8 +68,8 @@ decide p small funs None e = inl (well_typed p small funs (none_is place rank (f
 decide p small funs (Some f) e = inr (f, first_broken p f (first_is place rank (faults p) f e))
 
 pub decided : Decided
-decided p small funs = record {
-  one = decide p small funs _ refl;
+decided p small kept = record {
+  one = decide p small ((funs_kept p).1 kept) _ refl;
   not_both = λ f w b. absurd (subst (λ fs. Among fs f) (accepts p w) ((same p f).1 b));
   only = one_first p;
 }
@@ -86,28 +90,25 @@ fun_is (fun.LaterFun at) = refl
 fun_is (fun.Arity at) = refl
 fun_is fun.OutOfMemory = refl
 
-one_fun : (p : ProgramTree) (f g : MergeFault) → IsFirst funs.place funs.rank (fun_faults p) f → IsFirst funs.place funs.rank (fun_faults p) g → f ≡ g
+one_fun : (p : ProgramTree) (f g : MergeFault) → IsFirstBrokenFun p f → IsFirstBrokenFun p g → f ≡ g
 one_fun p f g a b =
-    let e = same_place (funs.place f) (funs.place g) (funs.rank f) (funs.rank g) (a.first g b.among) (b.first f a.among) in
+    let e = same_place (funs.place f) (funs.place g) (funs.rank f) (funs.rank g) (a.first g b.broken) (b.first f a.broken) in
     fun_is f ∙ (λ i. fun_of (e.0 i) (e.1 i)) ∙ sym (fun_is g)
-
-none_first : (p : ProgramTree) (f : MergeFault) → fun_faults p ≡ [] → IsFirst funs.place funs.rank (fun_faults p) f → ⊥
-none_first p f e h = subst (λ fs. Among fs f) e h.among
 
 one_outcome : (p : ProgramTree) → IsSmall p → (a b : Outcome p) → fault_in p a ≡ fault_in p b
 one_outcome p small (of_funs f h) (of_funs g k) = (λ i. (Some (one_fun p f g h k i), None))
-one_outcome p small (of_funs f h) (accepted e w) = absurd (none_first p f e h)
-one_outcome p small (of_funs f h) (of_types e g k) = absurd (none_first p f e h)
-one_outcome p small (accepted e w) (of_funs g k) = absurd (none_first p g e k)
+one_outcome p small (of_funs f h) (accepted e w) = absurd (e f h.broken)
+one_outcome p small (of_funs f h) (of_types e g k) = absurd (e f h.broken)
+one_outcome p small (accepted e w) (of_funs g k) = absurd (e g k.broken)
 one_outcome p small (accepted e w) (accepted d v) = refl
 one_outcome p small (accepted e w) (of_types d g k) = absurd ((decided p small e).not_both g w k.broken)
-one_outcome p small (of_types e f h) (of_funs g k) = absurd (none_first p g e k)
+one_outcome p small (of_types e f h) (of_funs g k) = absurd (e g k.broken)
 one_outcome p small (of_types e f h) (accepted d w) = absurd ((decided p small e).not_both f w h.broken)
 one_outcome p small (of_types e f h) (of_types d g k) = (λ i. (None, Some (one_first p f g h k i)))
 
 some_outcome : (p : ProgramTree) → IsSmall p → (o : Option MergeFault) → least funs.place funs.rank (fun_faults p) ≡ o → Outcome p
-some_outcome p small (Some f) e = of_funs f (first_is funs.place funs.rank (fun_faults p) f e)
-some_outcome p small None e = let kept = none_is funs.place funs.rank (fun_faults p) e in elim ((decided p small kept).one) [
+some_outcome p small (Some f) e = of_funs f ((same_first_fun p f).0 (first_is funs.place funs.rank (fun_faults p) f e))
+some_outcome p small None e = let kept = (funs_kept p).0 (none_is funs.place funs.rank (fun_faults p) e) in elim ((decided p small kept).one) [
   | inl w ↦ accepted kept w
   | inr g ↦ of_types kept g.0 g.1
 ]

@@ -3,6 +3,8 @@ mod Blocks
 mod Decls
 mod Declarations
 pub mod Fronts
+pub mod FunFaults
+mod FunUses
 mod Gathers
 mod Inward
 mod Expressions

@@ -2,14 +2,14 @@
 --
 -- `Breaks`: a program breaks a rule, and this is the fault, in the order of the list in the language's
 -- reference; `array_named`: whether a name is that of an array; `IsFun`: a fun or a merge;
--- `parameters_of`: the declared parameters; `Same`: the law by which the checker's list has these.
+-- `parameters_of`: the declared parameters; `IsFirstBroken`: the broken rule at the least place.
 use Rattle.std.specs.Prelude.{◌≡◌, ◌≢◌, ℕ, ◌+◌, ◌≤◌, ◌<◌, ◌↔◌, Bool, true, false, Option, Some, None, List, [], length}
 use Rattle.rev_num.specs.declared.value.ValueKind.{ValueKind}
 use Rattle.rev_num.specs.declared.value.ValueKind.TheVariants as k
 use Rattle.rev_num.specs.Value.{kind_of}
 use Rattle.rev_syntax.specs.Trees.{PlacedName, Parameter, ArraySize, Constant, SharedDeclaration, Expression, placed, Expressions, input, inputs, RightSide, called, PrintItem, StatementForm, bind, assign, return, print, Statements, Declaration, fun, merge, shared, proc, ProgramTree}
 use Rattle.merge_decl.specs.FunRules.{count}
-use Rattle.merge_decl.specs.Least.{Among}
+use Rattle.merge_decl.specs.Least.{Among, IsBefore}
 use Rattle.merge_decl.specs.Table.{find}
 use Rattle.merge_decl.specs.Weights.{weights_after, declaration_weight}
 use Rattle.rev_report.specs.declared.limit.Limit.TheVariants as limits
@@ -17,9 +17,8 @@ use Rattle.rev_kinds.specs.declared.fault.TypeFault.{TypeFault}
 use Rattle.rev_kinds.specs.declared.fault.TypeFault.TheVariants.{UnknownName, Redeclared, WrongType, WrongCount, NoReturn}
 use Rattle.rev_kinds.specs.declared.names.Holder.{Holder}
 use Rattle.rev_report.specs.Limits.{most}
-use Rattle.rev_kinds.specs.Faults.{exceeded}
+use Rattle.rev_kinds.specs.Faults.{exceeded, place, rank}
 use Rattle.rev_kinds.specs.Kinds.{Callee, Names, Locals, kind_in, name_kind, right_side_kind, right_side_place, expression_place}
-use Rattle.rev_types.specs.Program.{faults}
 use Rattle.rev_types.specs.Scopes.{outside, cells_of, size_cells}
 use Rattle.rev_types.specs.Judgement.{IsNew, IsMergeOf, name_of}
 use Rattle.rev_types.specs.Limits.{cells, procs, funs}
@@ -155,6 +154,7 @@ pub data Breaks (p : ProgramTree) : TypeFault → Type 0 where
   too_heavy : {before : List Declaration} {e : Declaration}
       → IsBehind before e p.declarations → most limits.Weight < declaration_weight (weights_after [] before) e → Breaks p (exceeded (word_of e).at limits.Weight)
 
--- the checker's list has exactly the faults of these rules
-abbrev pub Same : Type 0
-Same = (p : ProgramTree) (f : TypeFault) → Among (faults p) f ↔ Breaks p f
+-- of all that a program breaks this is at the least place, and there of the least number
+pub record IsFirstBroken (p : ProgramTree) (f : TypeFault) : Type 0 where
+  pub broken : Breaks p f
+  pub first : (g : TypeFault) → Breaks p g → IsBefore place rank f g

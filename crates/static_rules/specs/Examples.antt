@@ -9,7 +9,7 @@ use Rattle.rev_syntax.specs.declared.tree.BinaryOp.TheVariants as b
 use Rattle.rev_report.specs.declared.limit.Limit.TheVariants as limits
 use Rattle.rev_kinds.specs.declared.fault.TypeFault.TheVariants.{UnknownName, Redeclared, WrongType, WrongCount, NoReturn}
 use Rattle.rev_kinds.specs.Faults.{exceeded}
-use Rattle.static_rules.specs.Front.{IsFirstBroken}
+use Rattle.static_rules.specs.Breaks.{IsFirstBroken}
 
 -- ---- short words for trees
 

@@ -1,15 +1,18 @@
 //! The rules that a program breaks, each by itself.
 #![tactic(auto)]
 
-ghost use Rattle.static_rules.specs.Breaks.{Same};
 ghost use Rattle.static_rules.specs.Examples.{Examples};
-ghost use Rattle.static_rules.specs.Front.{Decided, OneOutcome, SameFirst};
+ghost use Rattle.static_rules.specs.Laws.{Same, SameFirst, SameFuns, SameFirstFun, FunsKept, Decided, OneOutcome};
 
-/// The checker's list of faults has exactly those of the rules; and a small program that keeps the
-/// rules on funs is well typed, or there is one first rule that it breaks, and never both.
+/// The checker's list of faults has exactly those of the rules, and so has the list of faults of funs; and a
+/// small program that keeps the rules on funs is well typed, or there is one first rule that it breaks, and
+/// never both.
 pub fn breaks_law()
     ensures same { Same }
     ensures first { SameFirst }
+    ensures funs { SameFuns }
+    ensures first_fun { SameFirstFun }
+    ensures kept { FunsKept }
     ensures decided { Decided }
     ensures outcome { OneOutcome }
 {}

@@ -5,7 +5,7 @@ use Rattle.merge_decl.proofs.Leasts.{first_is}
 use Rattle.rev_kinds.specs.declared.fault.TypeFault.{TypeFault}
 use Rattle.rev_kinds.specs.Faults.{place, rank}
 use Rattle.rev_types.specs.Program.{faults}
-use Rattle.static_rules.specs.Front.{IsFirstBroken}
+use Rattle.static_rules.specs.Breaks.{IsFirstBroken}
 use Rattle.static_rules.proofs.Fronts.{first_broken}
 use Rattle.static_rules.proofs.examples.Goals as goal
 

@@ -1,0 +1,12 @@
+use Rattle.rev_syntax.specs.View.{program as whole}
+use Rattle.merge_decl.specs.declared.expand.Expanded.{Expanded}
+use Rattle.static_rules.proofs.FunFaults.{funs_kept}
+use Rattle.rev_top.proofs.Faults.{no_funs}
+use Rattle.rev_top.proofs.text.expanded_of.Goals as goal
+
+pub returns-in-Ok : goal.returns-in-Ok
+returns-in-Ok c = (c.in-Ok.ensures.same, (funs_kept (whole c.args.program)).0 c.in-Ok.ensures.keeps)
+
+pub returns-in-Err : goal.returns-in-Err
+returns-in-Err c =
+    no_funs c.args.text.now (λ (e : Expanded). whole e.program) (whole c.args.program) c.in-Err.fault c.of_funs.result c.of_funs.ensures c.in-Err.ensures.first

@@ -1,0 +1,30 @@
+-- The laws between what is well typed and the list of faults that the checker goes by.
+--
+-- `Typed`, `Accepts`: no fault, and well typed; `LimitsAlone`: what a typed program breaks is limits;
+-- `OwnLimits`: a fault of a limit has the number of that limit.
+use Rattle.std.specs.Prelude.{◌≡◌, []}
+use Rattle.rev_syntax.specs.Trees.{ProgramTree}
+use Rattle.rev_syntax.specs.Small.{IsSmall}
+use Rattle.merge_decl.specs.FunRules.{fun_faults}
+use Rattle.merge_decl.specs.Least.{Among}
+use Rattle.rev_kinds.specs.declared.fault.TypeFault.{TypeFault}
+use Rattle.rev_kinds.specs.Faults.{HasLimit, IsLimit}
+use Rattle.rev_types.specs.Program.{faults}
+use Rattle.rev_types.specs.Judgement.{ProgramTyped}
+use Rattle.rev_types.specs.Accepted.{IsWellTyped}
+
+-- a small program that breaks no rule on funs and none of the others is well typed
+abbrev pub Typed : Type 0
+Typed = (p : ProgramTree) → IsSmall p → fun_faults p ≡ [] → faults p ≡ [] → IsWellTyped p
+
+-- a well-typed program breaks no rule
+abbrev pub Accepts : Type 0
+Accepts = (p : ProgramTree) → IsWellTyped p → faults p ≡ []
+
+-- all that a typed program breaks is limits
+abbrev pub LimitsAlone : Type 0
+LimitsAlone = (p : ProgramTree) → ProgramTyped p → (f : TypeFault) → Among (faults p) f → IsLimit f
+
+-- each fault of a limit has the number of that limit
+abbrev pub OwnLimits : Type 0
+OwnLimits = (p : ProgramTree) (f : TypeFault) → Among (faults p) f → HasLimit f
