@@ -5,6 +5,7 @@ use Rattle.std.proofs.lemmas.Bool.Decides.{nat_tests}
 use Rattle.rev_num.specs.declared.value.ValueKind.{ValueKind}
 use Rattle.rev_num.specs.declared.value.ValueKind.TheVariants as k
 use Rattle.rev_code.specs.Words.{same_kind}
+use Rattle.code_certificate.proofs.Basics.{kind_is, same_is}
 use Rattle.code_rules.specs.Shapes.{Shape, same_shape}
 use Rattle.code_verifier.specs.declared.node.Node.{Node}
 use Rattle.code_verifier.specs.Kept.{shape_at, first, rest, Extends}
@@ -91,31 +92,10 @@ shape_extends old new id e h = ap (λ o. elim o as (λ _. Shape) [ None ↦ [] |
 
 -- ---- equal shapes have one number
 
-kind_is : (x y : ValueKind) → same_kind x y ≡ true → x ≡ y
-kind_is k.Int k.Int h = refl
-kind_is k.Bool k.Bool h = refl
-kind_is k.Rev k.Rev h = refl
-kind_is k.Int k.Bool h = absurd (true≢false (sym h))
-kind_is k.Int k.Rev h = absurd (true≢false (sym h))
-kind_is k.Bool k.Int h = absurd (true≢false (sym h))
-kind_is k.Bool k.Rev h = absurd (true≢false (sym h))
-kind_is k.Rev k.Int h = absurd (true≢false (sym h))
-kind_is k.Rev k.Bool h = absurd (true≢false (sym h))
-
 pub same_kind_self : (x : ValueKind) → same_kind x x ≡ true
 same_kind_self k.Int = refl
 same_kind_self k.Bool = refl
 same_kind_self k.Rev = refl
-
-and_parts : (d e : Bool) → d && e ≡ true → (d ≡ true) × (e ≡ true)
-and_parts true e h = (refl, h)
-and_parts false e h = absurd (true≢false (sym h))
-
-pub same_is : (xs ys : Shape) → same_shape xs ys ≡ true → xs ≡ ys
-same_is [] [] h = refl
-same_is [] (y ∷ ys) h = absurd (true≢false (sym h))
-same_is (x ∷ xs) [] h = absurd (true≢false (sym h))
-same_is (x ∷ xs) (y ∷ ys) h = let z = and_parts (same_kind x y) (same_shape xs ys) h in let a = kind_is x y z.0 in let b = same_is xs ys z.1 in λ i. a i ∷ b i
 
 pub same_self : (xs : Shape) → same_shape xs xs ≡ true
 same_self [] = refl

@@ -9,7 +9,8 @@ use Rattle.merge_decl.specs.Table.{Table}
 use Rattle.revision_machine.specs.Machine.{Moves, Forks, Joins, Machine, Entry, Plain, Joined, Global, Twice, Live, nowhere, start, step, Runs, Reached}
 use Rattle.revision_machine.specs.PathMap.{with_at}
 use Rattle.revision_machine.specs.Laws.{local_of, Everywhere, IsForked, IsOrdered}
-use Rattle.revision_machine.proofs.Paths.{same_refl, same-eq, apart-same, decide_same, some_inj}
+use Rattle.revision_machine.proofs.Paths.{apart-same, decide_same, some_inj}
+use Rattle.rev_num.proofs.PostOrder.{same_refl, same-eq}
 use Rattle.revision_machine.proofs.Way.{put_two, Way, writes, twice, way, Place, own, new, marks, place}
 use Rattle.revision_machine.proofs.Diamond.{two_here, two_there, two_other}
 use Rattle.revision_machine.proofs.Ends.{along, reached_forked}

@@ -6,7 +6,7 @@ use Rattle.revision_machine.specs.Machine.{Event, Moves, Forks, Joins, Ended, Ma
 use Rattle.revision_machine.specs.Conditions.{Counts, Handles, HoldsNone}
 use Rattle.revision_machine.specs.Laws.{local_of, WellForked, IsOrdered, HandlesPrecede, HandleLaw, IsStanding, AllEnded, NoBlockedEnd, IsIn, Census}
 use Rattle.revision_machine.proofs.Paths.{some_inj}
-use Rattle.revision_machine.proofs.PostOrder.{before_trans, before_irrefl}
+use Rattle.rev_num.proofs.PostOrder.{before_trans, before_irrefl}
 use Rattle.revision_machine.proofs.Way.{Way, writes, twice, way}
 use Rattle.revision_machine.proofs.Forker.{keeps_forked, start_forked}
 use Rattle.revision_machine.proofs.Ends.{along}

@@ -11,7 +11,7 @@ use Rattle.revision_machine.proofs.Bearing.{runs_of}
 use Rattle.revision_machine.proofs.Census.{count_law}
 use Rattle.revision_machine.proofs.Totals.{no_longer}
 use Rattle.revision_machine.proofs.Schedules.{schedule_law}
-use Rattle.revision_machine.proofs.Paths.{same_refl}
+use Rattle.rev_num.proofs.PostOrder.{same_refl}
 
 at_none : {A : Type 0} (w : List A) (n : ℕ) → length w ≤ n → at_number w n ≡ None
 at_none [] n h = refl

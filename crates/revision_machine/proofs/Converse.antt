@@ -8,7 +8,7 @@ use Rattle.revision_machine.specs.Conditions.{Counts, Handles, HoldsNone}
 use Rattle.revision_machine.specs.Laws.{AllEnded, UniqueEnd, CompletionLaw}
 use Rattle.revision_machine.specs.Simulation.{Simulates, EntryAgrees, Agrees, UnblockedLaw, CompleteLaw, ConverseLaw, SameEnd}
 use Rattle.revision_machine.proofs.Paths.{at_here, at_other}
-use Rattle.revision_machine.proofs.PostOrder.{before_irrefl}
+use Rattle.rev_num.proofs.PostOrder.{before_irrefl}
 use Rattle.revision_machine.proofs.Blocked.{handle_law, going_on, waits_at, all_ended}
 use Rattle.revision_machine.proofs.Lift.{runs_on, quietly, plain_of, run_law, final_of}
 use Rattle.revision_machine.proofs.Bearing.{runs_of, bearing}

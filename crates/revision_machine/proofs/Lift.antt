@@ -8,7 +8,8 @@ use Rattle.revision_machine.specs.Laws.{IsIn, AllEnded}
 use Rattle.revision_machine.specs.Births.{offspring, RunsBearing, AllKnown}
 use Rattle.revision_machine.specs.Simulation.{Quiet, stay, more, Simulates, EntryAgrees, Agrees, StepsTo, StepLaw, RunLaw}
 use Rattle.revision_machine.proofs.Bearing.{offspring_child, known_front, known_back}
-use Rattle.revision_machine.proofs.Paths.{same-eq, overwrite, swap, child-apart, at_here, at_other}
+use Rattle.revision_machine.proofs.Paths.{overwrite, swap, child-apart, at_here, at_other}
+use Rattle.rev_num.proofs.PostOrder.{same-eq}
 use Rattle.revision_machine.proofs.Way.{put_two, Role, itself, forked, met, Way, writes, twice, way, ended_apart}
 
 same_put : {A : Type 0} (m : PathMap A) (r : Path) (a : A) → m r ≡ Some a → m ≡ with_at m r a

@@ -6,7 +6,8 @@ use Rattle.revision_machine.specs.Machine.{Joins, Ended, Entry, Plain, Joined, T
 use Rattle.revision_machine.specs.Laws.{IsIn, IsDistinct}
 use Rattle.revision_machine.specs.Numbered.{Wish, Goes, Bears, Wants, Stops, Numbered, Entries, World, Both, Listing, at_number, put_number, join_stopped, join_number, leg_of, leg_at, leg, number_of, or_path, event_by, machine_by, paths_of, globe_of, shows}
 use Rattle.revision_machine.specs.Births.{offspring_of, offspring_at, offspring}
-use Rattle.revision_machine.proofs.Paths.{some_inj, same_refl, same-eq, apart-same, swap, overwrite, at_here, at_other}
+use Rattle.revision_machine.proofs.Paths.{some_inj, apart-same, swap, overwrite, at_here, at_other}
+use Rattle.rev_num.proofs.PostOrder.{same_refl, same-eq}
 use Rattle.revision_machine.proofs.Way.{ended_apart}
 
 pub none_some : {P : Type 0} {A : Type 0} {a : A} → None ≡ Some a → P

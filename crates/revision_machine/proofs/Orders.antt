@@ -4,7 +4,7 @@ use Rattle.rev_num.specs.Path.{Path, same}
 use Rattle.revision_machine.specs.Machine.{Machine, Global, Twice, step, Reached}
 use Rattle.revision_machine.specs.Conditions.{Counts}
 use Rattle.revision_machine.specs.Laws.{Follows, Diamond}
-use Rattle.revision_machine.proofs.Paths.{same_refl}
+use Rattle.rev_num.proofs.PostOrder.{same_refl}
 use Rattle.revision_machine.proofs.Ends.{diamond_law}
 use Rattle.revision_machine.specs.declared.one_step.StepOutcome.{StepOutcome}
 use Rattle.revision_machine.specs.declared.state.GlobalState.{GlobalState}

@@ -16,7 +16,8 @@ use Rattle.revision_machine.specs.Laws.{IsIn}
 use Rattle.revision_machine.specs.declared.state.Revision.{Revision}
 use Rattle.revision_machine.specs.RevisionList.{paths, globe}
 use Rattle.revision_machine.specs.ListStep.{IsAt}
-use Rattle.revision_machine.proofs.Paths.{same_refl, same-eq, apart-same}
+use Rattle.revision_machine.proofs.Paths.{apart-same}
+use Rattle.rev_num.proofs.PostOrder.{same_refl, same-eq}
 use Rattle.revision_machine.proofs.RevisionList.{in-push, globe_out, paths-push, length-paths}
 
 abbrev pub Key : Type 0

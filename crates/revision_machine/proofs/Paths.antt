@@ -3,21 +3,8 @@ use Rattle.std.proofs.Common.{◌≡◌, ◌≢◌, ◌⊎◌, inl, inr, ℕ, Bo
 use Rattle.std.proofs.lemmas.Bool.{eqb-true, eq-eqb, and_parts, and_from, true≢false}
 use mathlib.Core.Path.{fun_ext}
 use Rattle.rev_num.specs.Path.{Path, child, same}
+use Rattle.rev_num.proofs.PostOrder.{same_refl, same-eq}
 use Rattle.revision_machine.specs.PathMap.{PathMap, with_at}
-
-pub same_refl : (p : Path) → same p p ≡ true
-same_refl [] = refl
-same_refl (x ∷ p) = and_from _ _ (eq-eqb x x refl) (same_refl p)
-
-pub same-eq : (p q : Path) → same p q ≡ true → p ≡ q
-same-eq [] [] e = refl
-same-eq [] (y ∷ q) e = cc
-same-eq (x ∷ p) [] e = cc
-same-eq (x ∷ p) (y ∷ q) e =
-    let both = and_parts _ _ e in
-    let hd : x ≡ y = eqb-true x y both.0 in
-    let tl : p ≡ q = same-eq p q both.1 in
-    λ i. hd i ∷ tl i
 
 pub apart-same : (p q : Path) → p ≢ q → same p q ≡ false
 apart-same p q apart = go (same p q) refl

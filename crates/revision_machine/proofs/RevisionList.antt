@@ -4,7 +4,8 @@ use Rattle.rev_num.specs.Path.{Path, same}
 use Rattle.revision_machine.specs.PathMap.{with_at}
 use Rattle.revision_machine.specs.Machine.{Entry}
 use Rattle.revision_machine.specs.Laws.{IsIn, IsDistinct, Census}
-use Rattle.revision_machine.proofs.Paths.{same_refl, same-eq, swap, overwrite, at_here, at_other}
+use Rattle.revision_machine.proofs.Paths.{swap, overwrite, at_here, at_other}
+use Rattle.rev_num.proofs.PostOrder.{same_refl, same-eq}
 use Rattle.revision_machine.specs.declared.state.Revision.{Revision}
 use Rattle.revision_machine.specs.RevisionList.{paths, entry_of, globe}
 use Rattle.revision_machine.specs.ListStep.{IsAt}

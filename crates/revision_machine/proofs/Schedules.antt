@@ -11,7 +11,8 @@ use Rattle.revision_machine.specs.Schedules.{ScheduleAgrees, CompleteScheduleAgr
 use Rattle.revision_machine.proofs.Blocked.{no_blocked_end}
 use Rattle.revision_machine.proofs.Converse.{unblocked_law, complete_law}
 use Rattle.revision_machine.proofs.Bearing.{runs_of, bearing_on, bears_once}
-use Rattle.revision_machine.proofs.Paths.{some_inj, same-eq}
+use Rattle.revision_machine.proofs.Paths.{some_inj}
+use Rattle.rev_num.proofs.PostOrder.{same-eq}
 use Rattle.revision_machine.proofs.Forker.{fresh_of}
 use Rattle.revision_machine.proofs.Ends.{reached_forked}
 use Rattle.revision_machine.proofs.Census.{bound_law}

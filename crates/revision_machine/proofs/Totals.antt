@@ -5,7 +5,7 @@ use Rattle.revision_machine.specs.PathMap.{PathMap}
 use Rattle.revision_machine.specs.Machine.{Machine, Entry, Plain, Live, Revisions, Runs, Reached}
 use Rattle.revision_machine.specs.Conditions.{Counts, Spends}
 use Rattle.revision_machine.specs.Laws.{IsIn, IsDistinct, amount, total, Census}
-use Rattle.revision_machine.proofs.Paths.{same-eq, same_refl}
+use Rattle.rev_num.proofs.PostOrder.{same-eq, same_refl}
 use Rattle.revision_machine.proofs.Census.{at_most, spending_law, runs_spend}
 use Rattle.revision_machine.proofs.Ends.{reached_forked}
 

@@ -23,7 +23,7 @@ pub struct Revisions<R> {
     pub list: Vec<Revision<R>>,
     pub(crate) places: PlaceTable,
     ghost distinct: { IsDistinct (paths list.items) } by { distinct_prop (paths list.items) },
-    ghost indexed: { IsIndexed places.map (paths list.items) } by { indexed_prop _ _ },
+    ghost indexed: { IsIndexed places.map (paths list.items) } by { indexed_prop places.map _ },
 }
 
 impl<R> Revisions<R> {

@@ -11,9 +11,10 @@ use lib.ListN.{get_elem?}
 use Rattle.atomic_table.specs.Table.{State}
 use Rattle.segment_store.specs.Entry.{Entry}
 use Rattle.segment_store.specs.declared.board.View.{View}
-use Rattle.segment_store.specs.Store.{building, total, is_at, refs_in, refs, builds, held}
+use Rattle.segment_store.specs.Store.{building, refs_in, refs, builds, held}
+use Rattle.seg_core.specs.Core.{total, is_at}
 use Rattle.segment_store.specs.Store.{IsSegment, Kept}
-use Rattle.segment_store.proofs.Sums.{total_one, total_two, is_at_other}
+use Rattle.seg_core.proofs.Sums.{total_one, total_two, is_at_other}
 
 module _ {A : Type 0} (f : A → ℕ) where
   total_zero : (l : List A) → ((i : ℕ) (a : A) → get_elem? l i ≡ some a → f a ≡ 0) → total f l ≡ 0

@@ -8,13 +8,15 @@ use Rattle.atomic_table.specs.Table.{State, Splits, Joins}
 use Rattle.atomic_table.proofs.Lists.{at_set, at_snoc}
 use Rattle.segment_store.specs.Entry.{Entry}
 use Rattle.segment_store.specs.declared.board.View.{View}
-use Rattle.segment_store.specs.Store.{idle, total, is_at}
+use Rattle.segment_store.specs.Store.{idle}
+use Rattle.seg_core.specs.Core.{total, is_at}
 use Rattle.segment_store.specs.Store.{refs_in, refs, builds, held}
 use Rattle.segment_store.specs.Store.{Knows, Kept}
 use Rattle.segment_store.specs.Store.{hands_left, hands_right}
 use Rattle.segment_store.specs.Store.{parts_left, gathers}
-use Rattle.segment_store.proofs.Sums.{total_set, total_snoc}
-use Rattle.segment_store.proofs.Sums.{is_at_other}
+use Rattle.segment_store.proofs.Sums.{total_snoc}
+use Rattle.seg_core.proofs.Sums.{total_set}
+use Rattle.seg_core.proofs.Sums.{is_at_other}
 use Rattle.segment_store.proofs.Frames.{counts_as}
 
 module _ (words stride : ℕ) where

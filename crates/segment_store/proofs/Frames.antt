@@ -9,9 +9,11 @@ use Rattle.atomic_table.specs.Table.{State}
 use Rattle.atomic_table.proofs.Lists.{at_set}
 use Rattle.segment_store.specs.Entry.{Put, Entry}
 use Rattle.segment_store.specs.declared.board.View.{View}
-use Rattle.segment_store.specs.Store.{total, first_of, is_at, refs_in, refs, builds, held, Counts}
+use Rattle.segment_store.specs.Store.{first_of, refs_in, refs, builds, held, Counts}
+use Rattle.seg_core.specs.Core.{total, is_at}
 use Rattle.segment_store.specs.Store.{IsSegment, Shows, IsEntry, Chain, Knows, Kept}
-use Rattle.segment_store.proofs.Sums.{total_set, total_one, is_at_same, is_at_other, one_segment}
+use Rattle.segment_store.proofs.Sums.{one_segment}
+use Rattle.seg_core.proofs.Sums.{total_set, total_one, is_at_same, is_at_other}
 use Rattle.segment_store.proofs.Sums.{chain_map, chain_keeps}
 
 -- for a chain with one reference

@@ -14,7 +14,7 @@ use Rattle.segment_store.specs.declared.board.View.{View}
 use Rattle.segment_store.specs.Store as st
 use Rattle.segment_store.specs.Base.{word_of, bit_of, value, Whole, Sound}
 use Rattle.segment_store.specs.Shown.{worded, Shows}
-use Rattle.segment_store.proofs.Sums.{total_one, is_at_same}
+use Rattle.seg_core.proofs.Sums.{total_one, is_at_same}
 use Rattle.segment_store.proofs.Ties.{live_at}
 
 module _ (words stride masks : ℕ) (big : 2 + masks ≤ stride) (rows : (l : ℕ)

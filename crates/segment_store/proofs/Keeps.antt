@@ -15,14 +15,16 @@ use Rattle.atomic_table.proofs.Lists.{at_set, set_again, set_here, set_else}
 use Rattle.segment_store.specs.Entry.{Put, Entry}
 use Rattle.segment_store.specs.Act.{Act}
 use Rattle.segment_store.specs.declared.board.View.{View}
-use Rattle.segment_store.specs.Store.{building, total, look, first_of, rest_of, is_at}
+use Rattle.segment_store.specs.Store.{building, look, first_of, rest_of}
+use Rattle.seg_core.specs.Core.{total, is_at}
 use Rattle.segment_store.specs.Store.{refs_in, refs, builds, held, IsSegment, Shows, IsEntry, Chain}
 use Rattle.segment_store.specs.Store.{Knows, Kept, sees, claims, puts, publishes, shares, pops}
 use Rattle.segment_store.specs.Store.{drops, gave_up, counts, looked, saw, claimed, wrote}
 use Rattle.segment_store.specs.Store.{published, shared, released, tallied}
 use Rattle.segment_store.specs.Store.{notes}
-use Rattle.segment_store.proofs.Sums.{total_set, total_one, total_two, is_at_same}
-use Rattle.segment_store.proofs.Sums.{is_at_other, refs_is, refs_not, refs_none, chain_has}
+use Rattle.seg_core.proofs.Sums.{total_set, total_one, total_two, is_at_same}
+use Rattle.segment_store.proofs.Sums.{refs_is, refs_not, refs_none, chain_has}
+use Rattle.seg_core.proofs.Sums.{is_at_other}
 use Rattle.segment_store.proofs.Depths.{chain_short}
 use Rattle.segment_store.proofs.Frames.{refs_first, no_child, counts_as, Same, same_set, outside}
 use Rattle.segment_store.proofs.Frames.{chain_else, know_else, know_count, framed}

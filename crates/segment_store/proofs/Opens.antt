@@ -8,8 +8,9 @@ use mathlib.Core.Option.{some, some-injective, some-ne-none}
 use lib.ListN.{get_elem?}
 use Rattle.atomic_table.specs.Table.{opening}
 use Rattle.segment_store.specs.declared.board.View.{View}
-use Rattle.segment_store.specs.Store.{idle, total, is_at, Knows, Kept}
-use Rattle.segment_store.proofs.Sums.{is_at_other}
+use Rattle.segment_store.specs.Store.{idle, Knows, Kept}
+use Rattle.seg_core.specs.Core.{total, is_at}
+use Rattle.seg_core.proofs.Sums.{is_at_other}
 use Rattle.segment_store.specs.Entry.{Entry}
 use Rattle.segment_store.specs.Base.{Rests}
 

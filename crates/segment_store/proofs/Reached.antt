@@ -8,9 +8,11 @@ use lib.ListN.{get_elem?}
 use Rattle.atomic_table.specs.Table.{State}
 use Rattle.segment_store.specs.Entry.{Entry}
 use Rattle.segment_store.specs.declared.board.View.{View}
-use Rattle.segment_store.specs.Store.{building, total, first_of, is_at, refs, IsSegment, IsEntry}
+use Rattle.segment_store.specs.Store.{building, first_of, refs, IsSegment, IsEntry}
+use Rattle.seg_core.specs.Core.{total, is_at}
 use Rattle.segment_store.specs.Store.{Chain, Has, Kept}
-use Rattle.segment_store.proofs.Sums.{is_at_other, refs_not, chain_has}
+use Rattle.segment_store.proofs.Sums.{refs_not, chain_has}
+use Rattle.seg_core.proofs.Sums.{is_at_other}
 use Rattle.segment_store.proofs.Closes.{total_some, highest, is_highest}
 
 pub record InChain (s : State (Unit {0}) View) (c : ℕ) : Type 0 where

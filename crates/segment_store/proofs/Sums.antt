@@ -7,40 +7,13 @@ use native.Mathlib.Decide.{dec_le}
 use lib.ListN.{get_elem?}
 use Rattle.segment_store.specs.Entry.{Entry}
 use Rattle.atomic_table.proofs.Lists.{one_turn}
-use Rattle.segment_store.specs.Store.{total, first_of, refs_in, is_at, Chain, Has}
+use Rattle.segment_store.specs.Store.{first_of, refs_in, Chain, Has}
+use Rattle.seg_core.specs.Core.{total, is_at}
 
 module _ {A : Type 0} (f : A → ℕ) where
-  pub total_set : (l : List A) (i : ℕ) (v w : A) → get_elem? l i ≡ some v
-      → total f (set l i w) + f v ≡ total f l + f w
-  total_set [] i v w e = absurd (some-ne-none v (sym e))
-  total_set (x ∷ xs) zero v w e = let is : f x ≡ f v = ap f (some-injective x v e) in omega arith
-  total_set (x ∷ xs) (suc i) v w e = let r = total_set xs i v w e in omega arith
-
   pub total_snoc : (l : List A) (w : A) → total f (l ++ w ∷ []) ≡ total f l + f w
   total_snoc [] w = omega arith
   total_snoc (x ∷ xs) w = let r = total_snoc xs w in omega arith
-
-  pub total_one : (l : List A) (i : ℕ) (v : A) → get_elem? l i ≡ some v → f v ≤ total f l
-  total_one [] i v e = absurd (some-ne-none v (sym e))
-  total_one (x ∷ xs) zero v e = let is : f x ≡ f v = ap f (some-injective x v e) in omega arith
-  total_one (x ∷ xs) (suc i) v e = let r = total_one xs i v e in omega arith
-
-  pub total_two : (l : List A) (i j : ℕ) (v w : A) → j ≢ i → get_elem? l i ≡ some v
-      → get_elem? l j ≡ some w → f v + f w ≤ total f l
-  total_two [] i j v w n e d = absurd (some-ne-none v (sym e))
-  total_two (x ∷ xs) zero zero v w n e d = absurd (n refl)
-  total_two (x ∷ xs) zero (suc j) v w n e d = let is : f x ≡ f v = ap f (some-injective x v e) in
-      let r = total_one xs j w d in omega arith
-  total_two (x ∷ xs) (suc i) zero v w n e d = let is : f x ≡ f w = ap f (some-injective x w d) in
-      let r = total_one xs i v e in omega arith
-  total_two (x ∷ xs) (suc i) (suc j) v w n e d = let r =
-      total_two xs i j v w (λ h. n (ap suc h)) e d in omega arith
-
-pub is_at_same : (k : ℕ) → is_at k k ≡ 1
-is_at_same k = let f : Bool → ℕ = λ b. cond b 1 0 in ap f (eq-eqb k k refl)
-
-pub is_at_other : (k p : ℕ) → p ≢ k → is_at k p ≡ 0
-is_at_other k p n = let f : Bool → ℕ = λ b. cond b 1 0 in ap f (ne_eqb p k n)
 
 -- a chain that begins with the segment c refers to it
 pub refs_is : (c x : ℕ) (es : List Entry) → 0 < first_of es → first_of es ≡ c

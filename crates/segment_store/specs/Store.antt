@@ -4,6 +4,7 @@ use Rattle.std.specs.Prelude.{slice_index, cond, ◌==◌, ◌⊎◌}
 use mathlib.Core.Option.{Option, none, some}
 use lib.ListN.{get_elem?}
 use Rattle.atomic_table.specs.Table.{State, Me, Step}
+use Rattle.seg_core.specs.Core.{total, is_at}
 use Rattle.segment_store.specs.Entry.{Put, Entry}
 use Rattle.segment_store.specs.Act as act
 use Rattle.segment_store.specs.declared.board.View.{View}
@@ -24,11 +25,6 @@ idle holds left = record {
   log = [];
 }
 
--- f of each, added up
-abbrev pub total : {A : Type 0} → (A → ℕ) → List A → ℕ
-total f [] = 0
-total f (x ∷ xs) = f x + total f xs
-
 -- the word that was put last at an index
 abbrev pub look : List Put → ℕ → Option ℕ
 look [] i = none
@@ -41,9 +37,6 @@ first_of (e ∷ es) = e.seg
 abbrev pub rest_of : List Entry → List Entry
 rest_of [] = []
 rest_of (e ∷ es) = es
-
-abbrev pub is_at : ℕ → ℕ → ℕ
-is_at c p = cond (p == c) 1 0
 
 -- how often a view refers to the segment c
 abbrev pub refs_in : ℕ → List Entry → ℕ → ℕ
