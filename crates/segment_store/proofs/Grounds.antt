@@ -9,6 +9,7 @@ use native.Mathlib.Decide.{ℕ_discrete}
 use lib.ListN.{get_elem?}
 use Rattle.atomic_table.specs.Table.{State}
 use Rattle.seg_core.specs.Core as c
+use Rattle.seg_core.specs.Core.{total, is_at}
 use Rattle.segment_store.specs.Entry.{Entry}
 use Rattle.segment_store.specs.declared.board.View.{View}
 use Rattle.segment_store.specs.Store as st
@@ -66,8 +67,8 @@ module _ (words stride masks : ℕ) (big : 2 + masks ≤ stride) (rows : (l : �
   pub base_ties : (es : List Entry)
       → st.Chain words stride (st.IsEntry words stride s.words q.ups) es
       → Sound words stride masks es
-      → (0 < st.first_of es → 0 < st.total (st.refs (st.first_of es)) s.views
-      + st.total (st.is_at (st.first_of es)) q.ups)
+      → (0 < st.first_of es → 0 < total (st.refs (st.first_of es)) s.views
+      + total (is_at (st.first_of es)) q.ups)
       → (n : ℕ) → length es ≤ n → c.base_of n bare k.segs (st.first_of es) l ≡ value masks root es l
   base_ties [] ch so some n many = at_none n
   base_ties (e ∷ es) ch so some zero many = absurd (omega arith)
@@ -80,9 +81,9 @@ module _ (words stride masks : ℕ) (big : 2 + masks ≤ stride) (rows : (l : �
       let parent : p ≡ st.first_of es = sym sh.3 ∙ ((ch.0.3 (e.seg + 1) e.up ch.0.2).2 ∙ ch.1) in
       let next : c.base_of n bare k.segs (st.first_of es) l ≡ value masks root es l =
       base_ties es ch.2 so.2
-      (λ pos. let o = total_one (st.is_at (st.first_of es)) q.ups e.seg e.up ch.0.1 in
-      let one : st.is_at (st.first_of es) e.up ≡ 1 =
-      subst (λ (z : ℕ). st.is_at (st.first_of es) z ≡ 1) (sym ch.1)
+      (λ pos. let o = total_one (is_at (st.first_of es)) q.ups e.seg e.up ch.0.1 in
+      let one : is_at (st.first_of es) e.up ≡ 1 =
+      subst (λ (z : ℕ). is_at (st.first_of es) z ≡ 1) (sym ch.1)
       (is_at_same (st.first_of es)) in omega arith) n (omega arith) in
       ap (c.through (bare l) (λ p. c.base_of n bare k.segs p l) l) t.3
       ∙ (ap (λ (z : ℕ). c.word_or (c.base_of n bare k.segs z l) (d l)) parent
