@@ -16,6 +16,7 @@ use Rattle.rev_types.specs.Scopes.{bound}
 use Rattle.rev_affine.specs.Live.{statement_passes}
 use Rattle.rev_affine.specs.SecondUses.{expression_places, expressions_places, right_side_places, value_places, ahead, statement_ahead, statement_form_ahead, arms_ahead, if_rev, expression_twice, expressions_twice, right_side_twice, value_twice, statement_scope, twice, statement_twice, statement_form_twice, arms_twice}
 use Rattle.rev_affine.proofs.Places.{scope_behind, typed_behind}
+use Rattle.rev_affine.proofs.Meaning.{kept, still_free}
 use Rattle.affine_check.specs.declared.fault.AffineFault.TheVariants.{UsedTwice}
 use Rattle.affine_check.specs.Walk.{is_handle, named, start, trail, misused}
 use Rattle.affine_check.proofs.Bounds.{meets, any-append}
@@ -72,18 +73,12 @@ is_rev (Some (Some k.Rev)) h = refl
 abbrev pub IsFree : Names → Locals → Name → Type 0
 IsFree c l n = (find n l ≡ None) × (c.shared n ≡ None)
 
-kept : (n w : Name) (l : Locals) (x : Option ValueKind) (m : Option ValueKind) → find n l ≡ Some m → find n (added l w x) ≡ Some m
-kept n w l x m h = find-added n w x l ∙ ap (λ o. or_else o (if same n w then Some x else None)) h
-
 was_free : (n w : Name) (l : Locals) (x : Option ValueKind) → find n (added l w x) ≡ None → find n l ≡ None
 was_free n w l x h = by (find n l) refl
   where
     by : (o : Option (Option ValueKind)) → find n l ≡ o → find n l ≡ None
     by None e = e
     by (Some m) e = absurd (let clash : Some m ≡ None = sym (kept n w l x m e) ∙ h in cc)
-
-still_free : (n w : Name) (l : Locals) (x : Option ValueKind) → same n w ≡ false → find n l ≡ None → find n (added l w x) ≡ None
-still_free n w l x d h = find-added n w x l ∙ (λ i. or_else (h i) (if d i then Some x else None))
 
 pub was_handle : (n w : Name) (l : Locals) (x : Option ValueKind) → IsHandle (added l w x) n → IsHandle l n ⊎ (n ≡ w)
 was_handle n w l x h = by (same n w) refl

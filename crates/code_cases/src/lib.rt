@@ -4,4 +4,6 @@
 #[cfg(test)]
 mod instructions;
 #[cfg(test)]
+mod operands;
+#[cfg(test)]
 mod tables;

@@ -156,12 +156,12 @@ module _ {H : Type 0} (code : Code) (notes : ℕ → ℕ → Note) (ok : IsAccep
 
 -- ---- values by blocks, and steps
 
-take_less : {A : Type 0} (xs : List A) (n : ℕ) → take n (take (suc n) xs) ≡ take n xs
+pub take_less : {A : Type 0} (xs : List A) (n : ℕ) → take n (take (suc n) xs) ≡ take n xs
 take_less xs zero = refl
 take_less [] (suc n) = refl
 take_less (x ∷ xs) (suc n) = ap (λ z. x ∷ z) (take_less xs n)
 
-get_take : {A : Type 0} (xs : List A) (m n : ℕ) → m < n → slice_get (take n xs) m ≡ slice_get xs m
+pub get_take : {A : Type 0} (xs : List A) (m n : ℕ) → m < n → slice_get (take n xs) m ≡ slice_get xs m
 get_take xs m zero h = absurd (omega (arith, h))
 get_take [] m (suc n) h = refl
 get_take (x ∷ xs) zero (suc n) h = refl

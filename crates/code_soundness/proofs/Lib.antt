@@ -8,4 +8,5 @@ pub mod Places
 pub mod Frames
 pub mod Acting
 pub mod Evaluating
+pub mod Using
 pub mod Reaching

@@ -25,6 +25,7 @@ use Rattle.code_soundness.proofs.Lists.{and_parts, some_eq, within_some}
 use Rattle.code_soundness.proofs.Variables.{start_kinds}
 use Rattle.code_soundness.proofs.Well.{Stands, Well}
 use Rattle.code_soundness.proofs.Acting.{step_well}
+use Rattle.code_soundness.proofs.Cases.{procedure_runs}
 use Rattle.code_soundness.proofs.Places.{found}
 use Rattle.code_soundness.proofs.Frames.{started}
 use Rattle.code_soundness.proofs.Evaluating.{block_well, values_known}
@@ -34,6 +35,10 @@ main_runs class.Main h = refl
 main_runs class.Fun h = absurd (true≢false (sym h))
 main_runs class.Merge h = absurd (true≢false (sym h))
 main_runs class.Proc h = absurd (true≢false (sym h))
+
+-- a block of a class that evaluates nothing is one of the program
+of_program : (code : Code) (n : ℕ) (b : CodeBlock) → slice_get code.blocks n ≡ Some b → is_value_class b.class ≡ false → IsOfProgram code n
+of_program code n b is h = λ y is'. ap (λ u. is_value_class u.class) (some_eq (sym is' ∙ is)) ∙ h
 
 main_bare : (x : BlockClass) (n : ℕ) (has : Bool) → is_main x ≡ true → fits_class x n has ≡ true → nat_eq n 0 ≡ true
 main_bare class.Main n has p h = (and_parts (nat_eq n 0) (Rattle.std.specs.Prelude.not has) h).0
@@ -47,7 +52,7 @@ module _ (H : Type 0) (code : Code) (notes : ℕ → ℕ → Note) (ok : IsAccep
       let h = (and_parts (fits_class b.class b.params (has_result b)) (nat_le b.params (length b.locals)) (block_well code ok.named n b is)).0 in
       let e = main_bare b.class b.params (has_result b) m h in
       let z : b.params ≡ 0 = grind (arith, nat_tests, e) in
-      started code notes ok n b is (λ y is'. ap (λ u. is_value_class u.class) (some_eq (sym is' ∙ is)) ∙ main_runs b.class m) [] (sym (ap (λ u. take u b.locals) z)) (start_locations code.vars) (start_kinds H code.vars) fuel
+      started code notes ok n b is (of_program code n b is (main_runs b.class m)) [] (sym (ap (λ u. take u b.locals) z)) (start_locations code.vars) (start_kinds H code.vars) fuel
 
   pub procedures_start : (n : ℕ) (b : CodeBlock) → slice_get code.blocks n ≡ Some b → IsOfProgram code n → (args : List (Word H)) → kinds_of args ≡ params b
       → (ls : List (Location H)) → AreLocations (location_kinds code.vars) ls → (fuel : ℕ) → IsRevision code notes (start n b args ls fuel)
@@ -105,6 +110,7 @@ module _ (H : Type 0) (code : Code) (notes : ℕ → ℕ → Note) (ok : IsAccep
 
     pub reached : (c : State H) → IsReached code inputs share c → IsRevision code notes c
     reached _ (safe.main n b is m fuel) = main_starts n b is m fuel
+    reached _ (safe.procedure n b is h args e ls located fuel) = procedures_start n b is (of_program code n b is (procedure_runs b.class h)) args e ls located fuel
     reached _ (safe.goes_on c c' r e) = (is_safe c (reached c r)).goes c' e
     reached _ (safe.forker c c' n args h r e) = ((is_safe c (reached c r)).forks c' n args e).1 h
     reached _ (safe.forked c c' n args b r e is) =

@@ -2,3 +2,4 @@ pub mod Typed
 pub mod Whole
 pub mod Funs
 pub mod Safe
+pub mod Uses

@@ -1,9 +1,9 @@
 -- Nothing goes wrong where code runs in which the verifier finds no fault.
 --   HasStep       an instruction, the words that it takes, and an event
 --   IsSafe        each event of a state leads to states of revisions again
---   IsReached     the states that a revision can reach, whatever other revisions do: by its own steps, as a
---                 forker that is told any handle, as a child, and as a joiner that is brought any values of
---                 the variables' kinds
+--   IsReached     the states that are reached from a first state of `main` or of a procedure,
+--                 whatever other revisions do: by steps, as a forker that is told any handle, as a
+--                 child, and as a joiner that is brought any values of the variables' kinds
 use Rattle.std.specs.Prelude.{ℕ, suc, ◌≡◌, ◌≢◌, ◌≤◌, Bool, true, ℤ, List, [], length, Option, Some, None, slice_get}
 use Rattle.rev_code.specs.declared.code.Code.{Code}
 use Rattle.rev_code.specs.declared.code.CodeBlock.{CodeBlock}
@@ -11,7 +11,8 @@ use Rattle.rev_code.specs.declared.code.Instr.{Instr}
 use Rattle.rev_code.specs.Words.{Word}
 use Rattle.rev_code.specs.State.{Location, State}
 use Rattle.rev_code.specs.Variables.{start_locations}
-use Rattle.rev_code.specs.Step.{Comes, goes, forks, joins, ends, stuck, step, params, most_frames}
+use Rattle.rev_code.specs.Step.{Comes, goes, forks, joins, ends, stuck, step, params}
+use Rattle.rev_code.specs.Step.{is_procedure, most_frames}
 use Rattle.rev_code.specs.Funs.{setting}
 use Rattle.rev_code.specs.Events.{start, parent, child, past_join}
 use Rattle.code_rules.specs.Shapes.{takes, begins}
@@ -96,6 +97,12 @@ StepsAreSafe H =
 pub data IsReached {H : Type 0} (code : Code) (inputs : List ℤ) (share : ℕ) : State H → Type 0 where
   main : (n : ℕ) (b : CodeBlock) → slice_get code.blocks n ≡ Some b → is_main b.class ≡ true
       → (fuel : ℕ) → IsReached code inputs share (start n b [] (start_locations code.vars) fuel)
+  -- with arguments of its parameters' kinds, and a snapshot of the variables' kinds
+  procedure : (n : ℕ) (b : CodeBlock) → slice_get code.blocks n ≡ Some b
+      → is_procedure b.class ≡ true
+      → (args : List (Word H)) → kinds_of args ≡ params b
+      → (ls : List (Location H)) → AreLocations (location_kinds code.vars) ls
+      → (fuel : ℕ) → IsReached code inputs share (start n b args ls fuel)
   goes_on : (c c' : State H) → IsReached code inputs share c → next code inputs share c ≡ goes c'
       → IsReached code inputs share c'
   forker : (c c' : State H) (n : ℕ) (args : List (Word H)) (h : H) → IsReached code inputs share c

@@ -7,6 +7,7 @@
 ghost use Rattle.code_soundness.specs.Whole.{NoFaultIsAccepted, NoFaultIsWithinLimits};
 ghost use Rattle.code_soundness.specs.Funs.{FunsHaveValues, MergesHaveInts};
 ghost use Rattle.code_soundness.specs.Funs.{ValuesAreByBlocks, FunsStart, FunStepsAreSafe};
+ghost use Rattle.code_soundness.specs.Uses.{UsesAreByBlocks, FunsKeepTheirCosts, FunsKeepLimits};
 ghost use Rattle.code_soundness.specs.Safe.{MainStarts, ProceduresStart, StatesHaveSteps};
 ghost use Rattle.code_soundness.specs.Safe.{StepsAreSafe, ReachedStatesNeverFail};
 
@@ -18,17 +19,22 @@ pub fn whole_code_law()
 
 /// The block of a fun or merge always has a value of its result's kind, or a fault of arithmetic: its first
 /// state is typed, and each step leads to a later typed state, to such a fault or to the result.
+/// Its evaluation takes no more instructions and words than it costs, and so keeps the limits.
 pub fn fun_laws<H>()
     ensures funs { FunsHaveValues H }
     ensures merges { MergesHaveInts H }
     ensures blocks { ValuesAreByBlocks H }
     ensures starts { FunsStart H }
     ensures steps { FunStepsAreSafe H }
+    ensures uses { UsesAreByBlocks H }
+    ensures costs { FunsKeepTheirCosts H }
+    ensures limits { FunsKeepLimits H }
 {}
 
-/// The first states of revisions are typed. A typed state has an instruction, which finds what it takes
-/// and comes to an event, and each event leads to typed states again. So no state that is reached is
-/// without a step or has a stack of more than 4,096 words.
+/// The first states of revisions are typed. A typed state has an instruction, which finds what it
+/// takes and comes to an event, and each event leads to typed states again. So no state that is
+/// reached from a first state of `main` or of a procedure is without a step or has a stack of more
+/// than 4,096 words.
 pub fn soundness_laws<H>()
     ensures main { MainStarts H }
     ensures procedures { ProceduresStart H }

@@ -79,7 +79,7 @@ twice_split p (use_of t w ∷ xs) ys (inr h) = by (twice_split p xs ys h)
     by (inr (inr g)) = inr (inr g)
 twice_split p (gets m ∷ xs) ys h = twice_split p xs ys h
 
-left_split : (n : Name) (xs ys : List Occurrence) → LeftAt n (xs ++ ys) → (LeftAt n xs × NoValue n ys) ⊎ LeftAt n ys
+pub left_split : (n : Name) (xs ys : List Occurrence) → LeftAt n (xs ++ ys) → (LeftAt n xs × NoValue n ys) ⊎ LeftAt n ys
 left_split n [] ys h = inr h
 left_split n (use_of t w ∷ xs) ys (inl f) = let r = none_split n xs ys f.2 in inl (inl (f.0, f.1, r.0), r.1)
 left_split n (use_of t w ∷ xs) ys (inr h) = by (left_split n xs ys h)
@@ -160,7 +160,7 @@ expressions_none : (n : Name) (l : Locals) (xs : Expressions) (later : List Occu
 expressions_none n l no_expressions later h = h
 expressions_none n l (expression x xs) later h = expressions_none n l xs later (expression_none n l x (expressions_occurrences l xs later) h)
 
-right_side_none : (n : Name) (l : Locals) (r : RightSide) (later : List Occurrence) → NoValue n (right_side_occurrences l r later) → NoValue n later
+pub right_side_none : (n : Name) (l : Locals) (r : RightSide) (later : List Occurrence) → NoValue n (right_side_occurrences l r later) → NoValue n later
 right_side_none n l (plain e) later h = h
 right_side_none n l (called at w args) later h = expressions_none n l args later h
 right_side_none n l (forked at w args) later h = expressions_none n l args later h

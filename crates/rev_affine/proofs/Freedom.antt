@@ -22,7 +22,7 @@ use Rattle.revision_calculus.specs.State.{Frame, Phase, running, joining, done, 
 use Rattle.revision_calculus.specs.Step.{next}
 use Rattle.revision_calculus.specs.Join.{join}
 use Rattle.revision_calculus.specs.Calculus.{main, calculus}
-use Rattle.revision_calculus.specs.Held.{IsHandle, LocalsHold, FramesHold, Holds, in_frames, in_phase}
+use Rattle.revision_calculus.specs.Held.{IsHandle, LocationsHold, LocalsHold, FramesHold, Holds, in_frames, in_phase}
 use Rattle.revision_calculus.specs.Kinded.{IsAccepted}
 use Rattle.revision_calculus.proofs.Events.{joins_phase}
 use Rattle.revision_calculus.proofs.Meets.{counts, handles, main_holds_none}
@@ -312,3 +312,7 @@ module _ (s : Setting) (well : IsAccepted s.program) (once : UsesHandlesOnce s.p
   -- in each state that a run reaches, each revision has one owner at most
   pub reached_owned : (revs : Path → Option (Entry Local)) → Reached (calculus s) (main s fuel) (Live revs) → OneOwner revs
   reached_owned revs reached = (along (calculus s) Good keeps reached.by (start (calculus s) (main s fuel)) (Live revs) begins reached.runs).owning
+
+  -- and no shared variable has a handle
+  pub none_shared : (revs : Path → Option (Entry Local)) → Reached (calculus s) (main s fuel) (Live revs) → (r : Path) (e : Entry Local) → revs r ≡ Some e → (q : Path) → LocationsHold (local_of e).locations q → ⊥
+  none_shared revs reached r e here q h = (all_own revs reached (reached_owned revs reached) r e here).1.locations q h

@@ -8,4 +8,5 @@ pub mod Paths
 pub mod Exact
 pub mod Sound
 pub mod Places
+pub mod Meaning
 pub mod ExampleProofs

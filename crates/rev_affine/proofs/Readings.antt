@@ -1,31 +1,26 @@
 -- Where a handle that an expression gives comes from: it is the value of the rev local that the expression names.
-use Rattle.std.proofs.Common.{◌≡◌, ◌≢◌, ◌∙◌, ℕ, suc, ◌+◌, ℤ, pos, negsuc, Bool, true, false, cond, List, [], ◌∷◌, length, Option, Some, None, Result, Ok, Err, refl, sym, ap, subst, arith, ◌≤◌}
-use Rattle.std.specs.Prelude.{nat_lt, if◌then◌else◌, slice_get, int_lt, int_le}
+use Rattle.std.proofs.Common.{◌≡◌, ◌≢◌, ◌∙◌, ℕ, suc, ◌+◌, Bool, true, false, cond, List, [], ◌∷◌, length, Option, Some, None, Ok, Err, refl, sym, ap, subst, arith, ◌≤◌}
+use Rattle.std.specs.Prelude.{if◌then◌else◌}
 use Rattle.rev_num.specs.Path.{Path}
 use Rattle.rev_num.specs.declared.value.Value.{Value}
 use Rattle.rev_num.specs.declared.value.Value.TheVariants as v
 use Rattle.rev_num.specs.declared.value.ValueKind.{ValueKind}
 use Rattle.rev_num.specs.declared.value.ValueKind.TheVariants as k
-use Rattle.rev_num.specs.declared.value.NumFault.{NumFault}
-use Rattle.rev_num.specs.declared.value.NumFault.TheVariants as fault
-use Rattle.rev_num.specs.declared.outcome.Cause.{Cause}
-use Rattle.rev_num.specs.declared.outcome.Cause.TheVariants as cause
-use Rattle.rev_num.specs.Arith.{sum_of, difference_of, product_of, quotient_of, remainder_of, negation_of}
+use Rattle.rev_num.specs.Arith.{sum_of, difference_of, product_of, quotient_of, remainder_of}
 use Rattle.rev_syntax.specs.Trees.{PlacedName, Parameter, Expression, placed, ExpressionForm, Expressions, Links, int, bool, no_rev, var, cell, apply, input, inputs, pick, unary, chain, no_expressions, expression, no_links, link}
 use Rattle.rev_syntax.specs.declared.tree.UnaryOp.{UnaryOp}
-use Rattle.rev_syntax.specs.declared.tree.UnaryOp.TheVariants as u
 use Rattle.rev_syntax.specs.declared.tree.BinaryOp.{BinaryOp}
 use Rattle.rev_syntax.specs.declared.tree.BinaryOp.TheVariants as b
 use Rattle.merge_decl.specs.Names.{Name, same}
 use Rattle.merge_decl.specs.Table.{Table, find}
 use Rattle.merge_decl.specs.FunRules.{count}
-use Rattle.merge_decl.specs.Value.{Answer, and_then, number_of, truth_of, number, not, operated, short, linked, reversed, Shared, unknown, scalar, array, Env, read_cell, taken, read_input, read, Fun, Funs, called, value_by, expression_form_value, values_by, chained, same_value}
+use Rattle.merge_decl.specs.Value.{Answer, and_then, number_of, truth_of, operated, short, linked, reversed, Shared, Env, read_cell, read_input, read, Funs, called, value_by, expression_form_value, values_by, chained}
 use Rattle.rev_kinds.specs.declared.names.Holder.{Holder}
 use Rattle.rev_kinds.specs.Kinds.{Callee, Names, Locals, links_kind}
 use Rattle.rev_kinds.specs.Typing.{ScalarHas, TakesRightSide, HasKind, ExpressionFormHas, ArgsHave, LinksHave}
 use Rattle.revision_calculus.specs.Held.{IsHandle}
 use Rattle.revision_calculus.proofs.Events.{Any, any_ok}
-use Rattle.revision_calculus.proofs.Values.{OfOk, then_ok, OfOthers, OfEach, OfShared, OfLocal, OfFun, OfFuns, number_ok, reversed_ok, read_cell_ok, read_input_ok, read_ok, called_ok}
+use Rattle.revision_calculus.proofs.Values.{OfOk, then_ok, OfOthers, OfEach, OfShared, OfFuns, number_ok, reversed_ok, read_cell_ok, read_input_ok, read_ok, called_ok}
 use Rattle.rev_affine.specs.Live.{or, names_it, among, IsRev, Free, ExpressionFormFree, PickFree, PicksFree, NameOnce, ExpressionFormOnce, is_name, UseOnce, UsesOnce}
 use Rattle.rev_affine.specs.Owned.{hit}
 use Rattle.rev_affine.specs.Owned as n

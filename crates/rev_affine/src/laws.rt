@@ -7,13 +7,14 @@ ghost use Rattle.revision_calculus.specs.Program.{Setting};
 ghost use Rattle.revision_calculus.specs.Kinded.{IsAccepted};
 ghost use Rattle.rev_affine.specs.Affine.{IsAffine};
 ghost use Rattle.rev_affine.specs.Owned.{UsesHandlesOnce};
-ghost use Rattle.rev_affine.specs.Laws.{Decides, FindsBreaches, NeverTwice, OnlyBreaches, OwnerLaw};
+ghost use Rattle.rev_affine.specs.Laws.{Decides, FindsBreaches, NeverTwice, NoneShared};
+ghost use Rattle.rev_affine.specs.Laws.{OnlyBreaches, OwnerLaw, SecondUsesMeanHandles};
 ghost use Rattle.rev_affine.specs.Places.{first_breakage};
 
 /// No run of a well-typed program that keeps the affine rule reaches the state of a second join.
 /// Such a program uses each handle once, which suffices: in every state that a run reaches, each
 /// revision is named by at most one live place of the revisions that no join has taken, and one
-/// that a join has taken by none.
+/// that a join has taken by none. No shared variable has a handle.
 pub fn affine_laws()
     ensures affine { (s : Setting) (fuel : ℕ) → IsAccepted s.program → IsAffine s.program
         → NeverTwice s fuel }
@@ -22,6 +23,8 @@ pub fn affine_laws()
         → UsesHandlesOnce s.program → NeverTwice s fuel }
     ensures owners { (s : Setting) (fuel : ℕ) → IsAccepted s.program
         → UsesHandlesOnce s.program → OwnerLaw s fuel }
+    ensures shared { (s : Setting) (fuel : ℕ) → IsAccepted s.program
+        → UsesHandlesOnce s.program → NoneShared s fuel }
 {}
 
 /// The lists of places have each place where a program breaks the rule; and where it is well typed,
@@ -32,4 +35,11 @@ pub fn place_laws()
     ensures found { (p : ProgramTree) → FindsBreaches p }
     ensures sound { (p : ProgramTree) → IsAccepted p → OnlyBreaches p }
     ensures decided { (p : ProgramTree) → IsAccepted p → Decides p (first_breakage p) }
+{}
+
+/// Where a well-typed program uses a handle twice, the second use too means a local that is a
+/// handle. No name in scope is declared anew, so with no new value between them it is the same
+/// local.
+pub fn second_use_law()
+    ensures { (p : ProgramTree) → IsAccepted p → SecondUsesMeanHandles p }
 {}

@@ -9,4 +9,4 @@ mod examples;
 mod laws;
 
 pub use examples::{affine_programs, other_programs};
-pub use laws::{affine_laws, place_laws};
+pub use laws::{affine_laws, place_laws, second_use_law};

@@ -1,4 +1,5 @@
 use Rattle.code_soundness.proofs.Evaluating.{fun_value, merge_kind, merge_value, values_by_blocks, fun_starts, fun_step}
+use Rattle.code_soundness.proofs.Using.{uses_by_blocks, funs_keep, funs_limited}
 use Rattle.code_soundness.proofs.fun_laws.Goals as goal
 
 pub returns-clause-funs : goal.returns-clause-funs
@@ -15,3 +16,12 @@ returns-clause-starts g c = fun_starts
 
 pub returns-clause-steps : goal.returns-clause-steps
 returns-clause-steps g c = fun_step
+
+pub returns-clause-uses : goal.returns-clause-uses
+returns-clause-uses g c = uses_by_blocks
+
+pub returns-clause-costs : goal.returns-clause-costs
+returns-clause-costs g c = funs_keep _
+
+pub returns-clause-limits : goal.returns-clause-limits
+returns-clause-limits g c = funs_limited _

@@ -1,6 +1,6 @@
 use Rattle.revision_calculus.proofs.FunKinds.{rules_kept}
 use Rattle.rev_affine.proofs.Paths.{affine_once}
-use Rattle.rev_affine.proofs.Freedom.{never_twice, reached_owned}
+use Rattle.rev_affine.proofs.Freedom.{never_twice, reached_owned, none_shared}
 use Rattle.rev_affine.proofs.laws.affine_laws.Goals as goal
 
 pub returns : goal.returns
@@ -9,4 +9,5 @@ returns c = record {
   uses_once = λ p well affine. affine_once p (rules_kept p well) affine;
   once = λ s fuel well once. never_twice s well once fuel;
   owners = λ s fuel well once. reached_owned s well once fuel;
+  shared = λ s fuel well once. none_shared s well once fuel;
 }
