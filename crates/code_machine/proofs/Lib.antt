@@ -1,0 +1,17 @@
+pub mod Legs
+pub mod Renaming
+pub mod Naming
+pub mod Acts
+pub mod Events
+pub mod Holding
+pub mod Paying
+pub mod Meeting
+pub mod Numbering
+pub mod Changes
+pub mod Typing
+pub mod Ending
+pub mod Starting
+pub mod Outcomes
+pub mod Showing
+pub mod Fuel
+pub mod Alike
