@@ -1,3 +1,16 @@
 pub mod Cutting
 pub mod Faults
 pub mod TextLines
+pub mod Spelling
+pub mod Drops
+pub mod PlaceForms
+pub mod LineForms
+pub mod EndForms
+pub mod Stages
+pub mod Partials
+pub mod OneLines
+pub mod Going
+pub mod Reading
+pub mod ChangeForms
+pub mod Forks
+pub mod OneText

@@ -2,4 +2,9 @@ pub mod Places
 pub mod Lines
 pub mod Traces
 pub mod Cuts
+pub mod Shown
 pub mod Laws
+pub mod Reading
+pub mod Ends
+pub mod Following
+pub mod Drafts

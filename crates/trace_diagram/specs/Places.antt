@@ -1,5 +1,5 @@
 -- Names of locations.
---   reserved_words  the words that are no names
+--   is_reserved     whether the bytes are a word of the language
 --   is_name         whether the bytes are a name
 --   IsPlain         digits without a needless zero
 --   IsPlace         the bytes name a location: a variable, or a cell of an array
@@ -23,11 +23,30 @@ abbrev pub is_word : List ℕ → Bool
 is_word [] = false
 is_word (b ∷ bs) = is_letter b && list_all is_name_byte bs
 
-abbrev pub reserved_words : List (List ℕ)
-reserved_words = codes "fun" ∷ codes "merge" ∷ codes "versioned" ∷ codes "cumulative" ∷ codes "by" ∷ codes "proc" ∷ codes "main" ∷ codes "int" ∷ codes "bool" ∷ codes "rev" ∷ codes "let" ∷ codes "if" ∷ codes "else" ∷ codes "while" ∷ codes "call" ∷ codes "return" ∷ codes "rfork" ∷ codes "rjoin" ∷ codes "tryjoin" ∷ codes "print" ∷ codes "assert" ∷ codes "true" ∷ codes "false" ∷ codes "none" ∷ codes "input" ∷ codes "inputs" ∷ codes "pick" ∷ []
+-- declarations and kinds
+abbrev pub first_words : List (List ℕ)
+first_words =
+    codes "fun" ∷ codes "merge" ∷ codes "versioned" ∷ codes "cumulative" ∷ codes "by" ∷ codes "proc" ∷ codes "main"
+    ∷ codes "int" ∷ codes "bool" ∷ []
 
+-- statements
+abbrev pub middle_words : List (List ℕ)
+middle_words =
+    codes "rev" ∷ codes "let" ∷ codes "if" ∷ codes "else" ∷ codes "while" ∷ codes "call" ∷ codes "return"
+    ∷ codes "rfork" ∷ codes "rjoin" ∷ []
+
+-- more statements, and expressions
+abbrev pub last_words : List (List ℕ)
+last_words =
+    codes "tryjoin" ∷ codes "print" ∷ codes "assert" ∷ codes "true" ∷ codes "false" ∷ codes "none" ∷ codes "input"
+    ∷ codes "inputs" ∷ codes "pick" ∷ []
+
+abbrev pub is_one_of : List (List ℕ) → List ℕ → Bool
+is_one_of words bytes = list_any (λ word. pointwise nat_eq word bytes) words
+
+-- one of the words of the language
 abbrev pub is_reserved : List ℕ → Bool
-is_reserved bytes = list_any (λ word. pointwise nat_eq word bytes) reserved_words
+is_reserved bytes = is_one_of first_words bytes || (is_one_of middle_words bytes || is_one_of last_words bytes)
 
 -- a word that is not reserved
 abbrev pub is_name : List ℕ → Bool
@@ -49,3 +68,10 @@ pub record IsCell (place : List ℕ) : Type 0 where
 -- a variable, or a cell of an array
 abbrev pub IsPlace : List ℕ → Type 0
 IsPlace place = IsTrue (is_name place) ⊎ IsCell place
+
+-- the bytes behind the opening bracket, and the name before it, are a cell of an array
+pub record HasCell (array cell : List ℕ) : Type 0 where
+  pub index : List ℕ
+  pub name : IsTrue (is_name array)
+  pub number : IsTrue (is_plain index)
+  pub is : cell ≡ index ++ 93 ∷ []

@@ -6,12 +6,15 @@
 --   IsTextOf         the bytes are the text of the trace
 --   BeginsTraceText  some trace text begins so
 --   IsFirstFault     where bytes that are no trace text go wrong
+--   FailsAt          what a reader's fault says of the bytes
 use Rattle.std.specs.Prelude.{◌≡◌, ◌≢◌, ℕ, ◌^◌, ◌<◌, ◌⊎◌, ◌==◌, if◌then◌else◌, IsTrue, List, [], ◌∷◌, ◌++◌, length, map, codes}
 use Rattle.std.specs.List.{flat_map, list_all, onto_first, AllByRecursion}
 use Rattle.rev_num.specs.Path.{before}
 use Rattle.trace_diagram.specs.Lines.{FitsChange, FitsEnd, FitsEvent, FitsPath, change_text, end_text, event_text, fuel_text, head_text, is_printable, quoted}
 use Rattle.trace_diagram.specs.declared.diagram.Part.{Part}
 use Rattle.trace_diagram.specs.declared.diagram.Trace.{Trace}
+use Rattle.trace_diagram.specs.declared.fault.TraceFault.{TraceFault}
+use Rattle.trace_diagram.specs.declared.fault.TraceFault.TheVariants as fault
 
 -- ---- the lines of a trace
 
@@ -104,3 +107,8 @@ pub record IsFirstFault (bytes : List ℕ) (at : ℕ) : Type 0 where
   pub whole : IsWholeLines lines
   pub begins : BeginsTraceText lines
   pub fault : GoesWrong lines rest
+
+-- the fault is the first of the bytes, or no memory was left
+abbrev pub FailsAt : List ℕ → TraceFault → Type 0
+FailsAt bytes (fault.Malformed at) = IsFirstFault bytes at
+FailsAt bytes fault.OutOfMemory = Unit {0}

@@ -1,0 +1,14 @@
+pub mod Own
+pub mod After
+pub mod Theorem
+pub mod Noted
+pub mod Told
+pub mod Apart
+pub mod Meets
+pub mod OwnRuns
+pub mod Traced
+pub mod Total
+pub mod Decided
+pub mod SameParts
+pub mod Listed
+pub mod Verdicts

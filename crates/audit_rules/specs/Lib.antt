@@ -1,0 +1,4 @@
+pub mod Audited
+pub mod Parts
+pub mod Traces
+pub mod Verdicts

@@ -1,0 +1,7 @@
+use Rattle.std.proofs.Common.{◌≡◌, drop}
+use Rattle.std.specs.List.{list_all}
+use Rattle.trace_diagram.specs.Places.{is_name_byte}
+use Rattle.trace_diagram.proofs.places.are_name_bytes.Given as goal
+
+abbrev pub invariant-loop-b : goal.invariant-loop-b
+invariant-loop-b l = list_all is_name_byte l.bytes ≡ list_all is_name_byte (drop l.b-index l.bytes)

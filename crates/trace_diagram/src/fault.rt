@@ -1,0 +1,21 @@
+//! Why bytes are no trace text.
+
+ghost use Rattle.std.specs.Prelude.{◌≡◌};
+ghost use Rattle.trace_diagram.specs.declared.fault.TraceFault.TheVariants.{OutOfMemory};
+
+use std::alloc::AllocError;
+
+/// Why no trace was read: the bytes go wrong at this place, or no memory was left.
+#[derive(Clone, Copy, PartialEq, Eq, Debug, Drop)]
+pub enum TraceFault {
+    Malformed { at: u64 },
+    OutOfMemory,
+}
+
+impl From<AllocError> for TraceFault {
+    ghost from_gives = { λ _ e. e ≡ OutOfMemory };
+
+    fn from(_e: AllocError) -> TraceFault {
+        TraceFault::OutOfMemory
+    }
+}
