@@ -1,0 +1,5 @@
+use Rattle.block_run.proofs.Stacks.{upper}
+use Rattle.block_run.proofs.values.top.Goals as goal
+
+pub returns : goal.returns
+returns c = upper c.args.b.now c.args.words.now c.args.r.now c.requires.placed.found

@@ -1,0 +1,3 @@
+pub mod Remembering
+pub mod Area
+pub mod Standing

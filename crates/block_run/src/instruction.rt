@@ -1,0 +1,317 @@
+//! One instruction.
+
+ghost use Rattle.std.specs.Prelude.{◌≡◌, ◌+◌, ◌<◌, ◌≤◌, ◌^◌, ℕ, IfSome, length};
+ghost use Rattle.rev_num.specs.Words.{int_of};
+ghost use Rattle.rev_code.specs.Variables.{Place, array, cell_at, scalar};
+ghost use Rattle.plain_words.specs.Plain as p;
+ghost use Rattle.plain_words.specs.Agreement.{PushesInt};
+ghost use Rattle.version_map.specs.Deltas.{at};
+ghost use Rattle.version_map.specs.Overlay.{under};
+ghost use Rattle.block_run.specs.Remembering.{Kept, Wrote};
+ghost use Rattle.block_run.specs.Area.{count, pushes, run_of, taken, Does, IsAct, IsOperand};
+ghost use Rattle.block_run.specs.Area.{IsPlaced, IsTable, IsVariable, StaysIn};
+
+use crate::memory::Memory;
+use crate::registers::{Registers, Stop, Variable};
+use crate::values;
+use rev_code::{Code, CodeBlock, Instr};
+use rev_num::{Cause, word_of_int};
+use version_map::Snapshot;
+
+/// The location of a cell, where the index is inside.
+#[inline(always)]
+fn cell(t: Variable, index: u64) -> Option<u32>
+    requires { t.first + t.cells < 2 ^ 32 }
+    ensures value { (p : Place) → p.first ≡ t.first → p.var.cells ≡ t.cells
+        → result ≡ cell_at p (int_of index) }
+    ensures within { IfSome result (λ l. l < t.first + t.cells) }
+{
+    if index < t.cells as u64 {
+        Some(t.first + index as u32)
+    } else {
+        None
+    }
+}
+
+/// Where a scalar lies.
+#[inline(always)]
+fn scalar_at(code: &Code, table: &[Variable], v: u16) -> Variable
+    requires table { IsTable code.now.vars table.now }
+    requires operand { (p : Place) × (scalar code.now.vars v ≡ Some p) }
+    ensures { IsVariable (scalar code.now.vars v) result (count code.now.vars) }
+{
+    table[v as usize]
+}
+
+/// Where an array lies.
+#[inline(always)]
+fn array_at(code: &Code, table: &[Variable], v: u16) -> Variable
+    requires table { IsTable code.now.vars table.now }
+    requires operand { (p : Place) × (array code.now.vars v ≡ Some p) }
+    ensures { IsVariable (array code.now.vars v) result (count code.now.vars) }
+{
+    table[v as usize]
+}
+
+/// Puts a scalar on the stack.
+#[inline(always)]
+fn act_load_shared<P: Snapshot>(
+    code: &Code,
+    b: &CodeBlock,
+    memory: &mut Memory<P>,
+    words: &mut [u64],
+    r: &mut Registers,
+    v: u16,
+    t: Variable,
+) -> Stop
+    requires placed { IsPlaced b.now r.old (length words.old) 0 }
+    requires room { r.old.top < length words.old }
+    requires variable { IsVariable (scalar code.now.vars v) t (P.size memory.old.snapshot) }
+    ensures does { Does (p.from_scalar (under memory.old.delta (P.base memory.old.snapshot))
+        (run_of b.now words.old r.old) (scalar code.now.vars v))
+        (run_of b.now words.old r.old) (run_of b.now words.new r.new) result
+        (Kept (P.size memory.old.snapshot)
+        (under memory.old.delta (P.base memory.old.snapshot))
+        (under memory.new.delta (P.base memory.new.snapshot))
+        (at memory.old.first.roots) (at memory.new.first.roots))
+        (Wrote (P.size memory.old.snapshot)
+        (under memory.old.delta (P.base memory.old.snapshot))
+        (under memory.new.delta (P.base memory.new.snapshot))
+        (at memory.old.first.roots) (at memory.new.first.roots)) }
+    ensures stays { StaysIn b.now words.old words.new r.old r.new }
+    ensures size { P.size memory.new.snapshot ≡ P.size memory.old.snapshot }
+    ensures group { P.group memory.new.snapshot ≡ P.group memory.old.snapshot }
+{
+    let word = memory.read(t.first);
+    values::push(b, words, r, word)
+}
+
+/// Takes the word on top into a scalar.
+#[inline(always)]
+fn act_store_shared<P: Snapshot>(
+    code: &Code,
+    b: &CodeBlock,
+    memory: &mut Memory<P>,
+    words: &[u64],
+    r: &mut Registers,
+    v: u16,
+    t: Variable,
+) -> Stop
+    requires placed { IsPlaced b.now r.old (length words.now) 1 }
+    requires variable { IsVariable (scalar code.now.vars v) t (P.size memory.old.snapshot) }
+    ensures does { Does (p.into_scalar (run_of b.now words.now r.old) (scalar code.now.vars v)
+        (run_of b.now words.now r.old).stack)
+        (run_of b.now words.now r.old) (run_of b.now words.now r.new) result
+        (Kept (P.size memory.old.snapshot)
+        (under memory.old.delta (P.base memory.old.snapshot))
+        (under memory.new.delta (P.base memory.new.snapshot))
+        (at memory.old.first.roots) (at memory.new.first.roots))
+        (Wrote (P.size memory.old.snapshot)
+        (under memory.old.delta (P.base memory.old.snapshot))
+        (under memory.new.delta (P.base memory.new.snapshot))
+        (at memory.old.first.roots) (at memory.new.first.roots)) }
+    ensures stays { StaysIn b.now words.now words.now r.old r.new }
+    ensures size { P.size memory.new.snapshot ≡ P.size memory.old.snapshot }
+    ensures group { P.group memory.new.snapshot ≡ P.group memory.old.snapshot }
+{
+    let word = values::top(b, words, r);
+    memory.write(t.first, word);
+    r.top -= 1;
+    r.at += 1;
+    Stop::Goes
+}
+
+/// Puts a cell in place of its index.
+#[inline(always)]
+fn act_load_cell<P: Snapshot>(
+    code: &Code,
+    b: &CodeBlock,
+    memory: &mut Memory<P>,
+    words: &mut [u64],
+    r: &mut Registers,
+    v: u16,
+    t: Variable,
+) -> Stop
+    requires placed { IsPlaced b.now r.old (length words.old) 1 }
+    requires variable { IsVariable (array code.now.vars v) t (P.size memory.old.snapshot) }
+    requires few { t.first + t.cells < 2 ^ 32 }
+    ensures does { Does (p.from_cell (under memory.old.delta (P.base memory.old.snapshot))
+        (run_of b.now words.old r.old) (array code.now.vars v) (run_of b.now words.old r.old).stack)
+        (run_of b.now words.old r.old) (run_of b.now words.new r.new) result
+        (Kept (P.size memory.old.snapshot)
+        (under memory.old.delta (P.base memory.old.snapshot))
+        (under memory.new.delta (P.base memory.new.snapshot))
+        (at memory.old.first.roots) (at memory.new.first.roots))
+        (Wrote (P.size memory.old.snapshot)
+        (under memory.old.delta (P.base memory.old.snapshot))
+        (under memory.new.delta (P.base memory.new.snapshot))
+        (at memory.old.first.roots) (at memory.new.first.roots)) }
+    ensures stays { StaysIn b.now words.old words.new r.old r.new }
+    ensures size { P.size memory.new.snapshot ≡ P.size memory.old.snapshot }
+    ensures group { P.group memory.new.snapshot ≡ P.group memory.old.snapshot }
+{
+    match cell(t, values::top(b, words, r)) {
+        None => Stop::Traps(Cause::Index),
+        Some(location) => {
+            let word = memory.read(location);
+            values::put(b, words, r, word)
+        },
+    }
+}
+
+/// Takes an index and a word into the cell.
+#[inline(always)]
+fn act_store_cell<P: Snapshot>(
+    code: &Code,
+    b: &CodeBlock,
+    memory: &mut Memory<P>,
+    words: &[u64],
+    r: &mut Registers,
+    v: u16,
+    t: Variable,
+) -> Stop
+    requires placed { IsPlaced b.now r.old (length words.now) 2 }
+    requires variable { IsVariable (array code.now.vars v) t (P.size memory.old.snapshot) }
+    requires few { t.first + t.cells < 2 ^ 32 }
+    ensures does { Does (p.into_cell (run_of b.now words.now r.old) (array code.now.vars v)
+        (run_of b.now words.now r.old).stack)
+        (run_of b.now words.now r.old) (run_of b.now words.now r.new) result
+        (Kept (P.size memory.old.snapshot)
+        (under memory.old.delta (P.base memory.old.snapshot))
+        (under memory.new.delta (P.base memory.new.snapshot))
+        (at memory.old.first.roots) (at memory.new.first.roots))
+        (Wrote (P.size memory.old.snapshot)
+        (under memory.old.delta (P.base memory.old.snapshot))
+        (under memory.new.delta (P.base memory.new.snapshot))
+        (at memory.old.first.roots) (at memory.new.first.roots)) }
+    ensures stays { StaysIn b.now words.now words.now r.old r.new }
+    ensures size { P.size memory.new.snapshot ≡ P.size memory.old.snapshot }
+    ensures group { P.group memory.new.snapshot ≡ P.group memory.old.snapshot }
+{
+    let (index, word) = values::two(b, words, r);
+    match cell(t, index) {
+        None => Stop::Traps(Cause::Index),
+        Some(location) => {
+            memory.write(location, word);
+            r.top -= 2;
+            r.at += 1;
+            Stop::Goes
+        },
+    }
+}
+
+/// Traps where the index on top is outside.
+#[inline(always)]
+fn act_check_cell(
+    code: &Code,
+    b: &CodeBlock,
+    words: &[u64],
+    r: &mut Registers,
+    v: u16,
+    t: Variable,
+) -> Stop
+    requires placed { IsPlaced b.now r.old (length words.now) 1 }
+    requires variable { IsVariable (array code.now.vars v) t (count code.now.vars) }
+    requires few { t.first + t.cells < 2 ^ 32 }
+    ensures { IsAct (p.over_cell (run_of b.now words.now r.old) (array code.now.vars v)
+        (run_of b.now words.now r.old).stack) b.now words.now words.now r.old r.new result }
+{
+    match cell(t, values::top(b, words, r)) {
+        None => Stop::Traps(Cause::Index),
+        Some(_) => {
+            r.at += 1;
+            Stop::Goes
+        },
+    }
+}
+
+/// Does one instruction of a block, unless it leaves the block or meets another revision.
+#[inline(always)]
+pub fn act<P: Snapshot>(
+    code: &Code,
+    table: &[Variable],
+    inputs: &[i64],
+    b: &CodeBlock,
+    memory: &mut Memory<P>,
+    words: &mut [u64],
+    r: &mut Registers,
+    x: &Instr,
+) -> Stop
+    requires table { IsTable code.now.vars table.now }
+    requires size { P.size memory.old.snapshot ≡ count code.now.vars }
+    requires operand { IsOperand code.now.vars b.now x.now }
+    requires placed { IsPlaced b.now r.old (length words.old) (taken x.now) }
+    requires room { r.old.top + pushes x.now ≤ length words.old }
+    ensures does { Does (p.plain code.now.vars inputs.now
+        (under memory.old.delta (P.base memory.old.snapshot))
+        (run_of b.now words.old r.old) x.now)
+        (run_of b.now words.old r.old) (run_of b.now words.new r.new) result
+        (Kept (P.size memory.old.snapshot)
+        (under memory.old.delta (P.base memory.old.snapshot))
+        (under memory.new.delta (P.base memory.new.snapshot))
+        (at memory.old.first.roots) (at memory.new.first.roots))
+        (Wrote (P.size memory.old.snapshot)
+        (under memory.old.delta (P.base memory.old.snapshot))
+        (under memory.new.delta (P.base memory.new.snapshot))
+        (at memory.old.first.roots) (at memory.new.first.roots)) }
+    ensures int { PushesInt x.now }
+    ensures stays { StaysIn b.now words.old words.new r.old r.new }
+    ensures size { P.size memory.new.snapshot ≡ P.size memory.old.snapshot }
+    ensures group { P.group memory.new.snapshot ≡ P.group memory.old.snapshot }
+{
+    match *x {
+        Instr::PushInt(n) => values::push(b, words, r, word_of_int(n)),
+        Instr::PushBool(v) => values::push(b, words, r, u64::from(v)),
+        Instr::PushNone => values::push(b, words, r, 0),
+        Instr::LoadLocal(n) => values::act_load(b, words, r, n),
+        Instr::StoreLocal(n) => values::act_store(b, words, r, n),
+        Instr::LoadShared(v) => {
+            let t = scalar_at(code, table, v);
+            act_load_shared(code, b, memory, words, r, v, t)
+        },
+        Instr::StoreShared(v) => {
+            let t = scalar_at(code, table, v);
+            act_store_shared(code, b, memory, words, r, v, t)
+        },
+        Instr::LoadCell(v) => {
+            let t = array_at(code, table, v);
+            act_load_cell(code, b, memory, words, r, v, t)
+        },
+        Instr::StoreCell(v) => {
+            let t = array_at(code, table, v);
+            act_store_cell(code, b, memory, words, r, v, t)
+        },
+        Instr::CheckCell(v) => {
+            let t = array_at(code, table, v);
+            act_check_cell(code, b, words, r, v, t)
+        },
+        Instr::LoadInput => values::act_load_input(b, words, r, inputs),
+        Instr::CountInput => values::act_count_input(b, words, r, inputs),
+        Instr::Add => values::act_add(b, words, r),
+        Instr::Sub => values::act_sub(b, words, r),
+        Instr::Mul => values::act_mul(b, words, r),
+        Instr::Div => values::act_div(b, words, r),
+        Instr::Rem => values::act_rem(b, words, r),
+        Instr::Neg => values::act_neg(b, words, r),
+        Instr::Not => values::act_not(b, words, r),
+        Instr::Eq => values::act_eq(b, words, r),
+        Instr::Ne => values::act_ne(b, words, r),
+        Instr::Lt => values::act_lt(b, words, r),
+        Instr::Le => values::act_le(b, words, r),
+        Instr::Gt => values::act_gt(b, words, r),
+        Instr::Ge => values::act_ge(b, words, r),
+        Instr::Jump(to) => values::act_jump(b, words, r, to),
+        Instr::JumpIfFalse(to) => values::act_jump_if_false(b, words, r, to),
+        Instr::JumpIfTrue(to) => values::act_jump_if_true(b, words, r, to),
+        Instr::Charge(line) => values::act_charge(b, words, r, line),
+        Instr::Assert => values::act_assert(b, words, r),
+        Instr::Pop => values::act_pop(b, words, r),
+        Instr::Apply(_) => Stop::Leaves,
+        Instr::Call(_) => Stop::Leaves,
+        Instr::Fork(_) => Stop::Leaves,
+        Instr::Join => Stop::Leaves,
+        Instr::Print(_) => Stop::Leaves,
+        Instr::Return => Stop::Leaves,
+        Instr::TryJoin => Stop::Leaves,
+    }
+}

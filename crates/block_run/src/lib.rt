@@ -1,0 +1,15 @@
+//! Instructions of one block.
+#![tactic(auto)]
+
+mod block;
+mod instruction;
+mod memory;
+mod registers;
+mod table;
+mod values;
+
+pub use block::run_block;
+pub use instruction::act;
+pub use memory::Memory;
+pub use registers::{Registers, Stop, Variable};
+pub use table::table_of;

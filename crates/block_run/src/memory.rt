@@ -1,0 +1,164 @@
+//! What a revision reads and writes.
+
+ghost use Rattle.std.specs.Prelude.{◌≡◌, ◌<◌, ◌++◌, ℕ, IfOk, Option, option_to_list};
+ghost use Rattle.version_map.specs.Deltas.{at, locations, IsEmpty};
+ghost use Rattle.version_map.specs.Overlay.{under, Agree};
+ghost use Rattle.block_run.specs.Remembering.{written_below, written_there, Kept};
+ghost use Rattle.block_run.specs.Remembering.{Remembered, Wrote};
+
+use std::alloc::{AllocError, Global};
+use version_map::{Delta, First, How, Snapshot, Written};
+
+/// What a revision reads and writes: its snapshot, what lies over it, and for each location that it
+/// has written the word that was there when it was forked.
+pub struct Memory<P: Snapshot> {
+    pub delta: Delta,
+    pub first: First,
+    pub snapshot: P,
+    ghost written: { locations delta ≡ P.size snapshot },
+    ghost roots: { locations first.roots ≡ P.size snapshot },
+}
+
+impl<P: Snapshot> Memory<P> {
+    /// The word of a location.
+    #[inline(always)]
+    pub fn read(&mut self, location: u32) -> u64
+        requires { location < P.size self.old.snapshot }
+        ensures value { result ≡ under self.old.delta (P.base self.old.snapshot) location }
+        ensures kept { Kept (P.size self.old.snapshot)
+            (under self.old.delta (P.base self.old.snapshot))
+            (under self.new.delta (P.base self.new.snapshot))
+            (at self.old.first.roots) (at self.new.first.roots) }
+        ensures size { P.size self.new.snapshot ≡ P.size self.old.snapshot }
+        ensures group { P.group self.new.snapshot ≡ P.group self.old.snapshot }
+    {
+        match self.delta.get(location) {
+            Some(word) => word,
+            None => self.snapshot.read(location),
+        }
+    }
+
+    /// Sees to it that the word at the fork is known at a location that is about to be written.
+    #[inline(always)]
+    fn remember(&mut self, location: u32)
+        requires { location < P.size self.old.snapshot }
+        ensures remembered { Remembered (P.size self.old.snapshot)
+            (under self.old.delta (P.base self.old.snapshot))
+            (under self.new.delta (P.base self.new.snapshot))
+            (at self.old.first.roots) (at self.new.first.roots) location }
+        ensures size { P.size self.new.snapshot ≡ P.size self.old.snapshot }
+        ensures group { P.group self.new.snapshot ≡ P.group self.old.snapshot }
+    {
+        match self.first.get(location) {
+            Some(_) => {},
+            None => {
+                let root = self.read(location);
+                self.first.set(location, root);
+            },
+        }
+    }
+
+    /// Gives a location a word.
+    #[inline(always)]
+    pub fn write(&mut self, location: u32, word: u64)
+        requires { location < P.size self.old.snapshot }
+        ensures wrote { Wrote (P.size self.old.snapshot)
+            (under self.old.delta (P.base self.old.snapshot))
+            (under self.new.delta (P.base self.new.snapshot))
+            (at self.old.first.roots) (at self.new.first.roots) location word }
+        ensures size { P.size self.new.snapshot ≡ P.size self.old.snapshot }
+        ensures group { P.group self.new.snapshot ≡ P.group self.old.snapshot }
+    {
+        self.remember(location);
+        self.delta.set(location, word);
+    }
+
+    /// The memory of a child: it sees what its forker sees, and has written nothing.
+    pub fn fork(&mut self, alloc: Global) -> Result<(Memory<P>, How), AllocError>
+        ensures child { IfOk result (λ r. Agree (P.size self.old.snapshot)
+            (under r.0.delta (P.base r.0.snapshot))
+            (under self.old.delta (P.base self.old.snapshot))) }
+        ensures unwritten { IfOk result (λ r. IsEmpty r.0.first.roots) }
+        ensures child_size { IfOk result (λ r. P.size r.0.snapshot ≡ P.size self.old.snapshot) }
+        ensures child_group { IfOk result (λ r. P.group r.0.snapshot ≡ P.group self.old.snapshot) }
+        ensures kept { Kept (P.size self.old.snapshot)
+            (under self.old.delta (P.base self.old.snapshot))
+            (under self.new.delta (P.base self.new.snapshot))
+            (at self.old.first.roots) (at self.new.first.roots) }
+        ensures size { P.size self.new.snapshot ≡ P.size self.old.snapshot }
+        ensures group { P.group self.new.snapshot ≡ P.group self.old.snapshot }
+    {
+        let count = self.delta.locations();
+        let delta = Delta::new(alloc, count)?;
+        let first = First::new(alloc, count)?;
+        let (snapshot, how) = self.snapshot.fork(alloc, &mut self.delta)?;
+        Ok((
+            Memory {
+                delta,
+                first,
+                snapshot,
+            },
+            how,
+        ))
+    }
+
+    /// What was written at a location, if anything.
+    fn written_at(&mut self, location: u32) -> Option<Written>
+        requires { location < P.size self.old.snapshot }
+        ensures value { option_to_list result ≡ written_there location
+            (under self.old.delta (P.base self.old.snapshot) location)
+            (at self.old.first.roots location) }
+        ensures kept { Kept (P.size self.old.snapshot)
+            (under self.old.delta (P.base self.old.snapshot))
+            (under self.new.delta (P.base self.new.snapshot))
+            (at self.old.first.roots) (at self.new.first.roots) }
+        ensures size { P.size self.new.snapshot ≡ P.size self.old.snapshot }
+        ensures group { P.group self.new.snapshot ≡ P.group self.old.snapshot }
+    {
+        match self.first.get(location) {
+            None => None,
+            Some(root) => {
+                let value = self.read(location);
+                Some(Written {
+                    location,
+                    value,
+                    root,
+                })
+            },
+        }
+    }
+
+    /// The locations that were written, in ascending order, each with its word and the word that
+    /// was
+    /// there when the revision was forked.
+    pub fn written(&mut self, alloc: Global) -> Result<Vec<Written>, AllocError>
+        ensures written { IfOk result (λ ws. ws.items ≡ written_below
+            (under self.old.delta (P.base self.old.snapshot))
+            (at self.old.first.roots) (P.size self.old.snapshot)) }
+        ensures kept { Kept (P.size self.old.snapshot)
+            (under self.old.delta (P.base self.old.snapshot))
+            (under self.new.delta (P.base self.new.snapshot))
+            (at self.old.first.roots) (at self.new.first.roots) }
+        ensures size { P.size self.new.snapshot ≡ P.size self.old.snapshot }
+        ensures group { P.group self.new.snapshot ≡ P.group self.old.snapshot }
+    {
+        let mut written = Vec::new(alloc);
+        for location in 0..self.delta.locations() {
+            let found = self.written_at(location);
+            push_found(&mut written, found)?;
+        }
+        Ok(written)
+    }
+}
+
+fn push_found(written: &mut Vec<Written>, found: Option<Written>) -> Result<(), AllocError>
+    ensures { IfOk result (λ _. written.new.items ≡ written.old.items ++ option_to_list found) }
+{
+    match found {
+        None => Ok(()),
+        Some(w) => {
+            written.push(w)?;
+            Ok(())
+        },
+    }
+}

@@ -1,0 +1,8 @@
+use Rattle.std.proofs.Common.{◌≡◌, ◌-◌, ◌++◌, length, replicate, take}
+use Rattle.fun_run.proofs.frame.begin.Given as goal
+
+abbrev pub invariant-loop-at : goal.invariant-loop-at
+invariant-loop-at l = record {
+  length : length l.words ≡ length l.initial.words;
+  words : take l.at l.words ≡ take l.first l.initial.words ++ replicate (l.at - l.first) 0;
+}

@@ -1,0 +1,10 @@
+//! What a revision does between two events, and whose its trap is.
+#![tactic(auto)]
+
+ghost use Rattle.leg_meaning.specs.Legs.{JoinTrapsAreOfJoin, OwnTrapsAreNotOfJoin};
+
+/// A trap tells whether a join made it: a leg's own trap never is such, and a join's always is.
+pub fn trap_laws()
+    ensures own { OwnTrapsAreNotOfJoin }
+    ensures join { JoinTrapsAreOfJoin }
+{}

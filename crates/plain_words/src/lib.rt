@@ -1,0 +1,9 @@
+//! Words without a kind, as a machine keeps them, and the law that they step as words of a kind do.
+#![tactic(auto)]
+
+ghost use Rattle.plain_words.specs.Agreement.{PlainStepsAgree};
+
+/// What an instruction does on words without a kind stands for what it does on words of a kind.
+pub fn agreement()
+    ensures { PlainStepsAgree }
+{}
