@@ -7,7 +7,7 @@ use Rattle.revision_machine.specs.StepOutcomes.{IsOutcome}
 use Rattle.revision_calculus.specs.Program.{Setting}
 use Rattle.revision_calculus.specs.State.{Local}
 use Rattle.revision_calculus.specs.Calculus.{calculus}
-use Rattle.revision_steps.specs.Views.{given}
+use Rattle.revision_state.specs.Views.{given}
 use Rattle.plain_runner.specs.declared.language.PlainLanguage.{PlainLanguage}
 
 -- the calculus' setting

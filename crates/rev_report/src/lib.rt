@@ -16,7 +16,7 @@ pub mod status;
 pub use fault::{Place, TextFault};
 pub use limit::Limit;
 pub use modes::{accepted_report, summary_report};
-pub use outcome::outcome_bytes;
+pub use outcome::{append_value, outcome_bytes};
 pub use refusal::{Refusal, no_memory_message, refusal_bytes};
 pub use report::Report;
 

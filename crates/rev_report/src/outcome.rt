@@ -10,7 +10,7 @@ use rev_num::{Cause, NumFault, Outcome, Path, Shown, Trap, Value, append_decimal
 use std::alloc::{AllocError, Global};
 
 /// Appends a value as `print` and `--values` show it.
-fn append_value(text: &mut Vec<u8>, value: &Value) -> Result<(), AllocError>
+pub fn append_value(text: &mut Vec<u8>, value: &Value) -> Result<(), AllocError>
     ensures { OnOk result (text.new.items ≡ text.old.items ++ spec.value_text value.now) }
 {
     match value {

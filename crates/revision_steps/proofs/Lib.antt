@@ -1,13 +1,4 @@
-pub mod Bindings
-pub mod Blocks
-pub mod Callees
 pub mod Collected
-pub mod Compositions
 pub mod Joined
-pub mod Lists
-pub mod Merges
-pub mod Readings
-pub mod Rows
 pub mod Shapes
-pub mod Starts
 pub mod Steps

@@ -7,7 +7,7 @@ use Rattle.revision_calculus.specs.Program.{Setting}
 use Rattle.revision_calculus.specs.State.{Frame, Local}
 use Rattle.revision_calculus.specs.Step.{by_frames, does, end_frame}
 use Rattle.revision_steps.specs.Forms as form
-use Rattle.revision_steps.specs.Remaining.{with_next}
+use Rattle.revision_state.specs.Remaining.{with_next}
 use Rattle.revision_steps.specs.Owns.{begun}
 
 -- the state before the statement was taken out

@@ -1,11 +1,4 @@
-pub mod TreeCodes
-pub mod LocalCodes
-pub mod Reading
-pub mod Remaining
-pub mod Phases
-pub mod Tables
-pub mod Views
 pub mod Texts
-pub mod Changes
 pub mod Owns
 pub mod Forms
+pub mod Ends

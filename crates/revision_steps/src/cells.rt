@@ -9,41 +9,14 @@ ghost use Rattle.revision_calculus.specs.Step as step;
 ghost use Rattle.revision_calculus.specs.Evaluation as evaluation;
 ghost use Rattle.revision_steps.specs.Forms as form;
 ghost use Rattle.revision_steps.specs.Owns.{own_event};
-ghost use Rattle.revision_steps.specs.Reading.{location_at};
-ghost use Rattle.revision_steps.specs.Views.{given};
+ghost use Rattle.revision_state.specs.Views.{given};
 
 use crate::local::Local;
-use crate::location::write_at;
 use crate::own::Own;
-use crate::setting::Setting;
-use crate::values::{number_of, place};
 use rev_num::{Cause, Path};
 use rev_syntax::{Expr, Name};
-use rev_types::SharedInfo;
+use revision_state::{Setting, number_of, write_at};
 use std::alloc::{AllocError, Global};
-
-/// The location of the cell at this index of an array with this row, whose index is tested.
-fn cell_in(info: Option<SharedInfo>, index: i64) -> Result<usize, Cause>
-    ensures { result ≡ location_at info index }
-{
-    match info {
-        Some(info) => match place(index, info.cells as usize) {
-            Some(cell) => Ok(info.base as usize + cell),
-            None => Err(Cause::Index),
-        },
-        None => Err(Cause::Index),
-    }
-}
-
-impl<'a> Setting<'a> {
-    /// The location of a cell of the array of this name, whose index is tested.
-    #[tactic(auto, using(crate::proofs::Readings::cell_location_at))]
-    fn cell_location(&self, name: &[u8], index: i64) -> Result<usize, Cause>
-        ensures { result ≡ evaluation.cell_location (given self.now) name.now index }
-    {
-        cell_in(self.variable(name), index)
-    }
-}
 
 impl<'a> Local<'a> {
     /// The location that is assigned to, or why there is none.

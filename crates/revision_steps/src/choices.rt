@@ -5,15 +5,14 @@ ghost use Rattle.rev_syntax.specs.View.{arms, stmts};
 ghost use Rattle.revision_calculus.specs.Step as step;
 ghost use Rattle.revision_steps.specs.Forms as form;
 ghost use Rattle.revision_steps.specs.Owns.{own_event};
-ghost use Rattle.revision_steps.specs.Remaining.{block_of};
-ghost use Rattle.revision_steps.specs.Views.{given};
+ghost use Rattle.revision_state.specs.Remaining.{block_of};
+ghost use Rattle.revision_state.specs.Views.{given};
 
 use crate::local::Local;
 use crate::own::Own;
-use crate::setting::Setting;
-use crate::values::is_true;
 use rev_num::{Cause, Path};
 use rev_syntax::{Arm, Stmt};
+use revision_state::{Setting, is_true};
 use std::alloc::{AllocError, Global};
 
 impl<'a> Local<'a> {

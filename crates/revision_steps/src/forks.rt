@@ -7,16 +7,13 @@ ghost use Rattle.revision_calculus.specs.Program.{procedure_named};
 ghost use Rattle.revision_calculus.specs.Step as step;
 ghost use Rattle.revision_steps.specs.Forms as form;
 ghost use Rattle.revision_steps.specs.Owns.{own_event};
-ghost use Rattle.revision_steps.specs.Views.{given};
+ghost use Rattle.revision_state.specs.Views.{given};
 
-use crate::frames::Frames;
 use crate::local::Local;
-use crate::location::snapshot;
 use crate::own::Own;
-use crate::phase::{Noted, Phase};
-use crate::setting::Setting;
 use rev_num::{Path, Value};
 use rev_syntax::{Expr, Name};
+use revision_state::{Frames, Noted, Phase, Setting, snapshot};
 use std::alloc::{AllocError, Global};
 
 impl<'a> Local<'a> {

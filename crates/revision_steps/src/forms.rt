@@ -5,15 +5,13 @@ ghost use Rattle.rev_syntax.specs.View.{arms, block, expression, expressions, pr
 ghost use Rattle.revision_calculus.specs.Step as step;
 ghost use Rattle.revision_steps.specs.Forms as form;
 ghost use Rattle.revision_steps.specs.Owns.{own_event};
-ghost use Rattle.revision_steps.specs.Views.{given};
+ghost use Rattle.revision_state.specs.Views.{given};
 
 use crate::local::Local;
 use crate::own::Own;
-use crate::phase::Phase;
-use crate::setting::Setting;
-use crate::values::is_true;
 use rev_num::{Cause, Path, Value};
 use rev_syntax::{Block, Expr, Name, Stmt};
+use revision_state::{Phase, Setting, is_true};
 use std::alloc::{AllocError, Global};
 use std::slice;
 

@@ -5,14 +5,12 @@ ghost use Rattle.rev_types.specs.Layout.{variables};
 ghost use Rattle.rev_num.specs.declared.outcome.Cause.TheVariants as cause;
 ghost use Rattle.revision_calculus.specs.State as state;
 ghost use Rattle.revision_calculus.specs.Join as join;
-ghost use Rattle.revision_steps.specs.Changes.{put};
-ghost use Rattle.revision_steps.specs.Views.{given};
+ghost use Rattle.revision_state.specs.Changes.{put};
+ghost use Rattle.revision_state.specs.Views.{given};
 
-use crate::changes::{Fault, compose, write_all};
 use crate::local::Local;
-use crate::phase::{Noted, Phase};
-use crate::setting::Setting;
 use rev_num::{Cause, Path, Trap, Value};
+use revision_state::{Fault, Noted, Phase, Setting, compose, write_all};
 use std::alloc::{AllocError, Global};
 
 impl<'a> Local<'a> {

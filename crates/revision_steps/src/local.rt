@@ -1,21 +1,24 @@
 //! The local state of a revision.
 
-ghost use Rattle.std.specs.Prelude.{◌≡◌, ◌↔◌, ◌++◌, ◌∷◌, [], IfOk, OnOk, IsTrue, None, Some, option_copied};
+ghost use Rattle.std.specs.Prelude.{◌≡◌, ◌↔◌, ◌++◌, ◌∷◌, [], IfOk, OnOk, IsTrue, None, Some, map, option_copied};
 ghost use Rattle.rev_syntax.specs.View.{stmts};
+ghost use Rattle.revision_calculus.specs.Calculus as calculus;
 ghost use Rattle.revision_calculus.specs.State as state;
 ghost use Rattle.revision_calculus.specs.Step as step;
 ghost use Rattle.revision_calculus.specs.Evaluation as evaluation;
 ghost use Rattle.revision_calculus.specs.Join as join;
-ghost use Rattle.revision_steps.specs.Phases.{IsEnded, trap_in};
+ghost use Rattle.revision_state.specs.Phases as phases;
+ghost use Rattle.revision_state.specs.Phases.{IsEnded, awaited, trap_in};
+ghost use Rattle.revision_steps.specs.Ends.{ended_with, phase_of};
 ghost use Rattle.revision_steps.specs.Owns.{own_event};
-ghost use Rattle.revision_steps.specs.Views.{given};
+ghost use Rattle.revision_state.specs.Views.{given};
 
-use crate::frames::Frames;
-use crate::location::{Location, copy_locations, write_at};
 use crate::own::Own;
-use crate::phase::{Noted, Phase, copy_noted};
-use crate::setting::Setting;
 use rev_num::{Cause, Path, Trap, Value};
+use revision_state::{
+    Frame, Frames, Location, Noted, Phase, Setting, copy_locations, copy_noted, start_locations,
+    write_at,
+};
 use std::alloc::{AllocError, Global};
 use std::marker::Model;
 
@@ -35,8 +38,8 @@ pub struct Local<'a> {
 impl<'a> Model for Local<'a> {
     ghost use Rattle.std.specs.Prelude.{map};
     ghost use Rattle.revision_calculus.specs.State as state;
-    ghost use Rattle.revision_steps.specs.LocalCodes.{coded_local};
-    ghost use Rattle.revision_steps.specs.Phases as phases;
+    ghost use Rattle.revision_state.specs.LocalCodes.{coded_local};
+    ghost use Rattle.revision_state.specs.Phases as phases;
 
     ghost Value = { state.Local };
 
@@ -54,7 +57,58 @@ impl<'a> Model for Local<'a> {
     } };
 }
 
+/// What a revision is about that has trapped so, or is done.
+fn phase_by<'a>(trap: Option<Trap>) -> Phase<'a>
+    ensures { phases.phase result ≡ phase_of trap }
+{
+    match trap {
+        None => Phase::Done,
+        Some(trap) => Phase::Trapped(trap),
+    }
+}
+
 impl<'a> Local<'a> {
+    /// `main` with this fuel, before its first statement.
+    pub fn first(alloc: Global, setting: &Setting<'a>, fuel: u64) -> Result<Local<'a>, AllocError>
+        ensures { IfOk result (λ l. l ≡ calculus.main (given setting.now) fuel) }
+    {
+        let body = &setting.typed.expanded.program.main.stmts;
+        let frame = Frame::new(alloc, Vec::new(alloc), body, None)?;
+        Ok(Local {
+            locations: start_locations(alloc, setting.typed)?,
+            frames: Frames::of(alloc, frame)?,
+            fuel,
+            forks: 0,
+            noted: Vec::new(alloc),
+            text: Vec::new(alloc),
+            line: 0,
+            phase: Phase::Running,
+        })
+    }
+
+    /// A revision that has ended, as far as a join sees it: with these locations, this text, this fuel
+    /// and this trap, or none where it is done.
+    pub fn ended(
+        alloc: Global,
+        locations: Vec<Location>,
+        text: Vec<u8>,
+        fuel: u64,
+        trap: Option<Trap>,
+    ) -> Local<'a>
+        ensures { result ≡ ended_with locations.items text.items fuel trap }
+    {
+        Local {
+            locations,
+            frames: Frames::none(alloc),
+            fuel,
+            forks: 0,
+            noted: Vec::new(alloc),
+            text,
+            line: 0,
+            phase: phase_by(trap),
+        }
+    }
+
     /// The fuel that the revision has left.
     pub fn fuel(&self) -> u64
         ensures { result ≡ self.now.fuel }
@@ -83,11 +137,25 @@ impl<'a> Local<'a> {
         self.text
     }
 
+    /// The forks and joins of the revision, in their order.
+    pub fn noted(&self) -> &[Noted]
+        ensures { map phases.noted result.now ≡ self.now.noted }
+    {
+        self.noted.as_slice()
+    }
+
     /// Whether the revision is done or trapped.
     pub fn has_ended(&self) -> bool
         ensures { IsTrue result ↔ IsEnded self.now.phase }
     {
         self.phase.has_ended()
+    }
+
+    /// The path of the revision that is joined, at a join.
+    pub fn awaited(&self) -> Option<&Path>
+        ensures { option_copied result ≡ awaited self.now.phase }
+    {
+        self.phase.awaited()
     }
 
     /// The trap of a revision that trapped.

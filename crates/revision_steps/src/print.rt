@@ -9,13 +9,14 @@ ghost use Rattle.revision_calculus.specs.Step as step;
 ghost use Rattle.revision_steps.specs.Forms as form;
 ghost use Rattle.revision_steps.specs.Owns.{own_event};
 ghost use Rattle.revision_steps.specs.Texts.{behind_space, bytes_of, text_of};
-ghost use Rattle.revision_steps.specs.Views.{given};
+ghost use Rattle.revision_state.specs.Views.{given};
 
 use crate::local::Local;
 use crate::own::Own;
-use crate::setting::Setting;
-use rev_num::{Cause, Path, Value, append_decimal, append_path};
+use rev_num::{Cause, Path, Value};
+use rev_report::append_value;
 use rev_syntax::Item;
+use revision_state::Setting;
 use std::alloc::{AllocError, Global};
 
 /// The text of a value.
@@ -23,13 +24,7 @@ fn text_of_value(alloc: Global, value: &Value) -> Result<Vec<u8>, AllocError>
     ensures { IfOk result (λ text. text.items ≡ value_text value.now) }
 {
     let mut text = Vec::new(alloc);
-    match value {
-        Value::Int(n) => append_decimal(&mut text, *n)?,
-        Value::Bool(true) => text.extend_from_slice(b"true")?,
-        Value::Bool(false) => text.extend_from_slice(b"false")?,
-        Value::Rev(None) => text.extend_from_slice(b"none")?,
-        Value::Rev(Some(path)) => append_path(&mut text, path)?,
-    }
+    append_value(&mut text, value)?;
     Ok(text)
 }
 

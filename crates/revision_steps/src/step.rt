@@ -6,16 +6,15 @@ ghost use Rattle.rev_syntax.specs.View.{right_side, stmt};
 ghost use Rattle.revision_machine.specs.Rules.{event_of, IsStill};
 ghost use Rattle.revision_calculus.specs.Step as step;
 ghost use Rattle.revision_steps.specs.Owns.{begun, own_event};
-ghost use Rattle.revision_steps.specs.Remaining.{with_next};
-ghost use Rattle.revision_steps.specs.Views.{given};
+ghost use Rattle.revision_state.specs.Remaining.{with_next};
+ghost use Rattle.revision_state.specs.Views.{given};
 
 use crate::local::Local;
 use crate::own::Own;
-use crate::phase::Phase;
-use crate::setting::Setting;
 use rev_num::{Cause, Path};
 use rev_syntax::{Form, Name, Rhs, Stmt};
 use revision_machine::Next;
+use revision_state::{Phase, Setting};
 use std::alloc::{AllocError, Global};
 use std::slice;
 
@@ -123,7 +122,7 @@ impl<'a> Local<'a> {
         path: &Path,
         this: &'a Stmt,
     ) -> Result<Own<'a>, AllocError>
-        requires { self.old.forks + 1 < 2 ^ 32 }
+        requires { self.old.fuel + self.old.forks < 2 ^ 32 }
         ensures { IfOk result
             (λ n. own_event n self.new
             ≡ begun (given setting.now) path.now self.old (stmt this.now)) }
@@ -156,7 +155,7 @@ impl<'a> Local<'a> {
         setting: &Setting<'a>,
         path: &Path,
     ) -> Result<Own<'a>, AllocError>
-        requires forks { self.old.forks + 1 < 2 ^ 32 }
+        requires room { self.old.fuel + self.old.forks < 2 ^ 32 }
         requires some { 0 < length self.old.frames }
         ensures { IfOk result
             (λ n. own_event n self.new
@@ -175,7 +174,7 @@ impl<'a> Local<'a> {
         setting: &Setting<'a>,
         path: &Path,
     ) -> Result<Own<'a>, AllocError>
-        requires { self.old.forks + 1 < 2 ^ 32 }
+        requires { self.old.fuel + self.old.forks < 2 ^ 32 }
         ensures { IfOk result
             (λ n. own_event n self.new
             ≡ step.by_frames (given setting.now) path.now self.old self.old.frames) }
@@ -194,7 +193,7 @@ impl<'a> Local<'a> {
         setting: &Setting<'a>,
         path: &Path,
     ) -> Result<Next<Local<'a>>, AllocError>
-        requires { self.old.forks + 1 < 2 ^ 32 }
+        requires { self.old.fuel + self.old.forks < 2 ^ 32 }
         ensures event { IfOk result
             (λ n. event_of n self.new ≡ step.next (given setting.now) path.now self.old) }
         ensures still { IfOk result (λ n. IsStill n self.old self.new) }

@@ -1,6 +1,6 @@
 use Rattle.std.proofs.Common.{ap, sym, ◌∙◌, length, arith}
 use Rattle.rev_syntax.specs.View.{program as whole}
-use Rattle.revision_steps.proofs.Merges.{merge_count}
+use Rattle.revision_state.proofs.Merges.{merge_count}
 use Rattle.revision_steps.proofs.local.Local.absorb.Goals as goal
 
 pub compose-requires-clause-few : goal.compose-requires-clause-few

@@ -2,7 +2,7 @@ use Rattle.std.proofs.Common.{◌∙◌, sym, ap}
 use Rattle.rev_syntax.specs.Trees.{statement, repeat}
 use Rattle.rev_syntax.specs.View.{expression, placed_name, stmt, stmts}
 use Rattle.revision_machine.proofs.Splits.{if_ok_map}
-use Rattle.revision_steps.specs.Views.{given}
+use Rattle.revision_state.specs.Views.{given}
 use Rattle.revision_steps.proofs.Shapes.{stmt-AssignCell, stmt-While, block_stmts}
 use Rattle.revision_steps.proofs.Steps.{cell_does, while_does}
 use Rattle.revision_steps.proofs.local.Local.does.Goals as goal

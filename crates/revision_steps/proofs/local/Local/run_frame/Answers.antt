@@ -3,7 +3,7 @@ use Rattle.std.specs.Borrow.{Bor}
 use Rattle.rev_syntax.specs.View.{stmt}
 use Rattle.rev_syntax.specs.declared.tree.Stmt.{Stmt}
 use Rattle.revision_machine.proofs.Splits.{if_ok_map}
-use Rattle.revision_steps.specs.Views.{given}
+use Rattle.revision_state.specs.Views.{given}
 use Rattle.revision_steps.proofs.Steps.{with_statement, begins}
 use Rattle.revision_steps.proofs.local.Local.run_frame.Goals as goal
 

@@ -1,7 +1,7 @@
 use Rattle.std.proofs.Common.{◌≡◌, drop}
 use Rattle.rev_syntax.specs.View.{arms, stmts}
 use Rattle.revision_calculus.specs.Step.{select}
-use Rattle.revision_steps.specs.Views.{given}
+use Rattle.revision_state.specs.Views.{given}
 use Rattle.revision_steps.proofs.local.Local.select.Given as goal
 
 abbrev pub invariant-loop-arm : goal.invariant-loop-arm

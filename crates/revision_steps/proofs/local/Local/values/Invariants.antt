@@ -1,8 +1,8 @@
 use Rattle.std.proofs.Common.{◌≡◌, drop}
 use Rattle.rev_syntax.specs.View.{expressions}
 use Rattle.revision_calculus.specs.Evaluation.{evals}
-use Rattle.revision_steps.specs.Reading.{prefixed}
-use Rattle.revision_steps.specs.Views.{given}
+use Rattle.revision_state.specs.Reading.{prefixed}
+use Rattle.revision_state.specs.Views.{given}
 use Rattle.revision_steps.proofs.local.Local.values.Given as goal
 
 abbrev pub invariant-loop-arg : goal.invariant-loop-arg

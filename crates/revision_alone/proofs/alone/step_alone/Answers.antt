@@ -1,0 +1,13 @@
+use Rattle.std.proofs.Common.{rules}
+use Rattle.revision_machine.specs.Rules.{event_of}
+use Rattle.revision_state.specs.Views.{given}
+use Rattle.revision_alone.specs.Alone.{alone_event}
+use Rattle.revision_alone.proofs.Fits.{fits}
+use Rattle.revision_alone.proofs.alone.step_alone.Goals as goal
+use Rattle.revision_alone.proofs.alone.step_alone.Goals.{in-Moved, in-Forked+in_ok-child-in-Forked, in-Joins, in-Ended}
+
+pub returns-clause-phase : goal.returns-clause-phase
+returns-clause-phase c =
+    let new = c.advance.new.self in
+    fits (given c.args.setting.now) c.args.state.path c.args.state.local new c.match-branch-2.answer
+    (elim c.match-branch-2.branch [ in-Moved w ↦ search rules | in-Forked+in_ok-child-in-Forked w ↦ search rules | in-Joins w ↦ search rules | in-Ended w ↦ search rules ])

@@ -1,0 +1,9 @@
+pub mod Bindings
+pub mod Blocks
+pub mod Callees
+pub mod Compositions
+pub mod Lists
+pub mod Merges
+pub mod Readings
+pub mod Rows
+pub mod Starts

@@ -1,0 +1,34 @@
+-- Shared variables by their rows, cells and input numbers by their indices.
+use Rattle.std.proofs.Common.{◌≡◌, ◌+◌, ℤ, pos, negsuc, Bool, true, false, cond, ltb, List, Option, Some, None, option_map, Ok, Err, refl}
+use Rattle.rev_num.specs.declared.outcome.Cause.TheVariants as cause
+use Rattle.merge_decl.specs.Names.{Name}
+use Rattle.rev_types.specs.Layout.{SharedVariable, variables}
+use Rattle.revision_calculus.specs.Program.{variable_named, Setting}
+use Rattle.revision_calculus.specs.State.{Location}
+use Rattle.revision_calculus.specs.Evaluation.{read_shared, location_in, location_of, cell_location}
+use Rattle.revision_state.specs.Reading.{shared_at, behind, location_at}
+use Rattle.revision_state.specs.Tables.{info_of}
+
+shared_row : (o : Option SharedVariable) (ms : List Location) → shared_at (option_map (λ x. x.info) o) ms ≡ read_shared o ms
+shared_row None ms = refl
+shared_row (Some x) ms = refl
+
+-- a shared variable reads as its row says
+pub shared_read : (s : Setting) (name : Name) (ms : List Location) → shared_at (info_of s.program name) ms ≡ read_shared (variable_named (variables s.program) name) ms
+shared_read s name ms = shared_row (variable_named (variables s.program) name) ms
+
+in_row : (x : SharedVariable) (z : ℤ) → location_at (Some x.info) z ≡ location_in x z
+in_row x (negsuc i) = refl
+in_row x (pos i) = by (ltb i x.info.cells)
+  where
+    by : (b : Bool) → behind x.info.base (cond b (Some i) None) ≡ cond b (Ok (x.info.base + i)) (Err cause.Index)
+    by true = refl
+    by false = refl
+
+location_row : (o : Option SharedVariable) (z : ℤ) → location_at (option_map (λ x. x.info) o) z ≡ location_of o z
+location_row None z = refl
+location_row (Some x) z = in_row x z
+
+-- the location of a cell is where its row says
+pub cell_location_at : (s : Setting) (name : Name) (z : ℤ) → location_at (info_of s.program name) z ≡ cell_location s name z
+cell_location_at s name z = location_row (variable_named (variables s.program) name) z

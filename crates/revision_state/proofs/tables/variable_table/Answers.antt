@@ -1,0 +1,14 @@
+use Rattle.std.proofs.Common.{[], ap, ◌∙◌}
+use Rattle.rev_syntax.specs.View.{program as whole}
+use Rattle.merge_decl.specs.Table.{find}
+use Rattle.revision_machine.proofs.Splits.{if_ok_map}
+use Rattle.revision_state.specs.Tables.{entered, shared_at}
+use Rattle.revision_state.proofs.Rows.{variables_entered}
+use Rattle.revision_state.proofs.tables.variable_table.Goals as goal
+
+pub returns : goal.returns
+returns c =
+    let p = whole c.args.typed.now.expanded.program in
+    if_ok_map c.enter_variables.result
+    (λ t e name. ap (find name) (e ∙ ap (entered (shared_at p.declarations) []) (c.as_slice.ensures ∙ c.args.typed.now.shared_listed)) ∙ variables_entered p name)
+    c.enter_variables.ensures

@@ -1,9 +1,0 @@
-use Rattle.std.proofs.Common.{◌≡◌, vec_len}
-use Rattle.revision_steps.specs.Remaining.{remaining}
-use Rattle.revision_steps.proofs.frame.next_of.Given as goal
-
-abbrev pub invariant-loop-block : goal.invariant-loop-block
-invariant-loop-block l = remaining l.blocks.items ≡ remaining l.initial.blocks.items
-
-abbrev pub decreases-loop-block : goal.decreases-loop-block
-decreases-loop-block l = vec_len l.blocks

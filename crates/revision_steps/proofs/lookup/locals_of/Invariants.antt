@@ -1,8 +1,0 @@
-use Rattle.std.proofs.Common.{◌≡◌, map}
-use Rattle.rev_syntax.specs.View.{parameter}
-use Rattle.merge_decl.specs.Definitions.{names_of}
-use Rattle.revision_calculus.specs.Step.{locals_of}
-use Rattle.revision_steps.proofs.lookup.locals_of.Given as goal
-
-abbrev pub invariant-loop-value : goal.invariant-loop-value
-invariant-loop-value l = l.locals.items ≡ locals_of (names_of (map parameter l.params)) l.yielded

@@ -1,6 +1,0 @@
-use Rattle.std.proofs.Common.{◌≡◌, take, map}
-use Rattle.revision_steps.specs.Phases.{noted}
-use Rattle.revision_steps.proofs.phase.copy_noted.Given as goal
-
-abbrev pub invariant-loop-noted : goal.invariant-loop-noted
-invariant-loop-noted l = map noted l.copy.items ≡ map noted (take l.noted-index l.list)

@@ -1,6 +1,0 @@
-use Rattle.std.proofs.Common.{◌≡◌, ◌++◌, replicate}
-use Rattle.revision_calculus.specs.State.{fresh}
-use Rattle.revision_steps.proofs.start.append_copies.Given as goal
-
-abbrev pub invariant-loop-i : goal.invariant-loop-i
-invariant-loop-i l = l.locations.items ≡ l.initial.locations.items ++ fresh (replicate l._i l.value)

@@ -1,6 +1,0 @@
-use Rattle.std.proofs.Common.{◌≡◌, ◌++◌, drop}
-use Rattle.revision_steps.specs.Tables.{merges_in}
-use Rattle.revision_steps.proofs.tables.merges_of_rows.Given as goal
-
-abbrev pub invariant-loop-info : goal.invariant-loop-info
-invariant-loop-info l = l.list.items ++ merges_in (drop l.info-index l.rows) ≡ merges_in l.rows
