@@ -1,7 +1,10 @@
 //! The affine rule on statements, declarations and programs.
 
-ghost use Rattle.std.specs.Prelude.{◌≡◌, ◌&&◌, ℕ, None, [], true, map, option_map, IfErr, IfOk, OnOk};
-ghost use Rattle.rev_syntax.specs.View.{arm as pair, arms, block, declaration, expression, parameter, placed_name, program as whole, right_side, statement_form, stmt, stmts};
+ghost use Rattle.std.specs.Prelude.{◌≡◌, ◌&&◌, ℕ, None, [], true, map, option_map, IfErr, IfOk};
+ghost use Rattle.std.specs.Prelude.{OnOk};
+ghost use Rattle.rev_syntax.specs.View.{arm as pair, arms, block, declaration, expression};
+ghost use Rattle.rev_syntax.specs.View.{parameter, placed_name, program as whole, right_side};
+ghost use Rattle.rev_syntax.specs.View.{statement_form, stmt, stmts};
 ghost use Rattle.merge_decl.specs.Table.{find};
 ghost use Rattle.rev_kinds.specs.Walk.{names_of};
 ghost use Rattle.rev_types.specs.Scopes as scopes;
@@ -331,8 +334,8 @@ fn first_broken(alloc: Global, p: &Program) -> Result<Option<AffineFault>, Alloc
     Ok(first(declared, broken_body(alloc, &checker, &[], &p.main)?))
 }
 
-/// Whether a well-typed program keeps the affine rule; else its first breach, at the least place, and
-/// there of the least number. A program that keeps it never joins a revision twice.
+/// Whether a well-typed program keeps the affine rule; else its first breach, at the least place,
+/// and there of the least number. A program that keeps it never joins a revision twice.
 pub fn affine(alloc: Global, typed: &Typed) -> Result<(), AffineFault>
     ensures keeps { OnOk result (IsAffine (whole typed.now.expanded.program)) }
     ensures never { OnOk result

@@ -1,7 +1,9 @@
-//! The names of handles in expressions: a handle is copied in a plain right side and in a part of a `pick`.
+//! The names of handles in expressions: a handle is copied in a plain right side and in a part of a
+//! `pick`.
 
 ghost use Rattle.std.specs.Prelude.{◌≡◌, true, false, None, map, option_map};
-ghost use Rattle.rev_syntax.specs.View.{expression, expression_form, expressions, links, placed_name, print_item, right_side};
+ghost use Rattle.rev_syntax.specs.View.{expression, expression_form, expressions, links};
+ghost use Rattle.rev_syntax.specs.View.{placed_name, print_item, right_side};
 ghost use Rattle.affine_check.specs.Walk as rule;
 
 use crate::fault::{AffineFault, first};

@@ -7,7 +7,8 @@ ghost use Rattle.affine_check.specs.declared.fault.AffineFault.TheVariants.{OutO
 
 use std::alloc::AllocError;
 
-/// A breach of the affine rule, with its place, in the order of their numbers; or no memory was left.
+/// A breach of the affine rule, with its place, in the order of their numbers; or no memory was
+/// left.
 #[derive(Clone, Copy, PartialEq, Eq, Debug, Drop)]
 pub enum AffineFault {
     /// A handle's name in a plain right side or in a part of a `pick`.

@@ -1,7 +1,7 @@
 //! The checker of the affine rule on handles.
 //!
-//! `checker` goes over the statements with the locals in scope, and from where a handle comes into scope
-//! `trail` follows it to the end of its block; `copies` looks for its name in expressions.
+//! `checker` goes over the statements with the locals in scope, and from where a handle comes into
+//! scope `trail` follows it to the end of its block; `copies` looks for its name in expressions.
 #![tactic(auto)]
 
 mod checker;

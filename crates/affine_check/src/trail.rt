@@ -1,7 +1,8 @@
 //! The trail of a handle: what the paths from its first value to a place do with it.
 
 ghost use Rattle.std.specs.Prelude.{◌≡◌, Some, None, false, option_map};
-ghost use Rattle.rev_syntax.specs.View.{arms, expression, expressions, placed_name, right_side, statement_form, stmt, stmts};
+ghost use Rattle.rev_syntax.specs.View.{arms, expression, expressions, placed_name, right_side};
+ghost use Rattle.rev_syntax.specs.View.{statement_form, stmt, stmts};
 ghost use Rattle.affine_check.specs.Walk as rule;
 
 use crate::fault::{AffineFault, first};
@@ -14,8 +15,8 @@ pub struct Trail {
     pub reached: bool,
     /// Some path that used the handle since its last value comes here.
     pub used: bool,
-    /// Some path from the start of this turn of the innermost loop comes here on which the handle got no
-    /// value. Outside of loops none does.
+    /// Some path from the start of this turn of the innermost loop comes here on which the handle
+    /// got no value. Outside of loops none does.
     pub unchanged: bool,
     /// The first use that such a path meets: a second use, if the turn before used the handle.
     pub ahead: Option<AffineFault>,
@@ -117,8 +118,8 @@ impl Trail {
         }
     }
 
-    /// Behind a loop, of which one turn leads to `turn`. A further turn adds what is ahead, if one before
-    /// it used the handle, and no more.
+    /// Behind a loop, of which one turn leads to `turn`. A further turn adds what is ahead, if one
+    /// before it used the handle, and no more.
     fn turned(self, turn: Trail) -> Trail
         ensures { result ≡ rule.turned self turn }
     {

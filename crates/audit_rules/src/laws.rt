@@ -1,5 +1,5 @@
-//! Laws of audits, as a function that does nothing: what it ensures holds of every program without a
-//! fault, with every input, share and fuel.
+//! Laws of audits, as a function that does nothing: what it ensures holds of every program without
+//! a fault, with every input, share and fuel.
 
 ghost use Rattle.audit_rules.specs.Parts.{OwnRunsFit};
 ghost use Rattle.audit_rules.specs.Traces.{Always, EachIsComputed, EndHasTrace, HasVerdict};

@@ -18,10 +18,12 @@ pub enum Verdict {
 /// What comes of a revision's own run.
 #[derive(Debug, Drop)]
 pub enum Computed {
-    /// Nothing begins it: it is not `main`, and no own run of a revision with a stated part forks it.
+    /// Nothing begins it: it is not `main`, and no own run of a revision with a stated part forks
+    /// it.
     Absent,
     Part(Part),
-    /// It joins a revision that it joined before, or that a stated part earlier in post-order joined.
+    /// It joins a revision that it joined before, or that a stated part earlier in post-order
+    /// joined.
     Twice,
     /// It joins a revision whose stated part can't be taken.
     Missing,

@@ -9,11 +9,12 @@ ghost use Rattle.calculus_rules.specs.Rules.{rules_of, most_fuel, IsSmall};
 
 /// The rules of each program, with its inputs and share.
 ///
-/// - `keeps`: they keep the conditions of the laws: each fork is counted once, handles come from where they may, and
-///   each event uses up 1 of the weight of what it takes;
-/// - `first`: `main` with at most 4,000,000,000 units of fuel holds no handle and is within the limit;
-/// - `small`: a local state within the limit has made fewer than 2^32 - 1 forks, and has at most 4,000,000,000 units of
-///   fuel;
+/// - `keeps`: they keep the conditions of the laws: each fork is counted once, handles come from
+///   where they may, and each event uses up 1 of the weight of what it takes;
+/// - `first`: `main` with at most 4,000,000,000 units of fuel holds no handle and is within the
+///   limit;
+/// - `small`: a local state within the limit has made fewer than 2^32 - 1 forks, and has at most
+///   4,000,000,000 units of fuel;
 /// - `both`: two that are within the limit together have together at most that fuel.
 pub fn rule_laws()
     ensures keeps { (s : Setting) → Keeps (rules_of s) }

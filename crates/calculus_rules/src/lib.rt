@@ -1,7 +1,8 @@
-//! The calculus of `revision_calculus` as the rules of a runner of `revision_machine`: which handles a local state
-//! holds, how many steps it can make, and the limit within which a run stays.
+//! The calculus of `revision_calculus` as the rules of a runner of `revision_machine`: which
+//! handles a local state holds, how many steps it can make, and the limit within which a run stays.
 //!
-//! `specs/Rules.antt` has the rules of a program; [`rule_laws`] says that they keep the conditions of the laws.
+//! `specs/Rules.antt` has the rules of a program; [`rule_laws`] says that they keep the conditions
+//! of the laws.
 #![tactic(auto)]
 
 mod laws;

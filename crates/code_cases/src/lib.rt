@@ -1,4 +1,5 @@
-//! Wrong code: tables with the fault at which the verifier refuses each, one for each kind of each rule.
+//! Wrong code: tables with the fault at which the verifier refuses each, one for each kind of each
+//! rule.
 #![tactic(auto)]
 
 #[cfg(test)]

@@ -1,8 +1,9 @@
 //! Blocks that break a rule by an operand, a kind or a payment, beside a procedure, a fun and a
 //! merge.
 //!
-//! Variables: 0 an int, 1 an array of ints, 2 a rev. Layouts: 0 prints an int. Blocks: 0 a procedure
-//! of an int, 1 a fun of an int, 2 a merge without parameters, 3 the block of the row, 4 `main`.
+//! Variables: 0 an int, 1 an array of ints, 2 a rev. Layouts: 0 prints an int. Blocks: 0 a
+//! procedure of an int, 1 a fun of an int, 2 a merge without parameters, 3 the block of the row, 4
+//! `main`.
 
 use code_verifier::{CodeFault, verify};
 use rev_code::{BlockClass, Code, CodeBlock, CodeVar, Instr, LayoutItem};

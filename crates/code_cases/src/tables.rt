@@ -1,5 +1,5 @@
-//! Code whose tables break a rule, one for each kind of each rule. Such a fault stands at instruction 0
-//! of block 0.
+//! Code whose tables break a rule, one for each kind of each rule. Such a fault stands at
+//! instruction 0 of block 0.
 
 use code_verifier::{CodeFault, verify};
 use rev_code::{BlockClass, Code, CodeBlock, CodeVar, Instr, LayoutItem};
@@ -60,8 +60,8 @@ fn fault_of_blocks(alloc: Global, blocks: Vec<CodeBlock>) -> Option<CodeFault> {
     fault_of(alloc, code)
 }
 
-/// The fault of code with this variable, where block 0 is a merge of ints, block 1 a fun of three ints,
-/// and block 2 is `main`.
+/// The fault of code with this variable, where block 0 is a merge of ints, block 1 a fun of three
+/// ints, and block 2 is `main`.
 fn fault_of_var(alloc: Global, var: CodeVar) -> Result<Option<CodeFault>, Fail> {
     let mut vars = Vec::new(alloc);
     vars.push(var)?;

@@ -3,7 +3,8 @@
 
 ghost use Rattle.code_certificate.specs.Certificate.{AcceptedIsCertified};
 
-/// A block in which the pass finds no fault has a certificate: what the pass knew on arrival at each place.
+/// A block in which the pass finds no fault has a certificate: what the pass knew on arrival at
+/// each place.
 pub fn certificate_law()
     ensures { AcceptedIsCertified }
 {}

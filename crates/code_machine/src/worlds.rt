@@ -16,7 +16,8 @@ ghost use Rattle.code_machine.specs.Proper.{WorldsAreProper};
 ghost use Rattle.code_machine.specs.Starts.{FromEachStart};
 ghost use Rattle.code_machine.specs.Weights.{pay, weight};
 ghost use Rattle.code_machine.specs.Worlds.{FuelIsOfTheStart, LegsChangeTheirOwn, NumbersStay};
-ghost use Rattle.code_machine.specs.Worlds.{OneEntryIsOneLeg, OthersLeaveIt, ReplayGoesOn, RunningIsLeft};
+ghost use Rattle.code_machine.specs.Worlds.{OneEntryIsOneLeg, OthersLeaveIt, ReplayGoesOn};
+ghost use Rattle.code_machine.specs.Worlds.{RunningIsLeft};
 ghost use Rattle.code_machine.specs.Worlds.{ReplayIsTheWorld, StandingIsTheSame};
 ghost use Rattle.code_machine.specs.Worlds.{WaitingHasNoLeg, WaitingStays};
 
@@ -84,8 +85,8 @@ pub fn world_laws()
 /// Revisions that wait, and worlds in which they stand at their joins, behind the instructions of
 /// their legs.
 ///
-/// - `no_leg`, `stays`: a revision that comes to join one that has not ended has no leg, and goes on
-///   to wait until the other has an entry;
+/// - `no_leg`, `stays`: a revision that comes to join one that has not ended has no leg, and goes
+///   on to wait until the other has an entry;
 /// - `same_leg`: where a revision stands at its join, its next leg is that join alone, and leads to
 ///   the same world as the whole leg;
 /// - `itself`, `legs`, `schedules`: worlds that differ in such revisions alone have the same legs

@@ -5,8 +5,8 @@ ghost use Rattle.std.specs.Prelude.{ℕ};
 ghost use Rattle.code_prices.specs.Prices.{Bears, entry_prices, leg_prices};
 ghost use Rattle.code_prices.specs.Uses.{EveryNumberedStepPays, LegsAreBounded};
 
-/// Every step of certified code uses up what it costs, and so a leg ends; the prices of legs and of schedules bear all
-/// code.
+/// Every step of certified code uses up what it costs, and so a leg ends; the prices of legs and of
+/// schedules bear all code.
 pub fn price_laws()
     ensures steps { EveryNumberedStepPays }
     ensures legs { LegsAreBounded }

@@ -1,7 +1,7 @@
 //! The rules that code keeps, and their laws.
 //!
-//! `specs/Tables.antt` has the rules on tables, `specs/Shapes.antt` what each instruction takes and gives,
-//! `specs/Pass.antt` the rules on instructions, as one pass that finds the first fault.
+//! `specs/Tables.antt` has the rules on tables, `specs/Shapes.antt` what each instruction takes and
+//! gives, `specs/Pass.antt` the rules on instructions, as one pass that finds the first fault.
 #![tactic(auto)]
 
 /// A rule on code. Where an instruction breaks several, the one that comes first here is reported.
@@ -9,10 +9,11 @@
 pub enum Rule {
     /// A target outside of the block, or one that is not after the jump and no Charge.
     BadJump,
-    /// An operand that names nothing of the right sort, or an instruction that has no place in a fun or merge.
+    /// An operand that names nothing of the right sort, or an instruction that has no place in a
+    /// fun or merge.
     BadOperand,
-    /// Too few words on the stack, shapes that differ where ways meet, words left where none may be, or a Call or Fork
-    /// that no Charge has paid.
+    /// Too few words on the stack, shapes that differ where ways meet, words left where none may
+    /// be, or a Call or Fork that no Charge has paid.
     StackShape,
     /// A word of another kind than the instruction takes.
     WrongKind,
@@ -24,8 +25,8 @@ pub enum Rule {
     LimitOf,
 }
 
-/// What a fun or merge costs: the words that it needs, and how many instructions it has, with those of the funs that it
-/// applies. Other blocks cost nothing.
+/// What a fun or merge costs: the words that it needs, and how many instructions it has, with those
+/// of the funs that it applies. Other blocks cost nothing.
 #[derive(Clone, Copy, PartialEq, Eq, Debug)]
 pub struct Cost {
     pub need: u64,

@@ -1,7 +1,8 @@
-//! What the rules on code are for: code in which the verifier finds no fault never fails when it runs.
+//! What the rules on code are for: code in which the verifier finds no fault never fails when it
+//! runs.
 //!
-//! Each law is an empty function. Those that speak of states take what a handle is as the type `H`: a
-//! revision's number, or its path.
+//! Each law is an empty function. Those that speak of states take what a handle is as the type `H`:
+//! a revision's number, or its path.
 #![tactic(auto)]
 
 ghost use Rattle.code_soundness.specs.Whole.{NoFaultIsAccepted, NoFaultIsWithinLimits};
@@ -11,15 +12,17 @@ ghost use Rattle.code_soundness.specs.Uses.{UsesAreByBlocks, FunsKeepTheirCosts,
 ghost use Rattle.code_soundness.specs.Safe.{MainStarts, ProceduresStart, StatesHaveSteps};
 ghost use Rattle.code_soundness.specs.Safe.{StepsAreSafe, ReachedStatesNeverFail};
 
-/// Code without a fault has certificates of all its blocks, and its funs and merges keep their limits.
+/// Code without a fault has certificates of all its blocks, and its funs and merges keep their
+/// limits.
 pub fn whole_code_law()
     ensures accepted { NoFaultIsAccepted }
     ensures limits { NoFaultIsWithinLimits }
 {}
 
-/// The block of a fun or merge always has a value of its result's kind, or a fault of arithmetic: its first
-/// state is typed, and each step leads to a later typed state, to such a fault or to the result.
-/// Its evaluation takes no more instructions and words than it costs, and so keeps the limits.
+/// The block of a fun or merge always has a value of its result's kind, or a fault of arithmetic:
+/// its first state is typed, and each step leads to a later typed state, to such a fault or to the
+/// result. Its evaluation takes no more instructions and words than it costs, and so keeps the
+/// limits.
 pub fn fun_laws<H>()
     ensures funs { FunsHaveValues H }
     ensures merges { MergesHaveInts H }

@@ -307,7 +307,8 @@ fn all_vars(code: &Code) -> bool
     true
 }
 
-/// Whether all operands of the tables name something of the right sort, and all can be spelled in a code file.
+/// Whether all operands of the tables name something of the right sort, and all can be spelled in a
+/// code file.
 pub fn names_well(code: &Code) -> bool
     ensures { result ≡ tables.names_well code.now }
 {
@@ -441,7 +442,8 @@ fn all_small_names(vars: &[CodeVar]) -> bool
     true
 }
 
-/// Whether the tables keep the limits of the language, and what the counts and lengths of a code file can hold.
+/// Whether the tables keep the limits of the language, and what the counts and lengths of a code
+/// file can hold.
 pub fn is_small(code: &Code) -> bool
     ensures { result ≡ tables.is_small code.now }
 {

@@ -1,6 +1,7 @@
 //! Why code is refused.
 
-/// Where code breaks a rule, the block and the instruction by their numbers, or that memory is wanting.
+/// Where code breaks a rule, the block and the instruction by their numbers, or that memory is
+/// wanting.
 #[derive(Clone, Copy, PartialEq, Eq, Debug)]
 pub enum CodeFault {
     BadJump { block: u32, at: u32 },

@@ -1,19 +1,21 @@
 //! What is known on arrival at a place.
 
 ghost use Rattle.std.specs.Prelude.{◌≡◌, ◌<◌, length};
-ghost use Rattle.code_verifier.specs.Marking.{InRange, AllInRange, met, clashes_at, joined_mark, leap};
+ghost use Rattle.code_verifier.specs.Marking.{InRange, AllInRange, met, clashes_at, joined_mark};
+ghost use Rattle.code_verifier.specs.Marking.{leap};
 
 use crate::shapes::Shapes;
 
-/// The number of the shape of the stack, and whether on each way to the place a Charge stands behind the last Call or
-/// Fork.
+/// The number of the shape of the stack, and whether on each way to the place a Charge stands
+/// behind the last Call or Fork.
 #[derive(Clone, Copy)]
 pub(crate) struct Mark {
     pub(crate) shape: usize,
     pub(crate) paid: bool,
 }
 
-/// What the instruction before leaves and what earlier jumps leave, together; None where their shapes differ.
+/// What the instruction before leaves and what earlier jumps leave, together; None where their
+/// shapes differ.
 pub(crate) fn meet(shapes: &Shapes, fallen: Option<Mark>, jumped: Option<Mark>) -> Option<Mark>
     requires first { InRange shapes.now fallen }
     requires second { InRange shapes.now jumped }

@@ -5,8 +5,8 @@ ghost use Rattle.code_verifier.specs.Trie.{above, new_node, with_above};
 
 use rev_num::ValueKind;
 
-/// A shape: the kind on top, and the number of the shape below it. `above_..` are the numbers of the shapes with one
-/// kind more, and 0 where there is none so far.
+/// A shape: the kind on top, and the number of the shape below it. `above_..` are the numbers of
+/// the shapes with one kind more, and 0 where there is none so far.
 #[derive(Clone, Copy)]
 pub(crate) struct Node {
     pub(crate) kind: ValueKind,

@@ -215,7 +215,8 @@ fn any_kind(top: Option<ValueKind>) -> ValueKind
     }
 }
 
-/// The kinds that an instruction takes, the one on top first, where this is the kind on top of the stack.
+/// The kinds that an instruction takes, the one on top first, where this is the kind on top of the
+/// stack.
 pub(crate) fn takes(
     alloc: Global,
     code: &Code,

@@ -1,8 +1,10 @@
 //! The pass over the instructions of a block.
 
-ghost use Rattle.std.specs.Prelude.{◌≡◌, ◌+◌, ◌<◌, ◌^◌, length, Some, None, if◌then◌else◌, slice_get, replicate, ◌≤◌, IfErr, IfOk};
+ghost use Rattle.std.specs.Prelude.{◌≡◌, ◌+◌, ◌<◌, ◌^◌, length, Some, None, if◌then◌else◌};
+ghost use Rattle.std.specs.Prelude.{slice_get, replicate, ◌≤◌, IfErr, IfOk};
 ghost use Rattle.code_rules.specs.Pass as pass;
-ghost use Rattle.code_verifier.specs.Passing.{Arrived, IsReady, IsFirst, IsStep, rule_of, shape_faulty, spent_cost, verdict_of};
+ghost use Rattle.code_verifier.specs.Passing.{Arrived, IsReady, IsFirst, IsStep, rule_of};
+ghost use Rattle.code_verifier.specs.Passing.{shape_faulty, spent_cost, verdict_of};
 ghost use Rattle.code_verifier.specs.Spending.{AllCheap, IsCheap};
 
 use crate::instr::{falls, is_bare, is_charge, is_paid_for, is_value_class, paid_after, target};
@@ -24,8 +26,8 @@ pub(crate) struct Scope<'a> {
     pub(crate) block: &'a CodeBlock,
 }
 
-/// What is known at a place: the shapes that were met, what each later place was left by jumps, what the instruction
-/// before left, and what was spent.
+/// What is known at a place: the shapes that were met, what each later place was left by jumps,
+/// what the instruction before left, and what was spent.
 #[derive(Drop)]
 pub(crate) struct Known {
     pub(crate) shapes: Shapes,
@@ -66,7 +68,8 @@ fn falls_off(block: &CodeBlock, at: usize, x: Instr) -> bool
     falls(x) && at + 1 == len
 }
 
-/// Whether the shape is faulty: too few words, too many, no payment, or another shape than an earlier jump left.
+/// Whether the shape is faulty: too few words, too many, no payment, or another shape than an
+/// earlier jump left.
 fn is_faulty(effect: Effect, paid: bool, clash: bool, x: Instr) -> bool
     ensures { result ≡ shape_faulty effect.words effect.wanted paid clash x }
 {
@@ -218,7 +221,8 @@ fn cost_of(block: &CodeBlock, spent: Spent) -> Cost
     }
 }
 
-/// The first instruction of the block that breaks a rule, with the first such rule; or what the block costs.
+/// The first instruction of the block that breaks a rule, with the first such rule; or what the
+/// block costs.
 pub(crate) fn check_block(
     alloc: Global,
     scope: &Scope,

@@ -8,8 +8,8 @@ use crate::instr::is_value_class;
 use code_rules::Cost;
 use rev_code::{CodeBlock, Instr};
 
-/// The greatest number of words on the stack, the greatest need of a fun that was applied, and the number of
-/// instructions with those of funs that were applied.
+/// The greatest number of words on the stack, the greatest need of a fun that was applied, and the
+/// number of instructions with those of funs that were applied.
 #[derive(Clone, Copy)]
 pub(crate) struct Spent {
     pub(crate) depth: u64,

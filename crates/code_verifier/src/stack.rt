@@ -12,8 +12,8 @@ use rev_code::{Code, CodeBlock, Instr};
 use rev_num::ValueKind;
 use std::alloc::{AllocError, Global};
 
-/// How many words the stack has and how many the instruction takes, whether those have the kinds that it takes, and the
-/// number of the shape that it leaves.
+/// How many words the stack has and how many the instruction takes, whether those have the kinds
+/// that it takes, and the number of the shape that it leaves.
 #[derive(Clone, Copy)]
 pub(crate) struct Effect {
     pub(crate) words: usize,

@@ -14,8 +14,8 @@ use code_tables::{is_small, names_well};
 use rev_code::Code;
 use std::alloc::{AllocError, Global};
 
-/// The code, if it keeps all rules; otherwise the first instruction that breaks one, with the first such rule. Faults
-/// of tables come before all others.
+/// The code, if it keeps all rules; otherwise the first instruction that breaks one, with the first
+/// such rule. Faults of tables come before all others.
 pub fn verify(alloc: Global, code: Code) -> Result<Verified, CodeFault>
     ensures code { IfOk result (λ v. v.code ≡ code) }
     ensures sound { OnOk result (KeepsRules code) }

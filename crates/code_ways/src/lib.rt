@@ -1,4 +1,5 @@
-//! The rules on instructions in words, and that the pass finds the first instruction that breaks one.
+//! The rules on instructions in words, and that the pass finds the first instruction that breaks
+//! one.
 #![tactic(auto)]
 
 ghost use Rattle.code_ways.specs.First.{PassAccepts, PassFindsFirst};
@@ -12,15 +13,15 @@ pub fn pass_law()
     ensures accepts { PassAccepts }
 {}
 
-/// The first fault of code is that of its tables, and otherwise that of the first block that breaks a
-/// rule, in words. Code has none exactly where its tables and all its blocks keep the rules.
+/// The first fault of code is that of its tables, and otherwise that of the first block that breaks
+/// a rule, in words. Code has none exactly where its tables and all its blocks keep the rules.
 pub fn fault_law()
     ensures first { FirstFaultIsFirst }
     ensures none { NoFaultIsFine }
 {}
 
-/// A block with a certificate is accepted, where what stands behind a Jump or Return begins anew and a fun
-/// or merge is within its limits.
+/// A block with a certificate is accepted, where what stands behind a Jump or Return begins anew
+/// and a fun or merge is within its limits.
 pub fn certified_law()
     ensures { CertifiedIsAccepted }
 {}

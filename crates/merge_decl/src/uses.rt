@@ -1,7 +1,9 @@
 //! The applications of funs in a program.
 
 ghost use Rattle.std.specs.Prelude.{◌≡◌, ◌++◌, OnOk, IfOk, map};
-ghost use Rattle.rev_syntax.specs.View.{statement_form, arms, block, declaration, links, program as whole, right_side, expression_form, print_item, expression, expressions};
+ghost use Rattle.rev_syntax.specs.View.{statement_form, arms, block, declaration, links};
+ghost use Rattle.rev_syntax.specs.View.{program as whole, right_side, expression_form, print_item};
+ghost use Rattle.rev_syntax.specs.View.{expression, expressions};
 ghost use Rattle.merge_decl.specs.FunRules as rule;
 ghost use Rattle.merge_decl.specs.Uses.{uses_of};
 

@@ -1,7 +1,9 @@
-//! Runs of the real language by the calculus: to the end, one step at a time, or two steps in both orders.
+//! Runs of the real language by the calculus: to the end, one step at a time, or two steps in both
+//! orders.
 //!
-//! [`PlainLanguage`] is a typed program as a language of `revision_machine`, with the local states of `revision_steps`
-//! and the rules of `calculus_rules`; [`run_plain`] is the outcome of its complete runs.
+//! [`PlainLanguage`] is a typed program as a language of `revision_machine`, with the local states
+//! of `revision_steps` and the rules of `calculus_rules`; [`run_plain`] is the outcome of its
+//! complete runs.
 #![tactic(auto)]
 
 mod language;

@@ -14,8 +14,9 @@ use revision_steps::Local;
 use std::alloc::{AllocError, Global};
 
 impl<'a> PlainLanguage<'a> {
-    /// The outcome of a state: Twice, or what `main` printed, the values of its view and how it ended; none where `main`
-    /// has not ended. The text is moved and not copied. Want of memory is the one error.
+    /// The outcome of a state: Twice, or what `main` printed, the values of its view and how it
+    /// ended; none where `main` has not ended. The text is moved and not copied. Want of memory is
+    /// the one error.
     pub fn outcome_of(
         &self,
         alloc: Global,

@@ -31,8 +31,8 @@ impl<'a> PlainLanguage<'a> {
         machine::start(self, alloc, main)
     }
 
-    /// The state after a step of the revision at this path, and how the step came out. For `Waits`, `Ended` and `NoSuch`
-    /// it is the given one. Want of memory is the one error.
+    /// The state after a step of the revision at this path, and how the step came out. For `Waits`,
+    /// `Ended` and `NoSuch` it is the given one. Want of memory is the one error.
     pub fn step(
         &self,
         alloc: Global,
@@ -59,7 +59,8 @@ impl<'a> PlainLanguage<'a> {
         machine::copy_state(self, alloc, state)
     }
 
-    /// The states after steps of the revisions at `p` and `q` in both orders. Want of memory is the one error.
+    /// The states after steps of the revisions at `p` and `q` in both orders. Want of memory is the
+    /// one error.
     pub fn diamond_step(
         &self,
         alloc: Global,
@@ -86,8 +87,8 @@ impl<'a> PlainLanguage<'a> {
     }
 }
 
-/// The outcome of the program with these inputs, the most fuel that a fork gives, and this fuel: that of every complete
-/// run, whatever the order of its steps. Want of memory is the one error.
+/// The outcome of the program with these inputs, the most fuel that a fork gives, and this fuel:
+/// that of every complete run, whatever the order of its steps. Want of memory is the one error.
 pub fn run_plain(
     alloc: Global,
     typed: &Typed,

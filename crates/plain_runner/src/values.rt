@@ -13,7 +13,8 @@ use rev_types::{SharedInfo, Typed};
 use revision_state::Location;
 use std::alloc::{AllocError, Global};
 
-/// The values that these locations show, each with the name of its variable, and the number of its cell in an array.
+/// The values that these locations show, each with the name of its variable, and the number of its
+/// cell in an array.
 pub fn shown_values(
     alloc: Global,
     typed: &Typed,

@@ -1,8 +1,8 @@
 //! The affine rule on handles, and that a program that keeps it never joins twice.
 //!
 //! `specs/Affine.antt` says what the paths through a procedure meet, and the four ways to break the
-//! rule, with their places; `specs/Live.antt` and `specs/Owned.antt` say which places of a state own
-//! a handle; `specs/Laws.antt` has the laws.
+//! rule, with their places; `specs/Live.antt` and `specs/Owned.antt` say which places of a state
+//! own a handle; `specs/Laws.antt` has the laws.
 #![tactic(auto)]
 
 mod examples;

@@ -2,8 +2,9 @@
 
 use rev_num::{Bytes, Items, ValueKind};
 
-/// An instruction. Jump targets are numbers of instructions of the same block, counted from 0; the other operands are
-/// numbers of a local of the block, or of a variable, a layout or a block of the code.
+/// An instruction. Jump targets are numbers of instructions of the same block, counted from 0; the
+/// other operands are numbers of a local of the block, or of a variable, a layout or a block of the
+/// code.
 #[derive(Clone, Copy, PartialEq, Eq, Debug)]
 pub enum Instr {
     PushInt(i64),
@@ -57,8 +58,9 @@ pub struct Code {
     pub blocks: Items<CodeBlock>,
 }
 
-/// A shared variable. Its locations follow those of the variable before it: one of a scalar, `cells` of an array.
-/// Each starts with the word `start`. `merge` is the merge block of a cumulative variable, and 65,535 otherwise.
+/// A shared variable. Its locations follow those of the variable before it: one of a scalar,
+/// `cells` of an array. Each starts with the word `start`. `merge` is the merge block of a
+/// cumulative variable, and 65,535 otherwise.
 #[derive(PartialEq, Eq, Debug, Drop)]
 pub struct CodeVar {
     pub name: Bytes,
@@ -70,7 +72,8 @@ pub struct CodeVar {
     pub merge: u16,
 }
 
-/// An item of a line that is printed: a number or a truth value from the stack, or the text of that number.
+/// An item of a line that is printed: a number or a truth value from the stack, or the text of that
+/// number.
 #[derive(Clone, Copy, PartialEq, Eq, Debug)]
 pub enum LayoutItem {
     Int,

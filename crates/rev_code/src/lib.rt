@@ -1,8 +1,9 @@
 //! Code of the stack machine, and what it means.
 //!
-//! `src/code.rt` has the instructions, blocks and tables. `specs/` says what they mean: `Words.antt` the words on a
-//! stack, `State.antt` the state of a revision, `Step.antt` what each instruction does, one case for each row of the
-//! table of instructions, `Funs.antt` the values of funs and merges, `Events.antt` what forks and joins leave.
+//! `src/code.rt` has the instructions, blocks and tables. `specs/` says what they mean:
+//! `Words.antt` the words on a stack, `State.antt` the state of a revision, `Step.antt` what each
+//! instruction does, one case for each row of the table of instructions, `Funs.antt` the values of
+//! funs and merges, `Events.antt` what forks and joins leave.
 #![tactic(auto)]
 
 mod code;

@@ -1,16 +1,23 @@
 //! What is left to do while an expression is evaluated.
 
-ghost use Rattle.std.specs.Prelude.{◌≡◌, ◌<◌, ◌≤◌, ◌+◌, ◌-◌, ◌*◌, ◌∷◌, ◌++◌, [], ℕ, List, None, Ok, true, IfOk, IfSome, length};
+ghost use Rattle.std.specs.Prelude.{◌≡◌, ◌<◌, ◌≤◌, ◌+◌, ◌-◌, ◌*◌, ◌∷◌, ◌++◌, [], ℕ, List, None, Ok};
+ghost use Rattle.std.specs.Prelude.{true, IfOk, IfSome, length};
 ghost use Rattle.rev_num.specs.declared.value.Value.{Value};
 ghost use Rattle.rev_syntax.specs.Trees.{Declaration, apply};
-ghost use Rattle.rev_syntax.specs.View.{links, expression_form, expression, expressions, placed_name};
+ghost use Rattle.rev_syntax.specs.View.{links, expression_form, expression, expressions};
+ghost use Rattle.rev_syntax.specs.View.{placed_name};
 ghost use Rattle.rev_syntax.specs.Small.{links_count, expression_count, expressions_count};
 ghost use Rattle.merge_decl.specs.Evaluation.{chained_within, expression_form_within, value_within};
 ghost use Rattle.rev_evaluator.specs.Environment as spec;
 ghost use Rattle.rev_evaluator.specs.Seen.{seen};
-ghost use Rattle.rev_evaluator.specs.Work.{after, application, call_turn, continued, ended, goes_on, kept, kept_behind, keeps, lasts, link_cost, part_cost, part_turn, pending_cost, pending_size, pending_weight, turn_size, turn_weight, value_turn, waiting, waits, without};
+ghost use Rattle.rev_evaluator.specs.Work.{after, application, call_turn, continued, ended};
+ghost use Rattle.rev_evaluator.specs.Work.{goes_on, kept, kept_behind, keeps, lasts, link_cost};
+ghost use Rattle.rev_evaluator.specs.Work.{part_cost, part_turn, pending_cost, pending_size};
+ghost use Rattle.rev_evaluator.specs.Work.{pending_weight, turn_size, turn_weight, value_turn};
+ghost use Rattle.rev_evaluator.specs.Work.{waiting, waits, without};
 ghost use Rattle.merge_decl.specs.Table.{Table, find};
-ghost use Rattle.merge_decl.specs.Weights.{known_weight, links_weight, expression_weight, expressions_weight};
+ghost use Rattle.merge_decl.specs.Weights.{known_weight, links_weight, expression_weight};
+ghost use Rattle.merge_decl.specs.Weights.{expressions_weight};
 ghost use Rattle.merge_decl.specs.Value.{Env};
 ghost use Rattle.rev_evaluator.specs.declared.work.Pending.{Pending as Waits};
 ghost use Rattle.rev_evaluator.specs.declared.work.Pending.TheVariants as on;

@@ -8,8 +8,8 @@ ghost use Rattle.rev_num.specs.Path.{before};
 ghost use Rattle.rev_num.specs.PostOrder.{ChildrenComeFirst, ChildrenComeInOrder};
 ghost use Rattle.rev_num.specs.PostOrder.{IsStrictTotalOrder, TestsAreExact};
 
-/// Post-order of paths: it is a strict total order, in which a child comes before its forker, and an
-/// earlier child, with all that stands below it, before a later one.
+/// Post-order of paths: it is a strict total order, in which a child comes before its forker, and
+/// an earlier child, with all that stands below it, before a later one.
 pub fn post_order_laws()
     ensures exact { TestsAreExact }
     ensures order { IsStrictTotalOrder (λ p q. IsTrue (before p q)) }

@@ -1,4 +1,5 @@
-//! Values of a program, checked numbers of 64 bits, the paths that name revisions, traps and outcomes.
+//! Values of a program, checked numbers of 64 bits, the paths that name revisions, traps and
+//! outcomes.
 #![tactic(auto)]
 
 mod items;

@@ -25,7 +25,8 @@ pub enum Cause {
     Merge { location: u32, fault: NumFault },
 }
 
-/// How a revision trapped: the cause, the line of the statement, and the revision that trapped first.
+/// How a revision trapped: the cause, the line of the statement, and the revision that trapped
+/// first.
 #[derive(PartialEq, Eq, Debug, Drop)]
 pub struct Trap {
     pub cause: Cause,

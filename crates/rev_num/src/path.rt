@@ -8,8 +8,8 @@ ghost use Rattle.rev_num.specs.Path.{before, child, same};
 use std::alloc::{AllocError, Global};
 use std::marker::Model;
 
-/// The path of a revision: `main` is the empty path, and the k-th fork of a revision, counted from 0,
-/// has the forker's path and then `k`.
+/// The path of a revision: `main` is the empty path, and the k-th fork of a revision, counted from
+/// 0, has the forker's path and then `k`.
 #[derive(Debug, Drop)]
 pub struct Path {
     forks: Vec<u32>,

@@ -1,6 +1,7 @@
 //! Numbers and paths as text.
 
-ghost use Rattle.std.specs.Prelude.{◌≡◌, ◌++◌, OnErr, OnOk, IfNone, IfSome, IsTrue, length, take, ℤ};
+ghost use Rattle.std.specs.Prelude.{◌≡◌, ◌++◌, OnErr, OnOk, IfNone, IfSome, IsTrue, length, take};
+ghost use Rattle.std.specs.Prelude.{ℤ};
 ghost use Rattle.std.specs.Fmt.{signed_decimal};
 ghost use Rattle.rev_num.specs.Arith.{fits_i64};
 ghost use Rattle.std.specs.List.{flat_map};
@@ -11,8 +12,8 @@ use crate::path::Path;
 use itoa::Buffer;
 use std::alloc::AllocError;
 
-/// The number for which the bytes are a decimal: an optional `-` and one or more digits, in 64 bits.
-/// Zeros may stand in front, and `-0` is 0; a `+` may not stand in front.
+/// The number for which the bytes are a decimal: an optional `-` and one or more digits, in 64
+/// bits. Zeros may stand in front, and `-0` is 0; a `+` may not stand in front.
 pub fn read_decimal(bytes: &[u8]) -> Option<i64>
     ensures value { result ≡ decimal_in bytes.now }
     ensures spelled { IfSome result (λ n. IsDecimal bytes.now n) }

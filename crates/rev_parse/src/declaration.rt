@@ -1,5 +1,6 @@
 // Declarations and programs.
-ghost use Rattle.std.specs.Prelude.{◌≡◌, ◌≤ℤ◌, ◌++◌, [], ◌∷◌, OnOk, pos, neg_ℤ, map, option_map, length};
+ghost use Rattle.std.specs.Prelude.{◌≡◌, ◌≤ℤ◌, ◌++◌, [], ◌∷◌, OnOk, pos, neg_ℤ, map, option_map};
+ghost use Rattle.std.specs.Prelude.{length};
 ghost use Rattle.rev_expressions.specs.Grammar as g;
 ghost use Rattle.rev_expressions.specs.Declarations as spec;
 ghost use Rattle.rev_expressions.specs.Lists.{more_listed};

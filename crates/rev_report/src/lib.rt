@@ -1,8 +1,8 @@
 //! What a call of the program writes, and the status with which it ends.
 //!
 //! A report is what standard output and standard error get, and a status. There is one for each
-//! outcome of a run, which has what `main` printed and the message of its trap, one for each refusal,
-//! which has its message alone, and one for a text that keeps all rules.
+//! outcome of a run, which has what `main` printed and the message of its trap, one for each
+//! refusal, which has its message alone, and one for a text that keeps all rules.
 #![tactic(auto)]
 
 mod fault;

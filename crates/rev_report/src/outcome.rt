@@ -157,8 +157,8 @@ fn trap_message(alloc: Global, values: &[Shown], trap: &Trap) -> Result<Vec<u8>,
     Ok(message)
 }
 
-/// The report of an outcome, with the values of `main` where they are asked for. A merge that faulted
-/// is reported with its place among the values.
+/// The report of an outcome, with the values of `main` where they are asked for. A merge that
+/// faulted is reported with its place among the values.
 pub fn outcome_bytes(alloc: Global, outcome: &Outcome, values: bool) -> Result<Report, AllocError>
     ensures { IfOk result (λ r. output r ≡ spec.report values outcome.now) }
 {

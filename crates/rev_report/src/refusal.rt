@@ -2,7 +2,8 @@
 ghost use Rattle.std.specs.Prelude.{◌≡◌, IfOk};
 ghost use Rattle.std.specs.String.{string_bytes};
 ghost use Rattle.rev_report.specs.Report.{output};
-ghost use Rattle.rev_report.specs.Messages.{at_place, message, more_than, no_memory, refused, status_of};
+ghost use Rattle.rev_report.specs.Messages.{at_place, message, more_than, no_memory, refused};
+ghost use Rattle.rev_report.specs.Messages.{status_of};
 
 use crate::fault::{Place, TextFault};
 use crate::limit::Limit;

@@ -19,8 +19,8 @@ fn keep(tokens: &mut Vec<Token>, kind: PieceKind, start: u32, end: u32) -> Resul
     Ok(())
 }
 
-/// The tokens of a text, or its first fault. White space and comments separate tokens, and each piece is the
-/// longest that fits.
+/// The tokens of a text, or its first fault. White space and comments separate tokens, and each
+/// piece is the longest that fits.
 pub fn tokens(alloc: Global, bytes: &[u8]) -> Result<Vec<Token>, LexFault>
     requires { length bytes.now < 2 ^ 32 }
     ensures tokens { IfOk result (λ ts. IsTokens bytes.now ts.items) }

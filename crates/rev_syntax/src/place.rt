@@ -12,8 +12,8 @@ fn last_line(before: &[u8]) -> usize
     before.iter().rev().take_while(|b| **b != b'\n').count()
 }
 
-/// The line and the column of an offset, both counted from 1. Only a line feed ends a line, and columns count
-/// bytes.
+/// The line and the column of an offset, both counted from 1. Only a line feed ends a line, and
+/// columns count bytes.
 pub fn line_column(bytes: &[u8], at: u32) -> (u32, u32)
     requires inside { at ≤ length bytes.now }
     requires small { length bytes.now < 2 ^ 32 - 1 }

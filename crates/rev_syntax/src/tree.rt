@@ -237,7 +237,8 @@ pub enum Decl {
         root: Name,
         body: Expr,
     },
-    /// A `versioned` variable, or one that is `cumulative` by a merge. It is an array where it has a size.
+    /// A `versioned` variable, or one that is `cumulative` by a merge. It is an array where it has
+    /// a size.
     Shared {
         name: Name,
         by: Option<Name>,

@@ -8,7 +8,8 @@ ghost use Rattle.rev_report.specs.Report.{output};
 ghost use Rattle.rev_report.specs.Outcome.{report};
 ghost use Rattle.rev_report.specs.Modes.{summary};
 ghost use Rattle.revision_calculus.specs.Complete.{HasOutcome};
-ghost use Rattle.rev_top.specs.Answer.{Accepts, Answers, Given, IsReport, IsWithin, RunsTo, SaysAs, Takes, reads, reads_of, setting, source_limit};
+ghost use Rattle.rev_top.specs.Answer.{Accepts, Answers, Given, IsReport, IsWithin, RunsTo, SaysAs};
+ghost use Rattle.rev_top.specs.Answer.{Takes, reads, reads_of, setting, source_limit};
 ghost use Rattle.rev_top.specs.Stops.{Meets};
 ghost use Rattle.rev_top.specs.Texts.{Checks};
 

@@ -5,7 +5,9 @@ ghost use Rattle.rev_syntax.specs.Tokens.{IsToken, IsTokens};
 ghost use Rattle.rev_syntax.specs.View.{program as whole};
 ghost use Rattle.rev_top.specs.Answer.{source_limit};
 ghost use Rattle.rev_top.specs.Stops.{Meets, report_of_syntax, stop_of};
-ghost use Rattle.rev_top.specs.Texts.{Checks, ChecksTokens, ChecksTree, Cuts, KeepsFuns, KeepsTypes, Reads, fault_at, place_in, report_of_funs, report_of_lexical, report_of_types, unexpected_at};
+ghost use Rattle.rev_top.specs.Texts.{Checks, ChecksTokens, ChecksTree, Cuts, KeepsFuns};
+ghost use Rattle.rev_top.specs.Texts.{KeepsTypes, Reads, fault_at, place_in, report_of_funs};
+ghost use Rattle.rev_top.specs.Texts.{report_of_lexical, report_of_types, unexpected_at};
 ghost use Rattle.rev_top.specs.declared.stop.Stop.TheVariants as stops;
 
 use crate::stop::Stop;

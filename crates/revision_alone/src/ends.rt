@@ -16,8 +16,8 @@ pub struct AloneWrite {
     pub root: Value,
 }
 
-/// What is told of a revision that has ended: its writes in the order of the locations, its text, its
-/// fuel, and its trap, or none where it is done.
+/// What is told of a revision that has ended: its writes in the order of the locations, its text,
+/// its fuel, and its trap, or none where it is done.
 #[derive(Drop)]
 pub struct AloneEnd {
     pub written: Vec<AloneWrite>,

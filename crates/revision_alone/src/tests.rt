@@ -1,4 +1,5 @@
-// One revision after another, each by itself: `main` forks a child, and joins it by what is told of it.
+// One revision after another, each by itself: `main` forks a child, and joins it by what is told of
+// it.
 use super::*;
 use merge_decl::expand_funs;
 use rev_num::Value;

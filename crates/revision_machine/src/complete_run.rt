@@ -58,7 +58,8 @@ pub fn start<L: Language>(
     Ok(GlobalState::Live(Revisions { list, places }))
 }
 
-/// Steps the revision at this place. One that moved is to be tried again, and before it a child that it forked.
+/// Steps the revision at this place. One that moved is to be tried again, and before it a child
+/// that it forked.
 fn try_step<L: Language>(
     language: &L,
     alloc: Global,
@@ -196,7 +197,8 @@ fn has_moved(before: bool, progress: Progress) -> bool
     }
 }
 
-/// The end of a complete run from `main`, which is the end of every complete run. Want of memory is the one error.
+/// The end of a complete run from `main`, which is the end of every complete run. Want of memory is
+/// the one error.
 pub fn run<L: Language>(
     language: &L,
     alloc: Global,

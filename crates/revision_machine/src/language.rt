@@ -20,7 +20,8 @@ pub enum Next<R> {
     Ended,
 }
 
-/// A language whose revisions fork and join: `self` is what all revisions of a program share, as its text.
+/// A language whose revisions fork and join: `self` is what all revisions of a program share, as
+/// its text.
 pub trait Language {
     /// The local state of a revision.
     type State: Drop;

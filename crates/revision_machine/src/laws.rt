@@ -39,13 +39,15 @@ ghost use Rattle.revision_machine.specs.Theory.{
   CompleteSchedules,
 };
 
-/// Names a machine of revisions for each value, with the proof that it keeps the conditions. It has no code.
+/// Names a machine of revisions for each value, with the proof that it keeps the conditions. It has
+/// no code.
 pub trait LawfulMachine {
     /// The machine, and why it keeps the conditions.
     ghost lawful: { Self → Lawful };
 }
 
-/// Names a world by number for each value, with the proof that it keeps the conditions. It has no code.
+/// Names a world by number for each value, with the proof that it keeps the conditions. It has no
+/// code.
 pub trait NumberedWorld {
     /// The world, and why it keeps the conditions.
     ghost world: { Self → LawfulWorld };
@@ -85,7 +87,8 @@ pub fn theory<R: LawfulMachine>()
 
 /// The laws of schedules, over each world by number and each first state `main`.
 ///
-/// - `runs`, `schedules`: a legal schedule is a run by paths, and a run by paths is a legal schedule;
+/// - `runs`, `schedules`: a legal schedule is a run by paths, and a run by paths is a legal
+///   schedule;
 /// - `over`: no number has a leg exactly where the state is final;
 /// - `bound`, `count`: a legal schedule has no more entries than the weight of `main`, and the
 ///   world after it no more revisions than 1 and what `main` has to pay for forks;

@@ -29,8 +29,8 @@ pub enum StepOutcome {
     NoSuch,
 }
 
-/// The state after a step of the revision at `path`, and how it came out. For `Waits`, `Ended` and `NoSuch` it is the
-/// given one. Want of memory is the one error.
+/// The state after a step of the revision at `path`, and how it came out. For `Waits`, `Ended` and
+/// `NoSuch` it is the given one. Want of memory is the one error.
 pub fn step<L: Language>(
     language: &L,
     alloc: Global,

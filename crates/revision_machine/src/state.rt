@@ -17,7 +17,8 @@ pub struct Revision<R> {
     pub joined: bool,
 }
 
-/// The revisions of a state, in the order of their forks, and the places of their paths. No two have the same path.
+/// The revisions of a state, in the order of their forks, and the places of their paths. No two
+/// have the same path.
 #[derive(Drop)]
 pub struct Revisions<R> {
     pub list: Vec<Revision<R>>,

@@ -84,7 +84,8 @@ fn after<L: Language>(
     }
 }
 
-/// The states after steps of the revisions at `p` and `q` in both orders. Want of memory is the one error.
+/// The states after steps of the revisions at `p` and `q` in both orders. Want of memory is the one
+/// error.
 pub fn diamond_step<L: Language>(
     language: &L,
     alloc: Global,

@@ -1,6 +1,7 @@
 //! Frames: the main block or a call that goes on, with its locals and what it still has to do.
 
-ghost use Rattle.std.specs.Prelude.{◌≡◌, IfOk, OnOk, MatchOption, None, Some, [], ◌∷◌, option_copied, option_map, position, length};
+ghost use Rattle.std.specs.Prelude.{◌≡◌, IfOk, OnOk, MatchOption, None, Some, [], ◌∷◌};
+ghost use Rattle.std.specs.Prelude.{option_copied, option_map, position, length};
 ghost use Rattle.rev_syntax.specs.View.{stmt, stmts};
 ghost use Rattle.merge_decl.specs.Names.{same};
 ghost use Rattle.merge_decl.specs.Table.{find};
@@ -97,7 +98,8 @@ fn next_of<'a>(blocks: &mut Vec<&'a [Stmt]>) -> Result<Option<&'a Stmt>, AllocEr
     Ok(None)
 }
 
-/// Statements that are still to be done: blocks of the tree, or what is left of them, the last one first.
+/// Statements that are still to be done: blocks of the tree, or what is left of them, the last one
+/// first.
 #[derive(Drop)]
 pub struct Rest<'a> {
     blocks: Vec<&'a [Stmt]>,
@@ -199,7 +201,8 @@ fn bind<'a>(locals: &mut Vec<Binding<'a>>, name: &'a [u8], value: Value) -> Resu
 }
 
 impl<'a> Frame<'a> {
-    /// A frame with these locals, in which this block is to be done, and for whose value this left side waits.
+    /// A frame with these locals, in which this block is to be done, and for whose value this left
+    /// side waits.
     pub fn new(
         alloc: Global,
         locals: Vec<Binding<'a>>,

@@ -1,6 +1,7 @@
 //! The frames of a revision, the one on top last.
 
-ghost use Rattle.std.specs.Prelude.{◌≡◌, ◌<◌, IfOk, OnOk, MatchOption, Some, [], ◌∷◌, option_copied, option_map, length, slice_get};
+ghost use Rattle.std.specs.Prelude.{◌≡◌, ◌<◌, IfOk, OnOk, MatchOption, Some, [], ◌∷◌};
+ghost use Rattle.std.specs.Prelude.{option_copied, option_map, length, slice_get};
 ghost use Rattle.rev_syntax.specs.View.{stmt, stmts};
 ghost use Rattle.revision_calculus.specs.Step.{append};
 ghost use Rattle.revision_calculus.specs.Evaluation as calculus;

@@ -1,4 +1,5 @@
-//! What a revision of a program has: its locations, frames and phase, and the tables that its steps look into.
+//! What a revision of a program has: its locations, frames and phase, and the tables that its steps
+//! look into.
 #![tactic(auto)]
 
 mod changes;

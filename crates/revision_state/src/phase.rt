@@ -11,7 +11,8 @@ use std::alloc::{AllocError, Global};
 #[derive(Drop)]
 pub enum Phase<'a> {
     Running,
-    /// At a join of the revision at this path, with the left side that waits for the answer of a `tryjoin`.
+    /// At a join of the revision at this path, with the left side that waits for the answer of a
+    /// `tryjoin`.
     Joining { on: Path, left: Option<&'a [u8]> },
     Done,
     Trapped(Trap),

@@ -1,6 +1,7 @@
 //! The locations at the start of a run.
 
-ghost use Rattle.std.specs.Prelude.{◌≡◌, ◌++◌, IfOk, OnOk, map, option_copied, option_map, replicate};
+ghost use Rattle.std.specs.Prelude.{◌≡◌, ◌++◌, IfOk, OnOk, map, option_copied, option_map};
+ghost use Rattle.std.specs.Prelude.{replicate};
 ghost use Rattle.rev_syntax.specs.View.{constant, declaration, program as whole};
 ghost use Rattle.rev_types.specs.Layout.{variables};
 ghost use Rattle.revision_calculus.specs.Program as program;
@@ -47,7 +48,8 @@ fn first_value(kind: ValueKind, first: &Option<Const>) -> Value
     }
 }
 
-/// The start value of a declared shared variable; the number 0 stands for that of another declaration.
+/// The start value of a declared shared variable; the number 0 stands for that of another
+/// declaration.
 fn start_of(decl: Option<&Decl>) -> Value
     ensures { result ≡ start_of (option_map declaration (option_copied decl.entry)) }
 {

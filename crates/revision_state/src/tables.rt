@@ -1,12 +1,14 @@
 //! The tables of a setting.
 
-ghost use Rattle.std.specs.Prelude.{◌≡◌, ◌++◌, [], IfOk, OnOk, option_copied, option_map, replicate, slice_get};
+ghost use Rattle.std.specs.Prelude.{◌≡◌, ◌++◌, [], IfOk, OnOk, option_copied, option_map};
+ghost use Rattle.std.specs.Prelude.{replicate, slice_get};
 ghost use Rattle.rev_syntax.specs.View.{declaration, program as whole};
 ghost use Rattle.merge_decl.specs.Names as names;
 ghost use Rattle.merge_decl.specs.Table.{find};
 ghost use Rattle.rev_types.specs.Layout as layout;
 ghost use Rattle.revision_calculus.specs.Join.{merges_of};
-ghost use Rattle.revision_state.specs.Tables.{entered, info_of, merges_in, number_of, proc_at, proc_name, shared_at, shared_name, with_row};
+ghost use Rattle.revision_state.specs.Tables.{entered, info_of, merges_in, number_of, proc_at};
+ghost use Rattle.revision_state.specs.Tables.{proc_name, shared_at, shared_name, with_row};
 ghost use Rattle.revision_state.specs.Views.{given};
 
 use crate::setting::Setting;
@@ -198,7 +200,8 @@ fn make<'a>(
 }
 
 impl<'a> Setting<'a> {
-    /// The setting of runs of this program with these input numbers, where a fork gives at most this share of fuel.
+    /// The setting of runs of this program with these input numbers, where a fork gives at most
+    /// this share of fuel.
     pub fn new(
         alloc: Global,
         typed: &'a Typed,

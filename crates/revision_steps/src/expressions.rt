@@ -114,7 +114,8 @@ impl<'a> Local<'a> {
     }
 }
 
-/// What an expression reads: the locals of the frame on top, the shared variables of the view, and the input numbers.
+/// What an expression reads: the locals of the frame on top, the shared variables of the view, and
+/// the input numbers.
 #[derive(Drop)]
 struct Scope<'s, 'a> {
     setting: &'s Setting<'a>,

@@ -158,8 +158,8 @@ impl<'a> Local<'a> {
         self.phase.left()
     }
 
-    /// Lets the revision at `path` join the one at `on`, which ended in this state. Where it has not ended, the join is
-    /// listed and nothing else.
+    /// Lets the revision at `path` join the one at `on`, which ended in this state. Where it has
+    /// not ended, the join is listed and nothing else.
     pub fn settle(
         &mut self,
         alloc: Global,

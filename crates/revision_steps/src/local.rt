@@ -1,6 +1,7 @@
 //! The local state of a revision.
 
-ghost use Rattle.std.specs.Prelude.{◌≡◌, ◌↔◌, ◌++◌, ◌∷◌, [], IfOk, OnOk, IsTrue, None, Some, map, option_copied};
+ghost use Rattle.std.specs.Prelude.{◌≡◌, ◌↔◌, ◌++◌, ◌∷◌, [], IfOk, OnOk, IsTrue, None, Some, map};
+ghost use Rattle.std.specs.Prelude.{option_copied};
 ghost use Rattle.rev_syntax.specs.View.{stmts};
 ghost use Rattle.revision_calculus.specs.Calculus as calculus;
 ghost use Rattle.revision_calculus.specs.State as state;
@@ -86,8 +87,8 @@ impl<'a> Local<'a> {
         })
     }
 
-    /// A revision that has ended, as far as a join sees it: with these locations, this text, this fuel
-    /// and this trap, or none where it is done.
+    /// A revision that has ended, as far as a join sees it: with these locations, this text, this
+    /// fuel and this trap, or none where it is done.
     pub fn ended(
         alloc: Global,
         locations: Vec<Location>,

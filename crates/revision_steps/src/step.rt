@@ -1,6 +1,7 @@
 //! What a revision does next.
 
-ghost use Rattle.std.specs.Prelude.{◌≡◌, ◌+◌, ◌<◌, ◌^◌, IfOk, None, option_copied, option_map, length};
+ghost use Rattle.std.specs.Prelude.{◌≡◌, ◌+◌, ◌<◌, ◌^◌, IfOk, None, option_copied, option_map};
+ghost use Rattle.std.specs.Prelude.{length};
 ghost use Rattle.revision_machine.specs.Machine.{Moves};
 ghost use Rattle.rev_syntax.specs.View.{right_side, stmt};
 ghost use Rattle.revision_machine.specs.Rules.{event_of, IsStill};
@@ -114,7 +115,8 @@ impl<'a> Local<'a> {
         }
     }
 
-    /// Pays for a statement that was taken out of the frame on top and does it, or puts it back and traps.
+    /// Pays for a statement that was taken out of the frame on top and does it, or puts it back and
+    /// traps.
     fn pay(
         &mut self,
         alloc: Global,
@@ -186,7 +188,8 @@ impl<'a> Local<'a> {
         self.run_frame(alloc, setting, path)
     }
 
-    /// Makes the next step or fork of the revision at this path, or tells which revision it joins or that it has ended.
+    /// Makes the next step or fork of the revision at this path, or tells which revision it joins
+    /// or that it has ended.
     pub fn advance(
         &mut self,
         alloc: Global,

@@ -158,7 +158,7 @@ module _ (p : ProgramTree) where
     f.params,
     record { word = f.word; result = f.result; body = f.body; stands = record { rest = f.behind; parts = f.parts }; named = f.named; first = f.first },
     (let n = f.number in let z : h.decl ≡ length f.before = omega arith in z),
-    f.counted
+    f.counted,
   )
 
   broken_head : (u : Use) (h : FunHead) (f : MergeFault) → fun_named p u.name.text ≡ Some h → IsApplied p u → Among (later_here u h ++ arity_here u h) f → BreaksFun p f
@@ -245,7 +245,7 @@ same_funs p f = (of_list p f, λ b. (to_list p f b).it)
 pub same_first_fun : SameFirstFun
 same_first_fun p f = (
   λ h. record { broken = of_list p f h.among; first = λ g b. h.first g (to_list p g b).it },
-  λ h. record { among = (to_list p f h.broken).it; first = λ g m. h.first g (of_list p g m) }
+  λ h. record { among = (to_list p f h.broken).it; first = λ g m. h.first g (of_list p g m) },
 )
 
 none_among : {A : Type 0} (xs : List A) → ((x : A) → Among xs x → ⊥) → xs ≡ []

@@ -2,11 +2,12 @@
 #![tactic(auto)]
 
 ghost use Rattle.static_rules.specs.Examples.{Examples};
-ghost use Rattle.static_rules.specs.Laws.{Same, SameFirst, SameFuns, SameFirstFun, FunsKept, Decided, OneOutcome};
+ghost use Rattle.static_rules.specs.Laws.{Same, SameFirst, SameFuns, SameFirstFun, FunsKept};
+ghost use Rattle.static_rules.specs.Laws.{Decided, OneOutcome};
 
-/// The checker's list of faults has exactly those of the rules, and so has the list of faults of funs; and a
-/// small program that keeps the rules on funs is well typed, or there is one first rule that it breaks, and
-/// never both.
+/// The checker's list of faults has exactly those of the rules, and so has the list of faults of
+/// funs; and a small program that keeps the rules on funs is well typed, or there is one first rule
+/// that it breaks, and never both.
 pub fn breaks_law()
     ensures same { Same }
     ensures first { SameFirst }

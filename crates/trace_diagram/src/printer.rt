@@ -2,8 +2,10 @@
 ghost use Rattle.std.specs.Prelude.{◌≡◌, ◌++◌, OnOk, IfOk, codes, map};
 ghost use Rattle.std.specs.Fmt.{decimal};
 ghost use Rattle.std.specs.List.{flat_map};
-ghost use Rattle.trace_diagram.specs.Lines.{cause_text, change_text, end_text, event_text, fault_text, fuel_text, head_text, quoted, value_text};
-ghost use Rattle.trace_diagram.specs.Traces.{IsText, IsTextOf, IsTrace, ended, part_lines, text_lines};
+ghost use Rattle.trace_diagram.specs.Lines.{cause_text, change_text, end_text, event_text};
+ghost use Rattle.trace_diagram.specs.Lines.{fault_text, fuel_text, head_text, quoted, value_text};
+ghost use Rattle.trace_diagram.specs.Traces.{IsText, IsTextOf, IsTrace, ended, part_lines};
+ghost use Rattle.trace_diagram.specs.Traces.{text_lines};
 ghost use Rattle.rev_num.specs.Text.{path_text};
 
 use crate::cut::cut;

@@ -7,8 +7,8 @@ use crate::delta::Delta;
 use std::alloc::{AllocError, Global};
 
 /// For each location that a revision has written, the word that was there when it was forked, which
-/// is the root of a merge: a collapse moves words of the base into the delta, so the base alone does
-/// not tell.
+/// is the root of a merge: a collapse moves words of the base into the delta, so the base alone
+/// does not tell.
 #[derive(Drop)]
 pub struct First {
     roots: Delta,

@@ -1,5 +1,5 @@
-//! What a revision writes, what it reads under its writes, what it leaves when it has ended, and what
-//! a joiner takes over of that.
+//! What a revision writes, what it reads under its writes, what it leaves when it has ended, and
+//! what a joiner takes over of that.
 #![tactic(auto)]
 
 mod delta;

@@ -8,8 +8,8 @@ const GREATEST: i64 = 9223372036854775807;
 
 const LEAST: i64 = -9223372036854775808;
 
-/// What the last merge of the text, which is at most a megabyte, gives for the joiner's value, the joinee's and the
-/// root's.
+/// What the last merge of the text, which is at most a megabyte, gives for the joiner's value, the
+/// joinee's and the root's.
 fn merged(
     rt: &HostRuntime,
     text: &str,
@@ -102,8 +102,8 @@ fn from_left_to_right(rt: HostRuntime) -> Result<(), Fail> {
     Ok(())
 }
 
-/// So many funs, each of which applies the one before it inside so many of these brackets, and a merge
-/// that applies the last.
+/// So many funs, each of which applies the one before it inside so many of these brackets, and a
+/// merge that applies the last.
 fn nested(
     rt: &HostRuntime,
     brackets: (&str, &str),
