@@ -5,4 +5,4 @@ mod kinds;
 mod tables;
 
 pub use kinds::{is_procedure, is_value_class, same_kind};
-pub use tables::{is_small, names_well};
+pub use tables::{has_cells, is_name, is_small, is_start, is_text, names_well};

@@ -75,8 +75,9 @@ fn is_text_byte(c: u8) -> bool
     32 <= c && c <= 126 && c != 34
 }
 
+/// Whether each byte can stand in a text.
 #[tactic(auto, using(crate::proofs::Drops::all_more, crate::proofs::Drops::all_none))]
-fn is_text(text: &[u8]) -> bool
+pub fn is_text(text: &[u8]) -> bool
     ensures { result ≡ list_all tables.is_text_byte text.now }
 {
     for c in text {
@@ -209,19 +210,22 @@ fn is_reserved(name: &[u8]) -> bool
     is_reserved_1(name) || is_reserved_2(name) || is_reserved_3(name)
 }
 
-fn is_name(name: &[u8]) -> bool
+/// Whether the bytes are a name of the language.
+pub fn is_name(name: &[u8]) -> bool
     ensures { result ≡ tables.is_name name.now }
 {
     is_word(name) && !is_reserved(name)
 }
 
-fn has_cells(array: bool, cells: u32) -> bool
+/// Whether a scalar or an array can have so many cells.
+pub fn has_cells(array: bool, cells: u32) -> bool
     ensures { result ≡ tables.has_cells array cells }
 {
     if array { cells > 0 } else { cells == 1 }
 }
 
-fn is_start(kind: ValueKind, word: u64) -> bool
+/// Whether the word can stand for a start value of this kind.
+pub fn is_start(kind: ValueKind, word: u64) -> bool
     ensures { result ≡ tables.is_start kind word }
 {
     match kind {

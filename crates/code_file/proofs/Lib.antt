@@ -1,0 +1,11 @@
+pub mod Steps
+pub mod Operands
+pub mod Sums
+pub mod Counts
+pub mod Written
+pub mod ReadBack
+pub mod Spelled
+pub mod FileRead
+pub mod OneFile
+pub mod Joined
+pub mod Accepted

@@ -1,0 +1,5 @@
+use Rattle.code_file.proofs.Sums.{tries_end}
+use Rattle.code_file.proofs.count.tries.Goals as goal
+
+pub returns : goal.returns
+returns c = tries_end c.loop-block.total c.args.blocks.now c.loop-block.block-index c.loop-block-test.false c.loop-block.invariant.fits c.loop-block.invariant.total

@@ -1,0 +1,16 @@
+use Rattle.code_file.proofs.ReadBack.{code_read}
+use Rattle.code_file.proofs.FileRead.{file_read}
+use Rattle.code_file.proofs.OneFile.{one_code, no_code}
+use Rattle.code_file.proofs.laws.file_laws.Goals as goal
+
+pub returns-clause-back : goal.returns-clause-back
+returns-clause-back c = code_read c.word_laws.ensures
+
+pub returns-clause-one : goal.returns-clause-one
+returns-clause-one c = one_code (code_read c.word_laws.ensures)
+
+pub returns-clause-exact : goal.returns-clause-exact
+returns-clause-exact c = file_read c.word_laws.ensures
+
+pub returns-clause-none : goal.returns-clause-none
+returns-clause-none c = no_code (code_read c.word_laws.ensures)

@@ -1,0 +1,10 @@
+use Rattle.std.proofs.Common.{◌≡◌, ◌-◌, []}
+use Rattle.code_file.specs.Fields.{more}
+use Rattle.code_file.specs.Reads.{text}
+use Rattle.code_file.proofs.read.texts.Given as goal
+
+abbrev pub invariant-loop-turn : goal.invariant-loop-turn
+invariant-loop-turn l = record {
+  rest : more l.count (λ _. text) [] l.fn.cursor.whole l.initial.cursor.rest.now ≡ more (l.count - l._turn) (λ _. text) l.parts.items l.cursor.whole l.cursor.rest.now;
+  whole : l.cursor.whole ≡ l.fn.cursor.whole;
+}

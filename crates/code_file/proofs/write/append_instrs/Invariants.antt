@@ -1,0 +1,7 @@
+use Rattle.std.proofs.Common.{◌≡◌, ◌++◌, take}
+use Rattle.std.specs.List.{flat_map}
+use Rattle.code_file.specs.Files.{instr_bytes}
+use Rattle.code_file.proofs.write.append_instrs.Given as goal
+
+abbrev pub invariant-loop-instr : goal.invariant-loop-instr
+invariant-loop-instr l = l.out.items ≡ l.fn.out.items ++ flat_map instr_bytes (take l.instr-index l.instrs)

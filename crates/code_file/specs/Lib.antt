@@ -1,0 +1,6 @@
+pub mod Fields
+pub mod Parts
+pub mod Reads
+pub mod Files
+pub mod Counts
+pub mod Laws

@@ -1,0 +1,41 @@
+//! Why bytes are no code file.
+
+use std::alloc::{AllocError, AllocFailed};
+
+/// The first fault of bytes that are no code file, with its offset.
+#[derive(Clone, Copy, PartialEq, Eq, Debug, Drop)]
+pub enum ReadFault {
+    /// The bytes begin otherwise than a code file.
+    BadMagic,
+    /// There is no such version.
+    BadVersion,
+    /// The file ends here, before its last field.
+    Truncated { at: usize },
+    /// Here begins a field with a value that it can't have.
+    BadField { at: usize },
+    /// Here stands a byte behind the last field.
+    Trailing { at: usize },
+    OutOfMemory,
+}
+
+impl From<AllocError> for ReadFault {
+    ghost use Rattle.std.specs.Prelude.{◌≡◌};
+    ghost use Rattle.code_file.specs.declared.fault.ReadFault.{ReadFault};
+
+    ghost from_gives = { λ _ f. f ≡ ReadFault.OutOfMemory };
+
+    fn from(_: AllocError) -> ReadFault {
+        ReadFault::OutOfMemory
+    }
+}
+
+impl<T: Drop> From<AllocFailed<T>> for ReadFault {
+    ghost use Rattle.std.specs.Prelude.{◌≡◌};
+    ghost use Rattle.code_file.specs.declared.fault.ReadFault.{ReadFault};
+
+    ghost from_gives = { λ _ f. f ≡ ReadFault.OutOfMemory };
+
+    fn from(_: AllocFailed<T>) -> ReadFault {
+        ReadFault::OutOfMemory
+    }
+}

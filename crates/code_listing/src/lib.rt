@@ -1,0 +1,6 @@
+//! Code as text.
+#![tactic(auto)]
+
+mod listing;
+
+pub use listing::disassemble;
