@@ -1,6 +1,7 @@
 //! Laws of code files.
 
-ghost use Rattle.code_file.specs.Laws.{AcceptedIsCounted, FaultsHaveNoCode, OneCode, ReadIsFile, ReadsBack};
+ghost use Rattle.code_file.specs.Laws.{AcceptedIsCounted, FaultsHaveNoCode, OneCode, ReadIsFile};
+ghost use Rattle.code_file.specs.Laws.{ReadsBack};
 
 use rev_num::word_laws;
 
