@@ -4,6 +4,7 @@ use Rattle.std.proofs.Common.{zero, suc, ◌+◌, ◌-◌, ◌%◌, ◌<◌, ◌
 use Rattle.std.proofs.Common.{refl, ap, ◌∙◌, subst, arith, inl}
 use Rattle.std.proofs.Math.Nat.{mul-mod_left}
 use Rattle.segment_store.specs.Live.{live_segments}
+use Rattle.segment_store.specs.Rule.{Rule}
 use mathlib.Core.Option.{some, some-injective, some-ne-none}
 use mathlib.Core.Logic.{dite}
 use native.Mathlib.Decide.{ℕ_discrete}
@@ -149,3 +150,14 @@ pub live_at_most : (stride : ℕ) (ws : List ℕ) (k : ℕ) → live_segments st
 live_at_most stride ws zero = omega arith
 live_at_most stride ws (suc k) = let r = live_at_most stride ws k in
     let q = one_at_most (eqb (get_or ws ((k + 1) * stride) 0) 0) in omega arith
+
+-- while one seat is the only one, and refers to nothing, no segment is in use
+pub first_free : (words stride masks segments : ℕ) → 1 < stride → words ≡ (segments + 1) * stride
+    → (v : View) → v.chain ≡ [] → v.build ≡ 0 → (s : State (Unit {0}) View)
+    → Rule words stride masks s → s.views ≡ v ∷ [] → live_segments stride s.words segments ≡ 0
+first_free words stride masks segments big rooms v no_chain no_build s r only =
+    let at : get_elem? s.views 0 ≡ some v = ap (λ (l : List View). get_elem? l 0) only in
+    let one : held v + 0 ≡ held v = omega arith in
+    let alone : total held s.views ≡ held v = ap (λ (l : List View). total held l) only ∙ one in
+    none_live words stride segments s.words big rooms
+    (closes words stride s r.kept 0 v at no_chain no_build alone) segments (omega arith)

@@ -1,5 +1,6 @@
 pub mod Act
 pub mod Entry
+pub mod First
 pub mod Store
 pub mod Base
 pub mod Same

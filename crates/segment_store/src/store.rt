@@ -97,6 +97,7 @@ impl Store {
     ghost use Rattle.segment_store.specs.Names.{IsOf, IsSeatOf, IsDeltaOf, IsSameHold, TookFirst};
     ghost use Rattle.segment_store.specs.Names.{FoundAllIn};
     ghost use Rattle.segment_store.specs.Names.{base};
+    ghost use Rattle.segment_store.specs.First.{AreFreeAtFirst};
     ghost use Rattle.version_map.specs.declared.snapshot.Collapsed.TheVariants as collapsed;
     ghost use Rattle.version_map.specs.declared.snapshot.How.TheVariants.{Shared, Copied};
 
@@ -108,8 +109,10 @@ impl Store {
         initial: Vec<u64>,
     ) -> Result<(Store, Hold), AllocError>
         requires { vec_len initial ≤ 4096 }
-        ensures { IfOk result (λ r. IsOf r.0 r.1 × (r.1.seat.me.0.chain ≡ []) × (r.1.own ≡ None)
-            × (r.0.initial ≡ initial) × (r.0.segments ≡ min segments (2 ^ 26 / r.0.stride))) }
+        ensures hold { IfOk result (λ r. IsOf r.0 r.1 × (r.1.seat.me.0.chain ≡ [])
+            × (r.1.own ≡ None) × (r.0.initial ≡ initial)
+            × (r.0.segments ≡ min segments (2 ^ 26 / r.0.stride))) }
+        ensures free { IfOk result (λ r. AreFreeAtFirst r.0 r.1) }
     {
         let masks = mask_rows(initial.len() as u32);
         let stride = 2 + masks + initial.len();

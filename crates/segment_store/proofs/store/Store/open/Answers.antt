@@ -5,6 +5,7 @@ use Rattle.version_map.proofs.Bits.{rows_few, rows_over}
 use Rattle.segment_store.specs.declared.board.Size.{Size}
 use Rattle.segment_store.specs.declared.board.View.{View}
 use Rattle.segment_store.specs.Base.{Rests}
+use Rattle.segment_store.proofs.Closes.{first_free}
 use Rattle.segment_store.proofs.Fills.{none_some}
 use Rattle.segment_store.proofs.Opens.{first_words, sizes, rests, lesser}
 use Rattle.segment_store.proofs.Lifts.{opens}
@@ -50,3 +51,9 @@ invariant_of-hold c = let e = c.in_ok-table.ensures in record {
   no_slots = ap (λ (m : Me (Unit {0}) View). m.1) e.4;
   own_words = λ ws q. absurd (none_some ws None refl q);
 }
+
+pub returns-clause-free : goal.returns-clause-free
+returns-clause-free c = let e = c.in_ok-table.ensures in
+    let me = ap (λ (m : Me (Unit {0}) View). m.0) e.4 in
+    first_free _ _ _ _ (omega arith) refl c.in_ok-table.seat.me.0 (ap (λ (v : View). v.chain) me)
+    (ap (λ (v : View). v.build) me)
