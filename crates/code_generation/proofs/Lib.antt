@@ -1,0 +1,6 @@
+pub mod Lengths
+pub mod Standing
+pub mod Jumps
+pub mod Inside
+pub mod Naming
+pub mod BlockRules

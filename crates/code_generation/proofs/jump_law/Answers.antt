@@ -1,0 +1,5 @@
+use Rattle.code_generation.proofs.Inside.{jumps_stay}
+use Rattle.code_generation.proofs.jump_law.Goals as goal
+
+pub returns : goal.returns
+returns c = jumps_stay

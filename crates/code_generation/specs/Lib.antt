@@ -1,0 +1,11 @@
+pub mod Numbers
+pub mod Expressions
+pub mod Sizes
+pub mod Statements
+pub mod Prints
+pub mod Generated
+pub mod Stands
+pub mod Laws
+pub mod Named
+pub mod Blocks
+pub mod Rows

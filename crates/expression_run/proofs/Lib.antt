@@ -1,0 +1,6 @@
+pub mod Typed
+pub mod Typing
+pub mod Words
+pub mod Runs
+pub mod Params
+pub mod Blocks

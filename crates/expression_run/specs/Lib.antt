@@ -1,0 +1,3 @@
+pub mod Applying
+pub mod Agrees
+pub mod Blocks

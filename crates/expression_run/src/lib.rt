@@ -1,0 +1,20 @@
+//! The code of an expression gives its value, and the block of a fun or merge that of its body.
+//!
+//! Each law is an empty function.
+#![tactic(auto)]
+
+ghost use Rattle.expression_run.specs.Agrees.{ExpressionsRun};
+ghost use Rattle.expression_run.specs.Blocks.{FunBlocksGive, MergeBlocksGive};
+
+/// From a state that reads as the expression does, the code of an expression leads to its value on
+/// the stack, with all else as before, or to a trap with its cause.
+pub fn expression_law()
+    ensures { ExpressionsRun }
+{}
+
+/// The block of a fun or merge has, for arguments of its parameters' kinds, the value of the body,
+/// or its cause, where the funs that the body applies have theirs.
+pub fn block_laws()
+    ensures funs { FunBlocksGive }
+    ensures merges { MergeBlocksGive }
+{}
