@@ -6,7 +6,7 @@ use Rattle.revision_machine.specs.PathMap.{PathMap}
 use Rattle.revision_machine.specs.Machine.{Forks, Machine}
 use Rattle.revision_machine.specs.Conditions.{Counts, Spends}
 use Rattle.revision_machine.specs.Laws.{IsIn}
-use Rattle.revision_machine.proofs.PostOrder.{before_trans, before_irrefl}
+use Rattle.rev_num.proofs.PostOrder.{before_trans, before_irrefl}
 use Rattle.audit_rules.specs.Audited.{Telling, Computed, absent, made, joined_twice, missing, Alone, Passes, at_first, Computes, ends, at_twice, at_missing, goes, Begins, of_main, of_fork, IsComputed, of_none, of_run, IsSame, Justified, IsYes, IsNo, Tells}
 use Rattle.audit_rules.proofs.Own.{none_some, in_front, step_goes, step_takes, Headed, stands, steps, headed, either_way, passes_forks, begins_one}
 use Rattle.audit_rules.proofs.Total.{Ends, own_run_ends, passes_from, Begun, begun, computed}

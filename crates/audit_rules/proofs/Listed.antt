@@ -7,8 +7,9 @@ use Rattle.revision_machine.specs.PathMap.{PathMap}
 use Rattle.revision_machine.specs.Machine.{Entry, Global, Twice, Live}
 use Rattle.revision_machine.specs.Laws.{local_of, Census, HasAtMost, IsIn, IsDistinct}
 use Rattle.revision_machine.proofs.Census.{count_law}
-use Rattle.revision_machine.proofs.Paths.{same_refl, apart-same, decide_same}
-use Rattle.revision_machine.proofs.PostOrder.{before_trans}
+use Rattle.revision_machine.proofs.Paths.{apart-same, decide_same}
+use Rattle.rev_num.proofs.PostOrder.{same_refl}
+use Rattle.rev_num.proofs.PostOrder.{before_trans}
 use Rattle.rev_num.proofs.PostOrder.{before_total}
 use Rattle.revision_calculus.specs.Program.{Setting}
 use Rattle.revision_calculus.specs.State.{Local}

@@ -7,7 +7,7 @@ use Rattle.revision_machine.specs.Machine.{Joins, Ended, Machine, Entry, Plain, 
 use Rattle.revision_machine.specs.Conditions.{Counts, Spends, IsKept}
 use Rattle.revision_machine.specs.Laws.{local_of, IsIn, AllEnded, NoBlockedEnd}
 use Rattle.revision_machine.proofs.Paths.{some_inj, decide_same}
-use Rattle.revision_machine.proofs.PostOrder.{before_irrefl}
+use Rattle.rev_num.proofs.PostOrder.{before_irrefl}
 use Rattle.revision_machine.proofs.Way.{put_two, Way, writes, twice, way, Place, own, new, marks, place, ended_apart}
 use Rattle.revision_machine.proofs.Diamond.{two_here, two_there}
 use Rattle.revision_machine.proofs.Totals.{amount_two}

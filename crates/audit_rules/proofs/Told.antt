@@ -14,7 +14,7 @@ use Rattle.rev_syntax.specs.Trees.{ProgramTree}
 use Rattle.merge_decl.specs.Names.{Name, same}
 use Rattle.merge_decl.specs.Least.{Among}
 use Rattle.rev_kinds.specs.Kinds.{same_kind}
-use Rattle.revision_machine.proofs.Paths.{same_refl, same-eq}
+use Rattle.rev_num.proofs.PostOrder.{same_refl, same-eq}
 use Rattle.rev_types.specs.Layout.{variables}
 use Rattle.revision_calculus.specs.Program.{zero_value, Setting}
 use Rattle.revision_calculus.specs.State.{Location, Phase, running, joining, done, trapped, Local}

@@ -6,8 +6,9 @@ use Rattle.merge_decl.specs.Least.{Among}
 use Rattle.revision_machine.specs.PathMap.{PathMap}
 use Rattle.revision_machine.specs.Machine.{Entry, Global, Twice, Live}
 use Rattle.revision_machine.specs.Laws.{local_of, IsIn}
-use Rattle.revision_machine.proofs.Paths.{same_refl, same-eq, apart-same, decide_same}
-use Rattle.revision_machine.proofs.PostOrder.{before_trans, before_irrefl}
+use Rattle.revision_machine.proofs.Paths.{apart-same, decide_same}
+use Rattle.rev_num.proofs.PostOrder.{same_refl, same-eq}
+use Rattle.rev_num.proofs.PostOrder.{before_trans, before_irrefl}
 use Rattle.revision_calculus.specs.Program.{Setting}
 use Rattle.revision_calculus.specs.State.{Local}
 use Rattle.revision_calculus.specs.Calculus.{main, calculus}

@@ -2,7 +2,7 @@
 use Rattle.std.proofs.Common.{◌≡◌, ◌⊎◌, inl, inr, true, List, [], ◌∷◌, refl, sym, ap, ◌∙◌, subst}
 use Rattle.rev_num.specs.Path.{Path, before}
 use Rattle.merge_decl.specs.Least.{Among}
-use Rattle.revision_machine.proofs.PostOrder.{before_trans}
+use Rattle.rev_num.proofs.PostOrder.{before_trans}
 use Rattle.trace_diagram.specs.Traces.{MainIsLast}
 use Rattle.trace_diagram.specs.declared.diagram.Part.{Part}
 use Rattle.trace_diagram.specs.declared.diagram.Trace.{Trace}

@@ -6,7 +6,8 @@ use Rattle.revision_machine.specs.Machine as revisions
 use Rattle.revision_machine.specs.Machine.{Event}
 use Rattle.revision_machine.specs.Laws.{IsIn}
 use Rattle.revision_machine.specs.Conditions.{Handles}
-use Rattle.revision_machine.proofs.Paths.{same_refl, apart-same, decide_same, child-apart}
+use Rattle.revision_machine.proofs.Paths.{apart-same, decide_same, child-apart}
+use Rattle.rev_num.proofs.PostOrder.{same_refl}
 use Rattle.code_machine.specs.Local.{CodeRun, Local, handles}
 use Rattle.code_machine.specs.Joining.{join}
 use Rattle.code_machine.specs.Machines.{Act, Goes, Bears, Wants, Stops, act, event_of, machine, Holds}
