@@ -44,7 +44,7 @@ impl Limit {
     }
 
     /// How a message names what there is too much of.
-    pub(crate) fn name(self) -> &'static str
+    pub fn name(self) -> &'static str
         ensures { result.now ≡ name_of_limit self }
     {
         match self {

@@ -19,7 +19,7 @@ use Rattle.static_rules.specs.Front.{Outcome, fault_in}
 use Rattle.static_rules.specs.Front as outcome
 use Rattle.static_rules.proofs.FunFaults.{funs_kept}
 use Rattle.static_rules.proofs.Fronts.{has_one}
-use Rattle.rev_report.specs.declared.refusal.Refusal.{Refusal}
+use Rattle.rev_messages.specs.declared.refusal.Refusal.{Refusal}
 use Rattle.rev_top.specs.Answer.{source_limit}
 use Rattle.rev_top.specs.Stages.{Onward}
 use Rattle.rev_top.specs.Texts.{Checks, ChecksTokens, ChecksTree, Cuts, KeepsFuns, KeepsTypes, reading}

@@ -6,7 +6,7 @@ use Rattle.rev_io.specs.Stream.{Stream, GaveAtMost, Rose, Took, TookSome}
 use Rattle.rev_words.specs.Reading.{reading}
 use Rattle.rev_words.specs.declared.Words.{Words}
 use Rattle.rev_report.specs.Report.{Output}
-use Rattle.rev_report.specs.Messages.{no_memory, shown}
+use Rattle.rev_messages.specs.Refusals.{no_memory, shown}
 use Rattle.rev_top.specs.Answer.{Answer, Answers, Says, Takes, reads}
 use Rattle.rev_top.specs.Delivery.{ErrFailed, Happened, NoReport, NoRoomAtErr, NoRoomAtOut, OutFailed, Wrote, all_written, answered, err_failed, no_report, no_room_at_err, no_room_at_out, out_failed}
 use Rattle.rev_top.specs.Promises.{Calm, Cut, Feeds, IsPartOf, IsRefused, IsWritten, Keeps}

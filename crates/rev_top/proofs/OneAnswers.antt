@@ -15,9 +15,9 @@ use Rattle.rev_syntax.specs.declared.scan.LexFault.{LexFault}
 use Rattle.rev_parse.specs.Verdicts.{Verdict, tree, unexpected, too_deep}
 use Rattle.rev_report.specs.Report.{Output}
 use Rattle.rev_report.specs.Outcome.{report}
-use Rattle.rev_report.specs.Modes.{accepted, summary}
-use Rattle.rev_report.specs.declared.refusal.Refusal.{Refusal}
-use Rattle.rev_report.specs.declared.refusal.Refusal.TheVariants as refusals
+use Rattle.rev_messages.specs.Modes.{accepted, summary}
+use Rattle.rev_messages.specs.declared.refusal.Refusal.{Refusal}
+use Rattle.rev_messages.specs.declared.refusal.Refusal.TheVariants as refusals
 use Rattle.revision_calculus.proofs.Outcomes.{one_outcome}
 use Rattle.rev_top.specs.Stages.{Onward, Then}
 use Rattle.rev_top.specs.Texts.{Checks, ChecksTree, reading as read_of}

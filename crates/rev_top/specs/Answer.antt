@@ -12,10 +12,10 @@ use Rattle.rev_words.specs.declared.Mode.TheVariants as modes
 use Rattle.rev_words.specs.declared.Words.{Words}
 use Rattle.rev_report.specs.Report.{Output}
 use Rattle.rev_report.specs.Outcome.{report}
-use Rattle.rev_report.specs.Modes.{accepted, summary}
-use Rattle.rev_report.specs.Messages.{shown}
-use Rattle.rev_report.specs.declared.refusal.Refusal.{Refusal}
-use Rattle.rev_report.specs.declared.refusal.Refusal.TheVariants as refusals
+use Rattle.rev_messages.specs.Modes.{accepted, summary}
+use Rattle.rev_messages.specs.Refusals.{shown}
+use Rattle.rev_messages.specs.declared.refusal.Refusal.{Refusal}
+use Rattle.rev_messages.specs.declared.refusal.Refusal.TheVariants as refusals
 use Rattle.rev_syntax.specs.Trees.{ProgramTree}
 use Rattle.rev_parse.specs.SmallTree.{most_bytes}
 use Rattle.revision_calculus.specs.Program.{Setting}

@@ -3,7 +3,7 @@ use Rattle.std.specs.Prelude.{ℕ, ◌≡◌, Option}
 use Rattle.rev_io.specs.Stream.{Stream, Rose, Took, TookSome}
 use Rattle.rev_words.specs.declared.Words.{Words}
 use Rattle.rev_report.specs.Report.{Output}
-use Rattle.rev_report.specs.Messages.{no_memory, shown}
+use Rattle.rev_messages.specs.Refusals.{no_memory, shown}
 use Rattle.rev_report.specs.Status.{no_memory_status, write_fault_status}
 use Rattle.rev_top.specs.Answer.{Answer, Answers}
 

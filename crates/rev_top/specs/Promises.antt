@@ -3,7 +3,7 @@
 use Rattle.std.specs.Prelude.{ℕ, List, [], ◌≡◌, ◌<◌, ◌⊎◌, ◌+◌, Option, Some, None}
 use Rattle.rev_io.specs.Stream.{Stream, GaveAtMost, Rose, Took, TookSome}
 use Rattle.rev_words.specs.declared.Words.{Words}
-use Rattle.rev_report.specs.Messages.{no_memory, shown}
+use Rattle.rev_messages.specs.Refusals.{no_memory, shown}
 use Rattle.rev_report.specs.Status.{no_memory_status, read_fault_status, refused_status, usage_status, write_fault_status}
 use Rattle.rev_top.specs.Answer.{Answer, Says, reads}
 use Rattle.rev_top.specs.Delivery.{Happened, Wrote}

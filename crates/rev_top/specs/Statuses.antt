@@ -9,9 +9,9 @@ use Rattle.rev_words.specs.Reading.{reading}
 use Rattle.rev_words.specs.declared.Mode.{Mode}
 use Rattle.rev_words.specs.declared.Mode.TheVariants as modes
 use Rattle.rev_words.specs.declared.Words.{Words}
-use Rattle.rev_report.specs.Messages.{shown}
+use Rattle.rev_messages.specs.Refusals.{shown}
 use Rattle.rev_report.specs.Status.{refused_status, trapped_status, twice_status}
-use Rattle.rev_report.specs.declared.refusal.Refusal.{Refusal}
+use Rattle.rev_messages.specs.declared.refusal.Refusal.{Refusal}
 use Rattle.rev_syntax.specs.Trees.{ProgramTree}
 use Rattle.revision_calculus.specs.Complete.{HasOutcome}
 use Rattle.rev_top.specs.Texts.{Checks}

@@ -17,11 +17,11 @@ use Rattle.rev_kinds.specs.declared.fault.TypeFault.TheVariants as type
 use Rattle.rev_types.specs.Accepted.{IsWellTyped}
 use Rattle.static_rules.specs.Funs.{IsFirstBrokenFun, KeepsFunRules}
 use Rattle.static_rules.specs.Breaks.{IsFirstBroken}
-use Rattle.rev_report.specs.declared.fault.Place.{Place}
-use Rattle.rev_report.specs.declared.fault.TextFault.{TextFault}
-use Rattle.rev_report.specs.declared.fault.TextFault.TheVariants as fault
-use Rattle.rev_report.specs.declared.refusal.Refusal.{Refusal}
-use Rattle.rev_report.specs.declared.refusal.Refusal.TheVariants as refusals
+use Rattle.rev_messages.specs.declared.fault.Place.{Place}
+use Rattle.rev_messages.specs.declared.fault.TextFault.{TextFault}
+use Rattle.rev_messages.specs.declared.fault.TextFault.TheVariants as fault
+use Rattle.rev_messages.specs.declared.refusal.Refusal.{Refusal}
+use Rattle.rev_messages.specs.declared.refusal.Refusal.TheVariants as refusals
 use Rattle.rev_top.specs.Stages.{Then}
 
 -- ---- how faults are reported; want of memory is no fault of a text

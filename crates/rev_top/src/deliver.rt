@@ -4,14 +4,15 @@ ghost use Rattle.std.specs.String.{string_bytes};
 ghost use Rattle.rev_io.specs.Stream.{TookSome};
 ghost use Rattle.rev_words.specs.Reading.{reading};
 ghost use Rattle.rev_report.specs.Report.{output};
-ghost use Rattle.rev_report.specs.Messages.{no_memory};
+ghost use Rattle.rev_messages.specs.Refusals.{no_memory};
 ghost use Rattle.rev_report.specs.Status.{no_memory_status};
 ghost use Rattle.rev_top.specs.Answer.{Takes, reads};
 ghost use Rattle.rev_top.specs.Delivery.{Delivered, Happened};
 
 use crate::answer::make_report;
 use rev_io::{Sink, SinkFault, Source, write_all};
-use rev_report::{Report, no_memory_message, status};
+use rev_messages::no_memory_message;
+use rev_report::{Report, status};
 use std::alloc::Global;
 
 /// Writes the message for want of memory, as far as `err` takes it, and answers its status. For a

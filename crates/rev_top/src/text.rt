@@ -14,7 +14,7 @@ use crate::stop::Stop;
 use merge_decl::{Expanded, MergeFault, expand_funs};
 use rev_kinds::TypeFault;
 use rev_parse::{SyntaxFault, parse};
-use rev_report::{Place, Refusal, TextFault};
+use rev_messages::{Place, Refusal, TextFault};
 use rev_syntax::{LexFault, Program, Token, line_column, tokens};
 use rev_types::{Typed, check};
 use std::alloc::Global;

@@ -1,7 +1,7 @@
 use Rattle.rev_syntax.specs.View.{program as whole}
 use Rattle.rev_types.specs.declared.typed.Typed.{Typed}
 use Rattle.rev_words.specs.Load.{load_text}
-use Rattle.rev_report.specs.Modes.{summary}
+use Rattle.rev_messages.specs.Modes.{summary}
 use Rattle.rev_report.specs.Report.{output}
 use Rattle.rev_top.specs.Answer.{RunsTo, SaysAs}
 use Rattle.rev_top.specs.Texts.{Checks}

@@ -2,12 +2,10 @@
 ghost use Rattle.std.specs.Prelude.{◌≡◌, IfOk};
 ghost use Rattle.std.specs.String.{string_bytes};
 ghost use Rattle.rev_report.specs.Report.{output};
-ghost use Rattle.rev_report.specs.Modes as spec;
+ghost use Rattle.rev_messages.specs.Modes as spec;
 
-use crate::outcome::outcome_bytes;
-use crate::report::Report;
-use crate::status;
 use rev_num::Outcome;
+use rev_report::{Report, outcome_bytes, status};
 use std::alloc::{AllocError, Global};
 
 /// The report of a text that keeps all rules.

@@ -1,6 +1,6 @@
 //! What can be wrong with a text, and where.
 ghost use Rattle.std.specs.Prelude.{◌≡◌};
-ghost use Rattle.rev_report.specs.Faults.{name_of_fault};
+ghost use Rattle.rev_messages.specs.Faults.{name_of_fault};
 
 /// A place of a text: a line and a column, both counted from 1.
 #[derive(Clone, Copy, PartialEq, Eq, Debug, Drop)]

@@ -2,13 +2,11 @@
 ghost use Rattle.std.specs.Prelude.{◌≡◌, IfOk};
 ghost use Rattle.std.specs.String.{string_bytes};
 ghost use Rattle.rev_report.specs.Report.{output};
-ghost use Rattle.rev_report.specs.Messages.{at_place, message, more_than, no_memory, refused};
-ghost use Rattle.rev_report.specs.Messages.{status_of};
+ghost use Rattle.rev_messages.specs.Refusals.{at_place, message, more_than, no_memory, refused};
+ghost use Rattle.rev_messages.specs.Refusals.{status_of};
 
 use crate::fault::{Place, TextFault};
-use crate::limit::Limit;
-use crate::report::Report;
-use crate::status;
+use rev_report::{Limit, Report, status};
 use std::alloc::{AllocError, Global};
 
 /// Why a call is refused.

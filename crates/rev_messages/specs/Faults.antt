@@ -1,7 +1,7 @@
 -- How messages name what is wrong with a text.
 use Rattle.std.specs.Prelude.{ℕ, List, codes}
-use Rattle.rev_report.specs.declared.fault.TextFault.{TextFault}
-use Rattle.rev_report.specs.declared.fault.TextFault.TheVariants as f
+use Rattle.rev_messages.specs.declared.fault.TextFault.{TextFault}
+use Rattle.rev_messages.specs.declared.fault.TextFault.TheVariants as f
 
 abbrev pub name_of_fault : TextFault → List ℕ
 name_of_fault f.BadByte = codes "bad byte"

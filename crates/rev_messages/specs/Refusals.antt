@@ -4,12 +4,12 @@ use Rattle.std.specs.Fmt.{decimal}
 use Rattle.rev_report.specs.Status.{read_fault_status, refused_status, usage_status}
 use Rattle.rev_report.specs.Lines.{with_line_feed}
 use Rattle.rev_report.specs.Report.{Output}
-use Rattle.rev_report.specs.Faults.{name_of_fault}
+use Rattle.rev_messages.specs.Faults.{name_of_fault}
 use Rattle.rev_report.specs.Limits.{name_of_limit}
-use Rattle.rev_report.specs.declared.fault.Place.{Place}
+use Rattle.rev_messages.specs.declared.fault.Place.{Place}
 use Rattle.rev_report.specs.declared.limit.Limit.{Limit}
-use Rattle.rev_report.specs.declared.refusal.Refusal.{Refusal}
-use Rattle.rev_report.specs.declared.refusal.Refusal.TheVariants as refusals
+use Rattle.rev_messages.specs.declared.refusal.Refusal.{Refusal}
+use Rattle.rev_messages.specs.declared.refusal.Refusal.TheVariants as refusals
 
 -- what is said of a place of the text
 abbrev pub at_place : Place → List ℕ → List ℕ
