@@ -11,9 +11,13 @@ use Rattle.code_rules.specs.Pass.{Note, paid_after, target, falls, is_charge, is
 use Rattle.code_certificate.specs.Certificate.{IsNoted}
 use Rattle.code_prices.specs.Prices.{AllCertified, Prices, Bears, block_length, instr_in, place_price, place}
 
-or_true : (v : Bool) → (false || (true && (v || true))) ≡ true
-or_true true = refl
-or_true false = refl
+-- by the rule on jumps one that does not lead on leads to a Charge
+pub back_at_charge : (within less value charge : Bool) → (not within || (not less && (value || not charge))) ≡ false → less ≡ false → charge ≡ true
+back_at_charge within true value charge h e = absurd (true≢false e)
+back_at_charge false false value charge h e = absurd (true≢false h)
+back_at_charge true false true charge h e = absurd (true≢false h)
+back_at_charge true false false false h e = absurd (true≢false h)
+back_at_charge true false false true h e = refl
 
 module _ (code : Code) (notes : ℕ → ℕ → Note) (certified : AllCertified code notes) (p : Prices) (most : ℕ) (bears : Bears p most) (short : (n : ℕ) (b : CodeBlock) → slice_get code.blocks n ≡ Some b → length b.instrs ≤ most) where
   -- a note that is paid only where another is
@@ -97,19 +101,13 @@ module _ (code : Code) (notes : ℕ → ℕ → Note) (certified : AllCertified 
             let e2 = at_place to in
             omega (arith, a, e0, l, e1, e2)
         by false z =
-            let ch : is_charge (slice_get b.instrs to) ≡ true = go (is_charge (slice_get b.instrs to)) refl in
+            let ch = back_at_charge (nat_lt to (length b.instrs)) (nat_lt at to) (is_value_class b.class) (is_charge (slice_get b.instrs to)) bad z in
             let c0 = charge_price (slice_get b.instrs to) (notes n to).paid ch in
             let l = bears.back (length b.instrs) at to (inside at x here) (short n b is) in
             let e0 = e in
             let e1 = at_place at in
             let e2 = at_place to in
             omega (arith, c0, e0, l, e1, e2)
-          where
-            go : (d : Bool) → is_charge (slice_get b.instrs to) ≡ d → is_charge (slice_get b.instrs to) ≡ true
-            go true y = y
-            go false y =
-                let w : nat_lt to (length b.instrs) ≡ true = (let h = within in grind (arith, nat_tests, h)) in
-                absurd (true≢false (sym (or_true (is_value_class b.class)) ∙ (λ j. not (sym w j) || (not (sym z j) && (is_value_class b.class || not (sym y j)))) ∙ bad))
 
     -- a Charge
     pub charged : (at line : ℕ) → slice_get b.instrs at ≡ Some (i.Charge line) → place code notes p n (suc at) + p.each ≤ place code notes p n at + p.fuel

@@ -1,4 +1,5 @@
 use Rattle.code_prices.proofs.Priced.{numbered_pays, legs_bounded, leg_bears, entry_bears}
+use Rattle.code_prices.proofs.Once.{once}
 use Rattle.code_prices.proofs.price_laws.Goals as goal
 
 pub returns-clause-steps : goal.returns-clause-steps
@@ -12,3 +13,6 @@ returns-clause-leg_prices c = leg_bears
 
 pub returns-clause-entry_prices : goal.returns-clause-entry_prices
 returns-clause-entry_prices c = entry_bears
+
+pub returns-clause-once : goal.returns-clause-once
+returns-clause-once c = once
