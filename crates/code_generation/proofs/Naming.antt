@@ -23,7 +23,7 @@ get_left [] ys n x h = absurd (let z : None ≡ Some x = h in cc)
 get_left (y ∷ xs) ys zero x h = h
 get_left (y ∷ xs) ys (suc n) x h = get_left xs ys n x h
 
-get_right : {A : Type 0} (xs ys : List A) (m n : ℕ) → length xs ≡ m → slice_get (xs ++ ys) (m + n) ≡ slice_get ys n
+pub get_right : {A : Type 0} (xs ys : List A) (m n : ℕ) → length xs ≡ m → slice_get (xs ++ ys) (m + n) ≡ slice_get ys n
 get_right [] ys m n h = ap (slice_get ys) (omega (arith, h))
 get_right (x ∷ xs) ys m n h = ap (slice_get (x ∷ xs ++ ys)) (let z : m + n ≡ suc (length xs + n) = omega (arith, h) in z) ∙ get_right xs ys (length xs) n refl
 
@@ -80,7 +80,7 @@ merge_stands p k d h =
 
 -- ---- procedures
 
-values_count : (n : Numbers) (es : List Declaration) → length (value_blocks n es) ≡ funs es
+pub values_count : (n : Numbers) (es : List Declaration) → length (value_blocks n es) ≡ funs es
 values_count n [] = refl
 values_count n (fun w ps r body ∷ es) = let z = values_count n es in omega (arith, z)
 values_count n (merge w m j r body ∷ es) = let z = values_count n es in omega (arith, z)

@@ -101,7 +101,7 @@ module _ (code : Code) (before : List (Fun Path)) (at : ℕ) (n : Numbers) (c : 
     reads = record {
       is = here;
       locals = λ name t h. (let d = known.known name t h in (d.0, d.1, (d.2.0, d.2.1, d.2.2, get_left (map word xs) _ d.0 (word d.2.0) d.2.3)));
-      outside = λ name h. known.free name h;
+      outside = λ name h no is_shared. known.free name no;
       scalars = λ name h no is_shared. absurd (let z : None ≡ Some h = sym (is.closed name) ∙ is_shared in cc);
       arrays = λ name h no is_shared. absurd (let z : None ≡ Some h = sym (is.closed name) ∙ is_shared in cc);
       inputs = λ h. absurd (true≢false (sym is.inside ∙ h));

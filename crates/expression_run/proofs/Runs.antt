@@ -36,9 +36,9 @@ use Rattle.code_generation.specs.Stands.{HasAt}
 use Rattle.code_generation.proofs.Standing.{parts_stand, around_stands}
 use Rattle.code_generation.proofs.Lengths.{around, expression_length, expressions_length, link_length}
 use Rattle.expression_run.proofs.Typed.{Typed, FormTyped, ArgsTyped, LinksTyped}
-use Rattle.expression_run.specs.Agrees.{word, IsOfKind, coded, ArgsAre, kinds_of, FunReads, Reads, at_with, Gives, Onward}
+use Rattle.expression_run.specs.Agrees.{word, IsOfKind, coded, FunReads, Reads, at_with, Gives, Onward, pushed, GiveAll}
 use Rattle.expression_run.specs.Agrees as g
-use Rattle.expression_run.proofs.Words.{as_int, as_bool, came, sign, TakesBoth, operate, turn, pushed, found, left_below}
+use Rattle.expression_run.proofs.Words.{as_int, as_bool, came, sign, TakesBoth, operate, turn, found, left_below}
 
 module _ (s : Setting Path) (n : Numbers) (bl : CodeBlock) (scope : Scope) (c : Names) (l : Locals) (fs : Funs) (e : Env) (a : State Path) (ag : Reads s n bl scope c l e a) where
   abbrev Can : Name → Callee → Type 0
@@ -89,7 +89,7 @@ module _ (s : Setting Path) (n : Numbers) (bl : CodeBlock) (scope : Scope) (c : 
       subst (λ o. Gives s a at stack (at + 1) stack t o) (sym rd)
       (gave at (at + 1) stack stack t (i.LoadLocal d.0) (Ok x) (here ∙ ap (λ o. Some (load n w o)) d.1) (ap (r.pushes (at_with a at stack) stack) d.2.3) (omega arith) d.2.2)
   loads w t at stack None (Some h) p q has here =
-      let none = ag.outside w.text p in
+      let none = ag.outside w.text h p q in
       let d = ag.scalars w.text h p q has.0 in
       let x : Value = d.1 in
       let rd : read (e.local w.text) (e.shared w.text) ≡ Ok x = ap (λ o. read o (e.shared w.text)) none.1 ∙ ap value.read_scalar d.3 in
@@ -228,13 +228,8 @@ module _ (s : Setting Path) (n : Numbers) (bl : CodeBlock) (scope : Scope) (c : 
 
   -- ---- arguments and funs
 
-  -- what the code of arguments gives: their values on the stack, the last on top; or a trap
-  abbrev GiveAll : (at : ℕ) → Stack → (to : ℕ) → Stack → List Parameter → Result (List Value) Cause → Type 0
-  GiveAll at ws to stack ps (Ok xs) = ArgsAre ps xs × Onward s (at_with a at ws) (at_with a to (pushed xs stack))
-  GiveAll at ws to stack ps (Err x) = (p : ℕ) × (rest : Stack) × Onward s (at_with a at ws) (at_with a p rest) × (step s (at_with a p rest) ≡ traps (at_with a p rest) x)
-
-  one_arg : (p : Parameter) (ps : List Parameter) (at m to : ℕ) (stack : Stack) (o : Answer) (os : Result (List Value) Cause) → Gives s a at stack m stack p.kind o → ((y : Value) → GiveAll m (word y ∷ stack) to (word y ∷ stack) ps os)
-      → GiveAll at stack to stack (p ∷ ps) (and_then o (λ y. and_then os (λ ys. Ok (y ∷ ys))))
+  one_arg : (p : Parameter) (ps : List Parameter) (at m to : ℕ) (stack : Stack) (o : Answer) (os : Result (List Value) Cause) → Gives s a at stack m stack p.kind o → ((y : Value) → GiveAll s a m (word y ∷ stack) to (word y ∷ stack) ps os)
+      → GiveAll s a at stack to stack (p ∷ ps) (and_then o (λ y. and_then os (λ ys. Ok (y ∷ ys))))
   one_arg p ps at m to stack (Ok y) (Ok ys) h q = let z = q y in ((h.0, z.0), goes_on _ _ _ h.1 z.1)
   one_arg p ps at m to stack (Ok y) (Err x) h q = let z = q y in (z.0, z.1, goes_on _ _ _ h.1 z.2, z.3)
   one_arg p ps at m to stack (Err x) os h q = h
@@ -243,7 +238,7 @@ module _ (s : Setting Path) (n : Numbers) (bl : CodeBlock) (scope : Scope) (c : 
   fun_came at ws stack (Ok x) = refl
   fun_came at ws stack (Err x) = refl
 
-  applies : (w : PlacedName) (f : Callee) (t : ValueKind) (at m : ℕ) (stack : Stack) (o : Result (List Value) Cause) → f.result ≡ Some t → Can w.text f → slice_get bl.instrs m ≡ Some (i.Apply (n.fun w.text)) → GiveAll at stack m stack f.params o → Gives s a at stack (m + 1) stack t (and_then o (called (fs w.text)))
+  applies : (w : PlacedName) (f : Callee) (t : ValueKind) (at m : ℕ) (stack : Stack) (o : Result (List Value) Cause) → f.result ≡ Some t → Can w.text f → slice_get bl.instrs m ≡ Some (i.Apply (n.fun w.text)) → GiveAll s a at stack m stack f.params o → Gives s a at stack (m + 1) stack t (and_then o (called (fs w.text)))
   applies w f t at m stack (Err x) has can here h = h
   applies w f t at m stack (Ok xs) has can here h =
       let g = can.gives xs t h.0 has in
@@ -319,14 +314,14 @@ module _ (s : Setting Path) (n : Numbers) (bl : CodeBlock) (scope : Scope) (c : 
         (bind at m (m + links_size rest) stack stack stack ty.0 t (value_by fs e first) (λ z. chained fs e z rest) (expression_runs first ty.0 at stack ty.1 parts.0)
         (λ y ky. links_run rest ty.0 t y m stack ty.2 ky parts.1))
 
-    args_run : (ps : List Parameter) (xs : Expressions) (at : ℕ) (stack : Stack) → ArgsTyped c l Can ps xs → HasAt bl.instrs at (expressions_code n scope xs at) → GiveAll at stack (at + expressions_size xs) stack ps (values_by fs e xs)
+    pub args_run : (ps : List Parameter) (xs : Expressions) (at : ℕ) (stack : Stack) → ArgsTyped c l Can ps xs → HasAt bl.instrs at (expressions_code n scope xs at) → GiveAll s a at stack (at + expressions_size xs) stack ps (values_by fs e xs)
     args_run [] no_expressions at stack ty here = (tt, subst (λ p. Onward s (at_with a at stack) (at_with a p stack)) (let z : at ≡ at + 0 = omega arith in z) g.stay)
     args_run [] (expression x rest) at stack ty here = absurd ty
     args_run (p ∷ ps) no_expressions at stack ty here = absurd ty
     args_run (p ∷ ps) (expression x rest) at stack ty here =
         let m : ℕ = at + expression_size x in
         let parts = parts_stand bl.instrs (expression_code n scope x at) (expressions_code n scope rest m) at (expression_size x) (expression_length n scope x at) here in
-        subst (λ q. GiveAll at stack q stack (p ∷ ps) (values_by fs e (expression x rest))) (let z : m + expressions_size rest ≡ at + (expression_size x + expressions_size rest) = omega arith in z)
+        subst (λ q. GiveAll s a at stack q stack (p ∷ ps) (values_by fs e (expression x rest))) (let z : m + expressions_size rest ≡ at + (expression_size x + expressions_size rest) = omega arith in z)
         (one_arg p ps at m (m + expressions_size rest) stack (value_by fs e x) (values_by fs e rest) (expression_runs x p.kind at stack ty.0 parts.0)
         (λ y. args_run ps rest m (word y ∷ stack) ty.1 parts.1))
 

@@ -111,7 +111,7 @@ module _ (c : Names) (l : Locals) (Can : Name → Callee → Type 0) where
         (h.0, typed first h.0 h.1 q.1 a.0, first_typed rest h.0 t q.0 h.2 h.3 h.4 g.1 a.1)
 
     -- the arguments for the parameters from number m on
-    args_typed : (all ps : List Parameter) (m : ℕ) (xs : Expressions) → ((i : ℕ) → slice_get all (m + i) ≡ slice_get ps i) → count xs ≡ length ps → ArgsHave c l all m xs → expressions_formed xs ≡ true → ArgsApply c Can xs → ArgsTyped c l Can ps xs
+    pub args_typed : (all ps : List Parameter) (m : ℕ) (xs : Expressions) → ((i : ℕ) → slice_get all (m + i) ≡ slice_get ps i) → count xs ≡ length ps → ArgsHave c l all m xs → expressions_formed xs ≡ true → ArgsApply c Can xs → ArgsTyped c l Can ps xs
     args_typed all [] m no_expressions same n h f a = tt
     args_typed all [] m (expression x rest) same n h f a = absurd (omega (arith, n))
     args_typed all (p ∷ ps) m no_expressions same n h f a = absurd (omega (arith, n))

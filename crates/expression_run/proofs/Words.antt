@@ -28,7 +28,7 @@ use Rattle.rev_code.specs.State.{State, Setting}
 use Rattle.rev_code.specs.Step as r
 use Rattle.rev_code.specs.Step.{Comes, on, traps, act, arguments}
 use Rattle.code_generation.specs.Expressions.{unary_code}
-use Rattle.expression_run.specs.Agrees.{word, IsOfKind, ArgsAre, kinds_of}
+use Rattle.expression_run.specs.Agrees.{word, IsOfKind, ArgsAre, kinds_of, pushed}
 
 pub as_int : (x : Value) → kind_of x ≡ k.Int → (z : ℤ) × (x ≡ v.Int z)
 as_int (v.Int z) h = (z, refl)
@@ -149,11 +149,6 @@ module _ (s : Setting Path) (bl : CodeBlock) (c : State Path) (rest : List (Word
   turn u.Not (v.Rev z) p = absurd (let q : k.Rev ≡ k.Bool = p in cc)
 
 -- ---- arguments
-
--- the stack behind arguments, the last on top
-abbrev pub pushed : List Value → List (Word Path) → List (Word Path)
-pushed [] stack = stack
-pushed (x ∷ xs) stack = pushed xs (word x ∷ stack)
 
 words : List Value → List (Word Path)
 words xs = map word xs

@@ -4,23 +4,24 @@
 --   word      the word of a value
 --   Reads     locals, variables, input and funs, as names mean them
 --   Gives     what the code leads to: the value on the stack and all else as before; or a trap with the cause; each step leads
---             to a later place
-use Rattle.std.specs.Prelude.{◌≡◌, ℕ, ◌+◌, ◌<◌, true, false, Option, Some, None, List, [], ◌∷◌, map, slice_get, Result, Ok, Err}
+--             to a later place; `GiveAll` so for arguments
+use Rattle.std.specs.Prelude.{◌≡◌, ℕ, ◌+◌, ◌<◌, true, false, Option, Some, None, List, [], ◌∷◌, length, map, slice_get, Result, Ok, Err}
 use Rattle.rev_num.specs.Path.{Path}
 use Rattle.rev_num.specs.declared.value.Value.{Value}
 use Rattle.rev_num.specs.declared.value.Value.TheVariants as v
 use Rattle.rev_num.specs.declared.value.ValueKind.{ValueKind}
 use Rattle.rev_num.specs.declared.outcome.Cause.{Cause}
 use Rattle.rev_num.specs.Value.{kind_of}
-use Rattle.rev_syntax.specs.Trees.{Parameter, Expression}
+use Rattle.rev_syntax.specs.Trees.{Parameter, Expression, Expressions}
+use Rattle.merge_decl.specs.FunRules.{count}
 use Rattle.merge_decl.specs.Names.{Name}
 use Rattle.merge_decl.specs.Table.{find}
 use Rattle.merge_decl.specs.Value as value
-use Rattle.merge_decl.specs.Value.{Answer, Env, Funs, called, value_by}
+use Rattle.merge_decl.specs.Value.{Answer, Env, Funs, called, value_by, values_by}
 use Rattle.rev_kinds.specs.declared.names.Holder.{Holder}
 use Rattle.rev_kinds.specs.Kinds.{Callee, Names, Locals}
-use Rattle.rev_kinds.specs.Typing.{HasKind}
-use Rattle.rev_syntax.specs.Small.{expression_formed}
+use Rattle.rev_kinds.specs.Typing.{HasKind, ArgsHave}
+use Rattle.rev_syntax.specs.Small.{expression_formed, expressions_formed}
 use Rattle.rev_code.specs.declared.code.BlockClass.TheVariants as class
 use Rattle.rev_code.specs.declared.code.CodeBlock.{CodeBlock}
 use Rattle.rev_code.specs.Words.{Word, int, bool, rev}
@@ -28,9 +29,9 @@ use Rattle.rev_code.specs.State.{State, Setting, seen_at}
 use Rattle.rev_code.specs.Variables.{Place, scalar, array}
 use Rattle.rev_code.specs.Step.{traps, params, value_at, step, goes}
 use Rattle.code_generation.specs.Numbers.{Numbers, Scope}
-use Rattle.code_generation.specs.Expressions.{expression_size, expression_code}
+use Rattle.code_generation.specs.Expressions.{expression_size, expression_code, expressions_size, expressions_code}
 use Rattle.code_generation.specs.Stands.{HasAt}
-use Rattle.expression_run.specs.Applying.{AllApply}
+use Rattle.expression_run.specs.Applying.{AllApply, ArgsApply}
 
 abbrev pub word : Value → Word Path
 word (v.Int z) = int z
@@ -82,7 +83,9 @@ pub record FunReads (s : Setting Path) (number : ℕ) (f : Callee) (g : Option v
 pub record Reads (s : Setting Path) (n : Numbers) (b : CodeBlock) (scope : Scope) (c : Names) (l : Locals) (e : Env) (a : State Path) : Type 0 where
   pub is : slice_get s.code.blocks a.block ≡ Some b
   pub locals : (name : Name) (t : ValueKind) → find name l ≡ Some (Some t) → (m : ℕ) × (find name scope ≡ Some m) × LocalReads e a name t m
-  pub outside : (name : Name) → find name l ≡ None → (find name scope ≡ None) × (e.local name ≡ None)
+  -- a local whose block has ended may still have a value, but none that hides a shared variable
+  pub outside : (name : Name) (h : Holder) → find name l ≡ None → c.shared name ≡ Some h
+      → (find name scope ≡ None) × (e.local name ≡ None)
   pub scalars : (name : Name) (h : Holder) → find name l ≡ None → c.shared name ≡ Some h → h.array ≡ false → ScalarReads s (n.var name) e a name h
   pub arrays : (name : Name) (h : Holder) → find name l ≡ None → c.shared name ≡ Some h → h.array ≡ true → ArrayReads s (n.var name) e a name h
   pub inputs : c.inside ≡ false → s.inputs ≡ e.inputs
@@ -103,6 +106,20 @@ Gives s a at words to stack t (Ok x) = (kind_of x ≡ t) × Onward s (at_with a 
 Gives s a at words to stack t (Err e) =
     (p : ℕ) × (found : List (Word Path)) × Onward s (at_with a at words) (at_with a p found) × (step s (at_with a p found) ≡ traps (at_with a p found) e)
 
+-- the stack behind arguments, the last on top
+abbrev pub pushed : List Value → List (Word Path) → List (Word Path)
+pushed [] stack = stack
+pushed (x ∷ xs) stack = pushed xs (word x ∷ stack)
+
+-- what the code of arguments gives: their values on the stack; or a trap
+abbrev pub GiveAll : Setting Path → State Path → (at : ℕ) → (words : List (Word Path))
+    → (to : ℕ) → (stack : List (Word Path)) → List Parameter → Result (List Value) Cause → Type 0
+GiveAll s a at words to stack ps (Ok xs) =
+    ArgsAre ps xs × Onward s (at_with a at words) (at_with a to (pushed xs stack))
+GiveAll s a at words to stack ps (Err e) =
+    (p : ℕ) × (found : List (Word Path)) × Onward s (at_with a at words) (at_with a p found)
+    × (step s (at_with a p found) ≡ traps (at_with a p found) e)
+
 -- The code of an expression that has a kind by the typing rules, and a form that the grammar has, gives its value, where
 -- it stands in the block of the state and the funs that are applied in it have their blocks and values.
 abbrev pub ExpressionsRun : Type 0
@@ -110,3 +127,14 @@ ExpressionsRun =
     (s : Setting Path) (n : Numbers) (b : CodeBlock) (scope : Scope) (c : Names) (l : Locals) (fs : Funs) (e : Env) (a : State Path) → Reads s n b scope c l e a
     → (x : Expression) (t : ValueKind) (at : ℕ) (stack : List (Word Path)) → HasKind c l x t → expression_formed x ≡ true → AllApply c (λ name f. FunReads s (n.fun name) f (fs name)) x
     → HasAt b.instrs at (expression_code n scope x at) → Gives s a at stack (at + expression_size x) stack t (value_by fs e x)
+
+-- The code of arguments, as many as there are parameters and of their kinds, gives all their values.
+abbrev pub ArgumentsRun : Type 0
+ArgumentsRun =
+    (s : Setting Path) (n : Numbers) (b : CodeBlock) (scope : Scope) (c : Names) (l : Locals)
+    (fs : Funs) (e : Env) (a : State Path) → Reads s n b scope c l e a
+    → (ps : List Parameter) (xs : Expressions) (at : ℕ) (stack : List (Word Path))
+    → count xs ≡ length ps → ArgsHave c l ps 0 xs → expressions_formed xs ≡ true
+    → ArgsApply c (λ name f. FunReads s (n.fun name) f (fs name)) xs
+    → HasAt b.instrs at (expressions_code n scope xs at)
+    → GiveAll s a at stack (at + expressions_size xs) stack ps (values_by fs e xs)

@@ -3,13 +3,19 @@
 //! Each law is an empty function.
 #![tactic(auto)]
 
-ghost use Rattle.expression_run.specs.Agrees.{ExpressionsRun};
+ghost use Rattle.expression_run.specs.Agrees.{ArgumentsRun, ExpressionsRun};
 ghost use Rattle.expression_run.specs.Blocks.{FunBlocksGive, MergeBlocksGive};
 
 /// From a state that reads as the expression does, the code of an expression leads to its value on
 /// the stack, with all else as before, or to a trap with its cause.
 pub fn expression_law()
     ensures { ExpressionsRun }
+{}
+
+/// So does the code of arguments: it leads to all their values on the stack, or to the trap of the
+/// first that has none.
+pub fn arguments_law()
+    ensures { ArgumentsRun }
 {}
 
 /// The block of a fun or merge has, for arguments of its parameters' kinds, the value of the body,

@@ -1,0 +1,191 @@
+-- Lists that stand in others are taken apart, and the names in scope go on behind a statement.
+use Rattle.std.proofs.Common.{◌≡◌, ◌∙◌, ◌<◌, ◌≤◌, ℕ, suc, ◌+◌, Bool, true, false, Option, Some, None, List, [], ◌∷◌, ◌++◌, length, length-append, refl, sym, ap, subst, arith}
+use Rattle.std.specs.Prelude.{slice_get, if◌then◌else◌}
+use Rattle.rev_num.specs.declared.value.ValueKind.{ValueKind}
+use Rattle.rev_syntax.specs.Trees.{RightSide, plain, called, forked, tried, Statement, statement, bind, assign, assign_cell, choose, choose_or, repeat, call, return, fork, join, print, assert, no_statements, statements, Arms}
+use Rattle.merge_decl.specs.Names.{Name, same}
+use Rattle.merge_decl.specs.Table.{find, added}
+use Rattle.merge_decl.proofs.Tables.{same_equal, or_else, or_else-none, find-added}
+use Rattle.rev_kinds.specs.Kinds.{Names, Locals, result_of, right_side_kind}
+use Rattle.rev_kinds.proofs.Typings.{complete}
+use Rattle.rev_types.specs.Judgement.{RightSideHas, StatementTyped}
+use Rattle.rev_types.specs.Limits.{statement_lets, arms_lets}
+use Rattle.rev_types.specs.Scopes.{locals_after}
+use Rattle.code_generation.specs.Numbers.{Scope, scope_after}
+use Rattle.code_generation.specs.Sizes.{statement_prints, arms_prints}
+use Rattle.code_generation.specs.Prints.{statement_kinds, statement_layouts, arms_kinds, arms_layouts}
+use Rattle.code_generation.proofs.Lengths.{statements_locals, statements_prints_length}
+use Rattle.statement_places.specs.Places.{Has, IsWithin, AreNames}
+
+nothing : Unit {0}
+nothing = tt
+
+-- ---- parts
+
+module _ {A : Type 0} (whole : List A) where
+  -- the first part, and the second, which begins as many further on
+  pub has_parts : (xs ys : List A) (at m : ℕ) → length xs ≡ m → Has whole at (xs ++ ys) → Has whole at xs × Has whole (at + m) ys
+  has_parts [] ys at m e h = (nothing, subst (λ p. Has whole p ys) (let z : at ≡ at + m = omega (arith, e) in z) h)
+  has_parts (x ∷ xs) ys at m e h =
+      let r = has_parts xs ys (suc at) (length xs) refl h.1 in
+      ((h.0, r.0), subst (λ p. Has whole p ys) (let z : suc at + length xs ≡ at + m = omega (arith, e) in z) r.1)
+
+-- ---- how much a statement fills
+
+longer_by_none : {A : Type 0} (xs : List A) (m : ℕ) → length (xs ++ []) ≡ m + 0 → length xs ≡ m
+longer_by_none xs m e = let z = length-append xs [] in omega (arith, e, z)
+
+pub kinds_length : (c : Names) (l : Locals) (x : Statement) → length (statement_kinds c l x) ≡ statement_lets x
+kinds_length c l x = longer_by_none (statement_kinds c l x) (statement_lets x) (statements_locals c l (statements x no_statements))
+
+pub layouts_length : (c : Names) (l : Locals) (text : ℕ) (x : Statement) → length (statement_layouts c l text x) ≡ statement_prints x
+layouts_length c l text x = longer_by_none (statement_layouts c l text x) (statement_prints x) (statements_prints_length c l text (statements x no_statements))
+
+pub arms_kinds_length : (c : Names) (l : Locals) (arms : Arms) → length (arms_kinds c l arms) ≡ arms_lets arms
+arms_kinds_length c l arms = kinds_length c l (statement 0 0 (choose arms))
+
+pub arms_layouts_length : (c : Names) (l : Locals) (text : ℕ) (arms : Arms) → length (arms_layouts c l text arms) ≡ arms_prints arms
+arms_layouts_length c l text arms = layouts_length c l text (statement 0 0 (choose arms))
+
+-- ---- kinds
+
+pub right_side_is : (c : Names) (l : Locals) (r : RightSide) (t : ValueKind) → RightSideHas c l r t → right_side_kind c l r ≡ Some t
+right_side_is c l (plain e) t h = (complete c l e t h).1
+right_side_is c l (called at w args) t h = ap result_of h.1.0 ∙ h.2
+right_side_is c l (forked at w args) t h = ap Some (sym h.0)
+right_side_is c l (tried at handle) t h = ap Some (sym h.0)
+
+-- what is in scope behind a statement by its type, and by its form
+pub after_is : (c : Names) (result : Option ValueKind) (l : Locals) (x : Statement) (after : Locals) → StatementTyped c result l x after → locals_after c l x ≡ after
+after_is c result l (statement at line (bind w r)) after h = ap (λ o. added l w.text o) (right_side_is c l r h.1.0 h.1.1) ∙ sym h.1.2
+after_is c result l (statement at line (assign w r)) after h = sym h.1
+after_is c result l (statement at line (assign_cell w i e)) after h = sym h.1
+after_is c result l (statement at line (choose arms)) after h = sym h.1
+after_is c result l (statement at line (choose_or arms last)) after h = sym h.1
+after_is c result l (statement at line (repeat test body)) after h = sym h.1
+after_is c result l (statement at line (call w args)) after h = sym h.1
+after_is c result l (statement at line (return e)) after h = sym h.1
+after_is c result l (statement at line (fork w args)) after h = sym h.1
+after_is c result l (statement at line (join e)) after h = sym h.1
+after_is c result l (statement at line (print items)) after h = sym h.1
+after_is c result l (statement at line (assert e)) after h = sym h.1
+
+-- ---- scopes
+
+pub within_self : (l : Scope) → IsWithin l l
+within_self l name m h = h
+
+pub within_trans : (l m n : Scope) → IsWithin l m → IsWithin m n → IsWithin l n
+within_trans l m n p q name t h = q name t (p name t h)
+
+within_added : (l : Scope) (w : Name) (t : ℕ) → IsWithin l (added l w t)
+within_added l w t name u h = find-added name w t l ∙ ap (λ o. or_else o (if same name w then Some t else None)) h
+
+-- a statement forgets no name
+pub statement_within : (scope : Scope) (next : ℕ) (x : Statement) → IsWithin scope (scope_after scope next x)
+statement_within scope next (statement at line (bind w r)) = within_added scope w.text next
+statement_within scope next (statement at line (assign w r)) = within_self scope
+statement_within scope next (statement at line (assign_cell w i e)) = within_self scope
+statement_within scope next (statement at line (choose arms)) = within_self scope
+statement_within scope next (statement at line (choose_or arms last)) = within_self scope
+statement_within scope next (statement at line (repeat test body)) = within_self scope
+statement_within scope next (statement at line (call w args)) = within_self scope
+statement_within scope next (statement at line (return e)) = within_self scope
+statement_within scope next (statement at line (fork w args)) = within_self scope
+statement_within scope next (statement at line (join e)) = within_self scope
+statement_within scope next (statement at line (print items)) = within_self scope
+statement_within scope next (statement at line (assert e)) = within_self scope
+
+module _ (kinds : List ValueKind) where
+  -- the next local has a greater number
+  pub names_later : (scope : Scope) (l : Locals) (m n : ℕ) → m ≤ n → AreNames kinds scope l m → AreNames kinds scope l n
+  names_later scope l m n le are = record {
+    local = are.local;
+    kind = are.kind;
+    below = λ name j h. (let z = are.below name j h in omega (arith, z, le));
+    apart = are.apart;
+  }
+
+  -- no name has no kind, and what has none has no number
+  pub names_none : (scope : Scope) (l : Locals) (next : ℕ) (name : Name) → AreNames kinds scope l next → find name l ≡ None → find name scope ≡ None
+  names_none scope l next name are h = by (find name scope) refl
+    where
+      by : (o : Option ℕ) → find name scope ≡ o → find name scope ≡ None
+      by None e = e
+      by (Some m) e = absurd (let d = are.kind name m e in let z : None ≡ Some (Some d.0) = sym h ∙ d.1 in cc)
+
+  -- a new name
+  pub names_added : (scope : Scope) (l : Locals) (next : ℕ) (w : Name) (t : ValueKind) → AreNames kinds scope l next → find w l ≡ None → slice_get kinds next ≡ Some t → AreNames kinds (added scope w next) (added l w (Some t)) (suc next)
+  names_added scope l next w t are new here = record { local = local; kind = kind; below = below; apart = apart }
+    where
+      gone : find w scope ≡ None
+      gone = names_none scope l next w are new
+
+      -- the number of a name: the new one, or as before
+      is_new : (name : Name) → same name w ≡ true → find name (added scope w next) ≡ Some next
+      is_new name e = find-added name w next scope ∙ ap (λ d. or_else (find name scope) (if d then Some next else None)) e ∙ ap (λ o. or_else o (Some next)) (ap (λ y. find y scope) (same_equal name w e) ∙ gone)
+
+      is_old : (name : Name) → same name w ≡ false → find name (added scope w next) ≡ find name scope
+      is_old name e = find-added name w next scope ∙ ap (λ d. or_else (find name scope) (if d then Some next else None)) e ∙ or_else-none (find name scope)
+
+      kind_new : (name : Name) → same name w ≡ true → find name (added l w (Some t)) ≡ Some (Some t)
+      kind_new name e = find-added name w (Some t) l ∙ ap (λ d. or_else (find name l) (if d then Some (Some t) else None)) e ∙ ap (λ o. or_else o (Some (Some t))) (ap (λ y. find y l) (same_equal name w e) ∙ new)
+
+      kind_old : (name : Name) → same name w ≡ false → find name (added l w (Some t)) ≡ find name l
+      kind_old name e = find-added name w (Some t) l ∙ ap (λ d. or_else (find name l) (if d then Some (Some t) else None)) e ∙ or_else-none (find name l)
+
+      local : (name : Name) (u : Option ValueKind) → find name (added l w (Some t)) ≡ Some u → (m : ℕ) × (find name (added scope w next) ≡ Some m)
+      local name u h = by (same name w) refl
+        where
+          by : (d : Bool) → same name w ≡ d → (m : ℕ) × (find name (added scope w next) ≡ Some m)
+          by true e = (next, is_new name e)
+          by false e = let q = are.local name u (sym (kind_old name e) ∙ h) in (q.0, is_old name e ∙ q.1)
+
+      kind : (name : Name) (m : ℕ) → find name (added scope w next) ≡ Some m → (u : ValueKind) × (find name (added l w (Some t)) ≡ Some (Some u)) × (slice_get kinds m ≡ Some u)
+      kind name m h = by (same name w) refl
+        where
+          by : (d : Bool) → same name w ≡ d → (u : ValueKind) × (find name (added l w (Some t)) ≡ Some (Some u)) × (slice_get kinds m ≡ Some u)
+          by true e = (t, kind_new name e, ap (slice_get kinds) (let z : Some m ≡ Some next = sym h ∙ is_new name e in let q : m ≡ next = cc in q) ∙ here)
+          by false e = let q = are.kind name m (sym (is_old name e) ∙ h) in (q.0, kind_old name e ∙ q.1, q.2)
+
+      below : (name : Name) (m : ℕ) → find name (added scope w next) ≡ Some m → m < suc next
+      below name m h = by (same name w) refl
+        where
+          by : (d : Bool) → same name w ≡ d → m < suc next
+          by true e = let z : Some m ≡ Some next = sym h ∙ is_new name e in let q : m ≡ next = cc in omega (arith, q)
+          by false e = let q = are.below name m (sym (is_old name e) ∙ h) in omega (arith, q)
+
+      apart : (name other : Name) (m : ℕ) → find name (added scope w next) ≡ Some m → find other (added scope w next) ≡ Some m → name ≡ other
+      apart name other m h j = by (same name w) (same other w) refl refl
+        where
+          less : (y : Name) → same y w ≡ false → find y (added scope w next) ≡ Some m → m < next
+          less y e q = are.below y m (sym (is_old y e) ∙ q)
+
+          by : (d f : Bool) → same name w ≡ d → same other w ≡ f → name ≡ other
+          by true true e q = same_equal name w e ∙ sym (same_equal other w q)
+          by true false e q = absurd (let z : Some m ≡ Some next = sym h ∙ is_new name e in let y : m ≡ next = cc in let x = less other q j in omega (arith, x, y))
+          by false true e q = absurd (let z : Some m ≡ Some next = sym j ∙ is_new other q in let y : m ≡ next = cc in let x = less name e h in omega (arith, x, y))
+          by false false e q = are.apart name other m (sym (is_old name e) ∙ h) (sym (is_old other q) ∙ j)
+
+  names_same : (scope : Scope) (l after : Locals) (next n : ℕ) → AreNames kinds scope l next → after ≡ l → AreNames kinds scope after (next + n)
+  names_same scope l after next n are e = subst (λ y. AreNames kinds scope y (next + n)) (sym e) (names_later scope l next (next + n) (omega arith) are)
+
+  -- behind a statement
+  pub names_after : (c : Names) (result : Option ValueKind) (scope : Scope) (l : Locals) (next : ℕ) (x : Statement) (after : Locals) → AreNames kinds scope l next → StatementTyped c result l x after → Has kinds next (statement_kinds c l x)
+      → AreNames kinds (scope_after scope next x) after (next + statement_lets x)
+  names_after c result scope l next (statement at line (bind w r)) after are h has =
+      let kind = right_side_is c l r h.1.0 h.1.1 in
+      let here : slice_get kinds next ≡ Some h.1.0 = has.0 ∙ ap (λ o. Some (Rattle.code_generation.specs.Prints.local_kind o)) kind in
+      subst (λ n. AreNames kinds (added scope w.text next) after n) (let z : suc next ≡ next + 1 = omega arith in z)
+      (subst (λ y. AreNames kinds (added scope w.text next) y (suc next)) (sym h.1.2) (names_added scope l next w.text h.1.0 are h.0.0 here))
+  names_after c result scope l next (statement at line (assign w r)) after are h has = names_same scope l after next _ are h.1
+  names_after c result scope l next (statement at line (assign_cell w i e)) after are h has = names_same scope l after next _ are h.1
+  names_after c result scope l next (statement at line (choose arms)) after are h has = names_same scope l after next _ are h.1
+  names_after c result scope l next (statement at line (choose_or arms last)) after are h has = names_same scope l after next _ are h.1
+  names_after c result scope l next (statement at line (repeat test body)) after are h has = names_same scope l after next _ are h.1
+  names_after c result scope l next (statement at line (call w args)) after are h has = names_same scope l after next _ are h.1
+  names_after c result scope l next (statement at line (return e)) after are h has = names_same scope l after next _ are h.1
+  names_after c result scope l next (statement at line (fork w args)) after are h has = names_same scope l after next _ are h.1
+  names_after c result scope l next (statement at line (join e)) after are h has = names_same scope l after next _ are h.1
+  names_after c result scope l next (statement at line (print items)) after are h has = names_same scope l after next _ are h.1
+  names_after c result scope l next (statement at line (assert e)) after are h has = names_same scope l after next _ are h.1

@@ -1,0 +1,8 @@
+use Rattle.statement_run.proofs.Joins.{goes_on_behind}
+use Rattle.statement_run.proofs.Starts.{linked}
+use Rattle.statement_run.specs.Laws.{tables}
+use Rattle.statement_run.proofs.join_law.Goals as goal
+
+pub returns : goal.returns
+returns c = λ s well l left q c at done joined past frames is shared.
+    (let d = goes_on_behind s (tables s) (linked s well) l left q c at done joined past frames is shared in record { c = d.c; on = d.on; few = d.few; stands = d.stand })
