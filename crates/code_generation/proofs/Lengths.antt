@@ -155,7 +155,7 @@ module _ (n : Numbers) where
 
 module _ (c : Names) where
   mutual
-    statement_locals : (l : Locals) (x : Statement) → length (statement_kinds c l x) ≡ statement_lets x
+    pub statement_locals : (l : Locals) (x : Statement) → length (statement_kinds c l x) ≡ statement_lets x
     statement_locals l (statement p line form) = form_locals l form
 
     form_locals : (l : Locals) (form : StatementForm) → length (statement_form_kinds c l form) ≡ statement_form_lets form
@@ -177,12 +177,12 @@ module _ (c : Names) where
     statements_locals l (statements x rest) =
         two (statement_kinds c l x) (statements_kinds c (locals_after c l x) rest) (statement_lets x) (statements_lets rest) (statement_locals l x) (statements_locals (locals_after c l x) rest)
 
-    arms_locals : (l : Locals) (arms : Arms) → length (arms_kinds c l arms) ≡ arms_lets arms
+    pub arms_locals : (l : Locals) (arms : Arms) → length (arms_kinds c l arms) ≡ arms_lets arms
     arms_locals l no_arms = refl
     arms_locals l (arm test body rest) = two (statements_kinds c l body) (arms_kinds c l rest) (statements_lets body) (arms_lets rest) (statements_locals l body) (arms_locals l rest)
 
   mutual
-    statement_prints_length : (l : Locals) (k : ℕ) (x : Statement) → length (statement_layouts c l k x) ≡ statement_prints x
+    pub statement_prints_length : (l : Locals) (k : ℕ) (x : Statement) → length (statement_layouts c l k x) ≡ statement_prints x
     statement_prints_length l k (statement p line form) = form_prints_length l k form
 
     form_prints_length : (l : Locals) (k : ℕ) (form : StatementForm) → length (statement_form_layouts c l k form) ≡ statement_form_prints form
@@ -205,7 +205,7 @@ module _ (c : Names) where
     statements_prints_length l k (statements x rest) =
         two (statement_layouts c l k x) (statements_layouts c (locals_after c l x) (k + length (statement_texts x)) rest) (statement_prints x) (statements_prints rest) (statement_prints_length l k x) (statements_prints_length (locals_after c l x) (k + length (statement_texts x)) rest)
 
-    arms_prints_length : (l : Locals) (k : ℕ) (arms : Arms) → length (arms_layouts c l k arms) ≡ arms_prints arms
+    pub arms_prints_length : (l : Locals) (k : ℕ) (arms : Arms) → length (arms_layouts c l k arms) ≡ arms_prints arms
     arms_prints_length l k no_arms = refl
     arms_prints_length l k (arm test body rest) =
         two (statements_layouts c l k body) (arms_layouts c l (k + length (statements_texts body)) rest) (statements_prints body) (arms_prints rest) (statements_prints_length l k body) (arms_prints_length l (k + length (statements_texts body)) rest)

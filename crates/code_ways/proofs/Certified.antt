@@ -25,12 +25,12 @@ begins_length [] ys h = omega arith
 begins_length (x ∷ xs) [] h = absurd (true≢false (sym h))
 begins_length (x ∷ xs) (y ∷ ys) h = let r = begins_length xs ys (and_parts (same_kind x y) (begins xs ys) h).1 in omega (arith, r)
 
-need_take : (costs : List Cost) (m : ℕ) (xs : List Instr) → need_of_applied costs (take m xs) ≤ need_of_applied costs xs
+pub need_take : (costs : List Cost) (m : ℕ) (xs : List Instr) → need_of_applied costs (take m xs) ≤ need_of_applied costs xs
 need_take costs zero xs = omega arith
 need_take costs (suc m) [] = omega arith
 need_take costs (suc m) (x ∷ xs) = let r = need_take costs m xs in omega (arith, r)
 
-count_take : (costs : List Cost) (m : ℕ) (xs : List Instr) → total_count costs (take m xs) ≤ total_count costs xs
+pub count_take : (costs : List Cost) (m : ℕ) (xs : List Instr) → total_count costs (take m xs) ≤ total_count costs xs
 count_take costs zero xs = omega arith
 count_take costs (suc m) [] = omega arith
 count_take costs (suc m) (x ∷ xs) = let r = count_take costs m xs in omega (arith, r)
@@ -61,7 +61,7 @@ module _ (code : Code) (costs : List Cost) (n : ℕ) (b : CodeBlock) (notes : �
       by (inl g) = g
       by (inr j) = absurd (none j)
 
-  shapes : (at : ℕ) (s : Shape) → Arrives code b at s → s ≡ (notes at).shape
+  pub shapes : (at : ℕ) (s : Shape) → Arrives code b at s → s ≡ (notes at).shape
   shapes _ _ (starts at st) = (start_fits at st).shape
   shapes _ _ (falls_on p s x w is f) = ap (λ z. shape_after code b z x) (shapes p s w) ∙ ((h.each p x is).on f).shape
   shapes _ _ (jumps_on p to s x w is tg less) = ap (λ z. shape_after code b z x) (shapes p s w) ∙ ((h.each p x is).jump to tg less).shape

@@ -37,6 +37,7 @@ use Rattle.code_generation.specs.Generated.{fun_block, merge_block, value_blocks
 use Rattle.expression_run.specs.Applying.{AllApply, FormApplies, ArgsApply, LinksApply}
 use Rattle.expression_run.specs.Agrees.{word, coded, IsOfKind, kinds_of, FunReads}
 use Rattle.expression_run.specs.Blocks.{IsBody, merge_params}
+use Rattle.expression_run.proofs.Uses.{OfUses, Use_can, applies, first_from, merge_new}
 use Rattle.expression_run.proofs.Blocks.{fun_gives, merge_gives, take_all, kinds_length}
 
 -- ---- lists of values
@@ -72,75 +73,6 @@ reads_by code fs gs n f g more h = record {
   params = h.params;
   gives = λ xs t are has. (let z = h.gives xs t are has in (more (map word xs) _ z.0, z.1));
 }
-
--- ---- applications
-
-abbrev OfUses : (Use → Type 0) → List Use → Type 0
-OfUses P [] = Unit {0}
-OfUses P (x ∷ xs) = P x × OfUses P xs
-
-split : (P : Use → Type 0) (xs ys : List Use) → OfUses P (xs ++ ys) → OfUses P xs × OfUses P ys
-split P [] ys h = (tt, h)
-split P (x ∷ xs) ys h = let rest = split P xs ys h.1 in ((h.0, rest.0), rest.1)
-
-module _ (c : Names) (Can : Name → Callee → Type 0) (n : ℕ) where
-  abbrev Use_can : Use → Type 0
-  Use_can x = x.within ≡ n → (f : Callee) → c.funs x.name.text ≡ Some f → Can x.name.text f
-
-  mutual
-    applies : (e : Expression) → OfUses Use_can (expression_uses n e) → AllApply c Can e
-    applies (placed p form) h = form_applies form h
-
-    form_applies : (form : ExpressionForm) → OfUses Use_can (expression_form_uses n form) → FormApplies c Can form
-    form_applies (int z) h = tt
-    form_applies (bool z) h = tt
-    form_applies no_rev h = tt
-    form_applies (var w) h = tt
-    form_applies (inputs p) h = tt
-    form_applies (cell w index) h = applies index h
-    form_applies (apply w args) h = (λ f e. h.0 refl f e, args_apply args h.1)
-    form_applies (input p index) h = applies index h
-    form_applies (pick test x y) h =
-        let g = split Use_can (expression_uses n test ++ expression_uses n x) (expression_uses n y) h in
-        let q = split Use_can (expression_uses n test) (expression_uses n x) g.0 in
-        (applies test q.0, applies x q.1, applies y g.1)
-    form_applies (unary op e) h = applies e h
-    form_applies (chain first rest) h = let g = split Use_can (expression_uses n first) (links_uses n rest) h in (applies first g.0, links_apply rest g.1)
-
-    args_apply : (xs : Expressions) → OfUses Use_can (expressions_uses n xs) → ArgsApply c Can xs
-    args_apply no_expressions h = tt
-    args_apply (expression x xs) h = let g = split Use_can (expression_uses n x) (expressions_uses n xs) h in (applies x g.0, args_apply xs g.1)
-
-    links_apply : (ls : Links) → OfUses Use_can (links_uses n ls) → LinksApply c Can ls
-    links_apply no_links h = tt
-    links_apply (link op x rest) h = let g = split Use_can (expression_uses n x) (links_uses n rest) h in (applies x g.0, links_apply rest g.1)
-
--- the number of a declaration is none of those before
-first_from : (d n : ℕ) (es : List Declaration) (name : Name) (h : FunHead) → first_fun d n es name ≡ Some h → d ≤ h.decl
-first_from d n [] name h e = absurd cc
-first_from d n (fun w ps r body ∷ es) name h e = by (same name w.text) (first_from (d + 1) (n + 1) es name h) e
-  where
-    by : (x : Bool) → (first_fun (d + 1) (n + 1) es name ≡ Some h → d + 1 ≤ h.decl) → cond x (Some (head d n (length ps))) (first_fun (d + 1) (n + 1) es name) ≡ Some h → d ≤ h.decl
-    by true later q = let is : head d n (length ps) ≡ h = cc in let at : d ≡ h.decl = ap (λ y. y.decl) is in omega arith
-    by false later q = let more : d + 1 ≤ h.decl = later q in omega arith
-first_from d n (merge w m j r body ∷ es) name h e = let more : d + 1 ≤ h.decl = first_from (d + 1) n es name h e in omega arith
-first_from d n (shared x ∷ es) name h e = let more : d + 1 ≤ h.decl = first_from (d + 1) n es name h e in omega arith
-first_from d n (proc w ps r body ∷ es) name h e = let more : d + 1 ≤ h.decl = first_from (d + 1) n es name h e in omega arith
-
-merge_new : (c : Names) → ((name : Name) → c.shared name ≡ None) → (m j r : PlacedName) → (m.text ≢ j.text) × (m.text ≢ r.text) × (j.text ≢ r.text) → ParamsNew c [] (merge_params m j r)
-merge_new c closed m j r differ = ((refl, closed m.text), ((j_new, closed j.text), ((r_new, closed r.text), tt)))
-  where
-    first : Locals
-    first = added [] m.text (Some k.Int)
-
-    j_new : find j.text first ≡ None
-    j_new = added_unknown j.text m.text (Some k.Int) [] refl (λ e. differ.0 (sym e))
-
-    r_first : find r.text first ≡ None
-    r_first = added_unknown r.text m.text (Some k.Int) [] refl (λ e. differ.1 (sym e))
-
-    r_new : find r.text (added first j.text (Some k.Int)) ≡ None
-    r_new = added_unknown r.text j.text (Some k.Int) first r_first (λ e. differ.2 (sym e))
 
 -- ---- the declarations of a program
 

@@ -1,0 +1,8 @@
+pub mod Certificates
+pub mod Weights
+pub mod Params
+pub mod Bodies
+pub mod Funs
+pub mod Procs
+pub mod Whole
+pub mod Accepted

@@ -1,0 +1,71 @@
+-- Items and kept code are taken apart and put together.
+use Rattle.std.proofs.Common.{◌≡◌, ◌∙◌, ℕ, zero, suc, ◌+◌, List, [], ◌∷◌, ◌++◌, length, Some, None, refl, sym, ap, subst, arith}
+use Rattle.std.specs.Prelude.{slice_get}
+use Rattle.rev_code.specs.declared.code.Code.{Code}
+use Rattle.rev_code.specs.declared.code.CodeBlock.{CodeBlock}
+use Rattle.rev_code.specs.declared.code.Instr.{Instr}
+use Rattle.code_rules.specs.Pass.{Note}
+use Rattle.code_certificate.specs.Certificate.{Fits}
+use Rattle.generated_certificate.specs.Items.{HasItems, note_or_entry, noted}
+use Rattle.generated_certificate.specs.Kept.{IsKept, AllKept}
+
+pub nothing : Unit {0}
+nothing = tt
+
+-- ---- items
+
+module _ {A : Type 0} (whole : List A) where
+  -- the first part, and the second, which begins as many items further on
+  pub parts_have : (xs ys : List A) (at m : ℕ) → length xs ≡ m → HasItems whole at (xs ++ ys) → HasItems whole at xs × HasItems whole (at + m) ys
+  parts_have [] ys at m e h = (nothing, subst (λ p. HasItems whole p ys) (let z : at ≡ at + m = omega (arith, e) in z) h)
+  parts_have (x ∷ xs) ys at m e h =
+      let r = parts_have xs ys (suc at) (length xs) refl h.1 in
+      ((h.0, r.0), subst (λ p. HasItems whole p ys) (let z : suc at + length xs ≡ at + m = omega (arith, e) in z) r.1)
+
+  -- the first part, an item, and the part behind it
+  pub around_have : (xs ys : List A) (y : A) (at m to : ℕ) → length xs ≡ m → to ≡ at + m + 1 → HasItems whole at (xs ++ y ∷ ys) → HasItems whole at xs × ((slice_get whole (at + m) ≡ Some y) × HasItems whole to ys)
+  around_have xs ys y at m to e z h =
+      let r = parts_have xs (y ∷ ys) at m e h in
+      (r.0, (r.1.0, subst (λ p. HasItems whole p ys) (let w : suc (at + m) ≡ to = omega (arith, z) in w) r.1.1))
+
+-- all of a list stands in it
+pub all_have : {A : Type 0} (before xs : List A) → HasItems (before ++ xs) (length before) xs
+all_have before [] = nothing
+all_have {A} before (x ∷ xs) = (here before, subst (λ w. HasItems w (suc (length before)) xs) (again before) (subst (λ p. HasItems ((before ++ x ∷ []) ++ xs) p xs) (longer before) (all_have (before ++ x ∷ []) xs)))
+  where
+    here : (bs : List A) → slice_get (bs ++ x ∷ xs) (length bs) ≡ Some x
+    here [] = refl
+    here (b ∷ bs) = here bs
+
+    again : (bs : List A) → (bs ++ x ∷ []) ++ xs ≡ bs ++ x ∷ xs
+    again [] = refl
+    again (b ∷ bs) = ap (λ z. b ∷ z) (again bs)
+
+    longer : (bs : List A) → length (bs ++ x ∷ []) ≡ suc (length bs)
+    longer [] = refl
+    longer (b ∷ bs) = ap suc (longer bs)
+
+pub note_here : (ns : List Note) (at : ℕ) (n : Note) → slice_get ns at ≡ Some n → noted ns at ≡ n
+note_here ns at n h = ap note_or_entry h
+
+pub fits_eq : (n m : Note) → m ≡ n → Fits n m
+fits_eq n m e = record { shape = ap (λ z. z.shape) (sym e); paid = λ h. ap (λ z. z.paid) (sym e) ∙ h }
+
+-- ---- kept code
+
+module _ (code : Code) (k : ℕ) (b : CodeBlock) (notes : ℕ → Note) (deepest : ℕ) where
+  pub parts_kept : (xs ys : List Instr) (at m : ℕ) → length xs ≡ m → AllKept code k b notes deepest at xs → AllKept code k b notes deepest (at + m) ys → AllKept code k b notes deepest at (xs ++ ys)
+  parts_kept [] ys at m e h q = subst (λ p. AllKept code k b notes deepest p ys) (let z : at + m ≡ at = omega (arith, e) in z) q
+  parts_kept (x ∷ xs) ys at m e h q = (h.0, parts_kept xs ys (suc at) (length xs) refl h.1 (subst (λ p. AllKept code k b notes deepest p ys) (let z : at + m ≡ suc at + length xs = omega (arith, e) in z) q))
+
+  pub around_kept : (xs ys : List Instr) (y : Instr) (at m to : ℕ) → length xs ≡ m → to ≡ at + m + 1 → AllKept code k b notes deepest at xs → IsKept code k b notes deepest (at + m) y → AllKept code k b notes deepest to ys → AllKept code k b notes deepest at (xs ++ y ∷ ys)
+  around_kept xs ys y at m to e z h j q = parts_kept xs (y ∷ ys) at m e h (j, subst (λ p. AllKept code k b notes deepest p ys) (let w : to ≡ suc (at + m) = omega (arith, z) in w) q)
+
+  -- with an instruction behind
+  pub one_kept : (xs : List Instr) (y : Instr) (at m : ℕ) → length xs ≡ m → AllKept code k b notes deepest at xs → IsKept code k b notes deepest (at + m) y → AllKept code k b notes deepest at (xs ++ y ∷ [])
+  one_kept xs y at m e h j = parts_kept xs (y ∷ []) at m e h (j, nothing)
+
+  pub each_kept : (xs : List Instr) (at j : ℕ) (x : Instr) → AllKept code k b notes deepest at xs → slice_get xs j ≡ Some x → IsKept code k b notes deepest (at + j) x
+  each_kept [] at j x h e = absurd (let z : None ≡ Some x = e in cc)
+  each_kept (y ∷ xs) at zero x h e = subst (λ p. IsKept code k b notes deepest p x) (let z : at ≡ at + 0 = omega arith in z) (subst (λ u. IsKept code k b notes deepest at u) (let w : y ≡ x = cc in w) h.0)
+  each_kept (y ∷ xs) at (suc j) x h e = subst (λ p. IsKept code k b notes deepest p x) (let z : suc at + j ≡ at + suc j = omega arith in z) (each_kept xs (suc at) j x h.1 e)

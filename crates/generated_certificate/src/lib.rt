@@ -1,0 +1,12 @@
+//! The code of a typed expression has a certificate: notes as a function of the tree, which fit the
+//! code.
+//!
+//! The law is an empty function.
+#![tactic(auto)]
+
+ghost use Rattle.generated_certificate.specs.Laws.{ExpressionsAreCertified};
+
+/// The notes of the code of a typed expression are a certificate of it.
+pub fn expression_law()
+    ensures { ExpressionsAreCertified }
+{}

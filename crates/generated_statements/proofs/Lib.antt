@@ -1,0 +1,4 @@
+pub mod Scopes
+pub mod StatementLengths
+pub mod Pieces
+pub mod Bodies

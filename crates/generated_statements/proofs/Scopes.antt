@@ -1,0 +1,96 @@
+-- What is in scope behind a statement, and what all applications of a body have.
+use Rattle.std.proofs.Common.{◌≡◌, ◌∙◌, ℕ, Bool, true, false, Option, Some, None, refl, sym, ap}
+use Rattle.std.specs.Prelude.{slice_get, if◌then◌else◌}
+use Rattle.rev_num.specs.declared.value.ValueKind.{ValueKind}
+use Rattle.rev_syntax.specs.Trees.{Expression, placed, ExpressionForm, Expressions, Links, int, bool, no_rev, var, cell, apply, input, inputs, pick, unary, chain, no_expressions, expression, no_links, link, RightSide, plain, called, forked, tried, Statement, statement, StatementForm, bind, assign, assign_cell, choose, choose_or, repeat, call, return, fork, join, print, assert}
+use Rattle.merge_decl.specs.Names.{Name, same}
+use Rattle.merge_decl.specs.Table.{find, added}
+use Rattle.merge_decl.proofs.Tables.{same_equal, find-added, or_else, or_else-none}
+use Rattle.rev_kinds.specs.Kinds.{Callee, Names, Locals, result_of, right_side_kind}
+use Rattle.rev_kinds.proofs.Typings.{complete}
+use Rattle.rev_types.specs.Judgement.{RightSideHas, StatementTyped, StatementFormTyped}
+use Rattle.rev_types.specs.Scopes.{locals_after, statement_form_locals}
+use Rattle.rev_code.specs.declared.code.Code.{Code}
+use Rattle.rev_code.specs.declared.code.CodeBlock.{CodeBlock}
+use Rattle.code_generation.specs.Numbers.{Numbers, Scope}
+use Rattle.expression_run.specs.Applying.{AllApply, FormApplies, ArgsApply, LinksApply}
+use Rattle.generated_certificate.specs.Means.{NamesMean}
+
+-- ---- applications
+
+module _ (c : Names) (Can : Name → Callee → Type 0) (all : (name : Name) (f : Callee) → c.funs name ≡ Some f → Can name f) where
+  mutual
+    pub all_apply : (e : Expression) → AllApply c Can e
+    all_apply (placed p form) = all_form form
+
+    all_form : (form : ExpressionForm) → FormApplies c Can form
+    all_form (int z) = tt
+    all_form (bool z) = tt
+    all_form no_rev = tt
+    all_form (var w) = tt
+    all_form (inputs p) = tt
+    all_form (cell w index) = all_apply index
+    all_form (apply w args) = (λ f e. all w.text f e, all_args args)
+    all_form (input p index) = all_apply index
+    all_form (pick test x y) = (all_apply test, all_apply x, all_apply y)
+    all_form (unary op e) = all_apply e
+    all_form (chain first rest) = (all_apply first, all_links rest)
+
+    pub all_args : (args : Expressions) → ArgsApply c Can args
+    all_args no_expressions = tt
+    all_args (expression e rest) = (all_apply e, all_args rest)
+
+    all_links : (rest : Links) → LinksApply c Can rest
+    all_links no_links = tt
+    all_links (link op e rest) = (all_apply e, all_links rest)
+
+-- ---- locals
+
+pub right_kind : (c : Names) (l : Locals) (r : RightSide) (t : ValueKind) → RightSideHas c l r t → right_side_kind c l r ≡ Some t
+right_kind c l (plain e) t h = (complete c l e t h).1
+right_kind c l (called p w args) t h = ap result_of h.1.0 ∙ h.2
+right_kind c l (forked p w args) t h = ap Some (sym h.0)
+right_kind c l (tried p handle) t h = ap Some (sym h.0)
+
+form_locals : (c : Names) (result : Option ValueKind) (l l' : Locals) (form : StatementForm) → StatementFormTyped c result l form l' → l' ≡ statement_form_locals c l form
+form_locals c result l l' (bind w r) h = h.1.2 ∙ ap (λ z. added l w.text z) (sym (right_kind c l r h.1.0 h.1.1))
+form_locals c result l l' (assign w r) h = h.1
+form_locals c result l l' (assign_cell w index e) h = h.1
+form_locals c result l l' (choose arms) h = h.1
+form_locals c result l l' (choose_or arms last) h = h.1
+form_locals c result l l' (repeat test body) h = h.1
+form_locals c result l l' (call w args) h = h.1
+form_locals c result l l' (return e) h = h.1
+form_locals c result l l' (fork w args) h = h.1
+form_locals c result l l' (join e) h = h.1
+form_locals c result l l' (print items) h = h.1
+form_locals c result l l' (assert e) h = h.1
+
+pub typed_locals : (c : Names) (result : Option ValueKind) (l l' : Locals) (x : Statement) → StatementTyped c result l x l' → l' ≡ locals_after c l x
+typed_locals c result l l' (statement p line form) h = form_locals c result l l' form h
+
+-- with one name more
+pub name_bound : (code : Code) (b : CodeBlock) (n : Numbers) (c : Names) (l : Locals) (scope : Scope) (w : Name) (t : ValueKind) (i : ℕ) → NamesMean code b n c l scope → find w l ≡ None → slice_get b.locals i ≡ Some t → NamesMean code b n c (added l w (Some t)) (added scope w i)
+name_bound code b n c l scope w t i m new here = record {
+  locals = λ name u h. is name u (same name w) refl (sym (find-added name w (Some t) l) ∙ h);
+  free = λ name h. not_there name (same name w) refl (sym (find-added name w (Some t) l) ∙ h);
+  shared = m.shared;
+  inputs = m.inputs;
+}
+  where
+    missing : (name : Name) → same name w ≡ true → find name l ≡ None
+    missing name e = ap (λ y. find y l) (same_equal name w e) ∙ new
+
+    is : (name : Name) (u : ValueKind) (d : Bool) → same name w ≡ d → or_else (find name l) (if d then Some (Some t) else None) ≡ Some (Some u) → (j : ℕ) × (find name (added scope w i) ≡ Some j) × (slice_get b.locals j ≡ Some u)
+    is name u true e h =
+        let gone = missing name e in
+        let kt : t ≡ u = (let q : Some (Some t) ≡ Some (Some u) = sym (ap (λ o. or_else o (Some (Some t))) gone) ∙ h in cc) in
+        (i, find-added name w i scope ∙ ap (λ d. or_else (find name scope) (if d then Some i else None)) e ∙ ap (λ o. or_else o (Some i)) (m.free name gone), here ∙ ap Some kt)
+    is name u false e h =
+        let d = m.locals name u (sym (or_else-none (find name l)) ∙ h) in
+        (d.0, find-added name w i scope ∙ ap (λ d. or_else (find name scope) (if d then Some i else None)) e ∙ or_else-none (find name scope) ∙ d.1, d.2)
+
+    not_there : (name : Name) (d : Bool) → same name w ≡ d → or_else (find name l) (if d then Some (Some t) else None) ≡ None → find name (added scope w i) ≡ None
+    not_there name true e h = absurd (let q : Some (Some t) ≡ None = sym (ap (λ o. or_else o (Some (Some t))) (missing name e)) ∙ h in cc)
+    not_there name false e h =
+        find-added name w i scope ∙ ap (λ d. or_else (find name scope) (if d then Some i else None)) e ∙ or_else-none (find name scope) ∙ m.free name (sym (or_else-none (find name l)) ∙ h)
