@@ -1,0 +1,5 @@
+pub mod Replay
+pub mod Forkers
+pub mod Hub
+pub mod HubMachine
+pub mod Laws

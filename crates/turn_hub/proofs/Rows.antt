@@ -1,0 +1,111 @@
+-- Lists of seats of one hub, and what they leave.
+use Rattle.std.proofs.Common.{◌≡◌, ◌≢◌, ◌⊎◌, inl, inr, ⊎_elim, ℕ, ◌+◌, Bool, cond, List, [], ◌∷◌, ◌++◌, length, map, Option, option_to_list, append_assoc, sym, ap, ◌∙◌, refl, arith, eq-eqb, ne_eqb}
+use mathlib.Core.Logic.{dite}
+use native.Mathlib.Decide.{ℕ_discrete}
+use Rattle.atomic_table.specs.Seated.{TableId}
+use Rattle.atomic_table.specs.declared.shared.Seat.{Seat}
+use Rattle.hub_algebra.specs.declared.status.Status.{Status}
+use Rattle.hub_algebra.specs.declared.status.Status.TheVariants.{Ready, Out, Waiting, Over, Gone}
+use Rattle.hub_algebra.specs.Hub.{end_of}
+use Rattle.turn_hub.specs.declared.answers.Kept.{Kept}
+use Rattle.turn_hub.specs.declared.state.HubState.{HubState}
+use Rattle.turn_hub.specs.declared.state.HubState.TheVariants.{All, Twice, NoMemory}
+use Rattle.turn_hub.specs.declared.view.View.{View}
+use Rattle.turn_hub.specs.Passes.{named}
+use Rattle.turn_hub.specs.Views.{either_saw, either_halt}
+use Rattle.turn_hub.specs.Seats.{AreOf, AreNew}
+use Rattle.turn_hub.specs.Left.{self_kept, kept_of}
+use Rattle.turn_hub.specs.Closing.{saw_of, halt_known, held_by}
+use Rattle.turn_hub.specs.Passes.{Pass, is_at}
+use Rattle.turn_hub.proofs.Lists.{total_snoc, total_append}
+
+pub many_more : {B : Type 0} → (xs : List B) (y : B) → length (xs ++ y ∷ []) ≡ length xs + 1
+many_more [] y = refl
+many_more (x ∷ xs) y = let r = many_more xs y in omega arith
+
+pub map_more : {B C : Type 0} → (f : B → C) (xs : List B) (y : B) → map f (xs ++ y ∷ []) ≡ map f xs ++ f y ∷ []
+map_more f [] y = refl
+map_more f (x ∷ xs) y = ap (λ l. f x ∷ l) (map_more f xs y)
+
+pub map_items : {B C : Type 0} → (all front : List B) (x : B) → all ≡ front ++ x ∷ [] → (f : B → C) → map f all ≡ map f front ++ f x ∷ []
+map_items all front x e f = ap (λ l. map f l) e ∙ map_more f front x
+
+either_here : (a b : ℕ) → a ≡ 1 → either_saw a b ≡ 1
+either_here a b e = ap (λ (c : Bool). cond c 1 b) (eq-eqb a 1 e)
+
+either_there : (a b : ℕ) → a ≢ 1 → either_saw a b ≡ b
+either_there a b n = ap (λ (c : Bool). cond c 1 b) (ne_eqb a 1 n)
+
+one_of : (a b : ℕ) → either_saw a b ≡ 1 → (a ≡ 1) ⊎ (b ≡ 1)
+one_of a b h = dite (ℕ_discrete a 1) (λ e. inl e) (λ n. inr (sym (either_there a b n) ∙ h))
+
+either_right : (a b : ℕ) → b ≡ 1 → either_saw a b ≡ 1
+either_right a b e = dite (ℕ_discrete a 1) (λ h. either_here a b h) (λ n. either_there a b n ∙ e)
+
+either_all : (a : HubState) → either_halt a All ≡ a
+either_all All = refl
+either_all Twice = refl
+either_all NoMemory = refl
+
+either_thrice : (a b c : HubState) → either_halt (either_halt a b) c ≡ either_halt a (either_halt b c)
+either_thrice All b c = refl
+either_thrice Twice b c = refl
+either_thrice NoMemory b c = refl
+
+pub saw_alone : (a : ℕ) → either_saw a 0 ≡ 1 → a ≡ 1
+saw_alone a h = ⊎_elim (λ e. e) (λ e. absurd (omega arith)) (one_of a 0 h)
+
+pub halt_alone : (a : HubState) → either_halt a All ≡ a
+halt_alone a = either_all a
+
+module _ {S L : Type 0} where
+  pub are_more : (id : TableId) (ss : List (Seat S (View L))) (s : Seat S (View L)) → AreOf id ss → s.table_id ≡ id → AreOf id (ss ++ s ∷ [])
+  are_more id [] s all one = (one, tt)
+  are_more id (x ∷ ss) s all one = (all.0, are_more id ss s all.1 one)
+
+  pub are_front : (id : TableId) (ss : List (Seat S (View L))) (s : Seat S (View L)) → AreOf id (ss ++ s ∷ []) → AreOf id ss × (s.table_id ≡ id)
+  are_front id [] s all = (tt, all.0)
+  are_front id (x ∷ ss) s all = let r = are_front id ss s all.1 in ((all.0, r.0), r.1)
+
+  pub new_more : (start : Option L) (group : List ℕ) (ss : List (Seat S (View L))) (s : Seat S (View L)) → AreNew start group ss
+      → (s.me.0.start ≡ start) × (s.me.0.group ≡ group) × (s.me.0.passes ≡ []) × (s.me.0.saw ≡ 0) × (s.me.0.halt ≡ All) → AreNew start group (ss ++ s ∷ [])
+  new_more start group [] s all one = (one.0, one.1, one.2, one.3, one.4, tt)
+  new_more start group (x ∷ ss) s all one = (all.0, all.1, all.2, all.3, all.4, new_more start group ss s all.5 one)
+
+  saw_split : (ss : List (Seat S (View L))) (s : Seat S (View L)) → saw_of (ss ++ s ∷ []) ≡ 1 → (saw_of ss ≡ 1) ⊎ (s.me.0.saw ≡ 1)
+  saw_split [] s h = ⊎_elim (λ e. inr e) (λ e. inl e) (one_of s.me.0.saw 0 h)
+  saw_split (x ∷ ss) s h = ⊎_elim (λ e. inl (either_here x.me.0.saw (saw_of ss) e)) (λ e. ⊎_elim (λ q. inl (either_right x.me.0.saw (saw_of ss) q)) (λ q. inr q) (saw_split ss s e)) (one_of x.me.0.saw (saw_of (ss ++ s ∷ [])) h)
+
+  pub saw_last : (a : ℕ) (ss : List (Seat S (View L))) (s : Seat S (View L)) → either_saw a (saw_of (ss ++ s ∷ [])) ≡ 1 → either_saw (either_saw a s.me.0.saw) (saw_of ss) ≡ 1
+  saw_last a ss s h = ⊎_elim (λ e. either_here (either_saw a s.me.0.saw) (saw_of ss) (either_here a s.me.0.saw e))
+      (λ e. ⊎_elim (λ q. either_right (either_saw a s.me.0.saw) (saw_of ss) q) (λ q. either_here (either_saw a s.me.0.saw) (saw_of ss) (either_right a s.me.0.saw q)) (saw_split ss s e)) (one_of a (saw_of (ss ++ s ∷ [])) h)
+
+  pub saw_first : (ss : List (Seat S (View L))) (s : Seat S (View L)) → saw_of (ss ++ s ∷ []) ≡ 1 → either_saw s.me.0.saw (saw_of ss) ≡ 1
+  saw_first ss s h = ⊎_elim (λ e. either_right s.me.0.saw (saw_of ss) e) (λ e. either_here s.me.0.saw (saw_of ss) e) (saw_split ss s h)
+
+  pub halt_last : (ss : List (Seat S (View L))) (s : Seat S (View L)) → halt_known (ss ++ s ∷ []) ≡ either_halt s.me.0.halt (halt_known ss)
+  halt_last [] s = sym (either_all s.me.0.halt)
+  halt_last (x ∷ ss) s = ap (λ h. either_halt h x.me.0.halt) (halt_last ss s) ∙ either_thrice s.me.0.halt (halt_known ss) x.me.0.halt
+
+  pub halt_next : (a : HubState) (ss : List (Seat S (View L))) (s : Seat S (View L)) → either_halt (either_halt a s.me.0.halt) (halt_known ss) ≡ either_halt a (halt_known (ss ++ s ∷ []))
+  halt_next a ss s = either_thrice a s.me.0.halt (halt_known ss) ∙ ap (either_halt a) (sym (halt_last ss s))
+
+  pub held_more : (n : ℕ) (ss : List (Seat S (View L))) (s : Seat S (View L)) → held_by n (ss ++ s ∷ []) ≡ held_by n ss + named n s.me.0.passes
+  held_more n ss s = total_snoc (λ (x : Seat S (View L)). named n x.me.0.passes) ss s
+
+pub named_both : (n : ℕ) (ps qs : List Pass) → named n (ps ++ qs) ≡ named n ps + named n qs
+named_both n ps qs = total_append (λ (p : Pass). is_at n p.0) ps qs
+
+module _ {R A E : Type 0} where
+  pub ends_step : (ended all : List (Option E)) (s : Status R A E) (rest : List (Status R A E)) → ended ++ map end_of (s ∷ rest) ≡ all → (ended ++ end_of s ∷ []) ++ map end_of rest ≡ all
+  ends_step ended all s rest e = append_assoc ended (end_of s ∷ []) (map end_of rest) ∙ e
+
+  kept_front : (s : Status R A E) (rest : List (Status R A E)) → option_to_list (self_kept s) ++ kept_of rest ≡ kept_of (s ∷ rest)
+  kept_front (Ready r) rest = refl
+  kept_front Out rest = refl
+  kept_front (Waiting a) rest = refl
+  kept_front (Over e) rest = refl
+  kept_front Gone rest = refl
+
+  pub kept_step : (kept all : List (Kept R A)) (s : Status R A E) (rest : List (Status R A E)) → kept ++ kept_of (s ∷ rest) ≡ all → (kept ++ option_to_list (self_kept s)) ++ kept_of rest ≡ all
+  kept_step kept all s rest e = append_assoc kept (option_to_list (self_kept s)) (kept_of rest) ∙ (ap (λ l. kept ++ l) (kept_front s rest) ∙ e)

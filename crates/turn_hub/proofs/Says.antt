@@ -1,0 +1,227 @@
+-- What a view says is what the value was.
+use Rattle.std.proofs.Common.{◌≡◌, ◌<◌, ℕ, zero, suc, Bool, true, false, cond, List, [], ◌∷◌, ◌++◌, length, refl, sym, ap, ◌∙◌, subst, Option, Some, None}
+use Rattle.revision_machine.specs.Numbered.{at_number, put_number}
+use Rattle.revision_machine.proofs.Paths.{some_inj}
+use Rattle.revision_machine.proofs.Numbers.{none_some}
+use Rattle.hub_algebra.specs.declared.status.Status.{Status}
+use Rattle.hub_algebra.specs.declared.status.Status.TheVariants.{Ready, Out, Waiting, Over, Gone}
+use Rattle.hub_algebra.specs.HubMachine.{HubMachine}
+use Rattle.turn_hub.specs.declared.value.Turn.{Turn}
+use Rattle.turn_hub.specs.declared.view.View.{View}
+use Rattle.turn_hub.specs.declared.answers.JoinAnswer.{JoinAnswer}
+use Rattle.turn_hub.specs.declared.answers.JoinAnswer.TheVariants as join
+use Rattle.turn_hub.proofs.Turns.{within, Next, group_at, drawn, drawn_again, forked, joined, keeps_draw, keeps_commit, keeps_in, keeps_end}
+use Rattle.turn_hub.specs.declared.state.HubState.TheVariants.{All, Twice}
+use Rattle.turn_hub.specs.declared.view.Said.{Said}
+use Rattle.turn_hub.specs.declared.view.Said.TheVariants as mark
+use Rattle.turn_hub.specs.Views.{ended_said, ready_said, all_said, halt_by, or_no_memory, commits, hands_in, draws, stops, rests}
+use Rattle.turn_hub.specs.Seats.{HasState, HasFork, HasJoin, ForkedAs, KeepsAll}
+use Rattle.turn_hub.specs.Found.{ended_here, is_ready}
+use Rattle.turn_hub.specs.Rule.{all_over, done, said_of, says, Told}
+use Rattle.turn_hub.specs.Answers.{IsHalted, Ran, Retried, IsIdleNow, IsFinished, WasHalted, Forked, TookIn, Waited, MetTwice, JoinSays, TakesIn, EndedSays}
+
+module _ {L R A E : Type 0} (d : HubMachine L R A E) (ends : E → L → Type 0) where
+  pub says_some : (slots : List (Status R A E)) (k : ℕ) (s : Status R A E) → at_number slots k ≡ Some s → at_number (says d ends slots) k ≡ Some (said_of d ends s)
+  says_some [] k s e = none_some e
+  says_some (x ∷ slots) zero s e = ap (λ o. Some (said_of d ends o)) (some_inj e)
+  says_some (x ∷ slots) (suc k) s e = says_some slots k s e
+
+  ended_by : (b : Bool) → ended_said (Some (cond b mark.Trapped mark.Done)) ≡ true
+  ended_by true = refl
+  ended_by false = refl
+
+  pub says_ended : (slots : List (Status R A E)) (k : ℕ) → ended_said (at_number (says d ends slots) k) ≡ ended_here (at_number slots k)
+  says_ended [] k = refl
+  says_ended (Ready r ∷ slots) zero = refl
+  says_ended (Out ∷ slots) zero = refl
+  says_ended (Waiting a ∷ slots) zero = refl
+  says_ended (Over e ∷ slots) zero = ended_by (d.trapped e)
+  says_ended (Gone ∷ slots) zero = refl
+  says_ended (x ∷ slots) (suc k) = says_ended slots k
+
+  over_ready : (said : List Said) (b : Bool) → ready_said said (Some (cond b mark.Trapped mark.Done)) ≡ false
+  over_ready said true = refl
+  over_ready said false = refl
+
+  ready_of : (all slots : List (Status R A E)) (k : ℕ) → ready_said (says d ends all) (at_number (says d ends slots) k) ≡ is_ready d all (at_number slots k)
+  ready_of all [] k = refl
+  ready_of all (Ready r ∷ slots) zero = refl
+  ready_of all (Out ∷ slots) zero = refl
+  ready_of all (Waiting a ∷ slots) zero = says_ended all (d.on a)
+  ready_of all (Over e ∷ slots) zero = over_ready (says d ends all) (d.trapped e)
+  ready_of all (Gone ∷ slots) zero = refl
+  ready_of all (x ∷ slots) (suc k) = ready_of all slots k
+
+  pub says_ready : (slots : List (Status R A E)) (k : ℕ) → ready_said (says d ends slots) (at_number (says d ends slots) k) ≡ is_ready d slots (at_number slots k)
+  says_ready slots k = ready_of slots slots k
+
+  all_by : (b : Bool) (said : List Said) → all_said (cond b mark.Trapped mark.Done ∷ said) ≡ all_said said
+  all_by true said = refl
+  all_by false said = refl
+
+  pub says_all : (slots : List (Status R A E)) → all_said (says d ends slots) ≡ all_over slots
+  says_all [] = refl
+  says_all (Ready r ∷ slots) = refl
+  says_all (Out ∷ slots) = refl
+  says_all (Waiting a ∷ slots) = refl
+  says_all (Over e ∷ slots) = all_by (d.trapped e) (says d ends slots) ∙ says_all slots
+  says_all (Gone ∷ slots) = says_all slots
+
+  none_ready : (slots : List (Status R A E)) → ((k : ℕ) → k < length slots → is_ready d slots (at_number slots k) ≡ false) → (k : ℕ) → is_ready d slots (at_number slots k) ≡ false
+  none_ready slots h k = of_entry (at_number slots k) refl
+    where
+      of_entry : (o : Option (Status R A E)) → at_number slots k ≡ o → is_ready d slots (at_number slots k) ≡ false
+      of_entry None e = ap (is_ready d slots) e
+      of_entry (Some s) e = h k (within slots k s e)
+
+  pub where_idle : (said : List Said) (slots : List (Status R A E)) → said ≡ says d ends slots → all_over slots ≡ false → ((k : ℕ) → k < length slots → is_ready d slots (at_number slots k) ≡ false)
+      → (all_said said ≡ false) × ((k : ℕ) → ready_said said (at_number said k) ≡ false)
+  where_idle said slots e over h = (ap all_said e ∙ says_all slots ∙ over, λ k. ap (λ z. ready_said z (at_number z k)) e ∙ says_ready slots k ∙ none_ready slots h k)
+
+  pub where_none : (said : List Said) (seen slots : List (Status R A E)) → seen ≡ slots → said ≡ says d ends slots → all_over slots ≡ false → ((k : ℕ) → k < length seen → is_ready d seen (at_number seen k) ≡ false)
+      → (all_said said ≡ false) × ((k : ℕ) → ready_said said (at_number said k) ≡ false)
+  where_none said seen slots same e over h = where_idle said slots e over (subst (λ z. (k : ℕ) → k < length z → is_ready d z (at_number z k) ≡ false) same h)
+
+  pub where_retry : (said : List Said) (slots : List (Status R A E)) (n : ℕ) (a : A) → said ≡ says d ends slots → at_number slots n ≡ Some (Waiting a) → is_ready d slots (at_number slots n) ≡ true
+      → (at_number said n ≡ Some (mark.Waits (d.on a))) × (ended_said (at_number said (d.on a)) ≡ true)
+  where_retry said slots n a e is ready = (ap (λ z. at_number z n) e ∙ says_some slots n (Waiting a) is, ap (λ z. ended_said (at_number z (d.on a))) e ∙ says_ended slots (d.on a) ∙ (sym (ap (is_ready d slots) is) ∙ ready))
+
+  pub where_run : (said : List Said) (slots : List (Status R A E)) (n : ℕ) (s : Status R A E) → said ≡ says d ends slots → at_number slots n ≡ Some s → at_number said n ≡ Some (said_of d ends s)
+  where_run said slots n s e is = ap (λ z. at_number z n) e ∙ says_some slots n s is
+
+  pub where_waits : (said : List Said) (slots : List (Status R A E)) (m : ℕ) → said ≡ says d ends slots → ended_here (at_number slots m) ≡ false → ended_said (at_number said m) ≡ false
+  where_waits said slots m e h = ap (λ z. ended_said (at_number z m)) e ∙ says_ended slots m ∙ h
+
+  length_says : (slots : List (Status R A E)) → length (says d ends slots) ≡ length slots
+  length_says [] = refl
+  length_says (x ∷ slots) = ap suc (length_says slots)
+
+  is_halt : (b : Bool) → (halt_by b ≡ All → ⊥)
+  is_halt true e = cc
+  is_halt false e = cc
+
+  abbrev V : Type 0
+  V = View L
+
+  abbrev Value : Type 0
+  Value = Turn R A E
+
+  keeps_all : (v w : V) (t : Value) → Told d ends v w t → KeepsAll v (rests w)
+  keeps_all v w t told = ((told.start, told.group, told.parts), told.passes)
+
+  pub ran : (v w x : V) (t t' : Value) (n : ℕ) (r : R) → Told d ends v w t → t.state ≡ All → at_number t.revisions.slots.items n ≡ Some (Ready r)
+      → Next d ends t' t.schedule.items (put_number t.revisions.slots.items n Out) t.revisions.forkers.items All → x ≡ rests (draws n w) → Ran d ends v x n r
+  ran v w x t t' n r told none e next is = subst (λ y. Ran d ends v y n r) (sym is) record {
+    free = told.entered ∙ none;
+    keeps = keeps_draw d ends v w t n told;
+    was = where_run w.said t.revisions.slots.items n (Ready r) told.said e;
+    state = (drawn d ends w t t' n r told.hand none e next).1;
+    group = group_at d ends w.group t.revisions.slots.items n (Ready r) told.hand.holds.grouped e;
+  }
+
+  pub retried : (v w x : V) (t t' : Value) (n : ℕ) (a : A) → Told d ends v w t → t.state ≡ All → at_number t.revisions.slots.items n ≡ Some (Waiting a) → is_ready d t.revisions.slots.items (at_number t.revisions.slots.items n) ≡ true
+      → Next d ends t' t.schedule.items (put_number t.revisions.slots.items n Out) t.revisions.forkers.items All → x ≡ rests (draws n w) → Retried d ends v x n a
+  retried v w x t t' n a told none e ready next is = let f = where_retry w.said t.revisions.slots.items n a told.said e ready in subst (λ y. Retried d ends v y n a) (sym is) record {
+    free = told.entered ∙ none;
+    keeps = keeps_draw d ends v w t n told;
+    was = f.0;
+    ended = f.1;
+    event = (drawn_again d ends w t t' n a told.hand none e next).1;
+    group = group_at d ends w.group t.revisions.slots.items n (Waiting a) told.hand.holds.grouped e;
+  }
+
+  pub idle_now : (v w x : V) (t : Value) (seen : List (Status R A E)) → Told d ends v w t → t.state ≡ All → seen ≡ t.revisions.slots.items → all_over t.revisions.slots.items ≡ false
+      → ((k : ℕ) → k < length seen → is_ready d seen (at_number seen k) ≡ false) → x ≡ rests w → IsIdleNow d ends v x
+  idle_now v w x t seen told none same over f is = let g = where_none w.said seen t.revisions.slots.items same told.said over f in subst (IsIdleNow d ends v) (sym is) record {
+    free = told.entered ∙ none;
+    keeps = keeps_all v w t told;
+    unfinished = g.0;
+    none_ready = g.1;
+  }
+
+  pub finished : (v w x : V) (t : Value) → Told d ends v w t → t.state ≡ All → all_over t.revisions.slots.items ≡ true → x ≡ rests w → IsFinished d ends v x
+  finished v w x t told none over is = subst (IsFinished d ends v) (sym is) record {
+    free = told.entered ∙ none;
+    keeps = keeps_all v w t told;
+    finished = ap all_said told.said ∙ (says_all t.revisions.slots.items ∙ over);
+    saw = told.over (ap (λ h. done h t.revisions.slots.items) none ∙ over);
+  }
+
+  pub was_halted : (v w x : V) (t : Value) (twice : Bool) → Told d ends v w t → t.state ≡ halt_by twice → x ≡ rests w → WasHalted d ends v x twice
+  was_halted v w x t b told halted is = subst (λ y. WasHalted d ends v y b) (sym is) record {
+    entered = told.entered ∙ halted;
+    keeps = keeps_all v w t told;
+    saw = told.hand.seen (λ c. is_halt b (sym halted ∙ c));
+    halt = told.hand.halt ∙ halted;
+  }
+
+  pub now_halted : (v w x : V) (t : Value) → Told d ends v w t → x ≡ rests (stops (or_no_memory w.halt) w) → IsHalted v x
+  now_halted v w x t told is = subst (IsHalted v) (sym is) record {
+    keeps = ((told.start, told.group, told.parts), told.passes);
+    saw = refl;
+    halt = ap or_no_memory (told.hand.halt ∙ sym told.entered);
+    entry = sym told.found;
+  }
+
+  pub has_forked : (v w x : V) (t t' : Value) (k n : ℕ) (c : R) → Told d ends v w t → t.state ≡ All → HasFork d ends v k c → d.runner_group c ≡ w.group
+      → Next d ends t' (t.schedule.items ++ k ∷ []) (t.revisions.slots.items ++ Ready c ∷ []) (t.revisions.forkers.items ++ k ∷ []) All
+      → n ≡ length t.revisions.slots.items → x ≡ rests (commits k w) → Forked d ends v x k c n
+  has_forked v w x t t' k n c told none event group next number is = subst (λ y. Forked d ends v y k c n) (sym is) record {
+    free = told.entered ∙ none;
+    keeps = keeps_commit d ends v w t k told;
+    entry = ap (λ l. l ++ k ∷ []) (sym told.found);
+    next = number ∙ (sym (length_says t.revisions.slots.items) ∙ sym (ap length told.said));
+    forker = λ p. subst (λ m. HasState d ends (rests (commits k w)) k (p.4.forker m)) (sym number) (forked d ends v w t t' k c told none p group next).1;
+    child = subst (λ m. ForkedAs d ends (rests (commits k w)) k m c) (sym number) (forked d ends v w t t' k c told none event group next).2;
+  }
+
+  pub took_in : (v w x : V) (t t' : Value) (k : ℕ) (a : A) (e : E) → Told d ends v w t → t.state ≡ All → HasJoin d ends v k a → at_number t.revisions.slots.items (d.on a) ≡ Some (Over e)
+      → Next d ends t' (t.schedule.items ++ k ∷ []) (put_number t.revisions.slots.items (d.on a) Gone) t.revisions.forkers.items All → x ≡ rests (commits k w) → TookIn d ends v x k (d.joined a e)
+  took_in v w x t t' k a e told none event over next is = subst (λ y. TookIn d ends v y k (d.joined a e)) (sym is) record {
+    free = told.entered ∙ none;
+    keeps = keeps_commit d ends v w t k told;
+    entry = ap (λ l. l ++ k ∷ []) (sym told.found);
+    state = (joined d ends v w t t' k a e told none event over next).1;
+  }
+
+  pub waited : (v w x : V) (t : Value) (k : ℕ) (a : A) → Told d ends v w t → t.state ≡ All → ended_here (at_number t.revisions.slots.items (d.on a)) ≡ false → x ≡ rests (hands_in k w) → Waited d ends v x k a
+  waited v w x t k a told none not_ended is = subst (λ y. Waited d ends v y k a) (sym is) record {
+    free = told.entered ∙ none;
+    keeps = keeps_in d ends v w t k told;
+    entry = sym told.found;
+    unfinished = where_waits w.said t.revisions.slots.items (d.on a) told.said not_ended;
+  }
+
+  pub met_twice : (v w x : V) (t : Value) (k : ℕ) (a : A) → Told d ends v w t → t.state ≡ All → at_number t.revisions.slots.items (d.on a) ≡ Some Gone → x ≡ rests (stops Twice (commits k w)) → MetTwice d ends v x k a
+  met_twice v w x t k a told none gone is = subst (λ y. MetTwice d ends v y k a) (sym is) record {
+    free = told.entered ∙ none;
+    keeps = keeps_commit d ends v w t k told;
+    entry = ap (λ l. l ++ k ∷ []) (sym told.found);
+    joined = where_run w.said t.revisions.slots.items (d.on a) Gone told.said gone;
+    halt = refl;
+    saw = refl;
+  }
+
+  pub ended_leg : (v w x : V) (t : Value) (k : ℕ) → Told d ends v w t → t.state ≡ All → x ≡ rests (hands_in k (commits k w)) → EndedSays d ends v x k false
+  ended_leg v w x t k told none is = subst (λ y. EndedSays d ends v y k false) (sym is) record {
+    free = told.entered ∙ none;
+    keeps = keeps_end d ends v w t k told;
+    entry = ap (λ l. l ++ k ∷ []) (sym told.found);
+  }
+
+  pub ended_trap : (v w x : V) (t : Value) (k : ℕ) → Told d ends v w t → t.state ≡ All → x ≡ rests (hands_in k w) → EndedSays d ends v x k true
+  ended_trap v w x t k told none is = subst (λ y. EndedSays d ends v y k true) (sym is) record {
+    free = told.entered ∙ none;
+    keeps = keeps_in d ends v w t k told;
+    entry = sym told.found;
+  }
+
+  module _ {C S : Type 0} (claims : C → L) (halts : S → L) (by : S → Bool) (claimed : C → List ℕ) (halted : S → List ℕ) where
+    pub takes_says : (v x : V) (slots : List (Status R A E)) (k : ℕ) (a : A) (e : E) (r : JoinAnswer A C S) → TakesIn d ends claims halts by claimed halted a e r → TookIn d ends v x k (d.joined a e)
+        → d.joiner_group a ≡ x.group → x.said ≡ says d ends slots → at_number slots (d.on a) ≡ Some (Over e) → JoinSays d ends claims halts by claimed halted v x k a r
+    takes_says v x slots k a e (join.Claimed c) h s g m is = (subst (TookIn d ends v x k) (sym h.0) s, where_run x.said slots (d.on a) (Over e) m is ∙ ap (λ b. Some (cond b mark.Trapped mark.Done)) h.1, h.2 ∙ g)
+    takes_says v x slots k a e join.Waits h s g m is = absurd h
+    takes_says v x slots k a e (join.Twice b) h s g m is = absurd h
+    takes_says v x slots k a e (join.Trapped c) h s g m is = (subst (TookIn d ends v x k) (sym h.0) s, where_run x.said slots (d.on a) (Over e) m is ∙ ap (λ b. Some (cond b mark.Trapped mark.Done)) h.1, h.2, h.3, h.4 ∙ g)
+    takes_says v x slots k a e (join.Dropped b) h s g m is = (h.0, where_run x.said slots (d.on a) (Over e) m is ∙ ap (λ c. Some (cond c mark.Trapped mark.Done)) h.1, h.2, (e, h.1, s))
+    takes_says v x slots k a e (join.OutOfMemory b) h s g m is = absurd h

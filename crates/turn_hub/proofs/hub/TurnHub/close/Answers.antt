@@ -1,0 +1,22 @@
+use Rattle.std.proofs.Common.{sym, ap, ◌∙◌, subst, map}
+use Rattle.turn_hub.specs.Passes.{named}
+use Rattle.turn_hub.specs.Views.{first_of}
+use Rattle.turn_hub.specs.Closing.{IsClosed, held_by}
+use Rattle.turn_hub.proofs.Closes.{leaves}
+use Rattle.turn_hub.proofs.hub.TurnHub.close.Goals as goal
+
+pub returns-clause-state : goal.returns-clause-state
+returns-clause-state g c = c.take_out-schedule.ensures.state ∙ (ap (λ m. m.0.halt) c.tell-witness.ensures.own.1 ∙ c.gather_all-all.ensures.halt)
+
+pub returns-clause-run : goal.returns-clause-run
+returns-clause-run g c =
+    let t = c.take_out-schedule.result in
+    subst (λ f. IsClosed g.L.Revision.machine g.L.Revision.ends (first_of c.args.self.turn.shared.key.views) t.state t.schedule.items f.items c.part-ends.result.ends.items c.part-ends.result.kept.items (λ n. held_by n (map (λ s. s.place) c.args.seats.items))) (sym c.part-ends.ensures.forkers)
+    (leaves g.L.Revision.machine g.L.Revision.ends (first_of c.args.self.turn.shared.key.views) c.tell-witness.new.place.me.0 t c.take_out-schedule.ensures _ _ _ c.part-ends.ensures.ends c.part-ends.ensures.kept
+    (λ n. ap (λ m. named n m.0.passes) c.tell-witness.ensures.own.1 ∙ c.gather_all-all.ensures.passes n))
+
+pub returns-clause-start : goal.returns-clause-start
+returns-clause-start g c = c.tell-witness.ensures.told ∙ (sym (ap (λ m. m.0.start) c.tell-witness.ensures.own.1) ∙ c.take_out-schedule.ensures.same.0)
+
+pub returns-clause-group : goal.returns-clause-group
+returns-clause-group g c = c.tell-witness.ensures.group ∙ (sym (ap (λ m. m.0.group) c.tell-witness.ensures.own.1) ∙ c.take_out-schedule.ensures.same.1)

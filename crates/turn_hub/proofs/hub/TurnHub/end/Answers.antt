@@ -1,0 +1,75 @@
+use Rattle.std.proofs.Common.{rules, ◌≡◌, refl, true, false, ◌++◌, ◌∷◌, [], sym, ap, ◌∙◌, subst, MatchBool}
+use Rattle.revision_machine.specs.Numbered.{at_number, put_number}
+use Rattle.hub_algebra.specs.declared.status.Status.TheVariants.{Over}
+use Rattle.turn_hub.specs.declared.state.HubState.TheVariants.{All}
+use Rattle.turn_hub.specs.Views.{rests, hands_in}
+use Rattle.turn_hub.specs.Seats.{HasTrap, HasEnd}
+use Rattle.turn_hub.specs.Answers.{EndedSays}
+use Rattle.turn_hub.proofs.Turns.{ended, handed_in, moved_hand, same_hand, has_pass, still_out, named_again}
+use Rattle.turn_hub.proofs.Says.{ended_leg, ended_trap}
+use Rattle.turn_hub.proofs.hub.TurnHub.end.Goals as goal
+
+pub put_back-requires : goal.put_back-requires
+put_back-requires g c =
+    let by : g.L.Revision.by_join c.args.end ≡ true = search rules in
+    let event = subst (λ b. MatchBool b (HasTrap g.L.Revision.machine g.L.Revision.ends c.args.seat.now.place.me.0 c.args.of c.args.end) (HasEnd g.L.Revision.machine g.L.Revision.ends c.args.seat.now.place.me.0 c.args.of c.args.end)) by c.requires.event in
+    still_out _ _ _ _ _ _ _ c.enter-turn.ensures.told event.3
+
+pub hand_in-requires-clause-has : goal.hand_in-requires-clause-has
+hand_in-requires-clause-has g c =
+    let by : g.L.Revision.by_join c.args.end ≡ true = search rules in
+    let event = subst (λ b. MatchBool b (HasTrap g.L.Revision.machine g.L.Revision.ends c.args.seat.now.place.me.0 c.args.of c.args.end) (HasEnd g.L.Revision.machine g.L.Revision.ends c.args.seat.now.place.me.0 c.args.of c.args.end)) by c.requires.event in
+    let told = c.enter-turn.ensures.told in (told.hand.has, has_pass _ _ _ _ _ _ _ told event.3)
+
+pub put_home-requires-clause-hand : goal.put_home-requires-clause-hand
+put_home-requires-clause-hand g c =
+    let none : c.enter-turn.result.state ≡ All = search rules in
+    let by : g.L.Revision.by_join c.args.end ≡ true = search rules in
+    let event = subst (λ b. MatchBool b (HasTrap g.L.Revision.machine g.L.Revision.ends c.args.seat.now.place.me.0 c.args.of c.args.end) (HasEnd g.L.Revision.machine g.L.Revision.ends c.args.seat.now.place.me.0 c.args.of c.args.end)) by c.requires.event in
+    moved_hand _ _ _ _ _ (handed_in _ _ _ _ c.enter-turn.result _ _ _ c.enter-turn.ensures.told none event (refl, c.put_back.ensures.now, c.put_back.ensures.forkers, none)) (ap (λ m. m.0) c.hand_in.ensures.after)
+
+pub returns-then-is_by_join-clause-ok : goal.returns-then-is_by_join-clause-ok
+returns-then-is_by_join-clause-ok g c =
+    let none : c.enter-turn.result.state ≡ All = search rules in
+    let by : g.L.Revision.by_join c.args.end ≡ true = search rules in
+    let e = ap (λ m. m.0) c.put_home.ensures.rests ∙ ap (λ m. rests m.0) c.hand_in.ensures.after in
+    subst (EndedSays g.L.Revision.machine g.L.Revision.ends c.args.seat.now.place.me.0 c.put_home.new.place.me.0 c.args.of) (sym by) (ended_trap _ _ _ _ _ c.enter-turn.result _ c.enter-turn.ensures.told none e)
+
+pub put_home_halted-requires-then-not-enter-clause-hand : goal.put_home_halted-requires-then-not-enter-clause-hand
+put_home_halted-requires-then-not-enter-clause-hand g c =
+    let same = c.enter.ensures.same in
+    let less : c.enter.new.self.schedule.items ≡ c.enter-turn.result.schedule.items = search rules in
+    same_hand _ _ _ c.enter-turn.result _ c.enter-turn.ensures.told.hand (less, ap (λ r. r.slots.items) same.0, ap (λ r. r.forkers.items) same.0, same.1)
+
+pub put_back-requires-2 : goal.put_back-requires-2
+put_back-requires-2 g c =
+    let by : g.L.Revision.by_join c.args.end ≡ false = search rules in
+    let event = subst (λ b. MatchBool b (HasTrap g.L.Revision.machine g.L.Revision.ends c.args.seat.now.place.me.0 c.args.of c.args.end) (HasEnd g.L.Revision.machine g.L.Revision.ends c.args.seat.now.place.me.0 c.args.of c.args.end)) by c.requires.event in
+    ap (λ r. at_number r.slots.items c.args.of) c.enter.ensures.same.0 ∙ still_out _ _ _ _ _ _ _ c.enter-turn.ensures.told event.3
+
+pub commit-requires-clause-has : goal.commit-requires-clause-has
+commit-requires-clause-has g c =
+    let by : g.L.Revision.by_join c.args.end ≡ false = search rules in
+    let event = subst (λ b. MatchBool b (HasTrap g.L.Revision.machine g.L.Revision.ends c.args.seat.now.place.me.0 c.args.of c.args.end) (HasEnd g.L.Revision.machine g.L.Revision.ends c.args.seat.now.place.me.0 c.args.of c.args.end)) by c.requires.event in
+    let told = c.enter-turn.ensures.told in (told.hand.has, has_pass _ _ _ _ _ _ _ told event.3)
+
+pub hand_in-requires-2-clause-has : goal.hand_in-requires-2-clause-has
+hand_in-requires-2-clause-has g c = let v = ap (λ m. m.0) c.commit.ensures.after in (ap (λ v. v.has) v ∙ c.enter-turn.ensures.told.hand.has, named_again _ _ _ v)
+
+pub put_home-requires-2-clause-hand : goal.put_home-requires-2-clause-hand
+put_home-requires-2-clause-hand g c =
+    let none : c.enter-turn.result.state ≡ All = search rules in
+    let by : g.L.Revision.by_join c.args.end ≡ false = search rules in
+    let event = subst (λ b. MatchBool b (HasTrap g.L.Revision.machine g.L.Revision.ends c.args.seat.now.place.me.0 c.args.of c.args.end) (HasEnd g.L.Revision.machine g.L.Revision.ends c.args.seat.now.place.me.0 c.args.of c.args.end)) by c.requires.event in
+    let same = c.enter.ensures.same in
+    let more : c.enter.new.self.schedule.items ≡ c.enter-turn.result.schedule.items ++ c.args.of ∷ [] = search rules in
+    let now = c.put_back-2.ensures.now ∙ ap (λ r. put_number r.slots.items c.args.of (Over c.args.end)) same.0 in
+    let forkers = c.put_back-2.ensures.forkers ∙ ap (λ r. r.forkers.items) same.0 in
+    moved_hand _ _ _ _ _ (ended _ _ _ _ c.enter-turn.result _ _ _ c.enter-turn.ensures.told none event (more, now, forkers, same.1 ∙ none)) (ap (λ m. m.0) c.hand_in-2.ensures.after ∙ ap (λ m. hands_in c.args.of m.0) c.commit.ensures.after)
+
+pub returns-clause-ok : goal.returns-clause-ok
+returns-clause-ok g c =
+    let none : c.enter-turn.result.state ≡ All = search rules in
+    let by : g.L.Revision.by_join c.args.end ≡ false = search rules in
+    let e = ap (λ m. m.0) c.put_home-2.ensures.rests ∙ (ap (λ m. rests m.0) c.hand_in-2.ensures.after ∙ ap (λ m. rests (hands_in c.args.of m.0)) c.commit.ensures.after) in
+    subst (EndedSays g.L.Revision.machine g.L.Revision.ends c.args.seat.now.place.me.0 c.put_home-2.new.place.me.0 c.args.of) (sym by) (ended_leg _ _ _ _ _ c.enter-turn.result _ c.enter-turn.ensures.told none e)

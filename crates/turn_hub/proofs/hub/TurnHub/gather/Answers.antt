@@ -1,0 +1,6 @@
+use Rattle.std.proofs.Common.{rules}
+use Rattle.turn_hub.proofs.Keeps.{gather}
+use Rattle.turn_hub.proofs.hub.TurnHub.gather.Goals as goal
+
+pub join_seat-requires : goal.join_seat-requires
+join_seat-requires g c = let r = c.requires in (r.0, r.2, r.3.1, search rules, gather _ _ _ _ _ _ _ r.1.0 r.3.0 r.1.2)

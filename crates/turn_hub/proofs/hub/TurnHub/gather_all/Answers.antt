@@ -1,0 +1,62 @@
+use Rattle.std.proofs.Common.{rules, ◌≡◌, [], ◌∷◌, ◌++◌, length, map, option_to_list, sym, ap, ◌∙◌, subst, arith}
+use Rattle.turn_hub.specs.Passes.{named}
+use Rattle.turn_hub.specs.Views.{either_saw, either_halt}
+use Rattle.turn_hub.specs.Seats.{AreOf}
+use Rattle.turn_hub.specs.Closing.{saw_of, halt_known, held_by}
+use Rattle.turn_hub.proofs.Rows.{are_front, saw_last, saw_first, halt_last, halt_next, held_more, named_both, many_more, map_items}
+use Rattle.turn_hub.proofs.hub.TurnHub.gather_all.Goals as goal
+
+pub loop-init : goal.loop-init
+loop-init g c =
+    let items : c.args.seats.items ≡ c.pop.new.self.items ++ c.unwrap-first.result ∷ [] = c.pop.ensures.items ∙ ap (λ o. c.pop.new.self.items ++ option_to_list o) c.unwrap-first.ensures in
+    let places = map_items _ _ _ items (λ s. s.place) in
+    let f = are_front _ _ _ (subst (AreOf c.args.self.now.turn.shared.table_id) places c.requires.own) in
+    let one = c.unwrap-first.result.idle in
+    let parts = one.2 in
+    let len = ap length items ∙ many_more c.pop.new.self.items c.unwrap-first.result in (
+      f.1,
+      one.0,
+      one.1,
+      omega arith,
+      omega arith,
+      search rules,
+      f.0,
+      (λ h. saw_first (map (λ s. s.place) c.pop.new.self.items) c.unwrap-first.result.place (ap saw_of (sym places) ∙ h)),
+      sym (halt_last (map (λ s. s.place) c.pop.new.self.items) c.unwrap-first.result.place) ∙ ap halt_known (sym places),
+      (λ n. let a = held_more n (map (λ s. s.place) c.pop.new.self.items) c.unwrap-first.result.place in let b = ap (held_by n) places in omega arith),
+    )
+
+pub gather-requires : goal.gather-requires
+gather-requires g c =
+    let i = c.loop.invariant in
+    let items : c.loop.rest.items ≡ c.pop-in-loop.new.self.items ++ c.unwrap-seat.result ∷ [] = c.pop-in-loop.ensures.items ∙ ap (λ o. c.pop-in-loop.new.self.items ++ option_to_list o) c.unwrap-seat.ensures in
+    let places = map_items _ _ _ items (λ s. s.place) in
+    let f = are_front _ _ _ (subst (AreOf c.args.self.now.turn.shared.table_id) places i.6) in
+    let one = c.unwrap-seat.result.idle in
+    let parts = one.2 in
+    (i.0, (i.1, i.2, i.3), f.1, (one.0, one.1, omega arith))
+
+pub loop-preserved : goal.loop-preserved
+loop-preserved g c =
+    let i = c.loop.invariant in
+    let items : c.loop.rest.items ≡ c.pop-in-loop.new.self.items ++ c.unwrap-seat.result ∷ [] = c.pop-in-loop.ensures.items ∙ ap (λ o. c.pop-in-loop.new.self.items ++ option_to_list o) c.unwrap-seat.ensures in
+    let places = map_items _ _ _ items (λ s. s.place) in
+    let f = are_front _ _ _ (subst (AreOf c.args.self.now.turn.shared.table_id) places i.6) in
+    let one = c.unwrap-seat.result.idle in
+    let its_parts = one.2 in
+    let len = ap length items ∙ many_more c.pop-in-loop.new.self.items c.unwrap-seat.result in
+    let me = c.gather.ensures.1 in
+    let parts = ap (λ m. m.0.parts) me in
+    let sum = i.4 in
+    let count = i.5 in (
+      c.gather.ensures.0 ∙ i.0,
+      ap (λ m. m.0.has) me,
+      ap (λ m. m.1) me,
+      (let some = i.3 in omega arith),
+      omega arith,
+      omega arith,
+      f.0,
+      (λ h. ap (λ m. either_saw m.0.saw (saw_of (map (λ s. s.place) c.pop-in-loop.new.self.items))) me ∙ saw_last c.loop.all.me.0.saw (map (λ s. s.place) c.pop-in-loop.new.self.items) c.unwrap-seat.result.place (ap (λ l. either_saw c.loop.all.me.0.saw (saw_of l)) (sym places) ∙ i.7 h)),
+      ap (λ m. either_halt m.0.halt (halt_known (map (λ s. s.place) c.pop-in-loop.new.self.items))) me ∙ (halt_next c.loop.all.me.0.halt (map (λ s. s.place) c.pop-in-loop.new.self.items) c.unwrap-seat.result.place ∙ (ap (λ l. either_halt c.loop.all.me.0.halt (halt_known l)) (sym places) ∙ i.8)),
+      (λ n. let a = held_more n (map (λ s. s.place) c.pop-in-loop.new.self.items) c.unwrap-seat.result.place in let b = ap (held_by n) places in let p = ap (λ m. named n m.0.passes) me in let q = named_both n c.loop.all.me.0.passes c.unwrap-seat.result.place.me.0.passes in let r = i.9 n in omega arith),
+    )

@@ -1,0 +1,15 @@
+use Rattle.std.proofs.Common.{◌≡◌, ◌+◌, ◌<◌, ℕ, [], length, map}
+use Rattle.turn_hub.specs.Passes.{named}
+use Rattle.turn_hub.specs.Views.{either_saw, either_halt}
+use Rattle.turn_hub.specs.Seats.{AreOf}
+use Rattle.turn_hub.specs.Closing.{saw_of, halt_known, held_by}
+use Rattle.turn_hub.proofs.hub.TurnHub.gather_all.Given as goal
+
+abbrev pub invariant-loop : goal.invariant-loop
+invariant-loop g l =
+    (l.all.table_id ≡ l.self.turn.shared.table_id) × (l.all.me.0.has ≡ 0) × (l.all.me.1 ≡ []) × (0 < l.all.me.0.parts)
+    × (l.all.me.0.parts + length l.rest.items ≡ length l.fn.seats.items) × (length l.rest.items + l.counter ≡ l.count)
+    × AreOf l.self.turn.shared.table_id (map (λ s. s.place) l.rest.items)
+    × (saw_of (map (λ s. s.place) l.fn.seats.items) ≡ 1 → either_saw l.all.me.0.saw (saw_of (map (λ s. s.place) l.rest.items)) ≡ 1)
+    × (either_halt l.all.me.0.halt (halt_known (map (λ s. s.place) l.rest.items)) ≡ halt_known (map (λ s. s.place) l.fn.seats.items))
+    × ((n : ℕ) → named n l.all.me.0.passes + held_by n (map (λ s. s.place) l.rest.items) ≡ held_by n (map (λ s. s.place) l.fn.seats.items))

@@ -1,0 +1,6 @@
+use Rattle.std.proofs.Common.{rules}
+use Rattle.turn_hub.proofs.Keeps.{hand_in}
+use Rattle.turn_hub.proofs.hub.TurnHub.hand_in.Goals as goal
+
+pub compare_exchange-requires : goal.compare_exchange-requires
+compare_exchange-requires g c = (c.requires.own, search rules, hand_in _ _ _ _ _ _ _ c.requires.has.0 c.requires.has.1)

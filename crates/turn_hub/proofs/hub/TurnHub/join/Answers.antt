@@ -1,0 +1,96 @@
+use Rattle.std.proofs.Common.{rules, ◌≡◌, refl, true, false, Some, ◌++◌, ◌∷◌, [], sym, ap, ◌∙◌}
+use Rattle.revision_machine.specs.Numbered.{at_number, put_number}
+use Rattle.hub_algebra.specs.declared.status.Status.TheVariants.{Over, Gone}
+use Rattle.turn_hub.specs.declared.value.Turn.{Turn}
+use Rattle.turn_hub.specs.declared.state.HubState.TheVariants.{All, Twice}
+use Rattle.turn_hub.specs.Views.{rests, stops}
+use Rattle.turn_hub.specs.Found.{ended_here}
+use Rattle.turn_hub.proofs.Turns.{waits, joined, twice, moved_hand, same_hand, has_pass, still_out}
+use Rattle.turn_hub.proofs.Says.{took_in, takes_says, waited, met_twice, now_halted}
+use Rattle.turn_hub.proofs.hub.TurnHub.join.Goals as goal
+
+pub put_back-requires : goal.put_back-requires
+put_back-requires g c = still_out _ _ _ _ _ _ _ c.enter-turn.ensures.told c.requires.event.3
+
+pub hand_in-requires-clause-has : goal.hand_in-requires-clause-has
+hand_in-requires-clause-has g c = let told = c.enter-turn.ensures.told in (told.hand.has, has_pass _ _ _ _ _ _ _ told c.requires.event.3)
+
+pub put_home-requires-clause-hand : goal.put_home-requires-clause-hand
+put_home-requires-clause-hand g c =
+    let none : c.enter-turn.result.state ≡ All = search rules in
+    let told = c.enter-turn.ensures.told in
+    moved_hand _ _ _ _ _ (waits _ _ _ _ c.enter-turn.result _ _ _ told none c.requires.event (c.requires.group ∙ sym told.group) (refl, c.put_back.ensures.now, c.put_back.ensures.forkers, none)) (ap (λ m. m.0) c.hand_in.ensures.after)
+
+pub returns-then-not-has_ended-clause-answer : goal.returns-then-not-has_ended-clause-answer
+returns-then-not-has_ended-clause-answer g c =
+    let none : c.enter-turn.result.state ≡ All = search rules in
+    let not_ended : ended_here (at_number c.enter-turn.result.revisions.slots.items (g.L.Revision.machine.on c.args.at)) ≡ false = search rules in
+    waited _ _ _ _ _ c.enter-turn.result _ _ c.enter-turn.ensures.told none not_ended (ap (λ m. m.0) c.put_home.ensures.rests ∙ ap (λ m. rests m.0) c.hand_in.ensures.after)
+
+pub commit-requires-clause-has : goal.commit-requires-clause-has
+commit-requires-clause-has g c = let told = c.enter-turn.ensures.told in (told.hand.has, has_pass _ _ _ _ _ _ _ told c.requires.event.3)
+
+pub join-requires : goal.join-requires
+join-requires g c =
+    let ended : ended_here (at_number c.enter-turn.result.revisions.slots.items (g.L.Revision.machine.on c.args.at)) ≡ true = search rules in
+    ap (λ r. ended_here (at_number r.slots.items c.on-on.result)) c.enter.ensures.same.0 ∙ (ap (λ n. ended_here (at_number c.enter-turn.result.revisions.slots.items n)) c.on-on.ensures ∙ ended)
+
+pub put_home-requires-in-Some-clause-hand : goal.put_home-requires-in-Some-clause-hand
+put_home-requires-in-Some-clause-hand g c =
+    let none : c.enter-turn.result.state ≡ All = search rules in
+    let same = c.enter.ensures.same in
+    let was : at_number c.enter-turn.result.revisions.slots.items (g.L.Revision.machine.on c.args.at) ≡ Some (Over c.in-Some.end) = search rules in
+    let now : c.join.new.self.slots.items ≡ put_number c.enter-turn.result.revisions.slots.items (g.L.Revision.machine.on c.args.at) Gone = search rules in
+    let more : c.enter.new.self.schedule.items ≡ c.enter-turn.result.schedule.items ++ c.args.of ∷ [] = search rules in
+    let forkers = c.join.ensures.forkers ∙ ap (λ r. r.forkers.items) same.0 in
+    moved_hand _ _ _ _ _ (joined _ _ _ _ c.enter-turn.result _ _ _ _ c.enter-turn.ensures.told none c.requires.event was (more, now, forkers, same.1 ∙ none)).0 (ap (λ m. m.0) c.commit.ensures.after)
+
+pub returns-in-Some-clause-answer : goal.returns-in-Some-clause-answer
+returns-in-Some-clause-answer g c =
+    let none : c.enter-turn.result.state ≡ All = search rules in
+    let told = c.enter-turn.ensures.told in
+    let same = c.enter.ensures.same in
+    let t' : Turn g.row.L-Runner.Denot g.row.L-AtJoin.Denot g.row.L-End.Denot = record { schedule = c.enter.new.self.schedule; revisions = c.join.new.self; state = c.enter.new.self.state } in
+    let was : at_number c.enter-turn.result.revisions.slots.items (g.L.Revision.machine.on c.args.at) ≡ Some (Over c.in-Some.end) = search rules in
+    let now : c.join.new.self.slots.items ≡ put_number c.enter-turn.result.revisions.slots.items (g.L.Revision.machine.on c.args.at) Gone = search rules in
+    let more : c.enter.new.self.schedule.items ≡ c.enter-turn.result.schedule.items ++ c.args.of ∷ [] = search rules in
+    let forkers = c.join.ensures.forkers ∙ ap (λ r. r.forkers.items) same.0 in
+    let e = ap (λ m. m.0) c.put_home-in-Some.ensures.rests ∙ ap (λ m. rests m.0) c.commit.ensures.after in
+    takes_says g.L.Revision.machine g.L.Revision.ends _ _ _ _ _ c.args.seat.now.place.me.0 c.put_home-in-Some.new.place.me.0 c.enter-turn.result.revisions.slots.items _ _ _ _ c.take_in.ensures
+    (took_in _ _ _ _ _ c.enter-turn.result t' _ _ _ told none c.requires.event was (more, now, forkers, same.1 ∙ none) e)
+    (c.requires.group ∙ (sym told.group ∙ sym (ap (λ v. v.group) e))) (ap (λ v. v.said) e ∙ told.said) was
+
+pub stop_twice-requires-clause-has : goal.stop_twice-requires-clause-has
+stop_twice-requires-clause-has g c =
+    let none : c.enter-turn.result.state ≡ All = search rules in
+    let told = c.enter-turn.ensures.told in
+    let v = ap (λ m. m.0) c.commit.ensures.after in
+    (ap (λ v. v.has) v ∙ told.hand.has, ap (λ v. v.halt) v ∙ (told.hand.halt ∙ none))
+
+pub put_home-requires-in-None-clause-hand : goal.put_home-requires-in-None-clause-hand
+put_home-requires-in-None-clause-hand g c =
+    let none : c.enter-turn.result.state ≡ All = search rules in
+    let same = c.enter.ensures.same in
+    let was : at_number c.enter-turn.result.revisions.slots.items (g.L.Revision.machine.on c.args.at) ≡ Some Gone = search rules in
+    let now : c.join.new.self.slots.items ≡ c.enter-turn.result.revisions.slots.items = search rules in
+    let more : c.enter.new.self.schedule.items ≡ c.enter-turn.result.schedule.items ++ c.args.of ∷ [] = search rules in
+    let forkers = c.join.ensures.forkers ∙ ap (λ r. r.forkers.items) same.0 in
+    moved_hand _ _ _ _ _ (twice _ _ _ _ c.enter-turn.result _ _ _ c.enter-turn.ensures.told none c.requires.event was (more, now, forkers, refl)) (ap (λ m. m.0) c.stop_twice.ensures.after ∙ ap (λ m. stops Twice m.0) c.commit.ensures.after)
+
+pub returns-in-None-clause-answer : goal.returns-in-None-clause-answer
+returns-in-None-clause-answer g c =
+    let none : c.enter-turn.result.state ≡ All = search rules in
+    let was : at_number c.enter-turn.result.revisions.slots.items (g.L.Revision.machine.on c.args.at) ≡ Some Gone = search rules in
+    (refl, met_twice _ _ _ _ _ c.enter-turn.result _ _ c.enter-turn.ensures.told none was (ap (λ m. m.0) c.put_home-in-None.ensures.rests ∙ (ap (λ m. rests m.0) c.stop_twice.ensures.after ∙ ap (λ m. rests (stops Twice m.0)) c.commit.ensures.after)))
+
+pub put_home_halted-requires-then-not-enter-clause-hand : goal.put_home_halted-requires-then-not-enter-clause-hand
+put_home_halted-requires-then-not-enter-clause-hand g c =
+    let same = c.enter.ensures.same in
+    let less : c.enter.new.self.schedule.items ≡ c.enter-turn.result.schedule.items = search rules in
+    same_hand _ _ _ c.enter-turn.result _ c.enter-turn.ensures.told.hand (less, ap (λ r. r.slots.items) same.0, ap (λ r. r.forkers.items) same.0, same.1)
+
+pub returns-then-is_some-clause-answer : goal.returns-then-is_some-clause-answer
+returns-then-is_some-clause-answer g c = (refl, now_halted _ _ _ _ _ c.enter-turn.result c.enter-turn.ensures.told (ap (λ m. m.0) c.put_home_halted.ensures.rests))
+
+pub returns-then-not-enter-clause-answer : goal.returns-then-not-enter-clause-answer
+returns-then-not-enter-clause-answer g c = (refl, now_halted _ _ _ _ _ c.enter-turn.result c.enter-turn.ensures.told (ap (λ m. m.0) c.put_home_halted-then-not-enter.ensures.rests))

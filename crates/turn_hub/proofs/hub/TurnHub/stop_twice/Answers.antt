@@ -1,0 +1,7 @@
+use Rattle.std.proofs.Common.{rules}
+use Rattle.turn_hub.specs.declared.state.HubState.TheVariants.{Twice}
+use Rattle.turn_hub.proofs.Keeps.{stop}
+use Rattle.turn_hub.proofs.hub.TurnHub.stop_twice.Goals as goal
+
+pub compare_exchange-requires : goal.compare_exchange-requires
+compare_exchange-requires g c = (c.requires.own, search rules, stop _ _ _ _ _ _ _ Twice c.requires.has.0 c.requires.has.1)

@@ -1,0 +1,22 @@
+use Rattle.std.proofs.Common.{rules, ◌≡◌, sym, ap, ◌∙◌, subst, Option, Some, None}
+use mathlib.Core.Option as m
+use Rattle.std.specs.Option.{IsSome}
+use Rattle.turn_hub.specs.Views.{first_of}
+use Rattle.turn_hub.specs.Closing.{ClosedTurn}
+use Rattle.turn_hub.proofs.Keeps.{home_at_end}
+use Rattle.turn_hub.proofs.Closes.{closes}
+use Rattle.turn_hub.proofs.hub.TurnHub.take_out.Goals as goal
+
+abbrev value_or : {T : Type 0} → T → Option T → T
+value_or d None = d
+value_or d (Some t) = t
+
+pub unwrap-requires : goal.unwrap-requires
+unwrap-requires g c = let f = c.close_with-closed.ensures.values.2 in let seen = f.1 in let t = home_at_end _ _ _ f.0 seen.0 _ _ seen.1 c.requires.own.1.0 c.requires.own.1.2 c.requires.every in
+    let is : c.take-value.result ≡ Some t.value = m.some-injective _ _ (sym c.take-value.ensures.value ∙ f.4 0 (Some t.value) t.home) in subst IsSome (sym is) (search rules)
+
+pub returns : goal.returns
+returns g c = let f = c.close_with-closed.ensures.values.2 in let seen = f.1 in let t = home_at_end _ _ _ f.0 seen.0 _ _ seen.1 c.requires.own.1.0 c.requires.own.1.2 c.requires.every in
+    let is : c.take-value.result ≡ Some t.value = m.some-injective _ _ (sym c.take-value.ensures.value ∙ f.4 0 (Some t.value) t.home) in
+    let same = ap (value_or t.value) (sym is ∙ c.unwrap.ensures) in
+    subst (ClosedTurn g.L.Revision.machine g.L.Revision.ends (first_of c.args.self.turn.shared.key.views) c.args.place.me.0) same (closes _ _ _ _ _ t c.requires.over)

@@ -1,0 +1,6 @@
+use Rattle.std.proofs.Common.{rules}
+use Rattle.turn_hub.proofs.Keeps.{tell}
+use Rattle.turn_hub.proofs.hub.TurnHub.tell.Goals as goal
+
+pub split_seat-requires : goal.split_seat-requires
+split_seat-requires g c = (c.requires.0, search rules, tell _ _ _ _ _ c.requires.1.0)

@@ -1,0 +1,137 @@
+-- What the answers of a hub tell, of the seat's view before a call and after it.
+--   TakenSays    of `take`: what is handed out, and where each answer comes
+--   Forked       of `fork`: the forker's and the child's state, and the entry
+--   JoinSays     of `join`
+--   EndedSays    of `end`
+--   IsHalted     a halt was entered, before the call or by it
+use Rattle.std.specs.Prelude.{◌≡◌, ℕ, Bool, true, false, Some, List, length, MatchBool}
+use Rattle.revision_machine.specs.Numbered.{at_number}
+use Rattle.hub_algebra.specs.HubMachine.{HubMachine}
+use Rattle.turn_hub.specs.declared.state.HubState.TheVariants.{All, Twice}
+use Rattle.turn_hub.specs.declared.view.View.{View}
+use Rattle.turn_hub.specs.declared.view.Said.TheVariants as mark
+use Rattle.turn_hub.specs.declared.answers.Taken.{Taken}
+use Rattle.turn_hub.specs.declared.answers.Taken.TheVariants as taken
+use Rattle.turn_hub.specs.declared.answers.JoinAnswer.{JoinAnswer}
+use Rattle.turn_hub.specs.declared.answers.JoinAnswer.TheVariants as join
+use Rattle.turn_hub.specs.Views.{ended_said, ready_said, all_said, halt_by, or_no_memory}
+use Rattle.turn_hub.specs.Seats.{HasState, HasFork, HasJoin, ForkedAs, KeepsAll, KeepsOthers, AddsEntry, AddsNone}
+
+module _ {L : Type 0} where
+  -- nothing was entered before this turn
+  abbrev pub IsFree : View L → Type 0
+  IsFree w = w.entered ≡ All
+
+  -- the seat knows of a halt, which is want of memory where none was entered before, and nothing else has changed
+  pub record IsHalted (v w : View L) : Type 0 where
+    pub keeps : KeepsAll v w
+    pub saw : w.saw ≡ 1
+    pub halt : w.halt ≡ or_no_memory w.entered
+    pub entry : AddsNone w
+
+module _ {L R A E : Type 0} (d : HubMachine L R A E) (ends : E → L → Type 0) where
+  -- no seat had the revision n; this one has its pass, with the state of the runner
+  pub record Ran (v w : View L) (n : ℕ) (r : R) : Type 0 where
+    pub free : IsFree w
+    pub keeps : KeepsOthers v w n
+    pub was : at_number w.said n ≡ Some mark.Ready
+    pub state : HasState d ends w n (d.runs r)
+    pub group : d.runner_group r ≡ w.group
+
+  -- the revision n waited for a joinee, which has ended
+  pub record Retried (v w : View L) (n : ℕ) (a : A) : Type 0 where
+    pub free : IsFree w
+    pub keeps : KeepsOthers v w n
+    pub was : at_number w.said n ≡ Some (mark.Waits (d.on a))
+    pub ended : ended_said (at_number w.said (d.on a)) ≡ true
+    pub event : HasJoin d ends w n a
+    pub group : d.joiner_group a ≡ w.group
+
+  pub record IsIdleNow (v w : View L) : Type 0 where
+    pub free : IsFree w
+    pub keeps : KeepsAll v w
+    pub unfinished : all_said w.said ≡ false
+    pub none_ready : (k : ℕ) → ready_said w.said (at_number w.said k) ≡ false
+
+  pub record IsFinished (v w : View L) : Type 0 where
+    pub free : IsFree w
+    pub keeps : KeepsAll v w
+    pub finished : all_said w.said ≡ true
+    pub saw : w.saw ≡ 1
+
+  pub record WasHalted (v w : View L) (twice : Bool) : Type 0 where
+    pub entered : w.entered ≡ halt_by twice
+    pub keeps : KeepsAll v w
+    pub saw : w.saw ≡ 1
+    pub halt : w.halt ≡ halt_by twice
+
+  abbrev pub TakenSays : View L → View L → Taken R A → Type 0
+  TakenSays v w (taken.Run n r) = Ran v w n r
+  TakenSays v w (taken.Retry n a) = Retried v w n a
+  TakenSays v w taken.Idle = IsIdleNow v w
+  TakenSays v w taken.Finished = IsFinished v w
+  TakenSays v w (taken.Halted twice) = WasHalted v w twice
+
+  -- one entry of the forker; the child's number is the next
+  pub record Forked (v w : View L) (k : ℕ) (c : R) (n : ℕ) : Type 0 where
+    pub free : IsFree w
+    pub keeps : KeepsOthers v w k
+    pub entry : AddsEntry w k
+    pub next : n ≡ length w.said
+    pub forker : (p : HasFork d ends v k c) → HasState d ends w k (p.4.forker n)
+    pub child : ForkedAs d ends w k n c
+
+  -- a joiner that has taken an end in, by one entry, is in this state
+  pub record TookIn (v w : View L) (k : ℕ) (l : L) : Type 0 where
+    pub free : IsFree w
+    pub keeps : KeepsOthers v w k
+    pub entry : AddsEntry w k
+    pub state : HasState d ends w k l
+
+  pub record Waited (v w : View L) (k : ℕ) (a : A) : Type 0 where
+    pub free : IsFree w
+    pub keeps : KeepsOthers v w k
+    pub entry : AddsNone w
+    pub unfinished : ended_said (at_number w.said (d.on a)) ≡ false
+
+  -- the last entry
+  pub record MetTwice (v w : View L) (k : ℕ) (a : A) : Type 0 where
+    pub free : IsFree w
+    pub keeps : KeepsOthers v w k
+    pub entry : AddsEntry w k
+    pub joined : at_number w.said (d.on a) ≡ Some mark.Joined
+    pub halt : w.halt ≡ Twice
+    pub saw : w.saw ≡ 1
+
+  module _ {C S : Type 0} (claims : C → L) (stops : S → L) (by : S → Bool) (claimed : C → List ℕ) (halted : S → List ℕ) where
+    abbrev pub JoinSays : View L → View L → ℕ → A → JoinAnswer A C S → Type 0
+    JoinSays v w k a (join.Claimed c) =
+        TookIn v w k (claims c) × (at_number w.said (d.on a) ≡ Some mark.Done)
+        × (claimed c ≡ w.group)
+    JoinSays v w k a join.Waits = Waited v w k a
+    JoinSays v w k a (join.Twice b) = (b ≡ a) × MetTwice v w k a
+    JoinSays v w k a (join.Trapped s) =
+        TookIn v w k (stops s) × (at_number w.said (d.on a) ≡ Some mark.Trapped)
+        × (d.is_try a ≡ false) × (by s ≡ true) × (halted s ≡ w.group)
+    JoinSays v w k a (join.Dropped b) =
+        (b ≡ a) × (at_number w.said (d.on a) ≡ Some mark.Trapped) × (d.is_try a ≡ true)
+        × ((e : E) × (d.trapped e ≡ true) × TookIn v w k (d.joined a e))
+    JoinSays v w k a (join.OutOfMemory b) = (b ≡ a) × IsHalted v w
+
+    -- how an end is taken in
+    abbrev pub TakesIn : A → E → JoinAnswer A C S → Type 0
+    TakesIn a e (join.Claimed c) =
+        (claims c ≡ d.joined a e) × (d.trapped e ≡ false) × (claimed c ≡ d.joiner_group a)
+    TakesIn a e join.Waits = ⊥
+    TakesIn a e (join.Twice b) = ⊥
+    TakesIn a e (join.Trapped s) =
+        (stops s ≡ d.joined a e) × (d.trapped e ≡ true) × (d.is_try a ≡ false) × (by s ≡ true)
+        × (halted s ≡ d.joiner_group a)
+    TakesIn a e (join.Dropped b) = (b ≡ a) × (d.trapped e ≡ true) × (d.is_try a ≡ true)
+    TakesIn a e (join.OutOfMemory b) = ⊥
+
+  -- an entry, unless a join had ended the revision
+  pub record EndedSays (v w : View L) (k : ℕ) (by_join : Bool) : Type 0 where
+    pub free : IsFree w
+    pub keeps : KeepsOthers v w k
+    pub entry : MatchBool by_join (AddsNone w) (AddsEntry w k)

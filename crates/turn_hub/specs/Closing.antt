@@ -1,0 +1,89 @@
+-- What a hub leaves at its close.
+--   saw_of, halt_known, held_by   what the seats saw and know, and the passes that they have
+--   Legal        the schedule is legal, or its last entry joined what was joined
+--   ClosedHub    the run: legal, with the ends, the forkers and what a halt left
+use Rattle.std.specs.Prelude.{◌≡◌, ℕ, true, List, [], ◌∷◌, ◌++◌, map, Option, Some}
+use Rattle.atomic_table.specs.declared.shared.Seat.{Seat}
+use Rattle.revision_machine.specs.Numbered.{Entries, Both, Listing, IsOver, at_number, paths_of}
+use Rattle.hub_algebra.specs.declared.status.Status.{Status}
+use Rattle.hub_algebra.specs.Replay.{replay}
+use Rattle.hub_algebra.specs.Forkers.{ForkersAre}
+use Rattle.hub_algebra.specs.Hub.{AllFit, EndsAre, end_of}
+use Rattle.hub_algebra.specs.HubMachine.{HubMachine, numbered, values}
+use Rattle.turn_hub.specs.declared.state.HubState.{HubState}
+use Rattle.turn_hub.specs.declared.state.HubState.TheVariants.{All, Twice, NoMemory}
+use Rattle.turn_hub.specs.declared.answers.Kept.{Kept}
+use Rattle.turn_hub.specs.declared.answers.Kept.TheVariants as left
+use Rattle.turn_hub.specs.declared.value.Turn.{Turn}
+use Rattle.turn_hub.specs.declared.view.View.{View}
+use Rattle.turn_hub.specs.Passes.{total, named}
+use Rattle.turn_hub.specs.Views.{either_saw, either_halt}
+use Rattle.turn_hub.specs.Left.{kept_of}
+use Rattle.turn_hub.specs.Rule.{is_out, is_over, Sound, AreOfGroup}
+
+module _ {L S : Type 0} where
+  -- 1 where one of them was answered Finished or Halted, or entered a halt
+  abbrev pub saw_of : List (Seat S (View L)) → ℕ
+  saw_of [] = 0
+  saw_of (s ∷ ss) = either_saw s.me.0.saw (saw_of ss)
+
+  -- the halt that one of them knows of
+  abbrev pub halt_known : List (Seat S (View L)) → HubState
+  halt_known [] = All
+  halt_known (s ∷ ss) = either_halt (halt_known ss) s.me.0.halt
+
+  -- how many of their passes name the revision
+  abbrev pub held_by : ℕ → List (Seat S (View L)) → ℕ
+  held_by n = total (λ s. named n s.me.0.passes)
+
+module _ {L R A E : Type 0} (d : HubMachine L R A E) (ends : E → L → Type 0) where
+  -- what the slot has at the end, by the view of all seats together
+  pub record ClosedTurn (first v : View L) (t : Turn R A E) : Type 0 where
+    pub start : L
+    pub begun : first.start ≡ Some start
+    pub sound : Sound d ends start t.state t.schedule.items t.revisions.slots.items t.revisions.forkers.items
+    pub grouped : AreOfGroup d ends first.group t.revisions.slots.items
+    pub outs : (n : ℕ) → is_out (at_number t.revisions.slots.items n) ≡ named n v.passes
+    pub state : t.state ≡ v.halt
+    pub over : is_over t ≡ true
+    pub same : (v.start ≡ first.start) × (v.group ≡ first.group)
+
+  -- the schedule leads to the world, or in Twice from there by one entry to the join that entered it
+  abbrev pub Legal : L → HubState → List ℕ → Entries L → Type 0
+  Legal start All schedule world = replay (numbered d) start schedule ≡ Some (Listing world)
+  Legal start NoMemory schedule world = replay (numbered d) start schedule ≡ Some (Listing world)
+  Legal start Twice schedule world =
+      (before : List ℕ) × (last : ℕ) × (schedule ≡ before ++ last ∷ [])
+      × (replay (numbered d) start before ≡ Some (Listing world))
+      × (replay (numbered d) start schedule ≡ Some Both)
+
+  abbrev pub AreKeptOf : List ℕ → List (Kept R A) → Type 0
+  AreKeptOf group [] = Unit {0}
+  AreKeptOf group (left.Run r ∷ kept) = (d.runner_group r ≡ group) × AreKeptOf group kept
+  AreKeptOf group (left.Join a ∷ kept) = (d.joiner_group a ≡ group) × AreKeptOf group kept
+
+  pub record ClosedHub
+      (start : L) (group : List ℕ) (state : HubState) (schedule forkers : List ℕ) (ended : List (Option E))
+      (kept : List (Kept R A)) (taken : ℕ → ℕ) : Type 0 where
+    pub world : Entries L
+    pub legal : Legal start state schedule world
+    -- of each revision of the world, the number that forked it
+    pub forked : ForkersAre (paths_of world) forkers
+    -- where no halt was entered, the schedule is complete, and the ends are those of the revisions without the mark
+    pub complete :
+        state ≡ All
+        → IsOver (numbered d) start (Listing world) × EndsAre (numbered d) (values d ends) ended world × (kept ≡ [])
+    -- what is left of each revision: its end, or itself, or a seat has it
+    pub slots : List (Status R A E)
+    pub fits : AllFit (numbered d) (values d ends) slots world
+    pub taken_are : (n : ℕ) → is_out (at_number slots n) ≡ taken n
+    pub ends_are : ended ≡ map end_of slots
+    pub kept_are : kept ≡ kept_of slots
+    pub grouped : AreKeptOf group kept
+
+  -- the hub began somewhere, and this is what it leaves
+  abbrev pub IsClosed :
+      View L → HubState → List ℕ → List ℕ → List (Option E) → List (Kept R A) → (ℕ → ℕ) → Type 0
+  IsClosed first state schedule forkers ended kept taken =
+      (start : L) × (first.start ≡ Some start)
+      × ClosedHub start first.group state schedule forkers ended kept taken

@@ -1,0 +1,42 @@
+//! What the calls of a hub answer.
+
+/// What a seat is given.
+#[derive(Drop)]
+pub enum Taken<R, A> {
+    /// A revision before its leg.
+    Run { number: u32, runner: R },
+    /// A joiner whose joinee has ended.
+    Retry { number: u32, at: A },
+    /// Nothing is ready, and something is unfinished.
+    Idle,
+    /// Nothing is unfinished.
+    Finished,
+    /// A halt was entered: Twice, or want of memory.
+    Halted { twice: bool },
+}
+
+/// How a join came out.
+#[derive(Drop)]
+pub enum JoinAnswer<A, C, S> {
+    /// The joinee's end is taken in.
+    Claimed(C),
+    /// The joinee has not ended, and the hub keeps the joiner.
+    Waits,
+    /// The joinee was joined before.
+    Twice(A),
+    /// The joinee ended by a trap.
+    Trapped(S),
+    /// The joinee ended by a trap, which the joiner outlives.
+    Dropped(A),
+    /// Want of memory, or a halt that was entered before.
+    OutOfMemory(A),
+}
+
+/// What a halt left of a revision.
+#[derive(Drop)]
+pub enum Kept<R, A> {
+    /// A revision before its leg.
+    Run(R),
+    /// A joiner.
+    Join(A),
+}

@@ -1,0 +1,19 @@
+//! A thread's seat at a hub.
+ghost use Rattle.std.specs.Prelude.{◌≡◌, []};
+
+use crate::revision::Revision;
+use crate::value::Turn;
+use crate::view::View;
+use atomic_table::Seat;
+
+/// A seat at the table of a hub.
+pub type Place<L> = Seat<
+    Option<Turn<<L as Revision>::Runner, <L as Revision>::AtJoin, <L as Revision>::End>>,
+    View<<L as Revision>::State>,
+>;
+
+/// A thread's right to take part in a hub. It has not the turn between two calls.
+pub struct HubSeat<L: Revision> {
+    pub(crate) place: Place<L>,
+    ghost idle: { (place.me.0.has ≡ 0) × (place.me.1 ≡ []) × (place.me.0.parts ≡ 1) },
+}

@@ -1,0 +1,12 @@
+//! How far a hub is.
+
+/// Whether a halt was entered, and which was entered first.
+#[derive(Clone, Copy, PartialEq, Eq, Debug)]
+pub enum HubState {
+    /// None.
+    All,
+    /// A revision was joined a second time.
+    Twice,
+    /// There was no memory, or a caller gave up.
+    NoMemory,
+}
