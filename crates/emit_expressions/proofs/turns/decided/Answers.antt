@@ -1,0 +1,13 @@
+use Rattle.std.proofs.Common.{ap}
+use Rattle.rev_syntax.specs.View.{links}
+use Rattle.emit_expressions.specs.Naming.{numbers_of}
+use Rattle.emit_expressions.specs.Work.{linked}
+use Rattle.emit_expressions.proofs.Forms.{decided_written}
+use Rattle.emit_expressions.proofs.turns.decided.Goals as goal
+
+pub returns-clause-meaning : goal.returns-clause-meaning
+returns-clause-meaning c =
+    let n = numbers_of c.args.known.now.numbers.now in let s = c.args.known.now.scope.now in
+    ap (λ l. linked n s (links c.args.rest.now) l)
+    (decided_written n s c.args.test c.args.by c.args.code.now.items c.put.new.code.items c.put-2.new.code.items c.patch.new.code.items c.here-end.result c.here-to.result c.decides.result
+    c.here-end.ensures c.in_ok-put.ensures c.here-to.ensures c.in_ok-put-2.ensures c.decides.ensures c.patch.ensures)
