@@ -7,5 +7,6 @@ pub mod ReadBack
 pub mod Spelled
 pub mod FileRead
 pub mod OneFile
+pub mod EachRead
 pub mod Joined
 pub mod Accepted

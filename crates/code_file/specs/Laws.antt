@@ -1,5 +1,5 @@
 -- Which code has a file, and the laws of files.
-use Rattle.std.specs.Prelude.{◌≡◌, ℕ, ◌<◌, true, List, [], All, get_or}
+use Rattle.std.specs.Prelude.{◌≡◌, ◌≢◌, ◌⊎◌, ℕ, ◌<◌, true, List, [], All, get_or}
 use Rattle.rev_num.specs.Arith.{fits_i64}
 use Rattle.rev_code.specs.declared.code.Code.{Code}
 use Rattle.rev_code.specs.declared.code.CodeVar.{CodeVar}
@@ -10,6 +10,7 @@ use Rattle.rev_code.specs.declared.code.Instr.{Instr}
 use Rattle.rev_code.specs.declared.code.Instr.TheVariants as i
 use Rattle.code_rules.specs.Tables.{has_cells, is_name, is_start}
 use Rattle.code_file.specs.declared.fault.ReadFault.{ReadFault}
+use Rattle.code_file.specs.declared.fault.ReadFault.TheVariants as fault
 use Rattle.code_rules.specs.Verdict.{first_fault}
 use Rattle.code_file.specs.Counts.{Counted}
 use Rattle.std.specs.Prelude.{None}
@@ -105,6 +106,11 @@ ReadIsFile = (bytes : List ℕ) (code : Code) → AreBytes bytes → reading byt
 -- the bytes are the file of no code, and this is their first fault
 abbrev pub IsFirstFault : List ℕ → ReadFault → Type 0
 IsFirstFault bytes f = reading bytes ≡ Failed f
+
+-- whatever the bytes are, they are read as code with nothing behind it, or have a first fault
+abbrev pub EachIsRead : Type 0
+EachIsRead = (bytes : List ℕ) → ((code : Code) × (reading bytes ≡ Got code []))
+    ⊎ ((f : ReadFault) × (reading bytes ≡ Failed f) × (f ≢ fault.OutOfMemory))
 
 -- what has a first fault is the file of no code
 abbrev pub FaultsHaveNoCode : Type 0

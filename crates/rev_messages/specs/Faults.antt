@@ -1,7 +1,11 @@
--- How messages name what is wrong with a text.
+-- How messages name what is wrong with a text, with a code file, and with an instruction of code.
 use Rattle.std.specs.Prelude.{ℕ, List, codes}
 use Rattle.rev_messages.specs.declared.fault.TextFault.{TextFault}
 use Rattle.rev_messages.specs.declared.fault.TextFault.TheVariants as f
+use Rattle.rev_messages.specs.declared.code_fault.FileFault.{FileFault}
+use Rattle.rev_messages.specs.declared.code_fault.FileFault.TheVariants as file
+use Rattle.rev_messages.specs.declared.code_fault.InstructionFault.{InstructionFault}
+use Rattle.rev_messages.specs.declared.code_fault.InstructionFault.TheVariants as instruction
 
 abbrev pub name_of_fault : TextFault → List ℕ
 name_of_fault f.BadByte = codes "bad byte"
@@ -18,3 +22,17 @@ name_of_fault f.Redeclared = codes "redeclared name"
 name_of_fault f.WrongType = codes "wrong type"
 name_of_fault f.WrongCount = codes "wrong count"
 name_of_fault f.NoReturn = codes "missing return"
+
+abbrev pub name_of_file_fault : FileFault → List ℕ
+name_of_file_fault file.Truncated = codes "truncated"
+name_of_file_fault file.BadField = codes "bad field"
+name_of_file_fault file.Trailing = codes "trailing bytes"
+
+abbrev pub name_of_instruction_fault : InstructionFault → List ℕ
+name_of_instruction_fault instruction.BadJump = codes "bad jump"
+name_of_instruction_fault instruction.BadOperand = codes "bad operand"
+name_of_instruction_fault instruction.StackShape = codes "stack shape"
+name_of_instruction_fault instruction.WrongKind = codes "wrong kind"
+name_of_instruction_fault instruction.BadLocal = codes "bad local"
+name_of_instruction_fault instruction.FallsOff = codes "falls off"
+name_of_instruction_fault instruction.OverLimit = codes "over a limit"

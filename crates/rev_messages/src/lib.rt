@@ -5,17 +5,20 @@
 //! writes beside an outcome.
 #![tactic(auto)]
 
+mod code_fault;
 mod fault;
 mod modes;
 mod refusal;
 
+pub use code_fault::{FileFault, InstructionFault};
 pub use fault::{Place, TextFault};
-pub use modes::{accepted_report, summary_report};
+pub use modes::{accepted_report, agreed_report, done_report, summary_report, trace_report};
 pub use refusal::{Refusal, no_memory_message, refusal_bytes};
 
 #[cfg(test)]
 mod tests {
     use super::*;
+    use rev_num::{Cause, Items, Outcome, Path, Trap};
     use rev_report::Limit;
     use std::test::Fail;
 
@@ -37,6 +40,99 @@ mod tests {
             assert!(rt; report.status == status, "{message}");
         }
         assert!(rt; no_memory_message() == b"error: out of memory\n".as_slice());
+        Ok(())
+    }
+
+    #[test]
+    fn refusals_beyond_texts(rt: HostRuntime) -> Result<(), Fail> {
+        let revision = Path::root(rt.alloc())
+            .child(rt.alloc(), 1)?
+            .child(rt.alloc(), 20)?;
+        let file = |fault: FileFault| Refusal::File { at: 48, fault };
+        let wants = [
+            (Refusal::BadMagic, "bad magic"),
+            (Refusal::BadVersion, "bad version"),
+            (file(FileFault::Truncated), "code byte 48: truncated"),
+            (file(FileFault::BadField), "code byte 48: bad field"),
+            (file(FileFault::Trailing), "code byte 48: trailing bytes"),
+            (Refusal::Trace { at: 18 }, "trace byte 18: malformed"),
+            (
+                Refusal::Schedule {
+                    entry: 0,
+                    revision: 1,
+                },
+                "schedule entry 0: revision 1 cannot step",
+            ),
+            (Refusal::Differs { revision }, "revision 1.20 differs"),
+            (
+                Refusal::Differs {
+                    revision: Path::root(rt.alloc()),
+                },
+                "revision main differs",
+            ),
+        ];
+        for (refusal, what) in wants {
+            let report = refusal_bytes(rt.alloc(), &refusal)?;
+            let want = format!(in rt.alloc(); "error: {what}\n")?;
+            assert!(rt; report.err.as_slice() == want.as_bytes(), "{what}");
+            assert!(rt; report.out.is_empty() && report.status == 2, "{what}");
+        }
+        Ok(())
+    }
+
+    #[test]
+    fn faults_of_instructions(rt: HostRuntime) -> Result<(), Fail> {
+        let wants = [
+            (InstructionFault::BadJump, "bad jump"),
+            (InstructionFault::BadOperand, "bad operand"),
+            (InstructionFault::StackShape, "stack shape"),
+            (InstructionFault::WrongKind, "wrong kind"),
+            (InstructionFault::BadLocal, "bad local"),
+            (InstructionFault::FallsOff, "falls off"),
+            (InstructionFault::OverLimit, "over a limit"),
+        ];
+        for (fault, name) in wants {
+            let refusal = Refusal::Code {
+                block: 0,
+                at: 4294967295,
+                fault,
+            };
+            let report = refusal_bytes(rt.alloc(), &refusal)?;
+            let want = format!(in rt.alloc(); "error: block 0 instruction 4294967295: {name}\n")?;
+            assert!(rt; report.err.as_slice() == want.as_bytes(), "{name}");
+            assert!(rt; report.out.is_empty() && report.status == 2, "{name}");
+        }
+        Ok(())
+    }
+
+    #[test]
+    fn modes(rt: HostRuntime) -> Result<(), Fail> {
+        let trace = b"revisions trace 1\n".as_slice();
+        let trap = Trap {
+            cause: Cause::Spent,
+            line: 3,
+            origin: Path::root(rt.alloc()),
+        };
+        let trapped = Outcome::Trapped {
+            text: Items::from_vec(Vec::new(rt.alloc())),
+            values: Items::from_vec(Vec::new(rt.alloc())),
+            trap,
+        };
+        let spent = b"trap: fuel spent at line 3 in revision main\n".as_slice();
+        let twice = b"error: a revision was joined twice\n".as_slice();
+        let wants: [(Outcome, &[u8], &[u8], u8); 2] = [
+            (trapped, trace, spent, 1),
+            (Outcome::Twice, b"", twice, 3),
+        ];
+        for (outcome, out, err, status) in wants {
+            let held = Vec::from_slice(rt.alloc(), trace)?;
+            let report = trace_report(rt.alloc(), held, &outcome)?;
+            assert!(rt; report.out.as_slice() == out);
+            assert!(rt; report.err.as_slice() == err && report.status == status);
+        }
+        let yes = agreed_report(rt.alloc())?;
+        assert!(rt; yes.out.as_slice() == b"yes\n".as_slice());
+        assert!(rt; yes.err.is_empty() && yes.status == 0);
         Ok(())
     }
 

@@ -1,22 +1,36 @@
-//! What the modes `check` and `load` write.
+//! What the modes write that do not report the outcome of a run alone.
 ghost use Rattle.std.specs.Prelude.{◌≡◌, IfOk};
 ghost use Rattle.std.specs.String.{string_bytes};
-ghost use Rattle.rev_report.specs.Report.{output};
+ghost use Rattle.rev_report.specs.Report.{done, output};
 ghost use Rattle.rev_messages.specs.Modes as spec;
 
 use rev_num::Outcome;
 use rev_report::{Report, outcome_bytes, status};
 use std::alloc::{AllocError, Global};
 
+/// The report of a call that is done and writes these bytes.
+pub fn done_report(alloc: Global, out: Vec<u8>) -> Report
+    ensures { output result ≡ done out.items }
+{
+    Report {
+        out,
+        err: Vec::new(alloc),
+        status: status::DONE,
+    }
+}
+
 /// The report of a text that keeps all rules.
 pub fn accepted_report(alloc: Global) -> Result<Report, AllocError>
     ensures { IfOk result (λ r. output r ≡ spec.accepted) }
 {
-    Ok(Report {
-        out: Vec::from_slice(alloc, b"ok\n")?,
-        err: Vec::new(alloc),
-        status: status::DONE,
-    })
+    Ok(done_report(alloc, Vec::from_slice(alloc, b"ok\n")?))
+}
+
+/// The report of a trace that is the run's own.
+pub fn agreed_report(alloc: Global) -> Result<Report, AllocError>
+    ensures { IfOk result (λ r. output r ≡ spec.agreed) }
+{
+    Ok(done_report(alloc, Vec::from_slice(alloc, b"yes\n")?))
 }
 
 /// The line that stands before what a generated program prints, without its line feed.
@@ -58,6 +72,27 @@ pub fn summary_report(
             values: _,
             trap: _,
         } => behind(first_line(alloc, seed, size)?, report),
+        Outcome::Twice => Ok(report),
+    }
+}
+
+/// The report of an outcome, with the text of a trace in place of what `main` printed. Where a
+/// revision was joined twice, nothing is written on standard output.
+pub fn trace_report(alloc: Global, trace: Vec<u8>, outcome: &Outcome) -> Result<Report, AllocError>
+    ensures { IfOk result (λ r. output r ≡ spec.traced trace.items outcome.now) }
+{
+    let report = outcome_bytes(alloc, outcome, false)?;
+    match outcome {
+        Outcome::Done { text: _, values: _ } => Ok(done_report(alloc, trace)),
+        Outcome::Trapped {
+            text: _,
+            values: _,
+            trap: _,
+        } => Ok(Report {
+            out: trace,
+            err: report.err,
+            status: report.status,
+        }),
         Outcome::Twice => Ok(report),
     }
 }

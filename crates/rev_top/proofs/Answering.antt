@@ -17,9 +17,12 @@ use Rattle.rev_messages.specs.declared.refusal.Refusal.{Refusal}
 use Rattle.rev_messages.specs.declared.refusal.Refusal.TheVariants as refusals
 use Rattle.rev_top.specs.Stages.{Onward, Then}
 use Rattle.rev_top.specs.Texts.{Checks}
-use Rattle.rev_top.specs.Answer.{Accepts, Answer, Answers, Fits, Given, RunsTo, Says, SaysAs, reads, reads_of}
+use Rattle.rev_code.specs.declared.code.Code.{Code}
+use Rattle.rev_top.specs.Codes.{ChecksCode}
+use Rattle.rev_top.specs.Answer.{Accepts, Answer, Answers, Fits, Given, Lists, RunsTo, Says, SaysAs, reads, reads_of}
 use Rattle.rev_top.specs.Promises.{Feeds, IsRefused}
-use Rattle.rev_top.proofs.Faults.{check_of_text, status_of_text}
+use Rattle.rev_top.proofs.Codes.{code_refused}
+use Rattle.rev_top.proofs.Faults.{text_refused}
 
 -- ---- the status of what a mode says
 
@@ -50,7 +53,7 @@ is_end (o.Done text values) = (omega arith, λ is. absurd (omega arith))
 is_end (o.Trapped text values t) = (omega arith, λ is. absurd (omega arith))
 is_end o.Twice = (omega arith, λ is. absurd (omega arith))
 
--- an output of a run or of a check, or a refusal of the text, which writes nothing on `out`
+-- an output of a run, of a check or of a listing, or a refusal of what was read, which writes nothing on `out`
 pub data IsPlain (a : Answer) : Type 0 where
   ends : IsEnd (shown a).status → IsPlain a
   refuses : (shown a).out ≡ [] → (shown a).status ≡ 2 → IsPlain a
@@ -64,15 +67,24 @@ accept_ends : (p : ProgramTree) (a : Answer) → Accepts p a → IsEnd (shown a)
 accept_ends p a h =
     subst (λ (n : ℕ). IsEnd n) (sym (ap (λ (x : Answer). (shown x).status) h)) (omega arith, λ is. absurd (omega arith))
 
-of_text : (text : List ℕ) (Second : ProgramTree → Answer → Type 0) → ((p : ProgramTree) (a : Answer) → Second p a → IsEnd (shown a).status)
-    → (a : Answer) → Then (Checks text) Second a → IsPlain a
-of_text text Second second a h = go h.0 h.1 h.2
+list_ends : (c : Code) (a : Answer) → Lists c a → IsEnd (shown a).status
+list_ends c a h =
+    subst (λ (n : ℕ). IsEnd n) (sym (ap (λ (x : Answer). (shown x).status) h)) (omega arith, λ is. absurd (omega arith))
+
+of_stage : {X : Type 0} (Stage : Result X Refusal → Type 0) → ((f : Refusal) → Stage (Err f) → status_of f ≡ 2)
+    → (Second : X → Answer → Type 0) → ((x : X) (a : Answer) → Second x a → IsEnd (shown a).status)
+    → (a : Answer) → Then Stage Second a → IsPlain a
+of_stage {X = X} Stage refused Second second a h = go h.0 h.1 h.2
   where
-    go : (found : Result ProgramTree Refusal) → Checks text found → Onward Second found a → IsPlain a
-    go (Ok p) s on = ends (second p a on)
+    go : (found : Result X Refusal) → Stage found → Onward Second found a → IsPlain a
+    go (Ok x) s on = ends (second x a on)
     go (Err f) s on =
         refuses (ap (λ (x : Answer). (shown x).out) on)
-        (ap (λ (x : Answer). (shown x).status) on ∙ status_of_text f (check_of_text text f s))
+        (ap (λ (x : Answer). (shown x).status) on ∙ refused f s)
+
+of_text : (text : List ℕ) (Second : ProgramTree → Answer → Type 0) → ((p : ProgramTree) (a : Answer) → Second p a → IsEnd (shown a).status)
+    → (a : Answer) → Then (Checks text) Second a → IsPlain a
+of_text text Second second a h = of_stage (Checks text) (text_refused text) Second second a h
 
 -- one line for each mode
 says_plain : (m : Mode) (w : Words) (read : List ℕ) (a : Answer) → SaysAs m w read a → IsPlain a
@@ -81,6 +93,7 @@ says_plain modes.Run w read a h = of_text read (RunsTo w (report w.values)) (run
 says_plain modes.Check w read a h = of_text read Accepts accept_ends a h
 says_plain modes.Load w read a h =
     of_text (load_text w.seed w.size) (RunsTo w (summary w.seed w.size)) (run_ends (summary w.seed w.size) (summary_status w.seed w.size) w) a h
+says_plain modes.Dis w read a h = of_stage (ChecksCode read) (code_refused read) Lists list_ends a h
 
 at_most_3 : (a : Answer) → IsPlain a → (shown a).status ≤ 3
 at_most_3 a (ends is) = is.0

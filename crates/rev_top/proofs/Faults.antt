@@ -37,9 +37,10 @@ use Rattle.static_rules.specs.Breaks.{IsFirstBroken}
 use Rattle.static_rules.proofs.FunFaults.{same_first_fun, funs_kept}
 use Rattle.static_rules.proofs.Fronts.{same_first}
 use Rattle.rev_top.specs.Stops.{Meets, report_of_syntax, stop_of}
-use Rattle.rev_top.specs.Texts.{Checks, ChecksTokens, ChecksTree, Cuts, KeepsFuns, KeepsTypes, Reads, Reports, fault_at, place_in, reading, report_of_funs, report_of_lexical, report_of_types, unexpected_at}
+use Rattle.rev_top.specs.Stages.{Reports}
+use Rattle.rev_top.specs.Texts.{Checks, ChecksTokens, ChecksTree, Cuts, KeepsFuns, KeepsTypes, Reads, fault_at, place_in, reading, report_of_funs, report_of_lexical, report_of_types, unexpected_at}
 use Rattle.rev_top.specs.declared.stop.Stop.{Stop}
-use Rattle.rev_top.proofs.Stages.{One, one_then, refusal_of, reported}
+use Rattle.rev_top.proofs.Stages.{One, one_then, refusal_of, refuses}
 
 -- ---- the first of some faults is reported in one way
 
@@ -164,13 +165,27 @@ IsOfText (refusals.OverLimit place limit w) = Unit {0}
 IsOfText refusals.Usage = ⊥
 IsOfText refusals.ReadFault = ⊥
 IsOfText refusals.TooLong = ⊥
+IsOfText refusals.BadMagic = ⊥
+IsOfText refusals.BadVersion = ⊥
+IsOfText (refusals.File at f) = ⊥
+IsOfText (refusals.Code block at f) = ⊥
+IsOfText (refusals.Trace at) = ⊥
+IsOfText (refusals.Schedule entry revision) = ⊥
+IsOfText (refusals.Differs revision) = ⊥
 
-pub status_of_text : (r : Refusal) → IsOfText r → status_of r ≡ 2
+status_of_text : (r : Refusal) → IsOfText r → status_of r ≡ 2
 status_of_text (refusals.Text place f) is = refl
 status_of_text (refusals.OverLimit place limit w) is = refl
 status_of_text refusals.Usage is = absurd is
 status_of_text refusals.ReadFault is = absurd is
 status_of_text refusals.TooLong is = absurd is
+status_of_text refusals.BadMagic is = absurd is
+status_of_text refusals.BadVersion is = absurd is
+status_of_text (refusals.File at f) is = absurd is
+status_of_text (refusals.Code block at f) is = absurd is
+status_of_text (refusals.Trace at) is = absurd is
+status_of_text (refusals.Schedule entry revision) is = absurd is
+status_of_text (refusals.Differs revision) is = absurd is
 
 same_refusal : (r s : Refusal) → IsOfText r → Some r ≡ Some s → IsOfText s
 same_refusal r s is same = let e : r ≡ s = cc in subst (λ (x : Refusal). IsOfText x) e is
@@ -201,7 +216,7 @@ types_of_text text (type.NoReturn at) r is = same_refusal _ r tt is
 types_of_text text (type.LimitOf at w n) r is = same_refusal _ r tt is
 types_of_text text type.OutOfMemory r is = cc
 
-pub check_of_text : (text : List ℕ) (r : Refusal) → Checks text (Err r) → IsOfText r
+check_of_text : (text : List ℕ) (r : Refusal) → Checks text (Err r) → IsOfText r
 unfolding Checks
 check_of_text text =
     let P : Refusal → Type 0 = λ r. IsOfText r in
@@ -210,17 +225,10 @@ check_of_text text =
     (λ p. refusal_of (KeepsFuns text p) (KeepsTypes text) P (λ r h. funs_of_text text h.fault r h.reported)
     (λ q r h. types_of_text text h.fault r h.reported)))
 
+pub text_refused : (text : List ℕ) (r : Refusal) → Checks text (Err r) → status_of r ≡ 2
+text_refused text r h = status_of_text r (check_of_text text r h)
+
 -- ---- what the code makes of the answers of the calls
-
-none_some : (r : Refusal) (o : Option Refusal) → o ≡ Some r → o ≡ None → ⊥
-none_some r o some none = let e : Some r ≡ None = sym some ∙ none in cc
-
-module _ {F X Y : Type 0} (report : F → Option Refusal) (out : F) (silent : report out ≡ None) (Comes : F → Type 0) (Stage : Result Y Refusal → Type 0)
-    (stage : (r : Refusal) → Reports Comes report r → Stage (Err r)) where
-  refuses : (view : X → Y) (f : F) (e : Stop) → e ≡ stop_of (report f) → (f ≢ out → Comes f) → Meets view (Err e) Stage
-  refuses view f e is h =
-      subst (λ (x : Stop). Meets view (Err x) Stage) (sym is)
-      (reported view Stage (report f) (λ r some. stage r (record { fault = f; comes = h (λ same. none_some r (report f) some (ap report same ∙ silent)); reported = some })))
 
 module _ {X : Type 0} (text : List ℕ) where
   pub no_tokens : (view : X → List Token) (f : LexFault) (e : Stop) → e ≡ stop_of (report_of_lexical text f)

@@ -1,7 +1,9 @@
 pub mod Answering
+pub mod Codes
 pub mod Faults
 pub mod Findings
 pub mod Kept
+pub mod Listings
 pub mod OneAnswers
 pub mod Real
 pub mod Stages

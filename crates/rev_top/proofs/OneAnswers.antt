@@ -19,11 +19,16 @@ use Rattle.rev_messages.specs.Modes.{accepted, summary}
 use Rattle.rev_messages.specs.declared.refusal.Refusal.{Refusal}
 use Rattle.rev_messages.specs.declared.refusal.Refusal.TheVariants as refusals
 use Rattle.revision_calculus.proofs.Outcomes.{one_outcome}
+use Rattle.rev_code.specs.declared.code.Code.{Code}
+use Rattle.rev_report.specs.Report.{done}
+use Rattle.code_listing.specs.Listing.{listing}
+use Rattle.rev_top.specs.Codes.{ChecksCode}
 use Rattle.rev_top.specs.Stages.{Onward, Then}
 use Rattle.rev_top.specs.Texts.{Checks, ChecksTree, reading as read_of}
 use Rattle.rev_top.specs.Findings.{Finding, lexical, syntax, of_funs, of_rules, accepted as accepts, HasVerdict, IsFinding, IsSyntaxFault}
-use Rattle.rev_top.specs.Answer.{Accepts, Answer, Fits, RunsTo, Says, SaysAs, reads_of, setting, source_limit}
+use Rattle.rev_top.specs.Answer.{Accepts, Answer, Fits, Lists, RunsTo, Says, SaysAs, reads_of, setting, source_limit}
 use Rattle.rev_top.specs.Statuses.{HasOneAnswer, OneAnswer}
+use Rattle.rev_top.proofs.Codes.{one_code, some_code}
 use Rattle.rev_top.proofs.Faults.{one_check}
 use Rattle.rev_top.proofs.Findings.{front_end}
 use Rattle.rev_top.proofs.Real.{funs_told, lexical_told, types_told}
@@ -40,6 +45,9 @@ one_run w write p a b h k =
 one_accept : (p : ProgramTree) → One (Accepts p)
 one_accept p a b h k = h ∙ sym k
 
+one_list : (c : Code) → One (Lists c)
+one_list c a b h k = h ∙ sym k
+
 -- one line for each mode
 pub one_as : (m : Mode) (w : Words) (read : List ℕ) → One (SaysAs m w read)
 unfolding SaysAs
@@ -47,6 +55,7 @@ one_as modes.Run w read = one_then (Checks read) (RunsTo w (report w.values)) (o
 one_as modes.Check w read = one_then (Checks read) Accepts (one_check read) one_accept
 one_as modes.Load w read =
     one_then (Checks (load_text w.seed w.size)) (RunsTo w (summary w.seed w.size)) (one_check (load_text w.seed w.size)) (one_run w (summary w.seed w.size))
+one_as modes.Dis w read = one_then (ChecksCode read) Lists (one_code read) one_list
 
 pub one_fits : (r : Option ℕ) (all : List ℕ) → One (Fits r all)
 one_fits None all a b h k = h ∙ sym k
@@ -102,19 +111,26 @@ module _ (text : List ℕ) where
   some_check : length text ≤ source_limit → (found : Result ProgramTree Refusal) × Checks text found
   some_check short = let one = front_end text short in of_finding one.finding one.found
 
-  some_then : (Second : ProgramTree → Answer → Type 0) → ((p : ProgramTree) → (a : Answer) × Second p a) → length text ≤ source_limit
-      → (a : Answer) × Then (Checks text) Second a
-  some_then Second second short = let one = some_check short in go one.0 one.1
-    where
-      go : (found : Result ProgramTree Refusal) → Checks text found → (a : Answer) × Then (Checks text) Second a
-      go (Ok p) s = let next = second p in (next.0, (Ok p, s, next.1))
-      go (Err f) s = (Err f, (Err f, s, refl))
+some_stage : {X : Type 0} (Stage : Result X Refusal → Type 0) → ((found : Result X Refusal) × Stage found)
+    → (Second : X → Answer → Type 0) → ((x : X) → (a : Answer) × Second x a) → (a : Answer) × Then Stage Second a
+some_stage {X = X} Stage one Second second = go one.0 one.1
+  where
+    go : (found : Result X Refusal) → Stage found → (a : Answer) × Then Stage Second a
+    go (Ok x) s = let next = second x in (next.0, (Ok x, s, next.1))
+    go (Err f) s = (Err f, (Err f, s, refl))
+
+some_then : (text : List ℕ) (Second : ProgramTree → Answer → Type 0) → ((p : ProgramTree) → (a : Answer) × Second p a) → length text ≤ source_limit
+    → (a : Answer) × Then (Checks text) Second a
+some_then text Second second short = some_stage (Checks text) (some_check text short) Second second
 
 some_run : (w : Words) (write : Outcome → Output) (p : ProgramTree) → (a : Answer) × RunsTo w write p a
 some_run w write p = let one = one_outcome (setting w p) w.fuel in (Ok (write one.is), (one.is, one.has, refl))
 
 some_accept : (p : ProgramTree) → (a : Answer) × Accepts p a
 some_accept p = (Ok accepted, refl)
+
+some_list : (c : Code) → (a : Answer) × Lists c a
+some_list c = (Ok (done (listing c)), refl)
 
 -- one line for each mode
 some_as : (m : Mode) (w : Words) → KeepsRanges w → (read all : List ℕ) → Fits (reads_of m) all (Ok read) → (a : Answer) × SaysAs m w read a
@@ -126,6 +142,7 @@ some_as modes.Check w keeps read all h =
 some_as modes.Load w keeps read all h =
     let size = keeps.size.1 in
     some_then (load_text w.seed w.size) (RunsTo w (summary w.seed w.size)) (some_run w (summary w.seed w.size)) (load_text-short w.seed w.size (omega (arith, size)))
+some_as modes.Dis w keeps read all h = some_stage (ChecksCode read) (some_code read) Lists some_list
 
 some_says : (w : Words) → KeepsRanges w → (all : List ℕ) → (a : Answer) × Says (Some w) all a
 some_says w keeps all = let one = some_fits (reads_of w.mode) all in go one.0 one.1

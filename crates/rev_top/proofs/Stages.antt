@@ -1,8 +1,8 @@
 -- One stage after another.
-use Rattle.std.proofs.Common.{◌≡◌, ◌∙◌, refl, sym, subst, ap}
+use Rattle.std.proofs.Common.{◌≡◌, ◌≢◌, ◌∙◌, refl, sym, subst, ap}
 use Rattle.std.specs.Prelude.{Option, Some, None, Result, Ok, Err, IsErrAnd}
 use Rattle.rev_messages.specs.declared.refusal.Refusal.{Refusal}
-use Rattle.rev_top.specs.Stages.{Onward, Then}
+use Rattle.rev_top.specs.Stages.{Onward, Reports, Then}
 use Rattle.rev_top.specs.Stops.{Meets, stop_of}
 use Rattle.rev_top.specs.declared.stop.Stop.{Stop}
 use Rattle.rev_top.specs.declared.stop.Stop.TheVariants as stops
@@ -55,7 +55,17 @@ module _ {X Y : Type 0} (Stage : Result X Refusal → Type 0) (Says : X → Resu
       go (Err f) (Err g) same on on2 = let e : f ≡ g = cc in on ∙ ap (λ (z : Refusal). Err z) e ∙ sym on2
 
 -- what is made of a fault that is reported
-pub reported : {X Y : Type 0} (view : X → Y) (Stage : Result Y Refusal → Type 0) (o : Option Refusal)
+reported : {X Y : Type 0} (view : X → Y) (Stage : Result Y Refusal → Type 0) (o : Option Refusal)
     → ((r : Refusal) → o ≡ Some r → Stage (Err r)) → Meets view (Err (stop_of o)) Stage
 reported view Stage (Some r) h = h r refl
 reported view Stage None h = tt
+
+none_some : (r : Refusal) (o : Option Refusal) → o ≡ Some r → o ≡ None → ⊥
+none_some r o some none = let e : Some r ≡ None = sym some ∙ none in cc
+
+module _ {F X Y : Type 0} (report : F → Option Refusal) (out : F) (silent : report out ≡ None) (Comes : F → Type 0) (Stage : Result Y Refusal → Type 0)
+    (stage : (r : Refusal) → Reports Comes report r → Stage (Err r)) where
+  pub refuses : (view : X → Y) (f : F) (e : Stop) → e ≡ stop_of (report f) → (f ≢ out → Comes f) → Meets view (Err e) Stage
+  refuses view f e is h =
+      subst (λ (x : Stop). Meets view (Err x) Stage) (sym is)
+      (reported view Stage (report f) (λ r some. stage r (record { fault = f; comes = h (λ same. none_some r (report f) some (ap report same ∙ silent)); reported = some })))

@@ -1,8 +1,9 @@
 -- What a call answers, by its words and by the bytes that it reads.
 --
 -- `reads` is how much of the source a call reads. `SaysAs` is what each mode says of what it read,
--- stage after stage: the text, then the run. `Says` is the answer to words and bytes: usage, then the
--- length, then the mode; `Answers` is the same of a source, which may fail.
+-- stage after stage: the text, then the run; or the code file, then its listing. `Says` is the answer
+-- to words and bytes: usage, then the length, then the mode; `Answers` is the same of a source, which
+-- may fail.
 use Rattle.std.specs.Prelude.{ℕ, List, [], ◌≡◌, ◌≤◌, ◌<◌, ◌⊎◌, ◌+◌, length, Option, Some, None, Result, Ok, Err}
 use Rattle.rev_io.specs.Stream.{Stream, Gave, GaveAtMost, Rose}
 use Rattle.rev_num.specs.declared.outcome.Outcome.{Outcome}
@@ -10,16 +11,19 @@ use Rattle.rev_words.specs.Load.{load_text}
 use Rattle.rev_words.specs.declared.Mode.{Mode}
 use Rattle.rev_words.specs.declared.Mode.TheVariants as modes
 use Rattle.rev_words.specs.declared.Words.{Words}
-use Rattle.rev_report.specs.Report.{Output}
+use Rattle.rev_report.specs.Report.{Output, done}
 use Rattle.rev_report.specs.Outcome.{report}
 use Rattle.rev_messages.specs.Modes.{accepted, summary}
 use Rattle.rev_messages.specs.Refusals.{shown}
 use Rattle.rev_messages.specs.declared.refusal.Refusal.{Refusal}
 use Rattle.rev_messages.specs.declared.refusal.Refusal.TheVariants as refusals
+use Rattle.rev_code.specs.declared.code.Code.{Code}
+use Rattle.code_listing.specs.Listing.{listing}
 use Rattle.rev_syntax.specs.Trees.{ProgramTree}
 use Rattle.rev_parse.specs.SmallTree.{most_bytes}
 use Rattle.revision_calculus.specs.Program.{Setting}
 use Rattle.revision_calculus.specs.Complete.{HasOutcome}
+use Rattle.rev_top.specs.Codes.{ChecksCode}
 use Rattle.rev_top.specs.Stages.{Then}
 use Rattle.rev_top.specs.Texts.{Checks}
 
@@ -32,11 +36,16 @@ Answer = Result Output Refusal
 abbrev pub source_limit : ℕ
 source_limit = most_bytes
 
+-- the most bytes that a code file may have
+abbrev pub file_limit : ℕ
+file_limit = 16777216
+
 -- the whole source, which may have so many bytes, or none of it
 abbrev pub reads_of : Mode → Option ℕ
 reads_of modes.Run = Some source_limit
 reads_of modes.Check = Some source_limit
 reads_of modes.Load = None
+reads_of modes.Dis = Some file_limit
 
 -- words without a reading read nothing
 abbrev pub reads : Option Words → Option ℕ
@@ -57,12 +66,17 @@ RunsTo w write p a = (o : Outcome) × HasOutcome (setting w p) w.fuel o × (a �
 abbrev pub Accepts : ProgramTree → Answer → Type 0
 Accepts p a = a ≡ Ok accepted
 
--- what each mode says of the bytes that it read: of its text, and then of the run
+-- the code keeps all rules, and its listing is written
+abbrev pub Lists : Code → Answer → Type 0
+Lists c a = a ≡ Ok (done (listing c))
+
+-- what each mode says of the bytes that it read: of its text, and then of the run; or of its code file
 unfoldable pub SaysAs : Mode → Words → List ℕ → Answer → Type 0
 SaysAs modes.Run w text = Then (Checks text) (RunsTo w (report w.values))
 SaysAs modes.Check w text = Then (Checks text) Accepts
 SaysAs modes.Load w nothing =
     Then (Checks (load_text w.seed w.size)) (RunsTo w (summary w.seed w.size))
+SaysAs modes.Dis w file = Then (ChecksCode file) Lists
 
 -- ---- the order of the refusals: words, read fault, length, and what the mode says
 

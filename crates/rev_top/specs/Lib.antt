@@ -1,4 +1,5 @@
 pub mod Answer
+pub mod Codes
 pub mod Delivery
 pub mod Findings
 pub mod Promises

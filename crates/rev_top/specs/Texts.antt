@@ -22,7 +22,7 @@ use Rattle.rev_messages.specs.declared.fault.TextFault.{TextFault}
 use Rattle.rev_messages.specs.declared.fault.TextFault.TheVariants as fault
 use Rattle.rev_messages.specs.declared.refusal.Refusal.{Refusal}
 use Rattle.rev_messages.specs.declared.refusal.Refusal.TheVariants as refusals
-use Rattle.rev_top.specs.Stages.{Then}
+use Rattle.rev_top.specs.Stages.{Reports, Then}
 
 -- ---- how faults are reported; want of memory is no fault of a text
 
@@ -64,12 +64,6 @@ report_of_types text (type.LimitOf at w n) = Some (refusals.OverLimit (place_in 
 report_of_types text type.OutOfMemory = None
 
 -- ---- the stages
-
--- this fault comes first, and this is how it is reported
-pub record Reports {F : Type 0} (Comes : F → Type 0) (report : F → Option Refusal) (r : Refusal) : Type 0 where
-  pub fault : F
-  pub comes : Comes fault
-  pub reported : report fault ≡ Some r
 
 -- the tokens of the text, or its first lexical fault
 abbrev pub Cuts : List ℕ → Result (List Token) Refusal → Type 0

@@ -4,21 +4,25 @@ ghost use Rattle.std.specs.String.{string_bytes};
 ghost use Rattle.rev_syntax.specs.View.{program as whole};
 ghost use Rattle.rev_words.specs.Reading.{reading};
 ghost use Rattle.rev_words.specs.Load as spec;
+ghost use Rattle.rev_words.specs.declared.Words.{Words};
 ghost use Rattle.rev_report.specs.Report.{output};
 ghost use Rattle.rev_report.specs.Outcome.{report};
 ghost use Rattle.rev_messages.specs.Modes.{summary};
 ghost use Rattle.revision_calculus.specs.Complete.{HasOutcome};
-ghost use Rattle.rev_top.specs.Answer.{Accepts, Answers, Given, IsReport, IsWithin, RunsTo, SaysAs};
-ghost use Rattle.rev_top.specs.Answer.{Takes, reads, reads_of, setting, source_limit};
+ghost use Rattle.rev_top.specs.Answer.{Accepts, Answers, Given, IsReport, IsWithin, Lists, RunsTo};
+ghost use Rattle.rev_top.specs.Answer.{SaysAs, Takes, reads, reads_of, setting, source_limit};
 ghost use Rattle.rev_top.specs.Stops.{Meets};
 ghost use Rattle.rev_top.specs.Texts.{Checks};
 
+use crate::code::checked_code;
 use crate::stop::Stop;
 use crate::text::checked;
+use code_listing::disassemble;
+use code_verifier::Verified;
 use plain_runner::run_plain;
 use rev_io::{Source, read_text};
+use rev_messages::{accepted_report, done_report, refusal_bytes, summary_report};
 use rev_num::Outcome;
-use rev_messages::{accepted_report, refusal_bytes, summary_report};
 use rev_report::{Report, outcome_bytes};
 use rev_types::Typed;
 use rev_words::{Mode, Words, load_text, read_words};
@@ -26,6 +30,9 @@ use std::alloc::{AllocError, Global};
 
 /// The most bytes that the text of a program may have.
 const SOURCE_LIMIT: usize = 1_048_576;
+
+/// The most bytes that a code file may have.
+const FILE_LIMIT: usize = 16_777_216;
 
 /// The outcome of the program with the input numbers, the share and the fuel of the words.
 fn outcome_of(alloc: Global, words: &Words, typed: &Typed) -> Result<Outcome, AllocError>
@@ -103,6 +110,20 @@ fn load(alloc: Global, words: &Words) -> Result<Report, Stop>
     load_program(alloc, words, &typed)
 }
 
+/// The listing of code.
+fn list(alloc: Global, code: &Verified) -> Result<Report, Stop>
+    ensures { Meets output result (Lists code.now.code) }
+{
+    Ok(done_report(alloc, disassemble(alloc, code.code())?))
+}
+
+fn dis(alloc: Global, bytes: &[u8]) -> Result<Report, Stop>
+    ensures { (w : Words) → Meets output result (SaysAs Mode.Dis w bytes.now) }
+{
+    let code = checked_code(alloc, bytes)?;
+    list(alloc, &code)
+}
+
 /// What the mode says of the bytes that it read.
 fn say(alloc: Global, words: &Words, bytes: &[u8]) -> Result<Report, Stop>
     requires limit { IsWithin (reads_of words.now.mode) (length bytes.now) }
@@ -113,6 +134,7 @@ fn say(alloc: Global, words: &Words, bytes: &[u8]) -> Result<Report, Stop>
         Mode::Run => run(alloc, words, bytes),
         Mode::Check => check(alloc, words, bytes),
         Mode::Load => load(alloc, words),
+        Mode::Dis => dis(alloc, bytes),
     }
 }
 
@@ -125,6 +147,7 @@ fn limit_of(mode: Mode) -> Option<usize>
         Mode::Run => Some(SOURCE_LIMIT),
         Mode::Check => Some(SOURCE_LIMIT),
         Mode::Load => None,
+        Mode::Dis => Some(FILE_LIMIT),
     }
 }
 

@@ -7,6 +7,7 @@ ghost use Rattle.rev_words.specs.Reading.{reading};
 ghost use Rattle.rev_top.specs.Promises.{Keeps};
 
 mod answer;
+mod code;
 mod deliver;
 mod law;
 mod stop;
@@ -16,7 +17,7 @@ mod text;
 
 use deliver::happen;
 pub use deliver::out_of_memory;
-pub use law::{one_answer, one_finding, statuses};
+pub use law::{listing_law, one_answer, one_finding, statuses};
 use rev_io::{Sink, Source};
 
 /// One call of the program, with the words that follow its name. It writes the bytes of the report
@@ -26,7 +27,7 @@ use rev_io::{Sink, Source};
 /// |---|---|
 /// | 0 | done |
 /// | 1 | `main` trapped |
-/// | 2 | the text is too long, or is no program that keeps all rules |
+/// | 2 | the source is too long, or holds no program or no code that keeps all rules |
 /// | 3 | a revision was joined twice |
 /// | 4 | the words have no reading |
 /// | 5 | the source failed |
@@ -35,7 +36,8 @@ use rev_io::{Sink, Source};
 ///
 /// Words come before the source, a read fault before the length, and the length before the text. Of
 /// the faults of a text those of its tokens come first, then those of its syntax, of its funs, and
-/// of the other static rules, each at its least place.
+/// of the other static rules, each at its least place. Of a code file those of the file come before
+/// those of its code.
 /// A sink that fails, and want of memory, can come in place of each of them.
 pub fn rev_main<R: AllocGlobal, S: Source, O: Sink, E: Sink>(
     rt: &R,

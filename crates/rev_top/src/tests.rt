@@ -1,4 +1,5 @@
 // Whole calls: the words and the source, and then both outputs and the status.
+mod codes;
 mod merges;
 mod runs;
 mod texts;

@@ -22,6 +22,7 @@ mode_named text =
     if bytes_eq text (codes "run") then Some modes.Run
     else if bytes_eq text (codes "check") then Some modes.Check
     else if bytes_eq text (codes "load") then Some modes.Load
+    else if bytes_eq text (codes "dis") then Some modes.Dis
     else None
 
 -- the numbers that the texts spell, if each is a decimal in 64 bits

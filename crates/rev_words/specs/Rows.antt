@@ -37,6 +37,7 @@ pub record RowsAreRead : Type 0 where
   pub check : reading (words_in (codes "check")) ≡ Some (record run_alone { mode = modes.Check })
   pub load : reading (words_in (codes "load --seed 9 --size 3"))
       ≡ Some (record run_alone { mode = modes.Load; seed = 9; size = 3 })
+  pub dis : reading (words_in (codes "dis")) ≡ Some (record run_alone { mode = modes.Dis })
 
 pub record RowsAreUsage : Type 0 where
   pub no_words : reading [] ≡ None

@@ -36,6 +36,8 @@ pub enum Mode {
     Check,
     /// Makes the text of a program from a seed and a size, runs it and reports its outcome.
     Load,
+    /// Reads a code file and lists its code.
+    Dis,
 }
 
 /// What words say.

@@ -67,6 +67,7 @@ fn mode_named(text: &str) -> Option<Mode>
         "run" => Some(Mode::Run),
         "check" => Some(Mode::Check),
         "load" => Some(Mode::Load),
+        "dis" => Some(Mode::Dis),
         _ => None,
     }
 }

@@ -1,6 +1,7 @@
 use Rattle.code_file.proofs.ReadBack.{code_read}
 use Rattle.code_file.proofs.FileRead.{file_read}
 use Rattle.code_file.proofs.OneFile.{one_code, no_code}
+use Rattle.code_file.proofs.EachRead.{each_read}
 use Rattle.code_file.proofs.laws.file_laws.Goals as goal
 
 pub returns-clause-back : goal.returns-clause-back
@@ -14,3 +15,6 @@ returns-clause-exact c = file_read c.word_laws.ensures
 
 pub returns-clause-none : goal.returns-clause-none
 returns-clause-none c = no_code (code_read c.word_laws.ensures)
+
+pub returns-clause-each : goal.returns-clause-each
+returns-clause-each c = each_read

@@ -14,6 +14,7 @@ returns-clause-read c = record {
   empty_schedule = refl;
   check = refl;
   load = refl;
+  dis = refl;
 }
 
 pub returns-clause-usage : goal.returns-clause-usage

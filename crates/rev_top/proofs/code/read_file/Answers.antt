@@ -1,0 +1,10 @@
+use Rattle.rev_code.specs.declared.code.Code.{Code}
+use Rattle.rev_top.proofs.Codes.{is_read, no_file}
+use Rattle.rev_top.proofs.code.read_file.Goals as goal
+
+pub returns-in-Ok : goal.returns-in-Ok
+returns-in-Ok c = is_read c.file_laws.ensures.back c.args.bytes.now c.in-Ok.code c.in-Ok.ensures.code
+
+pub returns-in-Err : goal.returns-in-Err
+returns-in-Err c =
+    no_file (λ (x : Code). x) c.args.bytes.now c.in-Err.fault c.of_file.result c.of_file.ensures c.in-Err.ensures.fault

@@ -1,0 +1,5 @@
+use Rattle.rev_top.proofs.Listings.{listing_law}
+use Rattle.rev_top.proofs.law.listing_law.Goals as goal
+
+pub returns : goal.returns
+returns c = listing_law c.file_laws.ensures.exact c.file_laws.ensures.back

@@ -1,0 +1,113 @@
+// Code files and what `dis` writes of them.
+use super::*;
+
+/// `main` prints 7.
+const PRINTS_SEVEN: [u8; 48] = [
+    82, 69, 86, 67, 0, 1, 0, 0, 0, 0, 0, 0, 0, 0, 0, 1, 1, 0, 0, 1, 3, 0, 3, 0, 0, 0, 0, 4, 29, 0,
+    0, 0, 1, 0, 0, 0, 0, 0, 0, 0, 0, 7, 33, 0, 0, 0, 0, 35,
+];
+
+const LISTING: &str = "REVC 1
+layout 0 int
+block 0 main params 0 result none locals
+0 Charge 1
+1 PushInt 7
+2 Print 0
+3 Return
+";
+
+/// Whether `dis` of the bytes, with so many zeros behind them, writes this.
+fn lists(
+    rt: &HostRuntime,
+    bytes: &[u8],
+    zeros: usize,
+    want: (&str, &str, u8),
+) -> Result<bool, AllocError> {
+    let mut file = Vec::from_slice(rt.alloc(), bytes)?;
+    let behind: Vec<u8> = vec![in rt.alloc(); 0; zeros]?;
+    file.extend_from_slice(behind.as_slice())?;
+    answers(rt, "dis", &mut CalmSource::new(file), want)
+}
+
+#[test]
+fn prefixes(rt: HostRuntime) -> Result<(), Fail> {
+    for length in 0..48 {
+        let message = format!(in rt.alloc(); "error: code byte {length}: truncated\n")?;
+        let want = ("", message.as_str(), 2);
+        assert!(rt;
+            lists(&rt, &PRINTS_SEVEN[..length], 0, want)?,
+            "{length} bytes"
+        );
+    }
+    Ok(())
+}
+
+#[test]
+fn lengths(rt: HostRuntime) -> Result<(), Fail> {
+    let trailing = ("", "error: code byte 48: trailing bytes\n", 2);
+    let too_long = ("", "error: source too long\n", 2);
+    let wants = [
+        (0, (LISTING, "", 0)),
+        (1, trailing),
+        (16_777_168, trailing),
+        (16_777_169, too_long),
+    ];
+    for (zeros, want) in wants {
+        let file = PRINTS_SEVEN.as_slice();
+        assert!(rt; lists(&rt, file, zeros, want)?, "{zeros} zeros");
+    }
+    Ok(())
+}
+
+#[test]
+fn changed_bytes(rt: HostRuntime) -> Result<(), Fail> {
+    let wants: [(usize, u8, &str); 13] = [
+        (0, 83, "bad magic"),
+        (5, 0, "bad version"),
+        (5, 4, "bad version"),
+        // version 2 has a last field more
+        (5, 2, "code byte 48: truncated"),
+        // an item of sort 3
+        (17, 3, "code byte 17: bad field"),
+        // no block
+        (19, 0, "code byte 20: trailing bytes"),
+        // no `main`
+        (20, 2, "block 0 instruction 0: bad operand"),
+        (21, 1, "block 0 instruction 0: bad operand"),
+        (22, 4, "code byte 22: bad field"),
+        // CountInput and two PushInt before Return
+        (28, 11, "block 0 instruction 3: stack shape"),
+        // no layout 1
+        (46, 1, "block 0 instruction 2: bad operand"),
+        // Pop of an empty stack
+        (47, 36, "block 0 instruction 3: stack shape"),
+        (47, 11, "block 0 instruction 3: falls off"),
+    ];
+    for (at, byte, what) in wants {
+        let mut file = PRINTS_SEVEN;
+        if let Some(place) = file.get_mut(at) {
+            *place = byte;
+        }
+        let message = format!(in rt.alloc(); "error: {what}\n")?;
+        let want = ("", message.as_str(), 2);
+        assert!(rt; lists(&rt, file.as_slice(), 0, want)?, "byte {at}: {byte}");
+    }
+    Ok(())
+}
+
+#[test]
+fn words_and_sources(rt: HostRuntime) -> Result<(), Fail> {
+    let words = "dis 3 --fuel 1 --values --schedule 0";
+    let mut source = CalmSource::new(Vec::from_slice(rt.alloc(), PRINTS_SEVEN.as_slice())?);
+    assert!(rt; answers(&rt, words, &mut source, (LISTING, "", 0))?);
+    for call in 0..6u64 {
+        let bytes = Vec::from_slice(rt.alloc(), PRINTS_SEVEN.as_slice())?;
+        let mut source = MemSource::new(bytes, 10, vec![in rt.alloc(); call]?);
+        let want = ("", "error: read fault\n", 5);
+        assert!(rt; answers(&rt, "dis", &mut source, want)?, "call {call}");
+    }
+    let mut text = source_over(&rt, SEVEN, 0)?;
+    let want = ("", "error: bad magic\n", 2);
+    assert!(rt; answers(&rt, "dis", &mut text, want)?);
+    Ok(())
+}
