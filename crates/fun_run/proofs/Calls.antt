@@ -35,7 +35,7 @@ fits_same (x ∷ kinds) (w ∷ ws) h =
     let p = and_parts (same_kind x (kind_of w)) (fits kinds ws) h in
     let a = kind_is x (kind_of w) p.0 in let b = fits_same kinds ws p.1 in λ j. sym a j ∷ b j
 
-taken_enough : (m : ℕ) (xs : List (Word ℕ)) → length (take m xs) ≡ m → m ≤ length xs
+pub taken_enough : (m : ℕ) (xs : List (Word ℕ)) → length (take m xs) ≡ m → m ≤ length xs
 taken_enough zero xs h = omega arith
 taken_enough (suc m) [] h = absurd (omega (arith, h))
 taken_enough (suc m) (x ∷ xs) h = let r = taken_enough m xs (omega (arith, h)) in omega (arith, r)

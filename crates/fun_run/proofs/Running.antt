@@ -41,7 +41,7 @@ use Rattle.fun_run.specs.Values.{HasRoom, IsArgs, IsValue}
 use Rattle.fun_run.proofs.Slices.{zeros, stack_slice, take_shorter, words_append, words_drop, words_reverse, words_take}
 use Rattle.fun_run.proofs.Calls.{IsEvent, Application, application, has_value, not_earlier, returned, start_good, trap_arithmetic, turn_here, value_is}
 
-fifth_of : (x e f g h i j k : Bool) → (x && e && f && g && h && i && j && k) ≡ true → e ≡ true
+pub fifth_of : (x e f g h i j k : Bool) → (x && e && f && g && h && i && j && k) ≡ true → e ≡ true
 fifth_of true true f g h i j k q = refl
 fifth_of true false f g h i j k q = absurd (true≢false (sym q))
 fifth_of false e f g h i j k q = absurd (true≢false (sym q))
@@ -52,17 +52,17 @@ class_of code n b is v =
 
 -- ---- values
 
-fault_is : (o : Option (Result (Word ℕ) Cause)) (f : NumFault) → IsValue o (Err f) → (e : Cause) × (o ≡ Some (Err e)) × (e ≡ cause_of f)
+pub fault_is : (o : Option (Result (Word ℕ) Cause)) (f : NumFault) → IsValue o (Err f) → (e : Cause) × (o ≡ Some (Err e)) × (e ≡ cause_of f)
 fault_is None f h = absurd h
 fault_is (Some (Ok x)) f h = absurd h
 fault_is (Some (Err e)) f h = (e, refl, h)
 
-word_is : (o : Option (Result (Word ℕ) Cause)) (v : ℕ) → IsValue o (Ok v) → (x : Word ℕ) × (o ≡ Some (Ok x)) × IsWord x v
+pub word_is : (o : Option (Result (Word ℕ) Cause)) (v : ℕ) → IsValue o (Ok v) → (x : Word ℕ) × (o ≡ Some (Ok x)) × IsWord x v
 word_is None v h = absurd h
 word_is (Some (Ok x)) v h = (x, refl, h)
 word_is (Some (Err e)) v h = absurd h
 
-got_cost : (xs : List Cost) (n j : ℕ) → j < n → slice_get (take n xs) j ≡ slice_get xs j
+pub got_cost : (xs : List Cost) (n j : ℕ) → j < n → slice_get (take n xs) j ≡ slice_get xs j
 got_cost xs zero j h = absurd (omega (arith, h))
 got_cost [] (suc n) j h = refl
 got_cost (x ∷ xs) (suc n) zero h = refl
@@ -72,20 +72,20 @@ abbrev cost_or : Option Cost → Cost
 cost_or o = elim o [ None ↦ Rattle.code_rules.specs.Pass.no_cost | Some k ↦ k ]
 
 -- words below a place
-stack_same : (ws ws' : List ℕ) (l m base : ℕ) → take base ws ≡ take base ws' → l + m ≤ base → stack_of ws l m ≡ stack_of ws' l m
+pub stack_same : (ws ws' : List ℕ) (l m base : ℕ) → take base ws ≡ take base ws' → l + m ≤ base → stack_of ws l m ≡ stack_of ws' l m
 stack_same ws ws' l zero base e h = refl
 stack_same ws ws' l (suc m) base e h =
     let x : get_or ws (l + m) 0 ≡ get_or ws' (l + m) 0 = sym (get_or-take base ws (l + m) 0 (omega (arith, h))) ∙ ap (λ xs. get_or xs (l + m) 0) e ∙ get_or-take base ws' (l + m) 0 (omega (arith, h)) in
     let r = stack_same ws ws' l m base e (omega (arith, h)) in λ k. x k ∷ r k
 
-stack_dropped : (ws : List ℕ) (l m p d : ℕ) → m ≡ p + d → drop p (stack_of ws l m) ≡ stack_of ws l d
+pub stack_dropped : (ws : List ℕ) (l m p d : ℕ) → m ≡ p + d → drop p (stack_of ws l m) ≡ stack_of ws l d
 stack_dropped ws l m zero d e = ap (stack_of ws l) (omega (arith, e))
 stack_dropped ws l zero (suc p) d e = absurd (omega (arith, e))
 stack_dropped ws l (suc m) (suc p) d e = stack_dropped ws l m p d (omega (arith, e))
 
 -- ---- the start
 
-zero_words : (kinds : List ValueKind) → AreWords (map (zero_word {H = ℕ}) kinds) (zeros (length kinds))
+pub zero_words : (kinds : List ValueKind) → AreWords (map (zero_word {H = ℕ}) kinds) (zeros (length kinds))
 zero_words [] = tt
 zero_words (k.Int ∷ kinds) = ((omega arith, refl), zero_words kinds)
 zero_words (k.Bool ∷ kinds) = (refl, zero_words kinds)
@@ -93,6 +93,18 @@ zero_words (k.Rev ∷ kinds) = (refl, zero_words kinds)
 
 no_location : (l : ℕ) (x : Location ℕ) → slice_get [] l ≡ Some x → ⊥
 no_location l x h = cc
+
+-- a block has fewer instructions than a place can name
+pub block_short : (code : Code) → IsAccepted code (notes_of code) → (n : ℕ) (b : CodeBlock) → slice_get code.blocks n ≡ Some b → length b.instrs < 2 ^ 63
+block_short code ok n b is =
+    let a = fifth_of (nat_le (rules.locations code.vars) rules.most_locations && nat_le (rules.count_class is_procedure code.blocks) rules.most_blocks
+    && nat_le (rules.count_class is_value_class code.blocks) rules.most_blocks && nat_le (length code.blocks) rules.most_u16)
+    (list_all rules.is_small_block code.blocks) (list_all rules.is_small_layout code.layouts)
+    (nat_le (length code.vars) rules.most_u16) (list_all rules.has_small_name code.vars) (nat_le (length code.texts) rules.most_u32)
+    (list_all rules.is_small_text code.texts) (nat_le (length code.layouts) rules.most_u32) ok.small in
+    let q = all_at rules.is_small_block code.blocks n b a is in
+    let r = (and_parts (nat_le b.params rules.most_params && nat_le (length b.locals) rules.most_locals) (nat_le (length b.instrs) rules.most_u32) q).1 in
+    grind (arith, nat_tests, r)
 
 module _ (code : Code) (ok : IsAccepted code (notes_of code)) (n : ℕ) (b : CodeBlock) (is : slice_get code.blocks n ≡ Some b) (class : is_value_class b.class ≡ true) where
   module _ (args : List (Word ℕ)) (ws0 : List ℕ) (at : ℕ) (given : IsArgs code n args ws0 at) where
@@ -138,15 +150,7 @@ module _ (code : Code) (ok : IsAccepted code (notes_of code)) (n : ℕ) (b : Cod
       let g = h.room in omega (arith, d, g)
 
   pub short : length b.instrs < 2 ^ 63
-  short =
-      let a = fifth_of (nat_le (rules.locations code.vars) rules.most_locations && nat_le (rules.count_class is_procedure code.blocks) rules.most_blocks
-      && nat_le (rules.count_class is_value_class code.blocks) rules.most_blocks && nat_le (length code.blocks) rules.most_u16)
-      (list_all rules.is_small_block code.blocks) (list_all rules.is_small_layout code.layouts)
-      (nat_le (length code.vars) rules.most_u16) (list_all rules.has_small_name code.vars) (nat_le (length code.texts) rules.most_u32)
-      (list_all rules.is_small_text code.texts) (nat_le (length code.layouts) rules.most_u32) ok.small in
-      let q = all_at rules.is_small_block code.blocks n b a is in
-      let r = (and_parts (nat_le b.params rules.most_params && nat_le (length b.locals) rules.most_locals) (nat_le (length b.instrs) rules.most_u32) q).1 in
-      grind (arith, nat_tests, r)
+  short = block_short code ok n b is
 
   pub roomy : (at size : ℕ) → HasRoom code n at size → (r : Registers) → r.block ≡ n → r.base ≡ at → IsRoomy code b r size
   roomy at size h r e f place inside =
@@ -387,7 +391,7 @@ module _ (code : Code) (ok : IsAccepted code (notes_of code)) (n : ℕ) (b : Cod
 
 -- ---- one run behind another
 
-steps_on : (t : Setting ℕ) (c c' c'' : State ℕ) → Steps t c c' → Steps t c' c'' → Steps t c c''
+pub steps_on : (t : Setting ℕ) (c c' c'' : State ℕ) → Steps t c c' → Steps t c' c'' → Steps t c c''
 steps_on t c _ c'' s.none k = k
 steps_on t c c' c'' (s.more {c' = d} e rest) k = s.more e (steps_on t d c' c'' rest k)
 

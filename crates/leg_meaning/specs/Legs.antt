@@ -1,36 +1,19 @@
--- What a revision does between two events.
---   Leg               a leg's event: a fork, a join, the end, or a trap of its own
---   IsLeg             steps of instructions up to the event, with the state at which it comes
+-- Whose a trap is, where a leg ends with one or a join brings one.
 --   own_trap          the trap of a leg: its cause, at the line charged last, and first of all in this revision
 --   merge_trap        the trap of a join whose merges fault
 --   passed_trap       the trap of a join of a revision that has trapped
 --   IsJoinTrap        one of these two
-use Rattle.std.specs.Prelude.{ℕ, ◌≡◌, Bool, true, false, ℤ, List, Option, Some, None}
+use Rattle.std.specs.Prelude.{ℕ, ◌≡◌, true, false, ℤ, List, Option, Some, None}
 use Rattle.rev_num.specs.declared.value.NumFault.{NumFault}
 use Rattle.rev_num.specs.declared.outcome.Cause.{Cause}
 use Rattle.rev_num.specs.declared.outcome.Cause.TheVariants as cause
 use Rattle.rev_code.specs.declared.code.Code.{Code}
-use Rattle.rev_code.specs.Words.{Word}
-use Rattle.rev_code.specs.State.{Setting, State}
-use Rattle.rev_code.specs.Step.{traps, forks, joins, ends, step, Steps}
+use Rattle.rev_code.specs.State.{State}
+use Rattle.rev_code.specs.Step.{traps}
 use Rattle.rev_code.specs.Funs.{setting}
+use Rattle.code_machine.specs.Leg.{IsLeg}
 use Rattle.version_map.specs.declared.end.CodeTrap.{CodeTrap}
 use Rattle.version_map.specs.Endings.{of_join}
-
-pub data Leg : Type 0 where
-  -- the block and the arguments of the child
-  fork : (block : ℕ) → List (Word ℕ) → Leg
-  join : (try : Bool) → (on : ℕ) → Leg
-  end : Leg
-  trap : Cause → Leg
-
--- from one state to the one at which the event comes: that of the instruction, with all words on its stack, or, for a
--- trap, with the line that it set
-pub data IsLeg (s : Setting ℕ) (c c' : State ℕ) : Leg → Type 0 where
-  is_fork : (n : ℕ) (args : List (Word ℕ)) (before : State ℕ) → Steps s c before → step s before ≡ forks c' n args → IsLeg s c c' (fork n args)
-  is_join : (try : Bool) (on : ℕ) (before : State ℕ) → Steps s c before → step s before ≡ joins c' try on → IsLeg s c c' (join try on)
-  is_end : (w : Option (Word ℕ)) (before : State ℕ) → Steps s c before → step s before ≡ ends c' w → IsLeg s c c' end
-  is_trap : (e : Cause) (before : State ℕ) → Steps s c before → step s before ≡ traps c' e → IsLeg s c c' (trap e)
 
 -- ---- traps
 
@@ -55,7 +38,7 @@ pub data IsJoinTrap : CodeTrap → Type 0 where
 -- a leg's own trap is never that of a join
 abbrev pub OwnTrapsAreNotOfJoin : Type 0
 OwnTrapsAreNotOfJoin =
-    (code : Code) (inputs : List ℤ) (share : ℕ) (c c' : State ℕ) (e : Cause) → IsLeg (setting code inputs share) c c' (trap e)
+    (code : Code) (inputs : List ℤ) (share : ℕ) (c c' : State ℕ) (e : Cause) → IsLeg (setting code inputs share) c (traps c' e)
     → of_join (own_trap c' e) ≡ false
 
 -- a join's always is

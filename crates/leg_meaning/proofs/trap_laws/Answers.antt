@@ -8,7 +8,7 @@ pub returns-clause-own : goal.returns-clause-own
 returns-clause-own c = λ code inputs share from to e l. own code inputs share from to e l
   where
     own : leg.OwnTrapsAreNotOfJoin
-    own code inputs share c c' e (leg.is_trap _ before steps h) = trap_quiet code inputs share before c' e h
+    own code inputs share c c' e l = trap_quiet code inputs share l.last c' e l.comes
 
 pub returns-clause-join : goal.returns-clause-join
 returns-clause-join c = of_joins

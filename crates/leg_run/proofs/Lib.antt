@@ -1,0 +1,9 @@
+pub mod Decoding
+pub mod Frames
+pub mod Calling
+pub mod Returning
+pub mod Joining
+pub mod Applying
+pub mod Printing
+pub mod Rounding
+pub mod Limits

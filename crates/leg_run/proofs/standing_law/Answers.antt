@@ -1,0 +1,5 @@
+use Rattle.leg_run.proofs.Decoding.{its_state}
+use Rattle.leg_run.proofs.standing_law.Goals as goal
+
+pub returns : goal.returns
+returns c = its_state

@@ -1,0 +1,6 @@
+pub mod Rooms
+pub mod Setting
+pub mod Standing
+pub mod Changes
+pub mod Ends
+pub mod Printed

@@ -1,0 +1,28 @@
+//! Legs of revisions: what a revision does between two events.
+#![tactic(auto)]
+
+ghost use Rattle.leg_run.specs.Standing.{StandsForItsState};
+
+mod apply_fun;
+mod calls;
+mod joins;
+mod legs;
+mod prints;
+mod revision;
+mod rooms;
+mod setting;
+mod turn;
+
+pub use apply_fun::apply;
+pub use calls::{call, leave};
+pub use joins::join;
+pub use legs::run;
+pub use revision::{LegEnd, Meeting, Revision, Run, Waiting};
+pub use rooms::rooms_of;
+pub use setting::CodeSetting;
+pub use turn::Turn;
+
+/// A revision stands for no state but its own.
+pub fn standing_law()
+    ensures { StandsForItsState }
+{}

@@ -1,0 +1,10 @@
+//! Instructions that leave a block.
+
+use crate::revision::LegEnd;
+
+/// What an instruction that leaves its block comes to.
+#[derive(Clone, Copy, PartialEq, Eq, Debug)]
+pub enum Turn {
+    Goes,
+    Ends(LegEnd),
+}
