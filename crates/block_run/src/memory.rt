@@ -11,6 +11,7 @@ use version_map::{Delta, First, How, Snapshot, Written};
 
 /// What a revision reads and writes: its snapshot, what lies over it, and for each location that it
 /// has written the word that was there when it was forked.
+#[derive(Drop)]
 pub struct Memory<P: Snapshot> {
     pub delta: Delta,
     pub first: First,

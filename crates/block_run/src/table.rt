@@ -1,8 +1,8 @@
 //! Where the locations of shared variables lie.
 
-ghost use Rattle.std.specs.Prelude.{IfOk};
+ghost use Rattle.std.specs.Prelude.{◌≡◌, IfOk};
 ghost use Rattle.code_soundness.specs.Whole.{notes_of, IsAccepted};
-ghost use Rattle.block_run.specs.Area.{IsTable};
+ghost use Rattle.block_run.specs.Area.{IsTable, table_from};
 
 use crate::registers::Variable;
 use rev_code::Code;
@@ -11,7 +11,8 @@ use std::alloc::{AllocError, Global};
 /// Where each shared variable of the code lies.
 pub fn table_of(alloc: Global, code: &Code) -> Result<Vec<Variable>, AllocError>
     requires { IsAccepted code.now (notes_of code.now) }
-    ensures { IfOk result (λ table. IsTable code.now.vars table.items) }
+    ensures listed { IfOk result (λ table. table.items ≡ table_from 0 code.now.vars) }
+    ensures table { IfOk result (λ table. IsTable code.now.vars table.items) }
 {
     let vars = code.vars.as_slice();
     let mut table = Vec::new(alloc);

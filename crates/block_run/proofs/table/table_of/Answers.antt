@@ -13,10 +13,12 @@ overflow_add-first c =
     let d = count_drop c.as_slice-vars.result.now c.loop-at.at c.index-vars-at.result c.loop-at-test.true in
     omega (arith, few, e, v, d)
 
-pub returns : goal.returns
-returns c =
+pub returns-clause-listed : goal.returns-clause-listed
+returns-clause-listed c =
     let vs = c.as_slice-vars.result.now in
     let none = drop_of_length-le vs c.loop-at-test.false in
-    table_law c.args.code.now c.requires c.loop-at.table.items
-    (sym (append-nil c.loop-at.table.items) ∙ ap (λ us. c.loop-at.table.items ++ table_from c.loop-at.first us) (sym none)
-    ∙ c.loop-at.invariant.table ∙ ap (table_from 0) c.loop-at.invariant.vars)
+    sym (append-nil c.loop-at.table.items) ∙ ap (λ us. c.loop-at.table.items ++ table_from c.loop-at.first us) (sym none)
+    ∙ c.loop-at.invariant.table ∙ ap (table_from 0) c.loop-at.invariant.vars
+
+pub returns-clause-table : goal.returns-clause-table
+returns-clause-table c = table_law c.args.code.now c.requires c.loop-at.table.items (returns-clause-listed c)

@@ -1,0 +1,11 @@
+//! What merges on words stand for.
+
+ghost use Rattle.block_merges.specs.Merging.{BlocksGiveTheMerges, ComposesAlike};
+
+/// The merges of words by the merge blocks of verified code stand for those of the machine of code:
+/// `blocks`. Where merges of words stand for those of the code, whole compositions do, with the
+/// same first fault: `compositions`.
+pub fn merge_laws()
+    ensures blocks { BlocksGiveTheMerges }
+    ensures compositions { ComposesAlike }
+{}

@@ -1,0 +1,87 @@
+//! The merges of all locations.
+
+ghost use Rattle.std.specs.Prelude.{◌≡◌, ◌≤◌, ◌<◌, ◌^◌, ℕ, IfOk, vec_len};
+ghost use Rattle.code_rules.specs.Pass.{most_need};
+ghost use Rattle.code_soundness.specs.Whole.{notes_of, IsAccepted};
+ghost use Rattle.code_verifier.specs.Verdicts.{KeepsRules};
+ghost use Rattle.code_machine.specs.Joining.{merges_of};
+ghost use Rattle.block_run.specs.Area.{count, table_from};
+
+use crate::room::{blank_memory, merge_blocks, put_three};
+use block_run::{Memory, Variable, table_of};
+use code_verifier::Verified;
+use fun_run::evaluate;
+use rev_code::Code;
+use rev_num::NumFault;
+use std::alloc::{AllocError, Global};
+use version_map::{MergeBy, Whole};
+
+/// How many words serve each merge, with all funs that it applies.
+const MOST_NEED: usize = 65_536;
+
+/// The merges of all locations: that of a versioned location gives the joined word, that of a
+/// cumulative one the value of its merge block. The words for a block's frame are made once, and no
+/// merge takes memory.
+pub struct BlockMerges<'a> {
+    code: &'a Code,
+    table: Vec<Variable>,
+    blocks: Vec<Option<u16>>,
+    words: Vec<u64>,
+    memory: Memory<Whole>,
+    ghost sound: { KeepsRules code.now },
+    ghost accepted: { IsAccepted code.now (notes_of code.now) },
+    ghost variables: { table.items ≡ table_from 0 code.now.vars },
+    ghost listed: { blocks.items ≡ merges_of code.now.vars },
+    ghost room: { most_need ≤ vec_len words },
+    ghost locations: { vec_len memory.snapshot.words ≡ count code.now.vars },
+}
+
+impl<'a> BlockMerges<'a> {
+    ghost use Rattle.code_machine.specs.Local.{CodeRun};
+    ghost use Rattle.block_merges.specs.Merging.{AreMergesOf, MergesFit, word_merges};
+
+    /// The merges of this code.
+    pub fn new(alloc: Global, verified: &'a Verified) -> Result<BlockMerges<'a>, AllocError>
+        ensures code { IfOk result (λ b. b.code.now ≡ verified.now.code) }
+        ensures merges { IfOk result (λ b. (g : CodeRun) → g.code ≡ verified.now.code
+            → MergesFit verified.now.code → AreMergesOf g (word_merges b.code.now)) }
+    {
+        let code = verified.code();
+        let table = table_of(alloc, code)?;
+        let blocks = merge_blocks(alloc, code)?;
+        let memory = blank_memory(alloc, blocks.len() as u32)?;
+        Ok(BlockMerges {
+            code,
+            table,
+            blocks,
+            words: vec![in alloc; 0; MOST_NEED]?,
+            memory,
+        })
+    }
+}
+
+impl<'a> MergeBy for BlockMerges<'a> {
+    ghost use Rattle.block_merges.specs.Merging.{word_merges};
+
+    ghost size = { λ b. count b.code.now.vars };
+
+    ghost merges = { λ b. word_merges b.code.now };
+
+    fn merge(&mut self, location: u32, main: u64, join: u64, root: u64) -> Result<u64, NumFault> {
+        match self.blocks[location as usize] {
+            None => Ok(join),
+            Some(n) => {
+                let words = self.words.as_mut_slice();
+                put_three(words, main, join, root);
+                evaluate(
+                    self.code,
+                    self.table.as_slice(),
+                    n,
+                    &mut self.memory,
+                    words,
+                    0,
+                )
+            },
+        }
+    }
+}

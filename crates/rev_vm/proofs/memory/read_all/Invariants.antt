@@ -1,0 +1,15 @@
+use Rattle.std.proofs.Common.{◌≡◌, map, take}
+use Rattle.version_map.specs.Deltas.{at}
+use Rattle.version_map.specs.Overlay.{under}
+use Rattle.block_run.specs.Remembering.{Kept}
+use Rattle.rev_vm.proofs.memory.read_all.Given as goal
+
+abbrev pub invariant-loop-at : goal.invariant-loop-at
+invariant-loop-at g l = record {
+  words : l.words.items ≡ map (λ w. under l.initial.memory.delta (g.P.Snapshot.base l.initial.memory.snapshot) w.location) (take l.at l.written);
+  kept : Kept (g.P.Snapshot.size l.initial.memory.snapshot)
+      (under l.initial.memory.delta (g.P.Snapshot.base l.initial.memory.snapshot)) (under l.memory.delta (g.P.Snapshot.base l.memory.snapshot))
+      (at l.initial.memory.first.roots) (at l.memory.first.roots);
+  size : g.P.Snapshot.size l.memory.snapshot ≡ g.P.Snapshot.size l.initial.memory.snapshot;
+  group : g.P.Snapshot.group l.memory.snapshot ≡ g.P.Snapshot.group l.initial.memory.snapshot;
+}

@@ -1,0 +1,21 @@
+use Rattle.std.proofs.Common.{◌≡◌, ◌≤◌, List, length, drop}
+use Rattle.version_map.specs.Deltas.{at}
+use Rattle.version_map.specs.Overlay.{under}
+use Rattle.rev_code.specs.Words.{Word}
+use Rattle.rev_code.specs.State.{Location}
+use Rattle.version_map.specs.Composing.{Entry}
+use Rattle.plain_words.specs.Agreement.{AreWords}
+use Rattle.block_run.specs.Standing.{AreSeen}
+use Rattle.rev_vm.specs.Writes.{AreAtEntries}
+use Rattle.rev_vm.proofs.Writing.{IsOn}
+use Rattle.rev_vm.proofs.memory.write_all.Given as goal
+
+-- for all locations for which the memory stood, it stands for those that are written so far
+abbrev pub invariant-loop-at : goal.invariant-loop-at
+invariant-loop-at g l = record {
+  on : IsOn (g.P.Snapshot.size l.initial.memory.snapshot) l.written l.values l.at
+      (under l.initial.memory.delta (g.P.Snapshot.base l.initial.memory.snapshot)) (at l.initial.memory.first.roots)
+      (under l.memory.delta (g.P.Snapshot.base l.memory.snapshot)) (at l.memory.first.roots);
+  size : g.P.Snapshot.size l.memory.snapshot ≡ g.P.Snapshot.size l.initial.memory.snapshot;
+  group : g.P.Snapshot.group l.memory.snapshot ≡ g.P.Snapshot.group l.initial.memory.snapshot;
+}

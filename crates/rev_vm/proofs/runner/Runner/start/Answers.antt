@@ -1,0 +1,24 @@
+use Rattle.std.proofs.Common.{◌≡◌, ◌∙◌, length, sym, ap}
+use Rattle.code_soundness.proofs.Lists.{kinds_length}
+use Rattle.version_map.specs.Deltas.{at}
+use Rattle.version_map.specs.Overlay.{under}
+use Rattle.block_run.specs.Area.{count}
+use Rattle.rev_vm.proofs.Firsts.{locations_many, start_stands, unwritten, words_many}
+use Rattle.rev_vm.proofs.runner.Runner.start.Goals as goal
+
+pub begin_with-requires-clause-block : goal.begin_with-requires-clause-block
+begin_with-requires-clause-block g c =
+    let q = c.requires.called in
+    (q.0, q.2.is, sym (words_many q.1 c.args.args.now q.2.stand) ∙ sym (kinds_length q.1) ∙ ap length q.2.kinds)
+
+pub returns-in-Ok-clause-state : goal.returns-in-Ok-clause-state
+returns-in-Ok-clause-state g c = λ b xs ls k base.
+    let vars = c.args.setting.now.code.vars in
+    let many = locations_many vars ls base.kinds in
+    record {
+      verified = c.requires.setting.faultless;
+      stands = start_stands c.args.setting.now c.requires.setting.faultless c.args.block c.args.args.now c.args.fuel c.in-Ok.parts.0 c.in-Ok.ensures.run b xs ls k base.kinds
+          (under c.in-Ok.parts.1 (g.P.Snapshot.base c.args.snapshot)) (at c.in-Ok.parts.2.roots)
+          (unwritten (count vars) c.in-Ok.parts.1 c.in-Ok.parts.2.roots (g.P.Snapshot.base c.args.snapshot) ls many c.in-Ok.ensures.delta.0 c.in-Ok.ensures.delta.1 c.in-Ok.ensures.first.0 c.in-Ok.ensures.first.1 base.seen);
+      size = c.in-Ok.ensures.delta.0;
+    }

@@ -1,0 +1,4 @@
+pub mod Writes
+pub mod Meaning
+pub mod NewWords
+pub mod Starts

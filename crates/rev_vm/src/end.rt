@@ -1,0 +1,80 @@
+//! Revisions that have ended, or for which memory was wanting.
+
+ghost use Rattle.std.specs.Prelude.{◌≡◌};
+
+use block_run::Memory;
+use leg_run::Revision;
+use rev_num::Items;
+use version_map::{EndValue, Finish, Snapshot, Written};
+
+/// A revision that is done or has trapped, with what it leaves.
+pub struct Stopped<P: Snapshot> {
+    pub(crate) snapshot: P,
+    pub(crate) end: EndValue,
+}
+
+/// What the revision leaves, and its snapshot, given back.
+pub fn retire<P: Snapshot>(stopped: Stopped<P>) -> (EndValue, P::Spent)
+    ensures end { result.0 ≡ stopped.end }
+    ensures group { P.spent_group result.1 ≡ P.group stopped.snapshot }
+{
+    let Stopped { snapshot, end } = stopped;
+    (end, snapshot.release())
+}
+
+/// A revision that memory was wanting for.
+pub struct Broken<P: Snapshot> {
+    pub(crate) snapshot: P,
+}
+
+impl<P: Snapshot> Broken<P> {
+    /// Its snapshot, given back.
+    pub fn give_up(self) -> P::Spent
+        ensures { P.spent_group result ≡ P.group self.snapshot }
+    {
+        let Broken { snapshot } = self;
+        snapshot.release()
+    }
+}
+
+/// The revision as one that has ended.
+pub(crate) fn stop<P: Snapshot>(
+    revision: Revision<P>,
+    written: Items<Written>,
+    finish: Finish,
+) -> Stopped<P>
+    ensures written { result.end.written ≡ written }
+    ensures text { result.end.text ≡ revision.run.text.items }
+    ensures fuel { result.end.fuel ≡ revision.run.registers.fuel }
+    ensures finish { result.end.finish ≡ finish }
+    ensures snapshot { result.snapshot ≡ revision.memory.snapshot }
+{
+    let Revision { memory, run } = revision;
+    let Memory {
+        delta,
+        first,
+        snapshot,
+    } = memory;
+    Stopped {
+        snapshot,
+        end: EndValue {
+            written,
+            text: Items::from_vec(run.text),
+            fuel: run.registers.fuel,
+            finish,
+        },
+    }
+}
+
+/// The revision without all but its snapshot.
+pub(crate) fn break_off<P: Snapshot>(revision: Revision<P>) -> Broken<P>
+    ensures { result.snapshot ≡ revision.memory.snapshot }
+{
+    let Revision { memory, run } = revision;
+    let Memory {
+        delta,
+        first,
+        snapshot,
+    } = memory;
+    Broken { snapshot }
+}

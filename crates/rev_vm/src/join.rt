@@ -1,0 +1,159 @@
+//! Revisions at a join.
+
+ghost use Rattle.std.specs.Prelude.{◌≡◌, ◌<◌, ◌+◌, ◌^◌, Bool, true, false};
+ghost use Rattle.rev_code.specs.State.{State};
+ghost use Rattle.rev_code.specs.Events.{past_join};
+ghost use Rattle.code_machine.specs.Local.{CodeRun, Trap, end_of};
+ghost use Rattle.code_machine.specs.Joining.{inherit, origin_of};
+ghost use Rattle.rev_vm.specs.Meaning.{IsAt, IsAtJoin, IsEnd, IsReady, IsTold, IsTrap};
+
+use crate::end::{Stopped, break_off, stop};
+use crate::runner::Runner;
+use leg_run::{Revision, Run};
+use rev_num::Items;
+use version_map::{CodeTrap, EndValue, Finish, Snapshot, Written};
+
+/// A revision at a join. The join stands in its list of forks and joins already, and what it has
+/// written is at hand, so that no call here takes memory.
+pub struct AtJoin<P: Snapshot> {
+    pub(crate) revision: Revision<P>,
+    pub(crate) is_try: bool,
+    pub(crate) on: u64,
+    pub(crate) written: Items<Written>,
+    ghost ready: { IsReady revision.run },
+}
+
+/// A joiner, and the end of the revision that it joins.
+pub struct Claimed<P: Snapshot> {
+    pub(crate) at: AtJoin<P>,
+    pub(crate) end: EndValue,
+    ghost fuel: { at.revision.run.registers.fuel + end.fuel < 2 ^ 64 },
+}
+
+impl<P: Snapshot> AtJoin<P> {
+    /// The number of the revision that is joined.
+    pub fn on(&self) -> u64
+        ensures { result ≡ self.now.on }
+    {
+        self.on
+    }
+
+    /// Whether a trap of that revision is dropped.
+    pub fn is_try(&self) -> bool
+        ensures { result ≡ self.now.is_try }
+    {
+        self.is_try
+    }
+
+    /// The line charged last.
+    pub fn line(&self) -> u32
+        ensures { (g : CodeRun) (c : State _) → IsAtJoin g self.now.revision.run
+            self.now.revision.memory.delta (P.base self.now.revision.memory.snapshot)
+            self.now.revision.memory.first.roots self.now.written self.now.is_try self.now.on c
+            → result ≡ c.line }
+    {
+        self.revision.run.registers.line
+    }
+
+    /// What the revision has printed so far.
+    pub fn text(&self) -> &[u8]
+        ensures { (g : CodeRun) (c : State _) → IsAtJoin g self.now.revision.run
+            self.now.revision.memory.delta (P.base self.now.revision.memory.snapshot)
+            self.now.revision.memory.first.roots self.now.written self.now.is_try self.now.on c
+            → result.now ≡ c.text }
+    {
+        self.revision.run.text.as_slice()
+    }
+
+    /// The joiner with the end of the revision that it joins, which is done.
+    pub fn claim(self, end: EndValue) -> Claimed<P>
+        requires { self.revision.run.registers.fuel + end.fuel < 2 ^ 64 }
+        ensures at { result.at ≡ self }
+        ensures end { result.end ≡ end }
+    {
+        Claimed { at: self, end }
+    }
+
+    /// The joiner of a revision that has trapped: it traps with the same cause and line, and tells
+    /// which revision trapped first.
+    pub fn trapped(self, trap: CodeTrap) -> Stopped<P>
+        requires plain { self.is_try ≡ false }
+        requires number { self.on < 2 ^ 32 }
+        ensures end { (g : CodeRun) (c : State _) (t : Trap _) → IsAtJoin g self.revision.run
+            self.revision.memory.delta (P.base self.revision.memory.snapshot)
+            self.revision.memory.first.roots self.written self.is_try self.on c → IsTrap t trap
+            → IsEnd g (end_of (inherit c false self.on t)) result.end }
+        ensures group { P.group result.snapshot ≡ P.group self.revision.memory.snapshot }
+    {
+        let first = first_of(self.on, trap.origin);
+        let AtJoin {
+            revision,
+            is_try,
+            on,
+            written,
+        } = self;
+        let passed = CodeTrap {
+            cause: trap.cause,
+            line: trap.line,
+            origin: Some(first),
+        };
+        stop(revision, written, Finish::Trapped(passed))
+    }
+
+    /// The joiner of a revision that has trapped, at a TryJoin: what the revision left is dropped,
+    /// and the joiner is told so.
+    pub fn dropped(self) -> Runner<P>
+        requires { self.is_try ≡ true }
+        ensures state { (g : CodeRun) (c : State _) → IsAtJoin g self.revision.run
+            self.revision.memory.delta (P.base self.revision.memory.snapshot)
+            self.revision.memory.first.roots self.written self.is_try self.on c
+            → IsAt g result.revision.run result.revision.memory.delta
+            (P.base result.revision.memory.snapshot) result.revision.memory.first.roots
+            (past_join c true false self.on) }
+        ensures group { P.group result.revision.memory.snapshot
+            ≡ P.group self.revision.memory.snapshot }
+    {
+        let AtJoin {
+            mut revision,
+            is_try,
+            on,
+            written,
+        } = self;
+        tell(&mut revision.run, 0);
+        Runner { revision }
+    }
+
+    /// Its snapshot, given back.
+    pub fn give_up(self) -> P::Spent
+        ensures { P.spent_group result ≡ P.group self.revision.memory.snapshot }
+    {
+        let AtJoin {
+            revision,
+            is_try,
+            on,
+            written,
+        } = self;
+        break_off(revision).give_up()
+    }
+}
+
+/// The revision that trapped first.
+fn first_of(on: u64, origin: Option<u32>) -> u32
+    requires { on < 2 ^ 32 }
+    ensures { result ≡ origin_of on origin }
+{
+    match origin {
+        None => on as u32,
+        Some(first) => first,
+    }
+}
+
+/// Goes on with this word in place of the one on top.
+pub(crate) fn tell(run: &mut Run, word: u64)
+    requires { IsReady run.old }
+    ensures { IsTold word run.old run.new }
+{
+    let top = run.registers.top - 1;
+    run.words[top] = word;
+    run.registers.at += 1;
+}

@@ -1,0 +1,17 @@
+//! Revisions that run code, from event to event.
+#![tactic(auto)]
+
+mod end;
+mod fork;
+mod frame;
+mod join;
+mod memory;
+mod runner;
+mod settling;
+mod starting;
+
+pub use end::{Broken, Stopped, retire};
+pub use fork::{AtFork, Parent};
+pub use join::{AtJoin, Claimed};
+pub use runner::Runner;
+pub use settling::{Settled, settle};

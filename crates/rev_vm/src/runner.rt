@@ -1,0 +1,81 @@
+//! Revisions between two events.
+
+ghost use Rattle.std.specs.Prelude.{◌≡◌, List, IfErr, IfOk};
+ghost use Rattle.rev_code.specs.declared.code.CodeBlock.{CodeBlock};
+ghost use Rattle.rev_code.specs.Events as events;
+ghost use Rattle.rev_code.specs.State.{Location, State};
+ghost use Rattle.rev_code.specs.Words.{Word};
+ghost use Rattle.block_run.specs.Area.{count};
+ghost use Rattle.code_machine.specs.Local.{CodeRun};
+ghost use Rattle.leg_run.specs.Setting.{IsSetting};
+ghost use Rattle.rev_vm.specs.Meaning.{IsAt};
+ghost use Rattle.rev_vm.specs.Starts.{IsBase, IsCalled, run_under};
+
+use crate::end::break_off;
+use crate::starting::begin_with;
+use block_run::Memory;
+use leg_run::{CodeSetting, Revision};
+use std::alloc::Global;
+use version_map::Snapshot;
+
+/// A revision between two events, or before its first.
+pub struct Runner<P: Snapshot> {
+    pub(crate) revision: Revision<P>,
+}
+
+impl<P: Snapshot> Runner<P> {
+    /// A revision in a first frame of a procedure or of `main`, over this snapshot. The error is
+    /// want of memory, and hands the snapshot back.
+    pub fn start(
+        alloc: Global,
+        setting: &CodeSetting,
+        block: u16,
+        args: &[u64],
+        snapshot: P,
+        fuel: u64,
+    ) -> Result<Runner<P>, P>
+        requires setting { IsSetting setting.now }
+        requires size { P.size snapshot ≡ count setting.now.code.vars }
+        requires called { (b : CodeBlock) × (xs : List (Word _))
+            × IsCalled (run_under setting.now) block b xs args.now }
+        ensures state { (b : CodeBlock) (xs : List (Word _)) (ls : List (Location _))
+            → IsCalled (run_under setting.now) block b xs args.now
+            → IsBase (run_under setting.now) (P.base snapshot) ls
+            → IfOk result (λ r. IsAt (run_under setting.now) r.revision.run
+            r.revision.memory.delta (P.base r.revision.memory.snapshot)
+            r.revision.memory.first.roots (events.start block b xs ls fuel)) }
+        ensures group { IfOk result (λ r. P.group r.revision.memory.snapshot ≡ P.group snapshot) }
+        ensures err { IfErr result (λ s. s ≡ snapshot) }
+    {
+        match begin_with(alloc, setting, block, args, fuel) {
+            Ok(parts) => Ok(Runner {
+                revision: Revision {
+                    memory: Memory {
+                        delta: parts.1,
+                        first: parts.2,
+                        snapshot,
+                    },
+                    run: parts.0,
+                },
+            }),
+            Err(_) => Err(snapshot),
+        }
+    }
+
+    /// What the revision has printed so far.
+    pub fn text(&self) -> &[u8]
+        ensures { (g : CodeRun) (c : State _) → IsAt g self.now.revision.run
+            self.now.revision.memory.delta (P.base self.now.revision.memory.snapshot)
+            self.now.revision.memory.first.roots c → result.now ≡ c.text }
+    {
+        self.revision.run.text.as_slice()
+    }
+
+    /// Its snapshot, given back.
+    pub fn give_up(self) -> P::Spent
+        ensures { P.spent_group result ≡ P.group self.revision.memory.snapshot }
+    {
+        let Runner { revision } = self;
+        break_off(revision).give_up()
+    }
+}

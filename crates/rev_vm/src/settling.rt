@@ -1,0 +1,216 @@
+//! What a joiner takes over of a revision that is done.
+
+ghost use Rattle.std.specs.Prelude.{◌≡◌, ◌<◌, ◌+◌, ◌++◌, ◌^◌, ℕ};
+ghost use Rattle.std.specs.Prelude.{Bool, None, All, IfOk, IfErr, length, map};
+ghost use Rattle.rev_num.specs.declared.outcome.Cause.TheVariants as cause;
+ghost use Rattle.rev_code.specs.State.{State};
+ghost use Rattle.version_map.specs.declared.end.Finish.TheVariants as finish;
+ghost use Rattle.version_map.specs.Composing.{composed, entries};
+ghost use Rattle.version_map.specs.Deltas.{at, locations};
+ghost use Rattle.version_map.specs.Overlay.{under};
+ghost use Rattle.block_run.specs.Area.{count};
+ghost use Rattle.block_run.specs.Remembering.{Kept};
+ghost use Rattle.code_machine.specs.Local.{CodeRun, End, end_of, at_work, Local};
+ghost use Rattle.code_machine.specs.Joining.{join_in};
+ghost use Rattle.block_merges.specs.Merging.{AreMergesOf};
+ghost use Rattle.rev_vm.specs.declared.settling.Settled.TheVariants as settled;
+ghost use Rattle.rev_vm.specs.Meaning.{IsAt, IsClaimed, IsEnd, IsPast, IsPopped};
+ghost use Rattle.rev_vm.specs.Meaning.{IsReady, IsTakenOver};
+ghost use Rattle.rev_vm.specs.Writes.{HasWritten};
+ghost use Rattle.rev_vm.specs.NewWords.{IsMergedTo};
+
+use crate::end::{Broken, Stopped, break_off, stop};
+use crate::join::{AtJoin, Claimed, tell};
+use crate::memory::{read_all, write_all};
+use crate::runner::Runner;
+use block_run::Memory;
+use leg_run::{Revision, Run};
+use rev_num::Cause;
+use std::alloc::{AllocError, Global};
+use version_map::{
+    CodeTrap, EndValue, Finish, MergeBy, MergeTrap, Snapshot, collapse_all, compose,
+};
+
+/// What becomes of a joiner.
+pub enum Settled<P: Snapshot> {
+    Run(Runner<P>),
+    /// A merge faulted.
+    Trap(Stopped<P>),
+}
+
+/// New words, or the first fault of a merge.
+pub(crate) enum Merged {
+    Words(Vec<u64>),
+    Fault(MergeTrap),
+}
+
+/// The new words of the locations that the joinee wrote.
+fn merge_words<P: Snapshot, M: MergeBy>(
+    alloc: Global,
+    memory: &mut Memory<P>,
+    end: &EndValue,
+    merges: &mut M,
+) -> Result<Merged, AllocError>
+    requires memory { All (λ w. w.location < P.size memory.old.snapshot) end.now.written }
+    requires merges { All (λ w. w.location < M.size merges.old) end.now.written }
+    ensures merged { IfOk result (λ m. IsMergedTo (composed (M.merges merges.old)
+        (map (λ w. under memory.old.delta (P.base memory.old.snapshot) w.location)
+        end.now.written) (entries end.now.written)) m) }
+    ensures kept { Kept (P.size memory.old.snapshot)
+        (under memory.old.delta (P.base memory.old.snapshot))
+        (under memory.new.delta (P.base memory.new.snapshot))
+        (at memory.old.first.roots) (at memory.new.first.roots) }
+    ensures size { P.size memory.new.snapshot ≡ P.size memory.old.snapshot }
+    ensures group { P.group memory.new.snapshot ≡ P.group memory.old.snapshot }
+    ensures merges_size { M.size merges.new ≡ M.size merges.old }
+    ensures merges_same { M.merges merges.new ≡ M.merges merges.old }
+{
+    let mains = read_all(alloc, memory, end.written.as_slice())?;
+    let mut values = vec![in alloc; 0; mains.len()]?;
+    match compose(mains.as_slice(), end, merges, values.as_mut_slice()) {
+        Ok(()) => Ok(Merged::Words(values)),
+        Err(fault) => Ok(Merged::Fault(fault)),
+    }
+}
+
+/// Goes on without the word on top.
+fn pop(run: &mut Run)
+    requires { IsReady run.old }
+    ensures { IsPopped run.old run.new }
+{
+    run.registers.top -= 1;
+    run.registers.at += 1;
+}
+
+/// Goes on behind a join of a revision that is done, which a TryJoin tells.
+fn go_past(run: &mut Run, is_try: bool)
+    requires { IsReady run.old }
+    ensures { IsPast is_try run.old run.new }
+{
+    if is_try { tell(run, 1) } else { pop(run) }
+}
+
+/// More text behind a text.
+fn append(text: &mut Vec<u8>, more: Vec<u8>) -> Result<(), AllocError>
+    ensures { IfOk result (λ _. text.new.items ≡ text.old.items ++ more.items) }
+{
+    if text.is_empty() {
+        *text = more;
+        return Ok(());
+    }
+    text.extend_from_slice(more.as_slice())
+}
+
+/// The trap of a merge that faulted.
+fn fault_at(trap: MergeTrap, line: u32) -> Finish
+    ensures { result ≡ finish.Trapped (record {
+      cause = cause.Merge trap.location trap.fault;
+      line = line;
+      origin = None;
+    }) }
+{
+    Finish::Trapped(CodeTrap {
+        cause: Cause::Merge {
+            location: trap.location,
+            fault: trap.fault,
+        },
+        line,
+        origin: None,
+    })
+}
+
+/// The joiner with what the joined revision left.
+fn take_over<P: Snapshot>(
+    mut revision: Revision<P>,
+    is_try: bool,
+    end: EndValue,
+    values: Vec<u64>,
+) -> Result<Runner<P>, Broken<P>>
+    requires ready { IsReady revision.run }
+    requires fuel { revision.run.registers.fuel + end.fuel < 2 ^ 64 }
+    requires within { All (λ w. w.location < P.size revision.memory.snapshot) end.written }
+    requires many { length values.items ≡ length end.written }
+    ensures taken { IfOk result
+        (λ r. IsTakenOver is_try end.fuel end.text revision.run r.revision.run) }
+    ensures wrote { IfOk result (λ r. HasWritten (P.size revision.memory.snapshot)
+        end.written values.items
+        (under revision.memory.delta (P.base revision.memory.snapshot))
+        (at revision.memory.first.roots)
+        (under r.revision.memory.delta (P.base r.revision.memory.snapshot))
+        (at r.revision.memory.first.roots)) }
+    ensures size { IfOk result (λ r. P.size r.revision.memory.snapshot
+        ≡ P.size revision.memory.snapshot) }
+    ensures group { IfOk result (λ r. P.group r.revision.memory.snapshot
+        ≡ P.group revision.memory.snapshot) }
+    ensures broken { IfErr result (λ b. P.group b.snapshot ≡ P.group revision.memory.snapshot) }
+{
+    let EndValue {
+        written,
+        text,
+        fuel,
+        finish,
+    } = end;
+    write_all(&mut revision.memory, written.as_slice(), values.as_slice());
+    go_past(&mut revision.run, is_try);
+    revision.run.registers.fuel += fuel;
+    match append(&mut revision.run.text, text.into_vec()) {
+        Ok(()) => Ok(Runner { revision }),
+        Err(_) => Err(break_off(revision)),
+    }
+}
+
+/// The joiner of a revision that is done, with what it wrote, its text and its fuel; or its trap,
+/// where a merge faults. Its snapshot is collapsed until the answer is Kept or Base, and only read
+/// after that.
+pub fn settle<P: Snapshot, M: MergeBy>(
+    alloc: Global,
+    claimed: Claimed<P>,
+    merges: &mut M,
+) -> Result<Settled<P>, Broken<P>>
+    requires { (g : CodeRun) × (c : State ℕ) × (j : End ℕ) × IsClaimed g claimed.at.revision.run
+        claimed.at.revision.memory.delta (P.base claimed.at.revision.memory.snapshot)
+        claimed.at.revision.memory.first.roots claimed.at.written claimed.at.is_try claimed.at.on
+        claimed.end c j × (M.size merges.old ≡ count g.code.vars) }
+    ensures settled { (g : CodeRun) (c : State ℕ) (j : End ℕ)
+        → IsClaimed g claimed.at.revision.run
+        claimed.at.revision.memory.delta (P.base claimed.at.revision.memory.snapshot)
+        claimed.at.revision.memory.first.roots claimed.at.written claimed.at.is_try claimed.at.on
+        claimed.end c j → AreMergesOf g (M.merges merges.old)
+        → IfOk result (λ s. elim s [
+          | settled.Run r ↦ (c' : State ℕ)
+              × (join_in g c claimed.at.is_try claimed.at.on j j.phase ≡ at_work c')
+              × IsAt g r.revision.run r.revision.memory.delta
+              (P.base r.revision.memory.snapshot) r.revision.memory.first.roots c'
+          | settled.Trap t ↦ IsEnd g
+              (end_of (join_in g c claimed.at.is_try claimed.at.on j j.phase)) t.end
+        ]) }
+    ensures group { IfOk result (λ s. elim s [
+      | settled.Run r ↦ P.group r.revision.memory.snapshot
+          ≡ P.group claimed.at.revision.memory.snapshot
+      | settled.Trap t ↦ P.group t.snapshot ≡ P.group claimed.at.revision.memory.snapshot
+    ]) }
+    ensures broken { IfErr result
+        (λ b. P.group b.snapshot ≡ P.group claimed.at.revision.memory.snapshot) }
+    ensures merges_size { M.size merges.new ≡ M.size merges.old }
+    ensures merges_same { M.merges merges.new ≡ M.merges merges.old }
+{
+    let Claimed { at, end } = claimed;
+    let AtJoin {
+        mut revision,
+        is_try,
+        on,
+        written,
+    } = at;
+    collapse_all(&mut revision.memory.snapshot, &mut revision.memory.delta);
+    match merge_words(alloc, &mut revision.memory, &end, merges) {
+        Err(_) => Err(break_off(revision)),
+        Ok(Merged::Fault(trap)) => {
+            let finish = fault_at(trap, revision.run.registers.line);
+            Ok(Settled::Trap(stop(revision, written, finish)))
+        },
+        Ok(Merged::Words(values)) => match take_over(revision, is_try, end, values) {
+            Ok(runner) => Ok(Settled::Run(runner)),
+            Err(broken) => Err(broken),
+        },
+    }
+}

@@ -1,0 +1,61 @@
+//! What a first revision begins with.
+
+ghost use Rattle.std.specs.Prelude.{◌≡◌, ◌≤◌, ◌<◌, ◌^◌, IfOk, Some, length, slice_get};
+ghost use Rattle.rev_code.specs.declared.code.CodeBlock.{CodeBlock};
+ghost use Rattle.rev_code.specs.Step.{params};
+ghost use Rattle.code_soundness.specs.Whole.{notes_of, IsAccepted};
+ghost use Rattle.block_run.specs.Area.{count};
+ghost use Rattle.leg_run.specs.Setting.{IsSetting};
+ghost use Rattle.version_map.specs.Deltas.{locations, IsEmpty};
+ghost use Rattle.rev_vm.specs.Starts.{Begins};
+
+use crate::frame::first_frame;
+use fun_run::block_at;
+use leg_run::{CodeSetting, Run};
+use rev_code::Code;
+use std::alloc::{AllocError, Global};
+use version_map::{Delta, First};
+
+/// How many locations the code has.
+fn location_count(code: &Code) -> u32
+    requires { IsAccepted code.now (notes_of code.now) }
+    ensures { result ≡ count code.now.vars }
+{
+    let vars = code.vars.as_slice();
+    let mut total = 0;
+    for at in 0..vars.len() {
+        total += vars[at].cells;
+    }
+    total
+}
+
+/// A revision in a first frame of this block, and a memory in which nothing is written.
+pub fn begin_with(
+    alloc: Global,
+    setting: &CodeSetting,
+    block: u16,
+    args: &[u64],
+    fuel: u64,
+) -> Result<(Run, Delta, First), AllocError>
+    requires setting { IsSetting setting.now }
+    requires block { (b : CodeBlock) × (slice_get setting.now.code.blocks block ≡ Some b)
+        × (length args.now ≡ length (params b)) }
+    ensures run { IfOk result (λ r. Begins setting.now block args.now fuel r.0) }
+    ensures delta { IfOk result (λ r. (locations r.1 ≡ count setting.now.code.vars) × IsEmpty r.1) }
+    ensures first { IfOk result
+        (λ r. (locations r.2.roots ≡ count setting.now.code.vars) × IsEmpty r.2.roots) }
+{
+    let b = block_at(&setting.code, block);
+    let room = room_at(setting.rooms.as_slice(), block);
+    let run = first_frame(alloc, b, block, room, args, fuel)?;
+    let count = location_count(&setting.code);
+    Ok((run, Delta::new(alloc, count)?, First::new(alloc, count)?))
+}
+
+/// How many words the frames of a block need.
+fn room_at(rooms: &[u32], n: u16) -> usize
+    requires { n < length rooms.now }
+    ensures { slice_get rooms.now n ≡ Some result }
+{
+    rooms[n as usize] as usize
+}
