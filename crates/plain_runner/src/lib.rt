@@ -13,3 +13,4 @@ mod values;
 
 pub use language::PlainLanguage;
 pub use run::run_plain;
+pub use values::shown_values;
