@@ -6,3 +6,4 @@ pub mod Found
 pub mod Answers
 pub mod Left
 pub mod Closing
+pub mod Names

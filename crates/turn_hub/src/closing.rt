@@ -18,6 +18,7 @@ use atomic_table::Badge;
 
 /// A run that a hub kept. `close` alone makes one. It tells where the run began, and what its
 /// snapshots belong to.
+#[derive(Drop)]
 pub struct HubRun<L: Revision> {
     schedule: Vec<u32>,
     ends: Vec<Option<L::End>>,

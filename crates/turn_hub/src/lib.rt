@@ -26,4 +26,5 @@ pub use revisions::Revisions;
 pub use seat::HubSeat;
 pub use state::HubState;
 pub use value::Turn;
+pub use vectors::append;
 pub use view::{Said, View};

@@ -13,6 +13,7 @@ pub type Place<L> = Seat<
 >;
 
 /// A thread's right to take part in a hub. It has not the turn between two calls.
+#[derive(Drop)]
 pub struct HubSeat<L: Revision> {
     pub(crate) place: Place<L>,
     ghost idle: { (place.me.0.has ≡ 0) × (place.me.1 ≡ []) × (place.me.0.parts ≡ 1) },

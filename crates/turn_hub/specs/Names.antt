@@ -1,0 +1,44 @@
+-- How contracts name what a hub, its seats and a run keep.
+--   IsSeatOf, AreSeatsOf       seats of this hub
+--   view_of                    what a seat knows
+--   places                     the seats of a list at their hub's table
+--   began                      the first view of a hub: the number of its seats, its start and its group
+--   run_start, run_group       where a run began, and what its snapshots belong to
+use Rattle.std.specs.Prelude.{◌≡◌, ℕ, List, map, Option}
+use Rattle.atomic_table.specs.declared.shared.Seat.{Seat}
+use Rattle.turn_hub.specs.declared.closing.HubRun.{HubRun}
+use Rattle.turn_hub.specs.declared.hub.TurnHub.{TurnHub}
+use Rattle.turn_hub.specs.declared.revision.Revision.{Ghosts}
+use Rattle.turn_hub.specs.declared.seat.HubSeat.{HubSeat}
+use Rattle.turn_hub.specs.declared.value.Turn.{Turn}
+use Rattle.turn_hub.specs.declared.view.View.{View}
+use Rattle.turn_hub.specs.Seats.{AreOf}
+use Rattle.turn_hub.specs.Views.{first_of}
+
+module _ {L S R A E C P : Type 0} where
+  -- a hub's first view: the number of its seats, where its run began, and what its snapshots belong to
+  abbrev pub began : TurnHub L S R A E C P → View S
+  began hub = first_of hub.turn.shared.key.views
+
+  -- where a run began, and what its snapshots belong to
+  abbrev pub run_start : HubRun L S R A E C P → Option S
+  run_start run = (first_of run.witness.views).start
+
+  abbrev pub run_group : HubRun L S R A E C P → List ℕ
+  run_group run = (first_of run.witness.views).group
+
+  module _ {g : Ghosts L S R A E C P} where
+    -- what a seat knows
+    abbrev pub view_of : HubSeat L S R A E C P g → View S
+    view_of seat = seat.place.me.0
+
+    abbrev pub IsSeatOf : TurnHub L S R A E C P → HubSeat L S R A E C P g → Type 0
+    IsSeatOf hub seat = seat.place.table_id ≡ hub.turn.shared.table_id
+
+    -- seats at their hub's table
+    abbrev pub places :
+        List (HubSeat L S R A E C P g) → List (Seat (Option (Turn R A E)) (View S))
+    places seats = map (λ s. s.place) seats
+
+    abbrev pub AreSeatsOf : TurnHub L S R A E C P → List (HubSeat L S R A E C P g) → Type 0
+    AreSeatsOf hub seats = AreOf hub.turn.shared.table_id (places seats)
