@@ -32,7 +32,8 @@ use Rattle.fun_run.specs.Values.{HasRoom, IsArgs, IsValue}
 use Rattle.code_machine.specs.Local.{CodeRun, IsVerified}
 use Rattle.code_machine.specs.Joining as joining
 use Rattle.code_machine.specs.Joining.{merge_in, merges_of, merged_by, merged_there, merges, fault_of}
-use Rattle.block_merges.specs.Merging.{word_for, word_or_fault, int_word, merged_words, word_merges, IsOfKind, IsMerged, AreMergesOf, Fits, MergesFit, BlocksGiveTheMerges}
+use Rattle.block_merges.specs.Merging.{word_for, word_or_fault, int_word, merged_words, word_merges, HasShortNumbers, IsOfKind, IsMerged, IsShort, AreMergesOf, BlocksGiveTheMerges}
+use Rattle.block_merges.proofs.Short.{Fits, merge_fits, short_word}
 
 -- ---- the variable of a location with a merge block
 
@@ -172,7 +173,7 @@ stands (Ok (rev r)) h = refl
 stands (Err f) h = refl
 
 pub blocks_give : BlocksGiveTheMerges
-blocks_give g ok fit l kind there x y z u v w a b c = by (slice_get (merges_of g.code.vars) l) refl
+blocks_give g ok numbers l kind there x y z u v w a b c = by (slice_get (merges_of g.code.vars) l) refl
   where
     by : (o : Option (Option ℕ)) → slice_get (merges_of g.code.vars) l ≡ o → IsMerged (merged_there (values g.code) o x y z) (merged_words g.code o u v w)
     by None e = b.word
@@ -183,13 +184,13 @@ blocks_give g ok fit l kind there x y z u v w a b c = by (slice_get (merges_of g
         let q = int_is y v (b.of_kind ∙ int') b.word in
         let r = int_is z w (c.of_kind ∙ int') c.word in
         let m = merged_by (values g.code) (Some n) (int_word u) (int_word v) (int_word w) in
-        subst (λ s. IsMerged s (word_or_fault m)) (λ j. merged_by (values g.code) (Some n) (sym p j) (sym q j) (sym r j)) (stands m (fit l n e u v w))
+        subst (λ s. IsMerged s (word_or_fault m)) (λ j. merged_by (values g.code) (Some n) (sym p j) (sym q j) (sym r j)) (stands m (merge_fits g.code numbers n (int_word u) (int_word v) (int_word w) (subst IsShort p (short_word x u a.word)) (subst IsShort q (short_word y v b.word)) (subst IsShort r (short_word z w c.word))))
 
 -- of code that is this one
-pub given_for : (code : Code) → first_fault code ≡ None → (g : CodeRun) → g.code ≡ code → MergesFit code → AreMergesOf g (word_merges code)
-given_for code ok g e fit =
+pub given_for : (code : Code) → first_fault code ≡ None → HasShortNumbers code → (g : CodeRun) → g.code ≡ code → AreMergesOf g (word_merges code)
+given_for code ok numbers g e =
     subst (λ c. AreMergesOf g (word_merges c)) e
-    (blocks_give g (ap first_fault e ∙ ok) (subst MergesFit (sym e) fit))
+    (blocks_give g (ap first_fault e ∙ ok) (subst HasShortNumbers (sym e) numbers))
 
 -- ---- the table of merge blocks
 

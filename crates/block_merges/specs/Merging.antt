@@ -5,7 +5,8 @@
 --   IsOfKind       a word stands for a word of this kind
 --   IsMerged       what a merge gives on words stands for what it gives on words of kinds
 --   AreMergesOf    merges on words stand for those of the code
---   MergesFit      merge blocks give numbers of 64 bits
+--   IsShort        an int has 64 bits
+--   HasShortNumbers   each number in the code has 64 bits
 --   AreJoined      what a joinee wrote, and a joiner's view there, on words
 --   IsComposedAs   new words stand for new words of kinds, or both have one fault
 use Rattle.std.specs.Prelude.{ℕ, ◌≡◌, true, List, [], ◌∷◌, Option, Some, None, Result, Ok, Err, slice_get}
@@ -14,11 +15,13 @@ use Rattle.rev_num.specs.declared.value.ValueKind.{ValueKind}
 use Rattle.rev_num.specs.Arith.{fits_i64}
 use Rattle.rev_num.specs.Words.{int_of, word_of}
 use Rattle.rev_code.specs.declared.code.Code.{Code}
+use Rattle.rev_code.specs.declared.code.CodeBlock.{CodeBlock}
+use Rattle.rev_code.specs.declared.code.Instr.{Instr}
 use Rattle.rev_code.specs.Words.{Word, int, bool, rev, kind_of}
 use Rattle.rev_code.specs.Funs.{values}
 use Rattle.code_soundness.specs.Typed.{location_kinds}
 use Rattle.plain_words.specs.Plain.{flag}
-use Rattle.plain_words.specs.Agreement.{handle, IsWord, AreWords}
+use Rattle.plain_words.specs.Agreement.{handle, IsWord, AreWords, PushesInt}
 use Rattle.version_map.specs.Composing.{Entry, Merges, Composition, composed}
 use Rattle.code_machine.specs.Local.{CodeRun, IsVerified}
 use Rattle.code_machine.specs.Joining.{merges_of, merged_by, merges}
@@ -68,21 +71,21 @@ AreMergesOf g words =
     → IsMerged (merges g l x y z) (words l u v w)
 
 -- an int has 64 bits
-abbrev pub Fits : Result (Word ℕ) NumFault → Type 0
-Fits (Ok (int z)) = fits_i64 z ≡ true
-Fits (Ok (bool b)) = Unit {0}
-Fits (Ok (rev h)) = Unit {0}
-Fits (Err f) = Unit {0}
+abbrev pub IsShort : Word ℕ → Type 0
+IsShort (int z) = fits_i64 z ≡ true
+IsShort (bool b) = Unit {0}
+IsShort (rev h) = Unit {0}
 
--- what merge blocks give for numbers of 64 bits has 64 bits
-abbrev pub MergesFit : Code → Type 0
-MergesFit code =
-    (l n : ℕ) → slice_get (merges_of code.vars) l ≡ Some (Some n) → (main join root : ℕ)
-    → Fits (merged_by (values code) (Some n) (int_word main) (int_word join) (int_word root))
+-- each number in the code has 64 bits
+abbrev pub HasShortNumbers : Code → Type 0
+HasShortNumbers code =
+    (n : ℕ) (b : CodeBlock) (at : ℕ) (x : Instr) → slice_get code.blocks n ≡ Some b
+    → slice_get b.instrs at ≡ Some x → PushesInt x
 
 abbrev pub BlocksGiveTheMerges : Type 0
 BlocksGiveTheMerges =
-    (g : CodeRun) → IsVerified g → MergesFit g.code → AreMergesOf g (word_merges g.code)
+    (g : CodeRun) → IsVerified g → HasShortNumbers g.code
+    → AreMergesOf g (word_merges g.code)
 
 -- ---- whole joins
 

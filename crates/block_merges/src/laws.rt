@@ -2,9 +2,9 @@
 
 ghost use Rattle.block_merges.specs.Merging.{BlocksGiveTheMerges, ComposesAlike};
 
-/// The merges of words by the merge blocks of verified code stand for those of the machine of code:
-/// `blocks`. Where merges of words stand for those of the code, whole compositions do, with the
-/// same first fault: `compositions`.
+/// The merges of words by the merge blocks of verified code, in which each number has 64 bits,
+/// stand for those of the machine of code: `blocks`. Where merges of words stand for those of the
+/// code, whole compositions do, with the same first fault: `compositions`.
 pub fn merge_laws()
     ensures blocks { BlocksGiveTheMerges }
     ensures compositions { ComposesAlike }

@@ -3,6 +3,7 @@
 
 mod laws;
 mod merges;
+mod numbers;
 mod room;
 
 pub use laws::merge_laws;

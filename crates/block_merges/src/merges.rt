@@ -7,6 +7,7 @@ ghost use Rattle.code_verifier.specs.Verdicts.{KeepsRules};
 ghost use Rattle.code_machine.specs.Joining.{merges_of};
 ghost use Rattle.block_run.specs.Area.{count, table_from};
 
+use crate::numbers::note_numbers;
 use crate::room::{blank_memory, merge_blocks, put_three};
 use block_run::{Memory, Variable, table_of};
 use code_verifier::Verified;
@@ -22,6 +23,7 @@ const MOST_NEED: usize = 65_536;
 /// The merges of all locations: that of a versioned location gives the joined word, that of a
 /// cumulative one the value of its merge block. The words for a block's frame are made once, and no
 /// merge takes memory.
+#[derive(Drop)]
 pub struct BlockMerges<'a> {
     code: &'a Code,
     table: Vec<Variable>,
@@ -38,15 +40,16 @@ pub struct BlockMerges<'a> {
 
 impl<'a> BlockMerges<'a> {
     ghost use Rattle.code_machine.specs.Local.{CodeRun};
-    ghost use Rattle.block_merges.specs.Merging.{AreMergesOf, MergesFit, word_merges};
+    ghost use Rattle.block_merges.specs.Merging.{AreMergesOf, word_merges};
 
     /// The merges of this code.
     pub fn new(alloc: Global, verified: &'a Verified) -> Result<BlockMerges<'a>, AllocError>
         ensures code { IfOk result (λ b. b.code.now ≡ verified.now.code) }
         ensures merges { IfOk result (λ b. (g : CodeRun) → g.code ≡ verified.now.code
-            → MergesFit verified.now.code → AreMergesOf g (word_merges b.code.now)) }
+            → AreMergesOf g (word_merges b.code.now)) }
     {
         let code = verified.code();
+        note_numbers(code);
         let table = table_of(alloc, code)?;
         let blocks = merge_blocks(alloc, code)?;
         let memory = blank_memory(alloc, blocks.len() as u32)?;

@@ -171,9 +171,9 @@ module _ (code : Code) (ok : first_fault code ≡ None) (inputs : List ℤ) (sha
       let x = its_state code inputs share run' seen' root' r.1 r.4 in
       (record { last = r.0; steps = steps_on (setting code inputs share) c0 c r.0 steps r.2; comes = r.3 ∙ ap (λ d. s.joins d try on) x; is = tt }, stands_own run' seen' root' r.1 r.4)
   ends_leg run' seen' root' c0 c steps end.End r =
-      (r.3.0, r.1, record { last = r.0; steps = steps_on (setting code inputs share) c0 c r.0 steps r.2; comes = r.3.1; is = tt }, leaves_state run' seen' root' r.1 r.4)
+      (r.3.0, r.1, record { last = r.0; steps = steps_on (setting code inputs share) c0 c r.0 steps r.2; comes = r.3.1; is = tt }, leaves_state run' seen' root' r.1 r.4, r.4)
   ends_leg run' seen' root' c0 c steps (end.Trap e) r =
-      (r.1, record { last = r.0; steps = steps_on (setting code inputs share) c0 c r.0 steps r.2; comes = r.3; is = tt }, leaves_state run' seen' root' r.1 r.4)
+      (r.1, record { last = r.0; steps = steps_on (setting code inputs share) c0 c r.0 steps r.2; comes = r.3; is = tt }, leaves_state run' seen' root' r.1 r.4, r.4)
 
 -- ---- what is handed on by slices
 

@@ -38,7 +38,8 @@ with_frames c d = record c { block = d.block; at = d.at; locals = d.locals; stac
 
 -- ---- the end of a leg
 
--- the event, at the state for which the revision stands behind it; at the end and at a trap its frames no longer matter
+-- the event, at the state for which the revision stands behind it; at the end and at a trap its frames no longer matter,
+-- and the words that it has written and their roots are those of the state
 abbrev pub LegEnds : Code → List ℤ → (share : ℕ) → State ℕ → LegEnd → Run → (seen : ℕ → ℕ) → (root : ℕ → Option ℕ) → Type 0
 LegEnds code inputs share c0 (end.Fork n) run seen root =
     (args : List (Word ℕ)) × IsLeg (setting code inputs share) c0 (forks (state_of code run seen root) n args)
@@ -47,9 +48,10 @@ LegEnds code inputs share c0 (end.Join try on) run seen root =
     IsLeg (setting code inputs share) c0 (joins (state_of code run seen root) try on) × IsStanding code inputs share run seen root
 LegEnds code inputs share c0 end.End run seen root =
     (w : Option (Word ℕ)) × (c : State ℕ) × IsLeg (setting code inputs share) c0 (ends c w)
-    × (c ≡ with_frames (state_of code run seen root) c)
+    × (c ≡ with_frames (state_of code run seen root) c) × Leaves code run seen root c
 LegEnds code inputs share c0 (end.Trap e) run seen root =
-    (c : State ℕ) × IsLeg (setting code inputs share) c0 (traps c e) × (c ≡ with_frames (state_of code run seen root) c)
+    (c : State ℕ) × IsLeg (setting code inputs share) c0 (traps c e)
+    × (c ≡ with_frames (state_of code run seen root) c) × Leaves code run seen root c
 
 -- ---- an instruction that leaves its block
 

@@ -1,6 +1,6 @@
 -- Forkers behind their Forks, and their children.
 use Rattle.std.proofs.Common.{◌≡◌, ◌∙◌, ℕ, zero, suc, ◌+◌, ◌-◌, ◌<◌, ◌≤◌, ◌^◌, Bool, true, false, List, [], ◌∷◌, ◌++◌, length, map, take, drop, reverse, set, Option, Some, None, refl, sym, ap, subst, arith}
-use Rattle.std.specs.Prelude.{slice_get, if◌then◌else◌}
+use Rattle.std.specs.Prelude.{slice_get, slice_range, if◌then◌else◌}
 use Rattle.std.proofs.lemmas.List.{length-drop}
 use Rattle.rev_num.specs.declared.value.ValueKind.{ValueKind}
 use Rattle.rev_code.specs.declared.code.BlockClass.{BlockClass}
@@ -18,21 +18,25 @@ use Rattle.code_soundness.proofs.Reaching.{is_safe}
 use Rattle.plain_words.specs.Agreement.{AreWords}
 use Rattle.block_run.specs.declared.registers.Registers.{Registers}
 use Rattle.block_run.specs.Area.{count, low, stack_of}
+use Rattle.block_run.specs.Remembering.{Kept}
 use Rattle.block_run.specs.Standing.{AreSeen}
-use Rattle.block_run.proofs.Onward.{words_length, stack_length}
+use Rattle.block_run.proofs.Onward.{kept_seen, words_length, stack_length}
 use Rattle.block_run.proofs.Stacks.{stack_push}
+use Rattle.fun_run.proofs.Running.{block_short}
 use Rattle.fun_run.proofs.Slices.{stack_slice, words_drop, words_reverse, words_take}
 use Rattle.version_map.specs.declared.delta.Delta.{Delta}
-use Rattle.version_map.specs.Deltas.{at}
+use Rattle.version_map.specs.Deltas.{at, locations, IsEmpty}
 use Rattle.version_map.specs.Overlay as overlay
+use Rattle.version_map.specs.Overlay.{Agree}
 use Rattle.code_machine.specs.Local.{CodeRun, under}
 use Rattle.leg_run.specs.declared.revision.Meeting.{Meeting}
 use Rattle.leg_run.specs.declared.revision.Meeting.TheVariants as meeting
 use Rattle.leg_run.specs.declared.revision.Run.{Run}
+use Rattle.leg_run.specs.declared.setting.CodeSetting.{CodeSetting}
 use Rattle.leg_run.specs.Rooms.{IsRoom}
 use Rattle.leg_run.specs.Standing.{listed_as, Stands}
-use Rattle.rev_vm.specs.Meaning.{IsAtFork}
-use Rattle.rev_vm.specs.Starts.{IsFirst, IsForker}
+use Rattle.rev_vm.specs.Meaning.{IsAt, IsAtFork}
+use Rattle.rev_vm.specs.Starts.{IsBorn, IsFirst, IsForker, top_words}
 use Rattle.rev_vm.proofs.Firsts.{first_stands, view_seen, view_many}
 use Rattle.rev_vm.proofs.Frames.{IsAbove, one_set, OnStack, stays}
 use Rattle.rev_vm.proofs.Meets.{IsForking, Meets, meets}
@@ -68,6 +72,25 @@ one_listed xs ms x m e h = (λ i. h i ++ e i ∷ []) ∙ by ms
     by : (ms : List Meeting) → map listed_as ms ++ listed_as m ∷ [] ≡ map listed_as (ms ++ m ∷ [])
     by [] = refl
     by (a ∷ ms) = ap (λ ys. listed_as a ∷ ys) (by ms)
+
+pub part_small : (share fuel : ℕ) → events.part share fuel ≤ fuel
+part_small share fuel = grind arith
+
+-- ---- words on top
+
+pub range_top : (xs : List ℕ) (p t : ℕ) → p ≤ t → slice_range xs (t - p) t ≡ take p (drop (t - p) xs)
+range_top xs p t h = let e : t - (t - p) ≡ p = omega (arith, h) in ap (λ m. take m (drop (t - p) xs)) e
+
+abbrev pub top_of : ℕ → Run → List ℕ
+top_of n r = take n (drop (r.registers.top - n) r.words.items)
+
+pub born : (s : CodeSetting) (n : ℕ) (b : CodeBlock) (forker r : Run) (room : ℕ) → IsRoom s.code n b room → (args : List ℕ) → args ≡ top_of (length (params b)) forker → (fuel : ℕ) → fuel ≡ events.part s.share forker.registers.fuel
+    → IsFirst b n args room fuel r → IsBorn s n b forker r
+born s n b forker r room enough args a fuel f h = record {
+  room = room;
+  enough = enough;
+  first = subst (λ xs. IsFirst b n xs room (events.part s.share forker.registers.fuel) r) a (subst (λ m. IsFirst b n args room m r) f h);
+}
 
 module _ (g : CodeRun) (run : Run) (delta : Delta) (base : ℕ → ℕ) (first : Delta) (n : ℕ) (c : State ℕ) (args : List (Word ℕ)) (h : IsAtFork g run delta base first n c args) where
   pub accepted : IsAccepted g.code (notes_of g.code)
@@ -120,6 +143,13 @@ module _ (g : CodeRun) (run : Run) (delta : Delta) (base : ℕ → ℕ) (first :
         let t : IsRevision g.code (notes_of g.code) (events.parent g.share c args 0) = safe.1 0 in
         let same : t.typed.frame.body ≡ s.body = some_eq (sym t.typed.frame.is ∙ ap (slice_get g.code.blocks) s.here.block ∙ s.is) in
         subst (λ (y : CodeBlock). suc c.at < length y.instrs) same t.typed.frame.inside
+
+    pub place : run.registers.at + 1 < 2 ^ 63
+    place =
+        let s = h.stands.stands in
+        let a = block_short g.code accepted run.registers.block s.body s.is in
+        let n = next in
+        let e = s.here.run.at in omega (arith, a, n, e)
 
     pub room_for_handle : run.registers.top - length (params b) < length run.words.items
     room_for_handle =
@@ -198,3 +228,30 @@ module _ (g : CodeRun) (run : Run) (delta : Delta) (base : ℕ → ℕ) (first :
         let f' = subst (λ m. IsFirst b n (take (length (params b)) (drop (run.registers.top - length (params b)) run.words.items)) room (events.part g.share m) run') s.here.run.fuel f in
         first_stands g n b is args (events.view c.locations) (events.part g.share c.fuel) good run' (take (length (params b)) (drop (run.registers.top - length (params b)) run.words.items)) room roomy stand_args f' seen root there
         (let m = s.here.many in let e = view_many c.locations in omega (arith, m, e))
+
+    module _ (size : ℕ) (sized : size ≡ count g.code.vars) (run' : Run) (delta' first' : Delta) (base' : ℕ → ℕ) (long : locations delta' ≡ size) where
+      many : length c.locations ≤ size
+      many = let m = h.stands.stands.here.many in omega (arith, m, sized)
+
+      pub parent_at : IsForker (length (params b)) (events.part g.share run.registers.fuel) run run' → Kept size (overlay.under delta base) (overlay.under delta' base') (at first) (at first')
+          → IsAt g run' delta' base' first' (events.parent g.share c args 0)
+      parent_at k kept = record {
+        verified = h.stands.verified;
+        stands = parent_stands run' k (overlay.under delta' base') (at first') (kept_seen c.locations (overlay.under delta base) (overlay.under delta' base') (at first) (at first') h.stands.stands.here.locations size many kept);
+        size = long ∙ sized;
+      }
+
+      pub child_at : (room : ℕ) → IsRoom g.code n b room → IsFirst b n (top_words b run) room (events.part g.share run.registers.fuel) run' → Agree size (overlay.under delta' base') (overlay.under delta base)
+          → locations first' ≡ size → IsEmpty first' → IsAt g run' delta' base' first' (events.child g.share c n b args)
+      child_at room enough f agree short empty =
+          let seen = overlay.under delta base in
+          let viewed = view_seen c.locations seen (at first) h.stands.stands.here.locations in
+          record {
+            verified = h.stands.verified;
+            stands = child_stands run' room enough f (overlay.under delta' base') (at first')
+                (kept_seen (events.view c.locations) seen (overlay.under delta' base') (λ l. None) (at first') viewed size (let m = many in let e = view_many c.locations in omega (arith, m, e)) (record {
+                  words = agree;
+                  roots = λ l i. empty l (omega (arith, i, short));
+                }));
+            size = long ∙ sized;
+          }

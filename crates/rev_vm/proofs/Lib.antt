@@ -6,3 +6,5 @@ pub mod Joins
 pub mod Forks
 pub mod Firsts
 pub mod Forking
+pub mod Leaving
+pub mod Legs

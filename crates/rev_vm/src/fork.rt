@@ -1,17 +1,26 @@
 //! Revisions at a Fork, and forkers behind it.
 
-ghost use Rattle.std.specs.Prelude.{◌≡◌, List};
+ghost use Rattle.std.specs.Prelude.{◌≡◌, ◌≤◌, ◌<◌, ◌+◌, ◌-◌, ◌^◌, List, Some, IfOk, IfErr};
+ghost use Rattle.std.specs.Prelude.{drop, length, slice_get, take};
+ghost use Rattle.rev_code.specs.declared.code.CodeBlock.{CodeBlock};
 ghost use Rattle.rev_code.specs.State.{State};
+ghost use Rattle.rev_code.specs.Step.{params};
 ghost use Rattle.rev_code.specs.Words.{Word};
 ghost use Rattle.rev_code.specs.Events as events;
 ghost use Rattle.code_machine.specs.Local.{CodeRun};
+ghost use Rattle.leg_run.specs.Setting.{IsSetting};
 ghost use Rattle.rev_vm.specs.Meaning.{IsAt, IsAtFork};
-ghost use Rattle.rev_vm.specs.Starts.{IsNamed, IsWaiting};
+ghost use Rattle.rev_vm.specs.Starts.{IsBorn, IsForker, IsNamed, IsWaiting, run_under};
 
-use crate::end::break_off;
+use crate::end::{Broken, break_off};
+use crate::frame::first_frame;
 use crate::runner::Runner;
-use leg_run::{Meeting, Revision, Run};
-use version_map::Snapshot;
+use crate::starting::room_at;
+use fun_run::{block_at, params_of};
+use leg_run::{CodeSetting, Meeting, Revision, Run};
+use rev_code::CodeBlock;
+use std::alloc::{AllocError, Global};
+use version_map::{How, Snapshot};
 
 /// A revision at a Fork, and the block that its child runs.
 pub struct AtFork<P: Snapshot> {
@@ -65,7 +74,152 @@ fn name_child(run: &mut Run, number: u32)
     run.meetings[last] = Meeting::Forked { revision, line };
 }
 
+/// The part of a forker's fuel that its child gets.
+fn part_of(share: u64, fuel: u64) -> u64
+    ensures { result ≡ events.part share fuel }
+{
+    u64::min(share, fuel / 2)
+}
+
+/// As many words as this from the top of a stack.
+fn words_on_top(run: &Run, count: usize) -> &[u64]
+    requires enough { count ≤ run.now.registers.top }
+    requires within { run.now.registers.top ≤ length run.now.words.items }
+    ensures { result.now ≡ take count (drop (run.now.registers.top - count) run.now.words.items) }
+{
+    let top = run.registers.top;
+    &run.words.as_slice()[top - count..top]
+}
+
+/// The first frame of a child, whose arguments lie on top of its forker's stack.
+fn child_frame(
+    alloc: Global,
+    setting: &CodeSetting,
+    n: u16,
+    b: &CodeBlock,
+    run: &Run,
+) -> Result<Run, AllocError>
+    requires setting { IsSetting setting.now }
+    requires block { slice_get setting.now.code.blocks n ≡ Some b.now }
+    requires enough { length (params b.now) ≤ run.now.registers.top }
+    requires within { run.now.registers.top ≤ length run.now.words.items }
+    ensures { IfOk result (λ r. IsBorn setting.now n b.now run.now r) }
+{
+    let room = room_at(setting.rooms.as_slice(), n);
+    let part = part_of(setting.share, run.registers.fuel);
+    let args = words_on_top(run, params_of(b));
+    let child = first_frame(alloc, b, n, room, args, part)?;
+    Ok(child)
+}
+
+/// Goes on behind a Fork of a child that took so many words and this much fuel.
+fn leave_fork(run: &mut Run, taken: usize, part: u64) -> Result<(), AllocError>
+    requires taken { taken ≤ run.old.registers.top }
+    requires room { run.old.registers.top - taken < length run.old.words.items }
+    requires place { run.old.registers.at + 1 < 2 ^ 63 }
+    requires part { part ≤ run.old.registers.fuel }
+    requires few { run.old.forks ≤ length run.old.meetings.items }
+    ensures forker { IfOk result (λ _. IsForker taken part run.old run.new) }
+    ensures waits { IfOk result (λ _. IsWaiting run.new) }
+{
+    let line = run.registers.line;
+    let top = run.registers.top - taken;
+    run.meetings.push(Meeting::Forked { revision: 0, line })?;
+    run.words[top] = 1;
+    run.registers.top = top + 1;
+    run.registers.at += 1;
+    run.registers.fuel -= part;
+    run.forks += 1;
+    Ok(())
+}
+
+/// The child of a revision at a Fork, which goes on behind it.
+fn fork_off<P: Snapshot>(
+    alloc: Global,
+    setting: &CodeSetting,
+    block: u16,
+    revision: &mut Revision<P>,
+) -> Result<(Revision<P>, How), AllocError>
+    requires setting { IsSetting setting.now }
+    requires at { (c : State _) × (args : List (Word _)) × IsAtFork (run_under setting.now)
+        revision.old.run revision.old.memory.delta (P.base revision.old.memory.snapshot)
+        revision.old.memory.first.roots block c args }
+    ensures parent { IfOk result (λ _. (c : State _) (args : List (Word _))
+        → IsAtFork (run_under setting.now)
+        revision.old.run revision.old.memory.delta (P.base revision.old.memory.snapshot)
+        revision.old.memory.first.roots block c args
+        → IsAt (run_under setting.now) revision.new.run
+        revision.new.memory.delta (P.base revision.new.memory.snapshot)
+        revision.new.memory.first.roots (events.parent setting.now.share c args 0)) }
+    ensures child { IfOk result (λ r. (c : State _) (args : List (Word _))
+        → IsAtFork (run_under setting.now)
+        revision.old.run revision.old.memory.delta (P.base revision.old.memory.snapshot)
+        revision.old.memory.first.roots block c args
+        → (b : CodeBlock) × (slice_get setting.now.code.blocks block ≡ Some b)
+        × IsAt (run_under setting.now) r.0.run r.0.memory.delta (P.base r.0.memory.snapshot)
+        r.0.memory.first.roots (events.child setting.now.share c block b args)) }
+    ensures waits { IfOk result (λ _. IsWaiting revision.new.run) }
+    ensures group { P.group revision.new.memory.snapshot ≡ P.group revision.old.memory.snapshot }
+    ensures child_group { IfOk result
+        (λ r. P.group r.0.memory.snapshot ≡ P.group revision.old.memory.snapshot) }
+{
+    let b = block_at(&setting.code, block);
+    let run = child_frame(alloc, setting, block, b, &revision.run)?;
+    let part = part_of(setting.share, revision.run.registers.fuel);
+    leave_fork(&mut revision.run, params_of(b), part)?;
+    let child = revision.memory.fork(alloc)?;
+    Ok((
+        Revision {
+            memory: child.0,
+            run,
+        },
+        child.1,
+    ))
+}
+
 impl<P: Snapshot> AtFork<P> {
+    /// The forker behind its Fork, its child, and how the child has its words.
+    pub fn fork(
+        self,
+        alloc: Global,
+        setting: &CodeSetting,
+    ) -> Result<(Parent<P>, Runner<P>, How), Broken<P>>
+        requires setting { IsSetting setting.now }
+        requires at { (c : State _) × (args : List (Word _)) × IsAtFork (run_under setting.now)
+            self.revision.run self.revision.memory.delta (P.base self.revision.memory.snapshot)
+            self.revision.memory.first.roots self.block c args }
+        ensures parent { IfOk result (λ r. (c : State _) (args : List (Word _))
+            → IsAtFork (run_under setting.now)
+            self.revision.run self.revision.memory.delta (P.base self.revision.memory.snapshot)
+            self.revision.memory.first.roots self.block c args
+            → IsAt (run_under setting.now) r.0.revision.run
+            r.0.revision.memory.delta (P.base r.0.revision.memory.snapshot)
+            r.0.revision.memory.first.roots (events.parent setting.now.share c args 0)) }
+        ensures child { IfOk result (λ r. (c : State _) (args : List (Word _))
+            → IsAtFork (run_under setting.now)
+            self.revision.run self.revision.memory.delta (P.base self.revision.memory.snapshot)
+            self.revision.memory.first.roots self.block c args
+            → (b : CodeBlock) × (slice_get setting.now.code.blocks self.block ≡ Some b)
+            × IsAt (run_under setting.now) r.1.revision.run
+            r.1.revision.memory.delta (P.base r.1.revision.memory.snapshot)
+            r.1.revision.memory.first.roots (events.child setting.now.share c self.block b args)) }
+        ensures group { IfOk result (λ r. P.group r.0.revision.memory.snapshot
+            ≡ P.group self.revision.memory.snapshot) }
+        ensures child_group { IfOk result (λ r. P.group r.1.revision.memory.snapshot
+            ≡ P.group self.revision.memory.snapshot) }
+        ensures broken { IfErr result
+            (λ b. P.group b.snapshot ≡ P.group self.revision.memory.snapshot) }
+    {
+        let AtFork {
+            mut revision,
+            block,
+        } = self;
+        match fork_off(alloc, setting, block, &mut revision) {
+            Ok(child) => Ok((Parent { revision }, Runner { revision: child.0 }, child.1)),
+            Err(_) => Err(break_off(revision)),
+        }
+    }
+
     /// The line charged last.
     pub fn line(&self) -> u32
         ensures { (g : CodeRun) (c : State _) (args : List (Word _)) → IsAtFork g

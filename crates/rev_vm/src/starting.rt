@@ -53,7 +53,7 @@ pub fn begin_with(
 }
 
 /// How many words the frames of a block need.
-fn room_at(rooms: &[u32], n: u16) -> usize
+pub(crate) fn room_at(rooms: &[u32], n: u16) -> usize
     requires { n < length rooms.now }
     ensures { slice_get rooms.now n ≡ Some result }
 {

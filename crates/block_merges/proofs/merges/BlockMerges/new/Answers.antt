@@ -1,6 +1,5 @@
-use Rattle.std.proofs.Common.{◌≡◌, ◌∙◌, length, sym, ap, subst, arith}
+use Rattle.std.proofs.Common.{◌≡◌, ◌∙◌, length, sym, ap, arith}
 use Rattle.block_run.proofs.Tables.{few_locations}
-use Rattle.block_merges.specs.Merging.{MergesFit}
 use Rattle.block_merges.proofs.Blocks.{given_for, merges_many}
 use Rattle.block_merges.proofs.merges.BlockMerges.new.Goals as goal
 
@@ -29,5 +28,4 @@ invariant_of-result c = record {
 }
 
 pub returns-clause-merges : goal.returns-clause-merges
-returns-clause-merges c = λ g e fit.
-    given_for c.code-code.result.now c.code-code.ensures.sound g (e ∙ sym c.code-code.ensures.code) (subst MergesFit (sym c.code-code.ensures.code) fit)
+returns-clause-merges c = λ g e. given_for c.code-code.result.now c.code-code.ensures.sound c.note_numbers.ensures g (e ∙ sym c.code-code.ensures.code)

@@ -1,0 +1,196 @@
+//! Legs, from event to event.
+
+ghost use Rattle.std.specs.Prelude.{◌≡◌, ℕ, List, Option, IfErr, IfOk, None};
+ghost use Rattle.rev_num.specs.declared.outcome.Cause.{Cause};
+ghost use Rattle.rev_code.specs.State.{State};
+ghost use Rattle.rev_code.specs.Step.{ends, forks, joins, traps};
+ghost use Rattle.rev_code.specs.Words.{Word};
+ghost use Rattle.version_map.specs.declared.end.Finish.TheVariants as finish;
+ghost use Rattle.version_map.specs.Deltas.{at};
+ghost use Rattle.version_map.specs.Overlay.{under};
+ghost use Rattle.block_run.specs.Remembering.{Kept, written_below};
+ghost use Rattle.code_machine.specs.Leg.{leg};
+ghost use Rattle.code_machine.specs.Local.{done, end_of, has_ended};
+ghost use Rattle.leg_run.specs.Setting.{IsSetting};
+ghost use Rattle.rev_vm.specs.declared.leg.Event.TheVariants as event;
+ghost use Rattle.rev_vm.specs.Legs.{IsNoted, trap_of};
+ghost use Rattle.rev_vm.specs.Meaning.{IsAt, IsAtFork, IsAtJoin, IsEnd, IsReady};
+ghost use Rattle.rev_vm.specs.Starts.{run_under};
+
+use crate::end::{Broken, Stopped, break_off, stop};
+use crate::fork::AtFork;
+use crate::join::AtJoin;
+use crate::runner::Runner;
+use leg_run::{CodeSetting, LegEnd, Meeting, Revision, Run, run};
+use rev_num::{Cause, Items};
+use std::alloc::{AllocError, Global};
+use version_map::{CodeTrap, Finish, Snapshot, Written};
+
+/// How a leg ends.
+pub enum Event<P: Snapshot> {
+    Fork(AtFork<P>),
+    Join(AtJoin<P>),
+    /// The revision is done.
+    End(Stopped<P>),
+    /// It has trapped by itself.
+    Trap(Stopped<P>),
+}
+
+/// Lists a join.
+fn note_join(run: &mut Run, on: u64) -> Result<(), AllocError>
+    ensures { IfOk result (λ _. IsNoted on run.old run.new) }
+{
+    let line = run.registers.line;
+    run.meetings.push(Meeting::Joined { revision: on, line })?;
+    Ok(())
+}
+
+/// Lists a join, and gives what the joiner has written so far.
+fn come_to_join<P: Snapshot>(
+    alloc: Global,
+    revision: &mut Revision<P>,
+    on: u64,
+) -> Result<Items<Written>, AllocError>
+    ensures noted { IfOk result (λ _. IsNoted on revision.old.run revision.new.run) }
+    ensures written { IfOk result (λ ws. ws ≡ written_below
+        (under revision.old.memory.delta (P.base revision.old.memory.snapshot))
+        (at revision.old.memory.first.roots) (P.size revision.old.memory.snapshot)) }
+    ensures kept { Kept (P.size revision.old.memory.snapshot)
+        (under revision.old.memory.delta (P.base revision.old.memory.snapshot))
+        (under revision.new.memory.delta (P.base revision.new.memory.snapshot))
+        (at revision.old.memory.first.roots) (at revision.new.memory.first.roots) }
+    ensures size { P.size revision.new.memory.snapshot ≡ P.size revision.old.memory.snapshot }
+    ensures group { P.group revision.new.memory.snapshot ≡ P.group revision.old.memory.snapshot }
+{
+    note_join(&mut revision.run, on)?;
+    let written = revision.memory.written(alloc)?;
+    Ok(Items::from_vec(written))
+}
+
+/// The revision as one at a join.
+fn at_join<P: Snapshot>(
+    alloc: Global,
+    mut revision: Revision<P>,
+    is_try: bool,
+    on: u64,
+) -> Result<AtJoin<P>, Broken<P>>
+    requires { IsReady revision.run }
+    ensures tries { IfOk result (λ a. a.is_try ≡ is_try) }
+    ensures on { IfOk result (λ a. a.on ≡ on) }
+    ensures noted { IfOk result (λ a. IsNoted on revision.run a.revision.run) }
+    ensures written { IfOk result (λ a. a.written ≡ written_below
+        (under revision.memory.delta (P.base revision.memory.snapshot))
+        (at revision.memory.first.roots) (P.size revision.memory.snapshot)) }
+    ensures kept { IfOk result (λ a. Kept (P.size revision.memory.snapshot)
+        (under revision.memory.delta (P.base revision.memory.snapshot))
+        (under a.revision.memory.delta (P.base a.revision.memory.snapshot))
+        (at revision.memory.first.roots) (at a.revision.memory.first.roots)) }
+    ensures size { IfOk result (λ a. P.size a.revision.memory.snapshot
+        ≡ P.size revision.memory.snapshot) }
+    ensures group { IfOk result (λ a. P.group a.revision.memory.snapshot
+        ≡ P.group revision.memory.snapshot) }
+    ensures broken { IfErr result (λ b. P.group b.snapshot ≡ P.group revision.memory.snapshot) }
+{
+    match come_to_join(alloc, &mut revision, on) {
+        Ok(written) => Ok(AtJoin {
+            revision,
+            is_try,
+            on,
+            written,
+        }),
+        Err(_) => Err(break_off(revision)),
+    }
+}
+
+/// The revision as one that has ended, with what it has written.
+fn stop_at<P: Snapshot>(
+    alloc: Global,
+    mut revision: Revision<P>,
+    finish: Finish,
+) -> Result<Stopped<P>, Broken<P>>
+    ensures written { IfOk result (λ s. s.end.written ≡ written_below
+        (under revision.memory.delta (P.base revision.memory.snapshot))
+        (at revision.memory.first.roots) (P.size revision.memory.snapshot)) }
+    ensures text { IfOk result (λ s. s.end.text ≡ revision.run.text.items) }
+    ensures fuel { IfOk result (λ s. s.end.fuel ≡ revision.run.registers.fuel) }
+    ensures finish { IfOk result (λ s. s.end.finish ≡ finish) }
+    ensures group { IfOk result (λ s. P.group s.snapshot ≡ P.group revision.memory.snapshot) }
+    ensures broken { IfErr result (λ b. P.group b.snapshot ≡ P.group revision.memory.snapshot) }
+{
+    match revision.memory.written(alloc) {
+        Ok(written) => Ok(stop(revision, Items::from_vec(written), finish)),
+        Err(_) => Err(break_off(revision)),
+    }
+}
+
+/// How a revision ends that traps by itself.
+fn own_trap(cause: Cause, line: u32) -> Finish
+    ensures { result ≡ finish.Trapped (record { cause = cause; line = line; origin = None }) }
+{
+    Finish::Trapped(CodeTrap {
+        cause,
+        line,
+        origin: None,
+    })
+}
+
+/// Does the instructions of a leg up to its event.
+pub fn run_leg<P: Snapshot>(
+    alloc: Global,
+    runner: Runner<P>,
+    setting: &CodeSetting,
+) -> Result<Event<P>, Broken<P>>
+    requires setting { IsSetting setting.now }
+    requires stands { (c : State ℕ) × IsAt (run_under setting.now) runner.revision.run
+        runner.revision.memory.delta (P.base runner.revision.memory.snapshot)
+        runner.revision.memory.first.roots c }
+    ensures event { (c : State ℕ) → IsAt (run_under setting.now) runner.revision.run
+        runner.revision.memory.delta (P.base runner.revision.memory.snapshot)
+        runner.revision.memory.first.roots c
+        → IfOk result (λ e. elim e [
+          | event.Fork a ↦ (d : State ℕ) × (args : List (Word ℕ))
+              × (leg (run_under setting.now) c ≡ forks d a.block args)
+              × IsAtFork (run_under setting.now) a.revision.run a.revision.memory.delta
+              (P.base a.revision.memory.snapshot) a.revision.memory.first.roots a.block d args
+          | event.Join a ↦ (d : State ℕ)
+              × (leg (run_under setting.now) c ≡ joins d a.is_try a.on)
+              × IsAtJoin (run_under setting.now) a.revision.run a.revision.memory.delta
+              (P.base a.revision.memory.snapshot) a.revision.memory.first.roots
+              a.written a.is_try a.on d
+          | event.End s ↦ (d : State ℕ) × (w : Option (Word ℕ))
+              × (leg (run_under setting.now) c ≡ ends d w)
+              × IsEnd (run_under setting.now) (end_of (has_ended d done)) s.end
+          | event.Trap s ↦ (d : State ℕ) × (e : Cause)
+              × (leg (run_under setting.now) c ≡ traps d e)
+              × IsEnd (run_under setting.now) (end_of (has_ended d (trap_of d e))) s.end
+        ]) }
+    ensures group { IfOk result (λ e. elim e [
+      | event.Fork a ↦ P.group a.revision.memory.snapshot
+          ≡ P.group runner.revision.memory.snapshot
+      | event.Join a ↦ P.group a.revision.memory.snapshot
+          ≡ P.group runner.revision.memory.snapshot
+      | event.End s ↦ P.group s.snapshot ≡ P.group runner.revision.memory.snapshot
+      | event.Trap s ↦ P.group s.snapshot ≡ P.group runner.revision.memory.snapshot
+    ]) }
+    ensures broken { IfErr result
+        (λ b. P.group b.snapshot ≡ P.group runner.revision.memory.snapshot) }
+{
+    let Runner { mut revision } = runner;
+    match run(setting, &mut revision) {
+        Err(_) => Err(break_off(revision)),
+        Ok(LegEnd::Fork(block)) => Ok(Event::Fork(AtFork { revision, block })),
+        Ok(LegEnd::Join { is_try, on }) => {
+            let joiner = at_join(alloc, revision, is_try, on)?;
+            Ok(Event::Join(joiner))
+        },
+        Ok(LegEnd::End) => {
+            let ended = stop_at(alloc, revision, Finish::Done)?;
+            Ok(Event::End(ended))
+        },
+        Ok(LegEnd::Trap(cause)) => {
+            let finish = own_trap(cause, revision.run.registers.line);
+            let stopped = stop_at(alloc, revision, finish)?;
+            Ok(Event::Trap(stopped))
+        },
+    }
+}
