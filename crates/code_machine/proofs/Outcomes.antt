@@ -102,7 +102,7 @@ module _ (g : CodeRun) (ok : IsVerified g) (n : ℕ) (m : IsMain g n) (fuel : �
   abbrev first : Local ℕ
   first = start_in g n m.body fuel
 
-  ended : (ns : List ℕ) (w : World (Local ℕ)) → Replays (numbered g) (begin (numbered g) (start_in g n m.body fuel)) ns w → numbers.IsOver (numbered g) (start_in g n m.body fuel) w
+  pub ended : (ns : List ℕ) (w : World (Local ℕ)) → Replays (numbered g) (begin (numbered g) (start_in g n m.body fuel)) ns w → numbers.IsOver (numbered g) (start_in g n m.body fuel) w
       → MatchesEnd (machine g) (numbered g) IsNumbered (start_in g n m.body fuel) (start_in g n m.body fuel) w
   ended ns w h over =
       complete_schedule_agrees (machine g) (numbered g) IsNumbered (start_in g n m.body fuel) (start_in g n m.body fuel) (named_counts g ok) (simulates g ok)
@@ -120,7 +120,7 @@ module _ (g : CodeRun) (ok : IsVerified g) (n : ℕ) (m : IsMain g n) (fuel : �
   entry_outcome t (Joined b) (Some (Plain a)) h = absurd h
   entry_outcome t e None h = absurd h
 
-  world_outcome : (ns : List ℕ) (w : World (Local ℕ)) → Replays (numbered g) (begin (numbered g) (start_in g n m.body fuel)) ns w
+  pub world_outcome : (ns : List ℕ) (w : World (Local ℕ)) → Replays (numbered g) (begin (numbered g) (start_in g n m.body fuel)) ns w
       → (t : List Path) → HasPaths (numbered g) (start_in g n m.body fuel) w t → (s : Global (Local Path)) → Agrees (machine g) (machine_by (numbered g) t) (IsNumbered t) s (shows w) → outcome g w ≡ outcome_by_paths g s
   world_outcome ns Both h t own Twice a = refl
   world_outcome ns Both h t own (Live revs) a = absurd a

@@ -1,1 +1,1 @@
-mod Composing
+pub mod Composing

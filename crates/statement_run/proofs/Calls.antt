@@ -81,6 +81,9 @@ module _ (s : Setting) (g : Tables) (p : Path) where
     is = d.is;
     args = d.args;
     forks = d.forks;
+    forking = d.forking;
+    forking_is = d.forking_is;
+    here = d.here;
     told = d.told;
     on_told = d.on_told;
     few = d.few;
@@ -110,6 +113,9 @@ module _ (s : Setting) (g : Tables) (p : Path) where
     is = d.is;
     args = d.args;
     forks = d.forks;
+    forking = d.forking;
+    forking_is = d.forking_is;
+    here = d.here;
     told = d.told;
     on_told = d.on_told;
     few = d.few;
@@ -143,6 +149,9 @@ module _ (s : Setting) (g : Tables) (p : Path) where
     is = d.is;
     args = d.args;
     forks = d.forks;
+    forking = d.forking;
+    forking_is = d.forking_is;
+    here = d.here;
     told = d.told;
     on_told = d.on_told;
     few = d.few;
@@ -284,6 +293,9 @@ module _ (s : Setting) (g : Tables) (p : Path) where
             is = d.is;
             args = args;
             forks = goes_so;
+            forking = b;
+            forking_is = rd.is;
+            here = here;
             told = back.c;
             on_told = back.on;
             few = back.few;

@@ -75,6 +75,10 @@ module _ (s : Setting) (g : Tables) (p : Path) (On : State Path → State Path �
     pub is : slice_get g.setting.code.blocks number ≡ Some block
     pub args : List (Word Path)
     pub forks : step g.setting at ≡ r.forks at number args
+    -- by the Fork that stands there
+    pub forking : CodeBlock
+    pub forking_is : slice_get g.setting.code.blocks at.block ≡ Some forking
+    pub here : slice_get forking.instrs at.at ≡ Some (i.Fork number)
     pub told : State Path
     pub on_told : Steps g.setting (events.parent g.setting.share at args (child p at.forks)) told
     pub few : Few g (events.parent g.setting.share at args (child p at.forks)) told

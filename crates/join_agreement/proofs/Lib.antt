@@ -1,0 +1,4 @@
+pub mod Merging
+pub mod Composing
+pub mod Takes
+pub mod Joins

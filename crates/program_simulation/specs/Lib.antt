@@ -1,0 +1,4 @@
+pub mod Legs
+pub mod Relation
+pub mod Agreement
+pub mod Laws
