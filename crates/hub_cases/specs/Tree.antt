@@ -85,9 +85,9 @@ outlived l = node l.way l.depth (stage_after l.stage) l.first l.second l.leaves 
 -- it takes the leaves in, or outlives the trap of its joinee, or is trapped by it
 abbrev pub joined : Node → Node → Node
 joined l e = cond e.trapped
-  (cond (outlives l.way) (outlived l)
+    (cond (outlives l.way) (outlived l)
     (node l.way l.depth Over l.first l.second l.leaves true true))
-  (node l.way l.depth (stage_after l.stage) l.first l.second (min (l.leaves + e.leaves) (2 ^ 32 - 1)) l.trapped l.by_join)
+    (node l.way l.depth (stage_after l.stage) l.first l.second (min (l.leaves + e.leaves) (2 ^ 32 - 1)) l.trapped l.by_join)
 
 -- the end of its last leg: a leaf counts itself
 abbrev pub ended_at : Stage → Node → Node

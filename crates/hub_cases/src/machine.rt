@@ -11,10 +11,15 @@ pub struct Tree;
 
 impl Revision for Tree {
     type State = Node;
+
     type Runner = Node;
+
     type AtJoin = Node;
+
     type End = Node;
+
     type Claimed = Node;
+
     type Stopped = Done;
 
     ghost machine = { tree };
