@@ -26,14 +26,14 @@ use Rattle.audit_rules.proofs.Told.{taken_kinded, told_is_ended, told_below}
 use Rattle.audit_rules.proofs.Apart.{places_apart}
 use Rattle.audit_rules.proofs.Meets.{places_length}
 
-are_length : (ts : List ValueKind) (ms : List Location) → LocationsAre ts ms → length ms ≡ length ts
+pub are_length : (ts : List ValueKind) (ms : List Location) → LocationsAre ts ms → length ms ≡ length ts
 are_length [] [] h = refl
 are_length [] (m ∷ ms) h = absurd h
 are_length (t ∷ ts) [] h = absurd h
 are_length (t ∷ ts) (m ∷ ms) h = ap suc (are_length ts ms h.1)
 
 module _ (s : Setting) (well : IsAccepted s.program) (fuel : ℕ) where
-  same_length : length (places s) ≡ length (location_kinds s)
+  pub same_length : length (places s) ≡ length (location_kinds s)
   same_length = places_length s ∙ sym (main_shaped s fuel).locations ∙ are_length (location_kinds s) (main s fuel).locations (main_kinded s well fuel).locations
 
   told_ends : (q : Path) (p : Part) (ph : Phase) → (ph ≡ done) ⊎ ((t : Trap) × (ph ≡ trapped t)) → next s q (told s p ph) ≡ Ended

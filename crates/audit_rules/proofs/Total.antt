@@ -23,13 +23,13 @@ decide_in p (q ∷ ps) = go (decide_same p q) (decide_in p ps)
         not_here (inl e) = apart e
         not_here (inr i) = no_in i
 
--- ---- how many of these are not listed
+-- ---- how many of these are not listed, by which joins of stated parts end
 
 one_if : {A : Type 0} → A ⊎ (A → ⊥) → ℕ
 one_if (inl a) = 0
 one_if (inr n) = 1
 
-left : List Path → List Path → ℕ
+pub left : List Path → List Path → ℕ
 left [] js = 0
 left (p ∷ ps) js = one_if (decide_in p js) + left ps js
 
@@ -56,7 +56,7 @@ unfolding left
 left_less [] t js = omega arith
 left_less (p ∷ ps) t js = let a = one_less p t js in let b = left_less ps t js in omega arith
 
-left_gone : (ps : List Path) (t : Path) (js : List Path) → IsIn t ps → (IsIn t js → ⊥) → left ps (js ++ t ∷ []) + 1 ≤ left ps js
+pub left_gone : (ps : List Path) (t : Path) (js : List Path) → IsIn t ps → (IsIn t js → ⊥) → left ps (js ++ t ∷ []) + 1 ≤ left ps js
 unfolding left
 left_gone [] t js i fresh = absurd i
 left_gone (p ∷ ps) t js (inl e) fresh =

@@ -19,7 +19,7 @@ use Rattle.audit_rules.specs.Audited.{Computed, IsComputed, Shows, IsTraceOf}
 use Rattle.trace_diagram.specs.declared.diagram.Part.{Part}
 use Rattle.trace_diagram.specs.Shown.{shown_part}
 use Rattle.audit_rules.specs.Parts.{part_of, calculus_parts}
-use Rattle.audit_rules.specs.Traces.{part_at, Always, EachIsComputed, HasVerdict, InPostOrder, IsPartOf, IsTold, IsTrace, SameTrace, TraceHasYes, VerdictIsOne, YesTells}
+use Rattle.audit_rules.specs.Traces.{part_at, paths_of, Always, EachIsComputed, HasVerdict, InPostOrder, IsPartOf, IsTold, IsTrace, SameTrace, TraceHasYes, VerdictIsOne, YesTells}
 use Rattle.audit_rules.proofs.Own.{none_some}
 use Rattle.audit_rules.proofs.Meets.{IsFit, tells, yes_is_true, trace_is_yes, one_computed, one_verdict}
 use Rattle.audit_rules.proofs.Total.{computed}
@@ -144,12 +144,7 @@ module _ (s : Setting) (fuel : ℕ) where
   alike_shows r (Some p) (Some q) None a b = absurd b
   alike_shows r (Some p) (Some q) (Some e) a b = a ∙ ap shown_part b
 
-paths_of : List Part → List Path
-paths_of [] = []
-paths_of (p ∷ ps) = p.path ∷ paths_of ps
-
-covers : (ps : List Part) (q : Path) (p : Part) → part_at ps q ≡ Some p → IsIn q (paths_of ps)
-unfolding paths_of
+pub covers : (ps : List Part) (q : Path) (p : Part) → part_at ps q ≡ Some p → IsIn q (paths_of ps)
 covers [] q p e = none_some e
 covers (x ∷ ps) q p e = go (same x.path q) refl (λ f. covers ps q p f) e
   where

@@ -14,7 +14,7 @@ use Rattle.audit_rules.specs.declared.verdict.Verdict.{Verdict}
 use Rattle.audit_rules.specs.declared.verdict.Verdict.TheVariants as verdict
 use Rattle.audit_rules.proofs.Traced.{has_verdict, trace_has_yes, verdict_is_one, yes_tells}
 
-in_post_order : (ps : List Part) → MainIsLast ps → InPostOrder ps
+pub in_post_order : (ps : List Part) → MainIsLast ps → InPostOrder ps
 in_post_order [] h = tt
 in_post_order (p ∷ []) h = (λ x i. absurd i, tt)
 in_post_order (p ∷ q ∷ ps) h = go (in_post_order (q ∷ ps) h.1)

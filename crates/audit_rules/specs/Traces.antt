@@ -19,6 +19,11 @@ abbrev pub part_at : List Part → Path → Option Part
 part_at [] r = None
 part_at (p ∷ ps) r = if same p.path r then Some p else part_at ps r
 
+-- the revisions of the parts
+abbrev pub paths_of : List Part → List Path
+paths_of [] = []
+paths_of (p ∷ ps) = p.path ∷ paths_of ps
+
 -- each revision comes before those behind it
 abbrev pub InPostOrder : List Part → Type 0
 InPostOrder [] = Unit {0}

@@ -1,10 +1,11 @@
 -- The lines of a text, one after another.
-use Rattle.std.proofs.Common.{◌≡◌, ◌∙◌, sym, ap, subst, ℕ, Bool, true, false, List, [], ◌∷◌, ◌++◌, refl, append_assoc}
+use Rattle.std.proofs.Common.{◌≡◌, ◌∙◌, sym, ap, subst, ℕ, suc, arith, Bool, true, false, List, [], ◌∷◌, ◌++◌, length, map, refl, append_assoc}
+use Rattle.std.proofs.lemmas.List.{append-nil}
 use Rattle.std.specs.Prelude.{◌==◌, if◌then◌else◌, IsTrue}
-use Rattle.std.proofs.lemmas.Bool.{eqb-true}
+use Rattle.std.proofs.lemmas.Bool.{eqb-true, true≢false}
 use Rattle.std.specs.List.{flat_map, list_all, onto_first, AllByRecursion}
 use Rattle.trace_diagram.specs.Cuts.{IsCut, IsWithout}
-use Rattle.trace_diagram.specs.Lines.{is_printable}
+use Rattle.trace_diagram.specs.Lines.{is_printable, quoted}
 use Rattle.trace_diagram.specs.Traces.{IsOneLine, IsText, ended, text_lines}
 use Rattle.trace_diagram.proofs.Cutting.{append_cancel, not_without}
 
@@ -17,20 +18,30 @@ text_lines-cut (b ∷ line) more one = by_test (b == 10) refl (text_lines-cut li
     by_test true is later = absurd (one.0 (eqb-true b 10 is))
     by_test false is later = ap (onto_first b) later
 
--- a text whose first line is cut off is a text
-pub text_cut : (line rest more : List ℕ) → IsCut 10 rest line more → IsText rest → (text_lines rest ≡ line ∷ text_lines more) × IsText more
-text_cut line rest more h text =
-    let cut_lines : text_lines rest ≡ line ∷ text_lines more = ap text_lines h.is ∙ text_lines-cut line more h.first in
-    let both : line ++ 10 ∷ more ≡ (line ++ 10 ∷ []) ++ flat_map ended (text_lines more) = sym h.is ∙ text.whole ∙ ap (flat_map ended) cut_lines in
-    let behind : 10 ∷ more ≡ 10 ∷ flat_map ended (text_lines more) = append_cancel line _ _ (both ∙ append_assoc line (10 ∷ []) (flat_map ended (text_lines more))) in
-    let whole : more ≡ flat_map ended (text_lines more) = cc in
-    let printable : AllByRecursion (λ l. IsTrue (list_all is_printable l)) (line ∷ text_lines more) = subst (AllByRecursion (λ l. IsTrue (list_all is_printable l))) cut_lines text.printable in
-    (cut_lines, record { whole = whole; printable = printable.1 })
+-- the line that is cut off is the first
+pub lines_cut : (line rest more : List ℕ) → IsCut 10 rest line more → text_lines rest ≡ line ∷ text_lines more
+lines_cut line rest more h = ap text_lines h.is ∙ text_lines-cut line more h.first
 
--- lines that are ended have a line feed, unless there are none
-pub no_lines : (ls : List (List ℕ)) → IsWithout 10 (flat_map ended ls) → flat_map ended ls ≡ []
-no_lines [] h = refl
-no_lines (l ∷ ls) h = absurd (not_without 10 l (flat_map ended ls) (subst (IsWithout 10) (append_assoc l (10 ∷ []) (flat_map ended ls)) h))
+-- what has no line feed is one line, if it is anything
+pub text_lines-last : (b : ℕ) (bs : List ℕ) → IsWithout 10 (b ∷ bs) → text_lines (b ∷ bs) ≡ (b ∷ bs) ∷ []
+text_lines-last b [] h = not_ended (b == 10) refl
+  where
+    not_ended : (t : Bool) → (b == 10) ≡ t → (if t then [] ∷ [] else onto_first b []) ≡ (b ∷ []) ∷ []
+    not_ended true is = absurd (h.0 (eqb-true b 10 is))
+    not_ended false is = refl
+text_lines-last b (c ∷ bs) h = not_ended (b == 10) refl (text_lines-last c bs h.1)
+  where
+    not_ended : (t : Bool) → (b == 10) ≡ t → text_lines (c ∷ bs) ≡ (c ∷ bs) ∷ [] → (if t then [] ∷ text_lines (c ∷ bs) else onto_first b (text_lines (c ∷ bs))) ≡ (b ∷ c ∷ bs) ∷ []
+    not_ended true is later = absurd (h.0 (eqb-true b 10 is))
+    not_ended false is later = ap (onto_first b) later
 
-pub text_used_up : (text : List ℕ) → IsText text → IsWithout 10 text → text ≡ []
-text_used_up text h none = h.whole ∙ no_lines (text_lines text) (subst (IsWithout 10) h.whole none)
+-- the lines of such a rest, printed
+pub last_line : (rest out new : List ℕ) → IsWithout 10 rest → (length rest == 0) ≡ false → new ≡ out ++ ended (quoted rest) → new ≡ out ++ flat_map ended (map quoted (text_lines rest))
+last_line [] out new none some pushed = absurd (true≢false some)
+last_line (b ∷ bs) out new none some pushed =
+    let lines : flat_map ended (map quoted (text_lines (b ∷ bs))) ≡ ended (quoted (b ∷ bs)) ++ [] = ap (λ ls. flat_map ended (map quoted ls)) (text_lines-last b bs none) in
+    pushed ∙ ap (λ l. out ++ l) (sym (lines ∙ append-nil (ended (quoted (b ∷ bs)))))
+
+pub no_line : (rest out new : List ℕ) → (length rest == 0) ≡ true → new ≡ out → new ≡ out ++ flat_map ended (map quoted (text_lines rest))
+no_line [] out new none same = same ∙ sym (append-nil out)
+no_line (b ∷ bs) out new none same = let e : suc (length bs) ≡ 0 = eqb-true (suc (length bs)) 0 none in absurd (omega arith)

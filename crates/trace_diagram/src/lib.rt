@@ -1,6 +1,7 @@
 //! Traces: what each revision of a run did, as a value and as a text.
 #![tactic(auto)]
 
+mod copies;
 mod cut;
 mod diagram;
 mod draft;

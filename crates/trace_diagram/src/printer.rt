@@ -4,8 +4,9 @@ ghost use Rattle.std.specs.Fmt.{decimal};
 ghost use Rattle.std.specs.List.{flat_map};
 ghost use Rattle.trace_diagram.specs.Lines.{cause_text, change_text, end_text, event_text};
 ghost use Rattle.trace_diagram.specs.Lines.{fault_text, fuel_text, head_text, quoted, value_text};
-ghost use Rattle.trace_diagram.specs.Traces.{IsText, IsTextOf, IsTrace, ended, part_lines};
-ghost use Rattle.trace_diagram.specs.Traces.{text_lines};
+ghost use Rattle.trace_diagram.specs.Traces.{IsTextOf, IsTrace, ended, part_lines};
+ghost use Rattle.trace_diagram.specs.Traces.{text_lines, trace_text};
+ghost use Rattle.trace_diagram.specs.Cuts.{IsWithout};
 ghost use Rattle.rev_num.specs.Text.{path_text};
 
 use crate::cut::cut;
@@ -140,9 +141,20 @@ fn append_quoted(text: &mut Vec<u8>, line: &[u8]) -> Result<(), AllocError>
     Ok(())
 }
 
+/// Appends the line of what stands behind the last line feed, if that is anything.
+fn append_last(out: &mut Vec<u8>, rest: &[u8]) -> Result<(), AllocError>
+    requires { IsWithout 10 rest.now }
+    ensures { OnOk result (out.new.items ≡
+        out.old.items ++ flat_map ended (map quoted (text_lines rest.now))) }
+{
+    if rest.is_empty() {
+        return Ok(());
+    }
+    append_quoted(out, rest)
+}
+
 /// Appends the lines of what a revision printed.
 fn append_text(out: &mut Vec<u8>, text: &[u8]) -> Result<(), AllocError>
-    requires { IsText text.now }
     ensures { OnOk result (out.new.items ≡
         out.old.items ++ flat_map ended (map quoted (text_lines text.now))) }
 {
@@ -151,7 +163,7 @@ fn append_text(out: &mut Vec<u8>, text: &[u8]) -> Result<(), AllocError>
         append_quoted(out, line)?;
         rest = behind;
     }
-    Ok(())
+    append_last(out, rest)
 }
 
 /// Appends the lines of the forks and joins.
@@ -198,7 +210,6 @@ fn append_fuel(text: &mut Vec<u8>, fuel: u64) -> Result<(), AllocError>
 
 /// Appends the lines of a part.
 fn append_part(text: &mut Vec<u8>, part: &Part) -> Result<(), AllocError>
-    requires { IsText part.now.text }
     ensures { OnOk result (text.new.items ≡
         text.old.items ++ flat_map ended (part_lines part.now)) }
 {
@@ -211,10 +222,10 @@ fn append_part(text: &mut Vec<u8>, part: &Part) -> Result<(), AllocError>
     Ok(())
 }
 
-/// The text of a trace, or want of memory.
+/// The lines of a trace, which are its text where it has the form of a trace, or want of memory.
 pub fn print_trace(alloc: Global, trace: &Trace) -> Result<Vec<u8>, AllocError>
-    requires { IsTrace trace.now }
-    ensures { IfOk result (λ text. IsTextOf text.items trace.now) }
+    ensures lines { IfOk result (λ text. text.items ≡ trace_text trace.now) }
+    ensures text { IsTrace trace.now → IfOk result (λ text. IsTextOf text.items trace.now) }
 {
     let mut text = Vec::from_slice(alloc, b"revisions trace 1\n")?;
     for part in trace.parts.as_slice() {

@@ -1,15 +1,13 @@
 use Rattle.std.proofs.Common.{◌≡◌, ◌++◌, length, map}
 use Rattle.std.specs.List.{flat_map}
 use Rattle.trace_diagram.specs.Lines.{quoted}
-use Rattle.trace_diagram.specs.Traces.{IsText, ended, text_lines}
+use Rattle.trace_diagram.specs.Traces.{ended, text_lines}
 use Rattle.trace_diagram.proofs.printer.append_text.Given as goal
 
 abbrev pub invariant-loop-line : goal.invariant-loop-line
-invariant-loop-line l = record {
-  so_far : l.out.items ++ flat_map ended (map quoted (text_lines l.rest))
-      ≡ l.initial.out.items ++ flat_map ended (map quoted (text_lines l.text));
-  lines_left : IsText l.rest;
-}
+invariant-loop-line l =
+    l.out.items ++ flat_map ended (map quoted (text_lines l.rest))
+    ≡ l.initial.out.items ++ flat_map ended (map quoted (text_lines l.text))
 
 abbrev pub decreases-loop-line : goal.decreases-loop-line
 decreases-loop-line l = length l.rest

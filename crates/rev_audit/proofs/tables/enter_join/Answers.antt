@@ -1,0 +1,12 @@
+use Rattle.std.proofs.lemmas.Result.{on_ok_weaker}
+use Rattle.rev_audit.proofs.Finding.{entered_none, entered_one}
+use Rattle.rev_audit.proofs.tables.enter_join.Goals as goal
+
+pub returns-in-Forked : goal.returns-in-Forked
+returns-in-Forked c = entered_none c.args.table.now.map c.args.event.now _ _ c.args.number c.in-Forked.is
+
+pub returns-in-Joined : goal.returns-in-Joined
+returns-in-Joined c =
+    on_ok_weaker c.enter.result
+    (entered_one c.args.table.now.map c.enter.new.self.map c.args.event.now _ _ c.args.number c.in-Joined.is)
+    c.enter.ensures

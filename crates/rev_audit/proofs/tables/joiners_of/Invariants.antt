@@ -1,0 +1,14 @@
+use Rattle.std.proofs.Common.{◌≡◌, ◌≤◌, drop, length}
+use Rattle.rev_num.specs.Path.{Path}
+use Rattle.revision_machine.specs.PathIndex.{place_by}
+use Rattle.rev_audit.specs.Tables.{joiner_from}
+use Rattle.rev_audit.proofs.tables.joiners_of.Given as goal
+
+abbrev pub invariant-loop-i : goal.invariant-loop-i
+invariant-loop-i l = record {
+  within : l.i ≤ length l.parts;
+  so_far : (q : Path) → place_by l.table.map q ≡ joiner_from l.i (drop l.i l.parts) q;
+}
+
+abbrev pub decreases-loop-i : goal.decreases-loop-i
+decreases-loop-i l = l.i

@@ -1,0 +1,10 @@
+use Rattle.std.proofs.Common.{◌≡◌, ◌++◌, drop, length}
+use Rattle.rev_audit.specs.Told.{written_in}
+use Rattle.rev_audit.proofs.told.written_in.Given as goal
+
+abbrev pub invariant-loop-n : goal.invariant-loop-n
+invariant-loop-n l = record {
+  same : drop l.n l.slots.items ≡ drop l.n l.initial.slots.items;
+  count : length l.slots.items ≡ length l.initial.slots.items;
+  so_far : l.written.items ++ written_in (drop l.n l.initial.slots.items) ≡ written_in l.initial.slots.items;
+}

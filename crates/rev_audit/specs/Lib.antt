@@ -1,0 +1,4 @@
+pub mod Tables
+pub mod Told
+pub mod Own
+pub mod Sweep

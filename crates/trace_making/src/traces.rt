@@ -1,0 +1,89 @@
+//! The trace of a program.
+
+ghost use Rattle.std.specs.Prelude.{◌≡◌, ◌≤◌, IfOk};
+ghost use Rattle.std.specs.List.Sorted.{IsPermutation, IsSortedBy};
+ghost use Rattle.rev_syntax.specs.View.{program as whole};
+ghost use Rattle.trace_making.specs.Made.{is_sooner, parts_by, post_order};
+ghost use Rattle.trace_making.specs.Traced.{HasTrace};
+
+use crate::parts::part_of;
+use crate::places::places_of;
+use plain_runner::PlainLanguage;
+use rev_num::{Bytes, Items, Path};
+use rev_types::Typed;
+use revision_machine::{GlobalState, Revision};
+use revision_steps::Local;
+use std::alloc::{AllocError, Global};
+use std::cmp::Ordering;
+use trace_diagram::{Part, Trace};
+
+/// How the first path stands to the second in post-order.
+fn post_order(first: &Path, second: &Path) -> Ordering
+    ensures { result ≡ post_order first.now second.now }
+{
+    if Path::after_in_post_order(second, first) {
+        Ordering::Less
+    } else if first.is(second) {
+        Ordering::Equal
+    } else {
+        Ordering::Greater
+    }
+}
+
+/// Puts the parts into post-order.
+fn put_in_order(parts: &mut Vec<Part>)
+    ensures moved { IsPermutation parts.old.items parts.new.items }
+    ensures sorted { IsSortedBy is_sooner parts.new.items }
+{
+    parts.sort_unstable_by(|a, b| post_order(&a.path, &b.path));
+}
+
+/// The parts of these revisions, in any order.
+fn parts_of<'a>(
+    alloc: Global,
+    places: &[Bytes],
+    revisions: Vec<Revision<Local<'a>>>,
+) -> Result<Vec<Part>, AllocError>
+    ensures { IfOk result
+        (λ v. IsPermutation (parts_by places.now revisions.entry.items) v.items) }
+{
+    let mut parts = Vec::with_capacity(alloc, revisions.len())?;
+    let mut rest = revisions;
+    while let Some(revision) = rest.pop() {
+        parts.push(part_of(alloc, places, revision.path, revision.state)?)?;
+    }
+    Ok(parts)
+}
+
+/// The trace of the program with these inputs, the most fuel that a fork gives, and this fuel: that
+/// of the final state of every complete run, whatever the order of its steps, and none where that is
+/// the state of a second join. Want of memory is the one error.
+pub fn trace_of(
+    alloc: Global,
+    typed: &Typed,
+    input: &[i64],
+    share: u64,
+    fuel: u64,
+) -> Result<Option<Trace>, AllocError>
+    requires { fuel ≤ 4000000000 }
+    ensures { IfOk result
+        (λ t. HasTrace
+        (record {
+          program = whole typed.now.expanded.program;
+          inputs = input.now;
+          share = share;
+        }) fuel t) }
+{
+    let places = places_of(alloc, typed)?;
+    let language = PlainLanguage::new(alloc, typed, input, share)?;
+    match language.run(alloc, fuel)? {
+        GlobalState::Twice => Ok(None),
+        GlobalState::Live(revisions) => {
+            let mut parts = parts_of(alloc, &places, revisions.list)?;
+            put_in_order(&mut parts);
+            Ok(Some(Trace {
+                parts: Items::from_vec(parts),
+            }))
+        }
+    }
+}

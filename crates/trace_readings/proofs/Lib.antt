@@ -1,0 +1,11 @@
+pub mod Deciding
+pub mod Pairing
+pub mod Numbers
+pub mod Paths
+pub mod Values
+pub mod PlaceNames
+pub mod Events
+pub mod Ends
+pub mod Changes
+pub mod NextLines
+pub mod Texts

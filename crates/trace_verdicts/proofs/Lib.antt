@@ -1,0 +1,3 @@
+pub mod OneTrace
+pub mod Carried
+pub mod OneVerdict
