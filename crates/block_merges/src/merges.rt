@@ -42,13 +42,24 @@ impl<'a> BlockMerges<'a> {
     ghost use Rattle.code_machine.specs.Local.{CodeRun};
     ghost use Rattle.block_merges.specs.Merging.{AreMergesOf, word_merges};
 
-    /// The merges of this code.
+    /// The merges of verified code.
     pub fn new(alloc: Global, verified: &'a Verified) -> Result<BlockMerges<'a>, AllocError>
         ensures code { IfOk result (λ b. b.code.now ≡ verified.now.code) }
         ensures merges { IfOk result (λ b. (g : CodeRun) → g.code ≡ verified.now.code
             → AreMergesOf g (word_merges b.code.now)) }
     {
-        let code = verified.code();
+        let merges = BlockMerges::of(alloc, verified.code())?;
+        Ok(merges)
+    }
+
+    /// The merges of code without a fault.
+    #[tactic(auto, using(code_soundness::proofs::Accepting::no_fault_accepted))]
+    pub fn of(alloc: Global, code: &'a Code) -> Result<BlockMerges<'a>, AllocError>
+        requires { KeepsRules code.now }
+        ensures code { IfOk result (λ b. b.code.now ≡ code.now) }
+        ensures merges { IfOk result (λ b. (g : CodeRun) → g.code ≡ code.now
+            → AreMergesOf g (word_merges b.code.now)) }
+    {
         note_numbers(code);
         let table = table_of(alloc, code)?;
         let blocks = merge_blocks(alloc, code)?;

@@ -1,6 +1,7 @@
 //! What a revision reads and writes.
 
 ghost use Rattle.std.specs.Prelude.{◌≡◌, ◌<◌, ◌++◌, ℕ, IfOk, Option, option_to_list};
+ghost use Rattle.version_map.specs.declared.snapshot.How.TheVariants as how;
 ghost use Rattle.version_map.specs.Deltas.{at, locations, IsEmpty};
 ghost use Rattle.version_map.specs.Overlay.{under, Agree};
 ghost use Rattle.block_run.specs.Remembering.{written_below, written_there, Kept};
@@ -74,7 +75,8 @@ impl<P: Snapshot> Memory<P> {
         self.delta.set(location, word);
     }
 
-    /// The memory of a child: it sees what its forker sees, and has written nothing.
+    /// The memory of a child: it sees what its forker sees, and has written nothing. How the child
+    /// has its words is the snapshot's answer.
     pub fn fork(&mut self, alloc: Global) -> Result<(Memory<P>, How), AllocError>
         ensures child { IfOk result (λ r. Agree (P.size self.old.snapshot)
             (under r.0.delta (P.base r.0.snapshot))
@@ -82,6 +84,8 @@ impl<P: Snapshot> Memory<P> {
         ensures unwritten { IfOk result (λ r. IsEmpty r.0.first.roots) }
         ensures child_size { IfOk result (λ r. P.size r.0.snapshot ≡ P.size self.old.snapshot) }
         ensures child_group { IfOk result (λ r. P.group r.0.snapshot ≡ P.group self.old.snapshot) }
+        ensures shared { IfOk result (λ r. r.1 ≡ how.Shared → IsEmpty self.new.delta) }
+        ensures copied { IfOk result (λ r. r.1 ≡ how.Copied → self.new.delta ≡ self.old.delta) }
         ensures kept { Kept (P.size self.old.snapshot)
             (under self.old.delta (P.base self.old.snapshot))
             (under self.new.delta (P.base self.new.snapshot))

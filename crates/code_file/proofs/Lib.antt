@@ -5,6 +5,7 @@ pub mod Counts
 pub mod Written
 pub mod ReadBack
 pub mod Spelled
+pub mod FieldRead
 pub mod FileRead
 pub mod OneFile
 pub mod EachRead

@@ -11,6 +11,7 @@ mod pass;
 mod shapes;
 mod spent;
 mod stack;
+mod taking;
 mod verified;
 mod verifier;
 

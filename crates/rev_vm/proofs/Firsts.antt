@@ -7,7 +7,7 @@ use Rattle.rev_num.specs.declared.value.ValueKind.TheVariants as k
 use Rattle.rev_code.specs.declared.code.CodeBlock.{CodeBlock}
 use Rattle.rev_code.specs.declared.code.CodeVar.{CodeVar}
 use Rattle.rev_code.specs.Words.{Word, zero_word}
-use Rattle.rev_code.specs.State.{Frame, Location, State, seen}
+use Rattle.rev_code.specs.State.{Location, State, seen}
 use Rattle.rev_code.specs.Step.{first_locals}
 use Rattle.rev_code.specs.Events as events
 use Rattle.code_soundness.specs.Typed.{IsRevision, AreLocations, location_kinds}
@@ -16,7 +16,7 @@ use Rattle.code_rules.specs.Verdict.{first_fault}
 use Rattle.code_soundness.proofs.Accepting.{no_fault_accepted}
 use Rattle.code_soundness.proofs.Lists.{some_eq}
 use Rattle.code_soundness.proofs.Reaching.{procedures_start}
-use Rattle.plain_words.specs.Agreement.{AreWords, IsWord}
+use Rattle.plain_words.specs.Agreement.{AreWords}
 use Rattle.block_run.specs.declared.registers.Registers.{Registers}
 use Rattle.block_run.specs.Area.{count, low, stack_of}
 use Rattle.block_run.specs.Standing.{AreSeen, IsSeen}

@@ -1,5 +1,5 @@
 -- What joins bring has the kinds of its locations.
-use Rattle.std.proofs.Common.{◌≡◌, ◌∙◌, ℕ, suc, ◌+◌, List, [], ◌∷◌, Option, Some, None, refl, sym, ap, subst, arith}
+use Rattle.std.proofs.Common.{◌≡◌, ◌∙◌, ℕ, List, [], ◌∷◌, Option, Some, None, refl, sym, ap, subst}
 use Rattle.std.specs.Prelude.{Result, Ok, Err, slice_get}
 use Rattle.rev_num.specs.declared.value.NumFault.{NumFault}
 use Rattle.rev_num.specs.declared.value.ValueKind.{ValueKind}
@@ -12,7 +12,7 @@ use Rattle.rev_code.specs.Funs.{values}
 use Rattle.code_soundness.specs.Typed.{AreLocations, location_kinds}
 use Rattle.code_soundness.specs.Funs.{HasValue}
 use Rattle.code_soundness.proofs.Accepting.{no_fault_accepted}
-use Rattle.code_soundness.proofs.Lists.{none_some, some_eq}
+use Rattle.code_soundness.proofs.Lists.{some_eq}
 use Rattle.code_soundness.proofs.Variables.{seen_there, written_there}
 use Rattle.version_map.specs.Composing.{Entry, Composition, and_later, composed}
 use Rattle.code_machine.specs.Local.{CodeRun, IsVerified}

@@ -1,16 +1,16 @@
 -- Forkers behind their Forks, and their children.
-use Rattle.std.proofs.Common.{◌≡◌, ◌∙◌, ℕ, zero, suc, ◌+◌, ◌-◌, ◌<◌, ◌≤◌, ◌^◌, Bool, true, false, List, [], ◌∷◌, ◌++◌, length, map, take, drop, reverse, set, Option, Some, None, refl, sym, ap, subst, arith}
+use Rattle.std.proofs.Common.{◌≡◌, ◌∙◌, ℕ, zero, suc, ◌+◌, ◌-◌, ◌<◌, ◌≤◌, ◌^◌, Bool, true, false, List, [], ◌∷◌, ◌++◌, length, map, take, drop, reverse, Option, Some, None, refl, sym, ap, subst, arith}
 use Rattle.std.specs.Prelude.{slice_get, slice_range, if◌then◌else◌}
 use Rattle.std.proofs.lemmas.List.{length-drop}
 use Rattle.rev_num.specs.declared.value.ValueKind.{ValueKind}
 use Rattle.rev_code.specs.declared.code.BlockClass.{BlockClass}
 use Rattle.rev_code.specs.declared.code.CodeBlock.{CodeBlock}
-use Rattle.rev_code.specs.Words.{Word, rev, fits}
-use Rattle.rev_code.specs.State.{Listed, Location, State, forked}
-use Rattle.rev_code.specs.Step.{arguments, forks, is_procedure, only, params, step}
+use Rattle.rev_code.specs.Words.{Word, fits}
+use Rattle.rev_code.specs.State.{Listed, State, forked}
+use Rattle.rev_code.specs.Step.{arguments, is_procedure, only, params}
 use Rattle.rev_code.specs.Events as events
 use Rattle.code_soundness.specs.Safe.{IsForked}
-use Rattle.code_soundness.specs.Typed.{IsRevision, kinds_of}
+use Rattle.code_soundness.specs.Typed.{IsRevision}
 use Rattle.code_soundness.specs.Whole.{IsAccepted, notes_of}
 use Rattle.code_soundness.proofs.Accepting.{no_fault_accepted}
 use Rattle.code_soundness.proofs.Lists.{kinds_length, reverse_length, some_eq}

@@ -1,24 +1,21 @@
 -- Forkers that are told, and children.
-use Rattle.std.proofs.Common.{◌≡◌, ◌∙◌, ℕ, zero, suc, ◌+◌, ◌-◌, ◌<◌, ◌≤◌, List, [], ◌∷◌, ◌++◌, take, drop, length, map, set, Option, Some, refl, sym, ap, subst, arith}
-use Rattle.std.specs.Prelude.{slice_get}
+use Rattle.std.proofs.Common.{◌≡◌, ◌∙◌, ℕ, suc, ◌+◌, ◌-◌, ◌≤◌, List, [], ◌∷◌, ◌++◌, length, map, set, Option, refl, sym, ap, subst, arith}
 use Rattle.std.proofs.lemmas.List.{length-set}
-use Rattle.rev_code.specs.Words.{Word, rev}
-use Rattle.rev_code.specs.State.{Location, Listed, State, forked}
+use Rattle.rev_code.specs.Words.{Word}
+use Rattle.rev_code.specs.State.{Listed, State, forked}
 use Rattle.rev_code.specs.Events as events
 use Rattle.code_soundness.specs.Typed.{IsRevision}
 use Rattle.code_soundness.specs.Whole.{notes_of}
 use Rattle.plain_words.specs.Agreement.{AreWords}
 use Rattle.block_run.specs.declared.registers.Registers.{Registers}
-use Rattle.block_run.specs.Area.{count, low, stack_of}
+use Rattle.block_run.specs.Area.{low, stack_of}
 use Rattle.block_run.proofs.Onward.{words_length, stack_length}
 use Rattle.block_run.proofs.Stacks.{stack_push, stack_top}
-use Rattle.version_map.specs.declared.delta.Delta.{Delta}
 use Rattle.code_machine.specs.Local.{CodeRun}
 use Rattle.leg_run.specs.declared.revision.Meeting.{Meeting}
 use Rattle.leg_run.specs.declared.revision.Meeting.TheVariants as meeting
 use Rattle.leg_run.specs.declared.revision.Run.{Run}
 use Rattle.leg_run.specs.Standing.{listed_as, Stands}
-use Rattle.rev_vm.specs.Meaning.{IsAt}
 use Rattle.rev_vm.specs.Starts.{IsWaiting, IsNamed}
 use Rattle.rev_vm.proofs.Frames.{IsAbove, one_set, OnStack, stays}
 

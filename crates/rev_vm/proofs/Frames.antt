@@ -2,24 +2,22 @@
 --   IsAbove     what changed of the area lies at or above a place
 --   OnStack     what is to be shown of the new state
 --   stays       then the revision stands for it
-use Rattle.std.proofs.Common.{◌≡◌, ◌∙◌, ℕ, ◌+◌, ◌-◌, ◌<◌, ◌≤◌, ◌^◌, List, [], ◌∷◌, take, drop, length, map, reverse, set, vec_len, refl, sym, ap, subst, arith, Option, Some}
+use Rattle.std.proofs.Common.{◌≡◌, ◌∙◌, ℕ, ◌+◌, ◌-◌, ◌≤◌, List, [], ◌∷◌, take, drop, length, map, reverse, set, refl, sym, ap, subst, arith, Option}
 use Rattle.std.specs.Prelude.{slice_get}
 use Rattle.std.proofs.lemmas.List.{drop-take, length-set, take-set-le}
 use Rattle.rev_code.specs.declared.code.CodeBlock.{CodeBlock}
 use Rattle.rev_code.specs.declared.code.Code.{Code}
-use Rattle.rev_code.specs.Words.{Word}
 use Rattle.rev_code.specs.State.{Frame, State}
 use Rattle.code_soundness.specs.Typed.{IsRevision}
 use Rattle.code_soundness.specs.Whole.{notes_of}
 use Rattle.plain_words.specs.Agreement.{AreWords}
-use Rattle.block_run.specs.declared.registers.Registers.{Registers}
 use Rattle.block_run.specs.Area.{count, low, stack_of}
 use Rattle.block_run.specs.Standing.{AreSeen}
 use Rattle.fun_run.proofs.Slices.{take_shorter}
 use Rattle.code_machine.specs.Local.{CodeRun}
 use Rattle.leg_run.specs.declared.revision.Run.{Run}
 use Rattle.leg_run.specs.declared.revision.Waiting.{Waiting}
-use Rattle.leg_run.specs.Standing.{listed_as, IsFrameOf, AreBelow, Stands}
+use Rattle.leg_run.specs.Standing.{listed_as, AreBelow, Stands}
 
 pub record IsAbove (place : ℕ) (ws ws' : List ℕ) : Type 0 where
   pub below : take place ws' ≡ take place ws

@@ -2,15 +2,14 @@
 --   after_join     the revision stands for the joiner behind its join
 --   mains_joined   a joiner's words stand for its view where the joinee wrote
 --   new_words      new words stand for those of the definition
-use Rattle.std.proofs.Common.{◌≡◌, ◌∙◌, ℕ, zero, suc, ◌+◌, ◌-◌, ◌<◌, ◌≤◌, Bool, true, false, List, [], ◌∷◌, ◌++◌, take, drop, length, map, set, get_or, Option, Some, None, refl, sym, ap, subst, arith}
-use Rattle.std.specs.Prelude.{Result, Ok, Err, slice_get}
+use Rattle.std.proofs.Common.{◌≡◌, ◌∙◌, ℕ, zero, suc, ◌+◌, ◌-◌, ◌<◌, ◌≤◌, Bool, true, false, List, [], ◌∷◌, ◌++◌, drop, length, map, set, get_or, Option, None, refl, sym, ap, subst, arith}
+use Rattle.std.specs.Prelude.{Result, Ok, Err}
 use Rattle.rev_num.specs.declared.value.NumFault.{NumFault}
 use Rattle.rev_num.specs.declared.value.ValueKind.{ValueKind}
 use Rattle.rev_num.specs.declared.outcome.Cause.TheVariants as cause
 use Rattle.rev_code.specs.declared.code.CodeBlock.{CodeBlock}
-use Rattle.rev_code.specs.Words.{Word, bool, rev, kind_of}
-use Rattle.rev_code.specs.State.{Location, State, joined, seen_at, written_at}
-use Rattle.rev_code.specs.Step.{joins, step}
+use Rattle.rev_code.specs.Words.{Word, bool}
+use Rattle.rev_code.specs.State.{Location, State, seen_at, written_at}
 use Rattle.rev_code.specs.Events.{told, past_join}
 use Rattle.code_soundness.specs.Safe.{joiner}
 use Rattle.code_soundness.specs.Typed.{AreLocations, location_kinds, IsRevision}
@@ -37,17 +36,17 @@ use Rattle.version_map.specs.declared.joining.MergeTrap.{MergeTrap}
 use Rattle.version_map.specs.Deltas.{at}
 use Rattle.version_map.specs.Overlay as overlay
 use Rattle.version_map.specs.Overlay.{Agree}
-use Rattle.version_map.specs.Composing.{Entry, Merges, Composition, and_later, composed, entries, entry}
-use Rattle.code_machine.specs.Local.{CodeRun, under, Phase, running, done, trapped, at_work, has_ended, End, end_of, written_from}
+use Rattle.version_map.specs.Composing.{Entry, Merges, Composition, and_later, composed, entries}
+use Rattle.code_machine.specs.Local.{CodeRun, under, Phase, running, done, trapped, at_work, End, end_of, written_from}
 use Rattle.code_machine.specs.Joining.{note, merges, main_at, mains, written_all, absorb, join_in, trap_at}
-use Rattle.block_merges.specs.Merging.{IsOfKind, IsJoined, AreJoined, AreMergesOf, IsComposedAs}
+use Rattle.block_merges.specs.Merging.{IsOfKind, AreJoined, AreMergesOf, IsComposedAs}
 use Rattle.block_merges.proofs.Composing.{composes_alike}
 use Rattle.leg_run.specs.declared.revision.Run.{Run}
 use Rattle.leg_run.specs.Standing.{listed_as, Stands}
-use Rattle.rev_vm.specs.Meaning.{IsAt, IsAtJoin, IsClaimed, IsEnd, IsReady, IsTold, IsPopped, IsPast, IsTakenOver, IsWritten, AreWritten, IsPhase}
+use Rattle.rev_vm.specs.Meaning.{IsAt, IsAtJoin, IsClaimed, IsEnd, IsReady, IsTold, IsPopped, IsPast, IsTakenOver, AreWritten, IsPhase}
 use Rattle.rev_vm.specs.Writes.{AreAtEntries, HasWritten}
 use Rattle.rev_vm.proofs.Frames.{IsAbove, nothing_new, one_set, OnStack, stays}
-use Rattle.rev_vm.proofs.Fitting.{IsFit, AreFit, written_kinds}
+use Rattle.rev_vm.proofs.Fitting.{AreFit, written_kinds}
 use Rattle.rev_vm.proofs.Meets.{Meets, IsJoining, meets}
 
 -- behind the join, with this word in place of the handle, or without it

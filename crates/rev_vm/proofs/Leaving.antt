@@ -1,19 +1,17 @@
 -- What a revision has written, by locations.
 --   written_as   what a memory says was written is what the state's locations say
-use Rattle.std.proofs.Common.{◌≡◌, ◌∙◌, ℕ, zero, suc, ◌+◌, ◌<◌, ◌≤◌, List, [], ◌∷◌, ◌++◌, length, Option, Some, None, refl, sym, ap, subst, arith}
+use Rattle.std.proofs.Common.{◌≡◌, ◌∙◌, ℕ, zero, suc, ◌+◌, List, [], ◌∷◌, ◌++◌, length, Option, Some, None, refl, sym, ap, subst, arith}
 use Rattle.std.specs.Prelude.{slice_get}
 use Rattle.rev_num.specs.declared.value.ValueKind.{ValueKind}
-use Rattle.rev_code.specs.Words.{Word, kind_of}
+use Rattle.rev_code.specs.Words.{Word}
 use Rattle.rev_code.specs.State.{Location}
 use Rattle.code_soundness.specs.Typed.{AreLocations, IsLocation}
-use Rattle.plain_words.specs.Agreement.{IsWord}
 use Rattle.block_run.specs.Remembering.{written_below, written_there}
 use Rattle.block_run.specs.Standing.{AreSeen, IsSeen}
 use Rattle.version_map.specs.declared.end.Written.{Written}
 use Rattle.version_map.specs.Composing.{Entry}
 use Rattle.code_machine.specs.Local.{with_entry, written_from}
-use Rattle.block_merges.specs.Merging.{IsOfKind}
-use Rattle.rev_vm.specs.Meaning.{AreWritten, IsWritten}
+use Rattle.rev_vm.specs.Meaning.{AreWritten}
 
 append_none : {A : Type 0} (xs : List A) → xs ++ [] ≡ xs
 append_none [] = refl

@@ -2,8 +2,7 @@
 --   fork_event, join_event, end_event, trap_event   what the leg of a revision comes to, and for which states what it
 --                                                   leaves stands
 --   ready                                           a word lies on the stack of a revision at a join
-use Rattle.std.proofs.Common.{◌≡◌, ◌∙◌, ℕ, zero, suc, ◌+◌, ◌-◌, ◌<◌, ◌≤◌, ◌^◌, Bool, List, [], ◌∷◌, ◌++◌, length, map, Option, Some, None, refl, sym, ap, subst, arith}
-use Rattle.std.specs.Prelude.{slice_get}
+use Rattle.std.proofs.Common.{◌≡◌, ◌∙◌, ℕ, suc, ◌-◌, Bool, false, List, [], ◌∷◌, ◌++◌, length, map, Option, None, refl, sym, ap, subst, arith}
 use Rattle.rev_num.specs.declared.outcome.Cause.{Cause}
 use Rattle.rev_code.specs.Words.{Word}
 use Rattle.rev_code.specs.State.{Listed, State, joined}
@@ -15,20 +14,19 @@ use Rattle.plain_words.specs.Agreement.{AreWords}
 use Rattle.block_run.specs.declared.registers.Registers.{Registers}
 use Rattle.block_run.specs.Area.{count, low, stack_of}
 use Rattle.block_run.specs.Remembering.{Kept, written_below}
-use Rattle.block_run.specs.Standing.{AreSeen}
 use Rattle.block_run.proofs.Onward.{kept_seen}
 use Rattle.fun_run.proofs.Running.{block_short}
 use Rattle.version_map.specs.declared.delta.Delta.{Delta}
 use Rattle.version_map.specs.declared.end.EndValue.{EndValue}
-use Rattle.version_map.specs.declared.end.Finish.{Finish}
 use Rattle.version_map.specs.declared.end.Finish.TheVariants as finish
 use Rattle.version_map.specs.declared.end.Written.{Written}
 use Rattle.version_map.specs.Deltas.{at, locations}
 use Rattle.version_map.specs.Overlay as overlay
-use Rattle.code_machine.specs.Leg.{IsLeg, leg}
-use Rattle.code_machine.specs.Local.{CodeRun, Phase, done, end_of, has_ended, trapped, under, written_from}
+use Rattle.code_machine.specs.Leg.{leg}
+use Rattle.code_machine.specs.Local.{CodeRun, Phase, done, end_of, has_ended, under, written_from}
 use Rattle.code_machine.specs.Joining.{note}
 use Rattle.code_machine.proofs.Legs.{leg_is}
+use Rattle.code_machine.proofs.Events.{leg_own}
 use Rattle.leg_run.specs.declared.revision.LegEnd.TheVariants as end
 use Rattle.leg_run.specs.declared.revision.Meeting.{Meeting}
 use Rattle.leg_run.specs.declared.revision.Meeting.TheVariants as meeting
@@ -39,6 +37,7 @@ use Rattle.leg_run.proofs.Decoding.{its_state}
 use Rattle.leg_run.proofs.Frames.{height, stands_inside, top_inside}
 use Rattle.rev_vm.specs.Legs.{IsNoted, trap_of}
 use Rattle.rev_vm.specs.Meaning.{AreWritten, IsAt, IsAtFork, IsAtJoin, IsEnd, IsPhase, IsReady}
+use Rattle.rev_vm.specs.States.{is_by_join}
 use Rattle.rev_vm.proofs.Firsts.{kinds_many}
 use Rattle.rev_vm.proofs.Frames.{IsAbove, nothing_new, OnStack, stays}
 use Rattle.rev_vm.proofs.Leaving.{written_as}
@@ -223,3 +222,7 @@ module _ (g : CodeRun) (run : Run) (delta : Delta) (base : ℕ → ℕ) (first :
         ap (leg g) start ∙ leg_is g h.verified (state_of g.code run (overlay.under delta base) (at first)) (traps l.0 e) l.1,
         left l.0 l.3 size sized (trap_of l.0 e) v wrote text fuel (subst (IsPhase (trap_of l.0 e)) (sym is) (record { cause = refl; line = sym l.3.line; origin = refl })),
       )
+
+      pub trap_own : (e : Cause) → LegEnds g.code g.inputs g.share (state_of g.code run (overlay.under delta base) (at first)) (end.Trap e) run' (overlay.under delta' base') (at first')
+          → v.finish ≡ finish.Trapped (record { cause = e; line = run'.registers.line; origin = None }) → is_by_join v.finish ≡ false
+      trap_own e l is = ap is_by_join is ∙ leg_own g c l.0 e (ap (leg g) start ∙ leg_is g h.verified (state_of g.code run (overlay.under delta base) (at first)) (traps l.0 e) l.1)

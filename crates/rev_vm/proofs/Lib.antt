@@ -8,3 +8,5 @@ pub mod Firsts
 pub mod Forking
 pub mod Leaving
 pub mod Legs
+pub mod Values
+pub mod Mains

@@ -2,13 +2,12 @@
 --   IsJoining   the handle of the joined revision lies on top
 --   IsForking   the child's arguments lie on top, the last one uppermost
 --   meets       so it is at each fork and join
-use Rattle.std.proofs.Common.{◌≡◌, ◌∙◌, ℕ, zero, suc, Bool, true, false, cond, not, ℤ, List, [], ◌∷◌, ◌++◌, length, Option, Some, None, Result, Ok, Err, refl, sym, ap}
+use Rattle.std.proofs.Common.{◌≡◌, ℕ, zero, suc, Bool, true, false, cond, not, ℤ, List, [], ◌∷◌, length, Option, Some, None, Result, Ok, Err, refl}
 use Rattle.std.specs.Prelude.{slice_get, slice_set, nat_lt, int_lt, int_le}
 use Rattle.rev_num.specs.declared.value.ValueKind.{ValueKind}
 use Rattle.rev_num.specs.declared.value.NumFault.{NumFault}
 use Rattle.rev_num.specs.declared.outcome.Cause.{Cause}
 use Rattle.rev_num.specs.declared.outcome.Cause.TheVariants as cause
-use Rattle.rev_num.specs.declared.value.NumFault.TheVariants as fault
 use Rattle.rev_num.specs.Arith.{sum_of, difference_of, product_of, quotient_of, remainder_of, negation_of}
 use Rattle.rev_code.specs.declared.code.CodeBlock.{CodeBlock}
 use Rattle.rev_code.specs.declared.code.LayoutItem.{LayoutItem}
@@ -20,7 +19,6 @@ use Rattle.rev_code.specs.Variables.{Place, scalar, array, cell_at}
 use Rattle.rev_code.specs.Printing.{printed_kinds}
 use Rattle.rev_code.specs.Step as r
 use Rattle.rev_code.specs.Step.{Comes, goes, traps, forks, joins, ends, stuck, act, act_at, act_in, step, only, is_fun, is_procedure, onward, reach}
-use Rattle.rev_code.specs.declared.code.Code.{Code}
 
 pub record IsJoining {H : Type 0} (c c' : State H) (h : H) : Type 0 where
   pub same : c' ≡ c

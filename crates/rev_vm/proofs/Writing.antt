@@ -1,14 +1,14 @@
 -- Words written one after another.
-use Rattle.std.proofs.Common.{◌≡◌, ◌∙◌, ℕ, zero, suc, ◌+◌, ◌<◌, ◌≤◌, List, [], ◌∷◌, ◌++◌, length, map, take, drop, get_or, Option, refl, sym, ap, subst, arith}
+use Rattle.std.proofs.Common.{◌≡◌, ◌∙◌, ℕ, zero, suc, ◌+◌, ◌<◌, ◌≤◌, List, [], ◌∷◌, ◌++◌, length, map, take, drop, get_or, Option, refl, ap, subst, arith}
 use Rattle.std.proofs.lemmas.List.{drop_more, drop_all}
 use Rattle.rev_code.specs.Words.{Word}
 use Rattle.rev_code.specs.State.{Location, written_at}
 use Rattle.version_map.specs.declared.end.Written.{Written}
 use Rattle.version_map.specs.Composing.{Entry}
-use Rattle.plain_words.specs.Agreement.{AreWords, IsWord}
+use Rattle.plain_words.specs.Agreement.{AreWords}
 use Rattle.block_run.specs.Standing.{AreSeen}
 use Rattle.block_run.specs.Remembering.{Wrote}
-use Rattle.block_run.proofs.Onward.{wrote_seen, written_length, words_length}
+use Rattle.block_run.proofs.Onward.{wrote_seen, written_length}
 use Rattle.code_machine.specs.Joining.{written_all}
 use Rattle.rev_vm.specs.Writes.{AreAtEntries, HasWritten}
 

@@ -3,3 +3,7 @@ pub mod Meaning
 pub mod NewWords
 pub mod Starts
 pub mod Legs
+pub mod States
+pub mod Laws
+pub mod Values
+pub mod Opening

@@ -8,10 +8,10 @@
 --   IsClaimed    a joiner and the end of the revision that it joins, which is done
 --   IsTold, IsPopped, IsPast   a joiner behind its join
 --   IsTakenOver  a joiner with the text and the fuel of the joined revision
-use Rattle.std.specs.Prelude.{ℕ, ◌≡◌, ◌<◌, ◌≤◌, ◌+◌, ◌-◌, ◌^◌, Bool, true, false, List, [], ◌∷◌, ◌++◌, vec_len, length, Option, Some, None, slice_get, slice_set}
+use Rattle.std.specs.Prelude.{ℕ, ◌≡◌, ◌<◌, ◌≤◌, ◌+◌, ◌-◌, ◌^◌, Bool, true, false, List, [], ◌∷◌, ◌++◌, length, Some, slice_get, slice_set}
 use Rattle.rev_num.specs.declared.value.ValueKind.{ValueKind}
 use Rattle.rev_code.specs.Words.{Word}
-use Rattle.rev_code.specs.State.{Location, State}
+use Rattle.rev_code.specs.State.{State}
 use Rattle.rev_code.specs.Step.{forks, joins, step}
 use Rattle.code_soundness.specs.Typed.{location_kinds}
 use Rattle.version_map.specs.declared.delta.Delta.{Delta}
@@ -24,7 +24,7 @@ use Rattle.version_map.specs.Composing.{Entry}
 use Rattle.version_map.specs.Deltas.{at, locations}
 use Rattle.version_map.specs.Overlay as overlay
 use Rattle.block_run.specs.Area.{count}
-use Rattle.code_machine.specs.Local.{CodeRun, IsVerified, under, Trap, Phase, running, done, trapped, Local, End, end_of, written_from}
+use Rattle.code_machine.specs.Local.{CodeRun, IsVerified, under, Trap, Phase, running, done, trapped, End, written_from}
 use Rattle.code_machine.specs.Joining.{note}
 use Rattle.block_merges.specs.Merging.{IsOfKind}
 use Rattle.leg_run.specs.declared.revision.Run.{Run}

@@ -8,7 +8,7 @@
 --   top_words     as many words from the top of the stack as a block has parameters
 --   IsBorn        a child's first frame, whose arguments are those words of its forker
 --   IsBase        a snapshot's words, of the kinds of all locations
-use Rattle.std.specs.Prelude.{ℕ, suc, ◌≡◌, ◌<◌, ◌≤◌, ◌+◌, ◌-◌, ◌^◌, List, [], ◌∷◌, ◌++◌, length, take, replicate, drop, slice_get, slice_set, Option, Some, None}
+use Rattle.std.specs.Prelude.{ℕ, suc, ◌≡◌, ◌≤◌, ◌+◌, ◌-◌, List, [], ◌∷◌, ◌++◌, length, take, replicate, drop, slice_get, slice_set, Some, None}
 use Rattle.rev_code.specs.declared.code.CodeBlock.{CodeBlock}
 use Rattle.rev_code.specs.Step.{params}
 use Rattle.rev_code.specs.Words.{Word}
@@ -17,7 +17,6 @@ use Rattle.rev_code.specs.Events as events
 use Rattle.code_soundness.specs.Typed.{AreLocations, location_kinds, IsOfProgram, kinds_of}
 use Rattle.plain_words.specs.Agreement.{AreWords}
 use Rattle.block_run.specs.Standing.{AreSeen}
-use Rattle.block_run.specs.declared.registers.Registers.{Registers}
 use Rattle.code_machine.specs.Local.{CodeRun}
 use Rattle.leg_run.specs.declared.revision.Run.{Run}
 use Rattle.leg_run.specs.declared.revision.Meeting.TheVariants as meeting

@@ -7,6 +7,8 @@ ghost use Rattle.rev_code.specs.State.{State};
 ghost use Rattle.rev_code.specs.Step.{params};
 ghost use Rattle.rev_code.specs.Words.{Word};
 ghost use Rattle.rev_code.specs.Events as events;
+ghost use Rattle.version_map.specs.declared.snapshot.How.TheVariants as how;
+ghost use Rattle.version_map.specs.Deltas.{IsEmpty};
 ghost use Rattle.code_machine.specs.Local.{CodeRun};
 ghost use Rattle.leg_run.specs.Setting.{IsSetting};
 ghost use Rattle.rev_vm.specs.Meaning.{IsAt, IsAtFork};
@@ -159,6 +161,9 @@ fn fork_off<P: Snapshot>(
         × IsAt (run_under setting.now) r.0.run r.0.memory.delta (P.base r.0.memory.snapshot)
         r.0.memory.first.roots (events.child setting.now.share c block b args)) }
     ensures waits { IfOk result (λ _. IsWaiting revision.new.run) }
+    ensures shared { IfOk result (λ r. r.1 ≡ how.Shared → IsEmpty revision.new.memory.delta) }
+    ensures copied { IfOk result (λ r. r.1 ≡ how.Copied
+        → revision.new.memory.delta ≡ revision.old.memory.delta) }
     ensures group { P.group revision.new.memory.snapshot ≡ P.group revision.old.memory.snapshot }
     ensures child_group { IfOk result
         (λ r. P.group r.0.memory.snapshot ≡ P.group revision.old.memory.snapshot) }
@@ -178,7 +183,8 @@ fn fork_off<P: Snapshot>(
 }
 
 impl<P: Snapshot> AtFork<P> {
-    /// The forker behind its Fork, its child, and how the child has its words.
+    /// The forker behind its Fork, its child, and how the child has its words, as the snapshot
+    /// answered.
     pub fn fork(
         self,
         alloc: Global,
@@ -203,6 +209,9 @@ impl<P: Snapshot> AtFork<P> {
             × IsAt (run_under setting.now) r.1.revision.run
             r.1.revision.memory.delta (P.base r.1.revision.memory.snapshot)
             r.1.revision.memory.first.roots (events.child setting.now.share c self.block b args)) }
+        ensures shared { IfOk result (λ r. r.2 ≡ how.Shared → IsEmpty r.0.revision.memory.delta) }
+        ensures copied { IfOk result (λ r. r.2 ≡ how.Copied
+            → r.0.revision.memory.delta ≡ self.revision.memory.delta) }
         ensures group { IfOk result (λ r. P.group r.0.revision.memory.snapshot
             ≡ P.group self.revision.memory.snapshot) }
         ensures child_group { IfOk result (λ r. P.group r.1.revision.memory.snapshot

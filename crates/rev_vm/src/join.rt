@@ -6,6 +6,7 @@ ghost use Rattle.rev_code.specs.Events.{past_join};
 ghost use Rattle.code_machine.specs.Local.{CodeRun, Trap, end_of};
 ghost use Rattle.code_machine.specs.Joining.{inherit, origin_of};
 ghost use Rattle.rev_vm.specs.Meaning.{IsAt, IsAtJoin, IsEnd, IsReady, IsTold, IsTrap};
+ghost use Rattle.rev_vm.specs.States.{is_by_join};
 
 use crate::end::{Stopped, break_off, stop};
 use crate::runner::Runner;
@@ -18,7 +19,7 @@ use version_map::{CodeTrap, EndValue, Finish, Snapshot, Written};
 pub struct AtJoin<P: Snapshot> {
     pub(crate) revision: Revision<P>,
     pub(crate) is_try: bool,
-    pub(crate) on: u64,
+    pub(crate) on: u32,
     pub(crate) written: Items<Written>,
     ghost ready: { IsReady revision.run },
 }
@@ -32,7 +33,7 @@ pub struct Claimed<P: Snapshot> {
 
 impl<P: Snapshot> AtJoin<P> {
     /// The number of the revision that is joined.
-    pub fn on(&self) -> u64
+    pub fn on(&self) -> u32
         ensures { result ≡ self.now.on }
     {
         self.on
@@ -53,6 +54,17 @@ impl<P: Snapshot> AtJoin<P> {
             → result ≡ c.line }
     {
         self.revision.run.registers.line
+    }
+
+    /// The fuel that is left.
+    pub fn fuel(&self) -> u64
+        ensures rest { result ≡ self.now.revision.run.registers.fuel }
+        ensures state { (g : CodeRun) (c : State _) → IsAtJoin g self.now.revision.run
+            self.now.revision.memory.delta (P.base self.now.revision.memory.snapshot)
+            self.now.revision.memory.first.roots self.now.written self.now.is_try self.now.on c
+            → result ≡ c.fuel }
+    {
+        self.revision.run.registers.fuel
     }
 
     /// What the revision has printed so far.
@@ -77,12 +89,12 @@ impl<P: Snapshot> AtJoin<P> {
     /// The joiner of a revision that has trapped: it traps with the same cause and line, and tells
     /// which revision trapped first.
     pub fn trapped(self, trap: CodeTrap) -> Stopped<P>
-        requires plain { self.is_try ≡ false }
-        requires number { self.on < 2 ^ 32 }
+        requires { self.is_try ≡ false }
         ensures end { (g : CodeRun) (c : State _) (t : Trap _) → IsAtJoin g self.revision.run
             self.revision.memory.delta (P.base self.revision.memory.snapshot)
             self.revision.memory.first.roots self.written self.is_try self.on c → IsTrap t trap
             → IsEnd g (end_of (inherit c false self.on t)) result.end }
+        ensures by_join { is_by_join result.end.finish ≡ true }
         ensures group { P.group result.snapshot ≡ P.group self.revision.memory.snapshot }
     {
         let first = first_of(self.on, trap.origin);
@@ -138,12 +150,11 @@ impl<P: Snapshot> AtJoin<P> {
 }
 
 /// The revision that trapped first.
-fn first_of(on: u64, origin: Option<u32>) -> u32
-    requires { on < 2 ^ 32 }
+fn first_of(on: u32, origin: Option<u32>) -> u32
     ensures { result ≡ origin_of on origin }
 {
     match origin {
-        None => on as u32,
+        None => on,
         Some(first) => first,
     }
 }

@@ -1,6 +1,6 @@
 //! Legs, from event to event.
 
-ghost use Rattle.std.specs.Prelude.{◌≡◌, ℕ, List, Option, IfErr, IfOk, None};
+ghost use Rattle.std.specs.Prelude.{◌≡◌, ◌^◌, ℕ, false, List, Option, IfErr, IfOk, None};
 ghost use Rattle.rev_num.specs.declared.outcome.Cause.{Cause};
 ghost use Rattle.rev_code.specs.State.{State};
 ghost use Rattle.rev_code.specs.Step.{ends, forks, joins, traps};
@@ -16,6 +16,7 @@ ghost use Rattle.rev_vm.specs.declared.leg.Event.TheVariants as event;
 ghost use Rattle.rev_vm.specs.Legs.{IsNoted, trap_of};
 ghost use Rattle.rev_vm.specs.Meaning.{IsAt, IsAtFork, IsAtJoin, IsEnd, IsReady};
 ghost use Rattle.rev_vm.specs.Starts.{run_under};
+ghost use Rattle.rev_vm.specs.States.{is_by_join};
 
 use crate::end::{Broken, Stopped, break_off, stop};
 use crate::fork::AtFork;
@@ -67,7 +68,8 @@ fn come_to_join<P: Snapshot>(
     Ok(Items::from_vec(written))
 }
 
-/// The revision as one at a join.
+/// The revision as one at a join. A joined revision of a number of 2^32 or more, which `told` tells
+/// no forker, counts as want of memory.
 fn at_join<P: Snapshot>(
     alloc: Global,
     mut revision: Revision<P>,
@@ -91,11 +93,14 @@ fn at_join<P: Snapshot>(
         ≡ P.group revision.memory.snapshot) }
     ensures broken { IfErr result (λ b. P.group b.snapshot ≡ P.group revision.memory.snapshot) }
 {
+    if on > u32::MAX as u64 {
+        return Err(break_off(revision));
+    }
     match come_to_join(alloc, &mut revision, on) {
         Ok(written) => Ok(AtJoin {
             revision,
             is_try,
-            on,
+            on: on as u32,
             written,
         }),
         Err(_) => Err(break_off(revision)),
@@ -134,7 +139,7 @@ fn own_trap(cause: Cause, line: u32) -> Finish
     })
 }
 
-/// Does the instructions of a leg up to its event.
+/// Does the instructions of a leg up to its event. No join makes the trap that a leg has by itself.
 pub fn run_leg<P: Snapshot>(
     alloc: Global,
     runner: Runner<P>,
@@ -171,6 +176,12 @@ pub fn run_leg<P: Snapshot>(
           ≡ P.group runner.revision.memory.snapshot
       | event.End s ↦ P.group s.snapshot ≡ P.group runner.revision.memory.snapshot
       | event.Trap s ↦ P.group s.snapshot ≡ P.group runner.revision.memory.snapshot
+    ]) }
+    ensures own { IfOk result (λ e. elim e [
+      | event.Fork a ↦ Unit {0}
+      | event.Join a ↦ Unit {0}
+      | event.End s ↦ is_by_join s.end.finish ≡ false
+      | event.Trap s ↦ is_by_join s.end.finish ≡ false
     ]) }
     ensures broken { IfErr result
         (λ b. P.group b.snapshot ≡ P.group runner.revision.memory.snapshot) }

@@ -62,6 +62,15 @@ impl<P: Snapshot> Runner<P> {
         }
     }
 
+    /// The fuel that is left.
+    pub fn fuel(&self) -> u64
+        ensures { (g : CodeRun) (c : State _) → IsAt g self.now.revision.run
+            self.now.revision.memory.delta (P.base self.now.revision.memory.snapshot)
+            self.now.revision.memory.first.roots c → result ≡ c.fuel }
+    {
+        self.revision.run.registers.fuel
+    }
+
     /// What the revision has printed so far.
     pub fn text(&self) -> &[u8]
         ensures { (g : CodeRun) (c : State _) → IsAt g self.now.revision.run

@@ -1,7 +1,7 @@
 //! What a joiner takes over of a revision that is done.
 
 ghost use Rattle.std.specs.Prelude.{◌≡◌, ◌<◌, ◌+◌, ◌++◌, ◌^◌, ℕ};
-ghost use Rattle.std.specs.Prelude.{Bool, None, All, IfOk, IfErr, length, map};
+ghost use Rattle.std.specs.Prelude.{Bool, true, None, All, IfOk, IfErr, length, map};
 ghost use Rattle.rev_num.specs.declared.outcome.Cause.TheVariants as cause;
 ghost use Rattle.rev_code.specs.State.{State};
 ghost use Rattle.version_map.specs.declared.end.Finish.TheVariants as finish;
@@ -16,6 +16,7 @@ ghost use Rattle.block_merges.specs.Merging.{AreMergesOf};
 ghost use Rattle.rev_vm.specs.declared.settling.Settled.TheVariants as settled;
 ghost use Rattle.rev_vm.specs.Meaning.{IsAt, IsClaimed, IsEnd, IsPast, IsPopped};
 ghost use Rattle.rev_vm.specs.Meaning.{IsReady, IsTakenOver};
+ghost use Rattle.rev_vm.specs.States.{is_by_join};
 ghost use Rattle.rev_vm.specs.Writes.{HasWritten};
 ghost use Rattle.rev_vm.specs.NewWords.{IsMergedTo};
 
@@ -184,6 +185,10 @@ pub fn settle<P: Snapshot, M: MergeBy>(
           | settled.Trap t ↦ IsEnd g
               (end_of (join_in g c claimed.at.is_try claimed.at.on j j.phase)) t.end
         ]) }
+    ensures by_join { IfOk result (λ s. elim s [
+      | settled.Run r ↦ Unit {0}
+      | settled.Trap t ↦ is_by_join t.end.finish ≡ true
+    ]) }
     ensures group { IfOk result (λ s. elim s [
       | settled.Run r ↦ P.group r.revision.memory.snapshot
           ≡ P.group claimed.at.revision.memory.snapshot

@@ -59,3 +59,9 @@ returns-clause-child g c = λ st xs h. (
       c.in_ok-run.run' c.in_ok-child.child.0.delta c.in_ok-child.child.0.first.roots (g.P.Snapshot.base c.in_ok-child.child.0.snapshot) (c.in_ok-child.child.0.written ∙ c.in_ok-child.ensures.child_size)
       c.in_ok-run.ensures.room c.in_ok-run.ensures.enough c.in_ok-run.ensures.first c.in_ok-child.ensures.child (c.in_ok-child.child.0.roots ∙ c.in_ok-child.ensures.child_size) c.in_ok-child.ensures.unwritten,
 )
+
+pub returns-clause-shared : goal.returns-clause-shared
+returns-clause-shared g c = c.in_ok-child.ensures.shared
+
+pub returns-clause-copied : goal.returns-clause-copied
+returns-clause-copied g c = c.in_ok-child.ensures.copied

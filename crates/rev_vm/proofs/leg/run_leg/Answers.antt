@@ -4,7 +4,7 @@ use Rattle.version_map.specs.Overlay.{under}
 use Rattle.leg_run.specs.Ends.{LegEnds}
 use Rattle.leg_run.specs.Standing.{state_of}
 use Rattle.rev_vm.specs.Starts.{run_under}
-use Rattle.rev_vm.proofs.Legs.{end_event, fork_event, join_event_as, own, ready, trap_event}
+use Rattle.rev_vm.proofs.Legs.{end_event, fork_event, join_event_as, own, ready, trap_event, trap_own}
 use Rattle.rev_vm.proofs.leg.run_leg.Goals as goal
 
 pub run-requires-clause-size : goal.run-requires-clause-size
@@ -44,6 +44,15 @@ pub returns-in_ok-stopped-in-Ok-Trap-clause-event : goal.returns-in_ok-stopped-i
 returns-in_ok-stopped-in-Ok-Trap-clause-event g c = λ st h.
     trap_event (run_under c.args.setting.now) c.args.runner.revision.run c.args.runner.revision.memory.delta (g.P.Snapshot.base c.args.runner.revision.memory.snapshot) c.args.runner.revision.memory.first.roots st h c.run.new.revision.run c.run.new.revision.memory.delta (g.P.Snapshot.base c.run.new.revision.memory.snapshot) c.run.new.revision.memory.first.roots
     (g.P.Snapshot.size c.run.new.revision.memory.snapshot) (c.in-Ok-Trap.ensures.size ∙ sym c.args.runner.revision.memory.written ∙ h.size) c.in_ok-stopped-in-Ok-Trap.stopped.end c.in_ok-stopped-in-Ok-Trap.ensures.written c.in_ok-stopped-in-Ok-Trap.ensures.text c.in_ok-stopped-in-Ok-Trap.ensures.fuel
+    c.in-Ok-Trap.cause
+    (subst (λ e. LegEnds c.args.setting.now.code c.args.setting.now.inputs.items c.args.setting.now.share (state_of c.args.setting.now.code c.args.runner.revision.run (under c.args.runner.revision.memory.delta (g.P.Snapshot.base c.args.runner.revision.memory.snapshot)) (at c.args.runner.revision.memory.first.roots)) e c.run.new.revision.run (under c.run.new.revision.memory.delta (g.P.Snapshot.base c.run.new.revision.memory.snapshot)) (at c.run.new.revision.memory.first.roots)) c.in-Ok-Trap.field-0-is c.in-Ok-Trap.ensures.leg)
+    (c.in_ok-stopped-in-Ok-Trap.ensures.finish ∙ c.own_trap-finish.ensures)
+
+pub returns-in_ok-stopped-in-Ok-Trap-clause-own : goal.returns-in_ok-stopped-in-Ok-Trap-clause-own
+returns-in_ok-stopped-in-Ok-Trap-clause-own g c =
+    let q = c.requires.stands in
+    trap_own (run_under c.args.setting.now) c.args.runner.revision.run c.args.runner.revision.memory.delta (g.P.Snapshot.base c.args.runner.revision.memory.snapshot) c.args.runner.revision.memory.first.roots q.0 q.1 c.run.new.revision.run c.run.new.revision.memory.delta (g.P.Snapshot.base c.run.new.revision.memory.snapshot) c.run.new.revision.memory.first.roots
+    (g.P.Snapshot.size c.run.new.revision.memory.snapshot) (c.in-Ok-Trap.ensures.size ∙ sym c.args.runner.revision.memory.written ∙ q.1.size) c.in_ok-stopped-in-Ok-Trap.stopped.end c.in_ok-stopped-in-Ok-Trap.ensures.written c.in_ok-stopped-in-Ok-Trap.ensures.text c.in_ok-stopped-in-Ok-Trap.ensures.fuel
     c.in-Ok-Trap.cause
     (subst (λ e. LegEnds c.args.setting.now.code c.args.setting.now.inputs.items c.args.setting.now.share (state_of c.args.setting.now.code c.args.runner.revision.run (under c.args.runner.revision.memory.delta (g.P.Snapshot.base c.args.runner.revision.memory.snapshot)) (at c.args.runner.revision.memory.first.roots)) e c.run.new.revision.run (under c.run.new.revision.memory.delta (g.P.Snapshot.base c.run.new.revision.memory.snapshot)) (at c.run.new.revision.memory.first.roots)) c.in-Ok-Trap.field-0-is c.in-Ok-Trap.ensures.leg)
     (c.in_ok-stopped-in-Ok-Trap.ensures.finish ∙ c.own_trap-finish.ensures)

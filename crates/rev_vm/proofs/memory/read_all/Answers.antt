@@ -1,5 +1,4 @@
-use Rattle.std.proofs.Common.{◌≡◌, ◌∙◌, ◌++◌, [], ◌∷◌, get_or, ap}
-use Rattle.version_map.specs.Deltas.{at}
+use Rattle.std.proofs.Common.{◌∙◌, ◌++◌, [], ◌∷◌, get_or}
 use Rattle.version_map.specs.Overlay.{under}
 use Rattle.block_run.proofs.Turning.{kept_on}
 use Rattle.rev_vm.proofs.Writing.{map_more, no_entry}

@@ -1,12 +1,6 @@
-use Rattle.std.proofs.Common.{◌≡◌, ◌≤◌, List, length, drop}
+use Rattle.std.proofs.Common.{◌≡◌}
 use Rattle.version_map.specs.Deltas.{at}
 use Rattle.version_map.specs.Overlay.{under}
-use Rattle.rev_code.specs.Words.{Word}
-use Rattle.rev_code.specs.State.{Location}
-use Rattle.version_map.specs.Composing.{Entry}
-use Rattle.plain_words.specs.Agreement.{AreWords}
-use Rattle.block_run.specs.Standing.{AreSeen}
-use Rattle.rev_vm.specs.Writes.{AreAtEntries}
 use Rattle.rev_vm.proofs.Writing.{IsOn}
 use Rattle.rev_vm.proofs.memory.write_all.Given as goal
 

@@ -1,4 +1,4 @@
-use Rattle.std.proofs.Common.{◌≡◌, ◌∙◌, ℕ, length, map, sym, ap, subst, arith}
+use Rattle.std.proofs.Common.{◌∙◌, map, sym, subst, arith}
 use Rattle.code_soundness.specs.Typed.{location_kinds}
 use Rattle.version_map.specs.declared.end.Written.{Written}
 use Rattle.version_map.specs.Deltas.{at}

@@ -1,4 +1,4 @@
-use Rattle.std.proofs.Common.{◌≡◌, ◌∙◌, ◌++◌, refl, ap, subst}
+use Rattle.std.proofs.Common.{◌∙◌, ◌++◌, refl, ap, subst}
 use Rattle.version_map.specs.Deltas.{at}
 use Rattle.version_map.specs.Overlay.{under}
 use Rattle.rev_vm.specs.Writes.{HasWritten}

@@ -5,3 +5,9 @@ returns-in-Ok-clause-parent t c = c.in-Ok.ensures.parent
 
 pub returns-in-Ok-clause-child : goal.returns-in-Ok-clause-child
 returns-in-Ok-clause-child t c = c.in-Ok.ensures.child
+
+pub returns-in-Ok-clause-shared : goal.returns-in-Ok-clause-shared
+returns-in-Ok-clause-shared t c = c.in-Ok.ensures.shared
+
+pub returns-in-Ok-clause-copied : goal.returns-in-Ok-clause-copied
+returns-in-Ok-clause-copied t c = c.in-Ok.ensures.copied

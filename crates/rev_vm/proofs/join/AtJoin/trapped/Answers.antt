@@ -1,9 +1,8 @@
 use Rattle.std.proofs.Common.{◌∙◌, Some, sym, ap, subst}
 use Rattle.code_soundness.specs.Typed.{location_kinds}
 use Rattle.code_machine.specs.Local.{trapped, written_from}
-use Rattle.code_machine.specs.Joining.{inherit, origin_of}
-use Rattle.code_machine.specs.Local.{end_of}
-use Rattle.rev_vm.specs.Meaning.{AreWritten, IsEnd, IsPhase}
+use Rattle.code_machine.specs.Joining.{origin_of}
+use Rattle.rev_vm.specs.Meaning.{AreWritten, IsPhase}
 use Rattle.rev_vm.proofs.join.AtJoin.trapped.Goals as goal
 
 pub returns-clause-end : goal.returns-clause-end

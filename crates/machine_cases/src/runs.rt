@@ -1,0 +1,300 @@
+//! Codes run to their ends.
+
+use crate::codes::{code_of, left_by};
+use rev_code::Instr;
+use rev_num::Cause;
+use std::alloc::{AllocError, Global};
+use std::test::Fail;
+use version_map::{CodeTrap, Finish};
+
+/// Whether `main`, with a child that only returns, is done in one leg and has printed this.
+fn prints(alloc: Global, main: &[Instr], text: &str) -> Result<bool, AllocError> {
+    let code = code_of(alloc, &[Instr::Return], main)?;
+    match left_by(alloc, code, 1)? {
+        None => Ok(false),
+        Some(end) => Ok(end.finish == Finish::Done && end.text.as_slice() == text.as_bytes()),
+    }
+}
+
+/// Whether it traps by itself in line 7 with this cause.
+fn traps(alloc: Global, main: &[Instr], cause: Cause) -> Result<bool, AllocError> {
+    let code = code_of(alloc, &[Instr::Return], main)?;
+    let trap = CodeTrap {
+        cause,
+        line: 7,
+        origin: None,
+    };
+    match left_by(alloc, code, 1)? {
+        None => Ok(false),
+        Some(end) => Ok(end.finish == Finish::Trapped(trap)),
+    }
+}
+
+/// Whether two numbers come to this by an instruction.
+fn gives(alloc: Global, x: i64, y: i64, instr: Instr, text: &str) -> Result<bool, AllocError> {
+    let layout = match instr {
+        Instr::Add => 0,
+        Instr::Sub => 0,
+        Instr::Mul => 0,
+        Instr::Div => 0,
+        Instr::Rem => 0,
+        _ => 1,
+    };
+    let main = [
+        Instr::Charge(7),
+        Instr::PushInt(x),
+        Instr::PushInt(y),
+        instr,
+        Instr::Print(layout),
+        Instr::Return,
+    ];
+    prints(alloc, main.as_slice(), text)
+}
+
+/// Whether an instruction traps on two numbers.
+fn faults(alloc: Global, x: i64, y: i64, instr: Instr, cause: Cause) -> Result<bool, AllocError> {
+    let main = [
+        Instr::Charge(7),
+        Instr::PushInt(x),
+        Instr::PushInt(y),
+        instr,
+        Instr::Print(0),
+        Instr::Return,
+    ];
+    traps(alloc, main.as_slice(), cause)
+}
+
+#[test]
+fn arithmetic(rt: HostRuntime) -> Result<(), Fail> {
+    let alloc = rt.alloc();
+    assert!(rt; gives(alloc, 7, -2, Instr::Add, "5\n")?);
+    assert!(rt; gives(alloc, 7, -2, Instr::Sub, "9\n")?);
+    assert!(rt; gives(alloc, 7, -2, Instr::Mul, "-14\n")?);
+    assert!(rt; gives(alloc, 7, -2, Instr::Div, "-3\n")?);
+    assert!(rt; gives(alloc, 7, -2, Instr::Rem, "1\n")?);
+    Ok(())
+}
+
+#[test]
+fn comparisons(rt: HostRuntime) -> Result<(), Fail> {
+    let alloc = rt.alloc();
+    assert!(rt; gives(alloc, 2, 3, Instr::Eq, "false\n")?);
+    assert!(rt; gives(alloc, 2, 3, Instr::Ne, "true\n")?);
+    assert!(rt; gives(alloc, 2, 3, Instr::Lt, "true\n")?);
+    assert!(rt; gives(alloc, 3, 3, Instr::Le, "true\n")?);
+    assert!(rt; gives(alloc, 2, 3, Instr::Gt, "false\n")?);
+    assert!(rt; gives(alloc, 3, 3, Instr::Ge, "true\n")?);
+    Ok(())
+}
+
+#[test]
+fn faults_of_arithmetic(rt: HostRuntime) -> Result<(), Fail> {
+    let alloc = rt.alloc();
+    assert!(rt; faults(alloc, i64::MAX, 1, Instr::Add, Cause::Overflow)?);
+    assert!(rt; faults(alloc, i64::MIN, 1, Instr::Sub, Cause::Overflow)?);
+    assert!(rt; faults(alloc, i64::MAX, 2, Instr::Mul, Cause::Overflow)?);
+    assert!(rt; faults(alloc, 1, 0, Instr::Div, Cause::ZeroDivisor)?);
+    assert!(rt; faults(alloc, i64::MIN, -1, Instr::Div, Cause::Overflow)?);
+    assert!(rt; faults(alloc, 1, 0, Instr::Rem, Cause::ZeroDivisor)?);
+    Ok(())
+}
+
+/// Whether `main`, which forks the child in line 2 and joins it in line 3, leaves this.
+fn joins(alloc: Global, child: &[Instr], finish: Finish, text: &str) -> Result<bool, AllocError> {
+    let main = [
+        Instr::Charge(2),
+        Instr::Fork(2),
+        Instr::StoreLocal(2),
+        Instr::PushInt(5),
+        Instr::StoreShared(2),
+        Instr::Charge(3),
+        Instr::LoadLocal(2),
+        Instr::Join,
+        Instr::Charge(4),
+        Instr::LoadShared(2),
+        Instr::Print(0),
+        Instr::Return,
+    ];
+    match left_by(alloc, code_of(alloc, child, main.as_slice())?, 3)? {
+        None => Ok(false),
+        Some(end) => Ok(end.finish == finish && end.text.as_slice() == text.as_bytes()),
+    }
+}
+
+#[test]
+fn a_joiner_takes_over_writes_and_text(rt: HostRuntime) -> Result<(), Fail> {
+    let child = [
+        Instr::Charge(9),
+        Instr::LoadShared(2),
+        Instr::Print(0),
+        Instr::Charge(10),
+        Instr::PushInt(8),
+        Instr::StoreShared(2),
+        Instr::Return,
+    ];
+    assert!(rt; joins(rt.alloc(), child.as_slice(), Finish::Done, "0\n8\n")?);
+    Ok(())
+}
+
+#[test]
+fn a_joiner_of_a_trapped_child_traps(rt: HostRuntime) -> Result<(), Fail> {
+    let child = [
+        Instr::Charge(9),
+        Instr::PushBool(false),
+        Instr::Assert,
+        Instr::Return,
+    ];
+    let trap = CodeTrap {
+        cause: Cause::Assert,
+        line: 9,
+        origin: Some(1),
+    };
+    assert!(rt; joins(rt.alloc(), child.as_slice(), Finish::Trapped(trap), "")?);
+    Ok(())
+}
+
+#[test]
+fn what_a_trapped_child_left_is_dropped(rt: HostRuntime) -> Result<(), Fail> {
+    let alloc = rt.alloc();
+    let child = [
+        Instr::Charge(9),
+        Instr::PushInt(1),
+        Instr::Print(0),
+        Instr::Charge(10),
+        Instr::PushInt(8),
+        Instr::StoreShared(2),
+        Instr::Charge(11),
+        Instr::PushBool(false),
+        Instr::Assert,
+        Instr::Return,
+    ];
+    let main = [
+        Instr::Charge(2),
+        Instr::Fork(2),
+        Instr::StoreLocal(2),
+        Instr::Charge(3),
+        Instr::LoadLocal(2),
+        Instr::TryJoin,
+        Instr::StoreLocal(1),
+        Instr::Charge(4),
+        Instr::LoadLocal(1),
+        Instr::Print(1),
+        Instr::Charge(5),
+        Instr::LoadShared(2),
+        Instr::Print(0),
+        Instr::Return,
+    ];
+    match left_by(alloc, code_of(alloc, child.as_slice(), main.as_slice())?, 3)? {
+        None => panic!(rt; "the code does not end"),
+        Some(end) => assert!(rt; end.text.as_slice() == b"false\n0\n".as_slice()),
+    }
+    Ok(())
+}
+
+#[test]
+fn causes_of_traps(rt: HostRuntime) -> Result<(), Fail> {
+    let alloc = rt.alloc();
+    let outside = [
+        Instr::Charge(7),
+        Instr::PushInt(10),
+        Instr::LoadCell(0),
+        Instr::Print(0),
+        Instr::Return,
+    ];
+    assert!(rt; traps(alloc, outside.as_slice(), Cause::Index)?);
+    let below = [
+        Instr::Charge(7),
+        Instr::PushInt(-1),
+        Instr::CheckCell(0),
+        Instr::PushInt(3),
+        Instr::StoreCell(0),
+        Instr::Return,
+    ];
+    assert!(rt; traps(alloc, below.as_slice(), Cause::Index)?);
+    let no_input = [
+        Instr::Charge(7),
+        Instr::PushInt(0),
+        Instr::LoadInput,
+        Instr::Print(0),
+        Instr::Return,
+    ];
+    assert!(rt; traps(alloc, no_input.as_slice(), Cause::Index)?);
+    let no_handle = [
+        Instr::Charge(7),
+        Instr::PushNone,
+        Instr::Join,
+        Instr::Return,
+    ];
+    assert!(rt; traps(alloc, no_handle.as_slice(), Cause::JoinNone)?);
+    let asserts = [
+        Instr::Charge(7),
+        Instr::PushBool(false),
+        Instr::Assert,
+        Instr::Return,
+    ];
+    assert!(rt; traps(alloc, asserts.as_slice(), Cause::Assert)?);
+    let least = [
+        Instr::Charge(7),
+        Instr::PushInt(i64::MIN),
+        Instr::Neg,
+        Instr::Print(0),
+        Instr::Return,
+    ];
+    assert!(rt; traps(alloc, least.as_slice(), Cause::Overflow)?);
+    Ok(())
+}
+
+#[test]
+fn too_many_frames_and_no_fuel(rt: HostRuntime) -> Result<(), Fail> {
+    let alloc = rt.alloc();
+    let deeper = [Instr::Charge(7), Instr::Call(2), Instr::Return];
+    let calls = [Instr::Charge(2), Instr::Call(2), Instr::Return];
+    let trap = CodeTrap {
+        cause: Cause::CallDepth,
+        line: 7,
+        origin: None,
+    };
+    match left_by(
+        alloc,
+        code_of(alloc, deeper.as_slice(), calls.as_slice())?,
+        1,
+    )? {
+        None => panic!(rt; "the code does not end"),
+        Some(end) => assert_eq!(rt; end.finish, Finish::Trapped(trap)),
+    }
+    let forever = [Instr::Charge(7), Instr::Jump(0), Instr::Return];
+    assert!(rt; traps(alloc, forever.as_slice(), Cause::Spent)?);
+    Ok(())
+}
+
+#[test]
+fn other_instructions(rt: HostRuntime) -> Result<(), Fail> {
+    let alloc = rt.alloc();
+    let main = [
+        Instr::Charge(7),
+        Instr::PushBool(true),
+        Instr::Not,
+        Instr::JumpIfFalse(5),
+        Instr::Return,
+        Instr::PushBool(false),
+        Instr::JumpIfTrue(9),
+        Instr::PushInt(4),
+        Instr::Pop,
+        Instr::Charge(8),
+        Instr::PushInt(2),
+        Instr::CheckCell(0),
+        Instr::CountInput,
+        Instr::StoreCell(0),
+        Instr::Charge(9),
+        Instr::PushInt(6),
+        Instr::PushInt(2),
+        Instr::LoadCell(0),
+        Instr::PushInt(9),
+        Instr::Apply(0),
+        Instr::Neg,
+        Instr::Print(0),
+        Instr::Return,
+    ];
+    assert!(rt; prints(alloc, main.as_slice(), "3\n")?);
+    Ok(())
+}

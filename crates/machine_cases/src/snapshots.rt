@@ -1,0 +1,138 @@
+//! Collapses.
+
+ghost use Rattle.std.specs.Prelude.{◌≡◌, [], IfOk};
+ghost use Rattle.version_map.specs.Deltas.{locations};
+ghost use Rattle.leg_run.specs.Setting.{IsSetting};
+
+use crate::codes::block;
+use crate::driver::run_to_end;
+use block_merges::BlockMerges;
+use code_verifier::verify;
+use leg_run::CodeSetting;
+use rev_code::{BlockClass, Code, CodeVar, Instr};
+use rev_num::{Items, ValueKind};
+use rev_vm::start_main;
+use std::alloc::{AllocError, Global};
+use std::test::Fail;
+use version_map::{Collapsed, Delta, How, Snapshot, collapse_all};
+
+/// A snapshot of no locations, which has two parts to take, and counts how often it was asked.
+#[derive(Drop)]
+struct Parts {
+    left: u64,
+    asked: u64,
+}
+
+impl Snapshot for Parts {
+    ghost use Rattle.std.specs.Prelude.{[]};
+
+    type Spent = u64;
+
+    ghost size = { λ _. 0 };
+
+    ghost base = { λ _ l. 0 };
+
+    ghost depth = { λ p. p.left };
+
+    ghost group = { λ _. [] };
+
+    ghost spent_group = { λ _. [] };
+
+    fn read(&mut self, location: u32) -> u64 {
+        0
+    }
+
+    fn fork(&mut self, alloc: Global, delta: &mut Delta) -> Result<(Parts, How), AllocError> {
+        Ok((Parts { left: 0, asked: 0 }, How::Copied))
+    }
+
+    fn collapse(&mut self, into: &mut Delta) -> Collapsed {
+        self.asked = self.asked.saturating_add(1);
+        if self.left == 0 {
+            return Collapsed::Kept { count: 2 };
+        }
+        self.left -= 1;
+        Collapsed::Took
+    }
+
+    fn release(self) -> u64 {
+        self.asked
+    }
+}
+
+#[test]
+fn two_parts_are_taken_by_three_questions(rt: HostRuntime) -> Result<(), Fail> {
+    let alloc = rt.alloc();
+    let mut parts = Parts { left: 2, asked: 0 };
+    let mut delta = Delta::new(alloc, 0)?;
+    let last = collapse_all(&mut parts, &mut delta);
+    assert_eq!(rt; last, Collapsed::Kept { count: 2 });
+    assert_eq!(rt; parts.release(), 3);
+    Ok(())
+}
+
+/// A child that only returns, and `main`, which forks and joins it. There is no variable.
+fn fork_and_join(alloc: Global) -> Result<Code, AllocError>
+    ensures { IfOk result (λ code. code.vars ≡ []) }
+{
+    let main = [
+        Instr::Charge(2),
+        Instr::Fork(0),
+        Instr::StoreLocal(0),
+        Instr::Charge(3),
+        Instr::LoadLocal(0),
+        Instr::Join,
+        Instr::Return,
+    ];
+    let child = block(alloc, BlockClass::Proc, 0, None, &[], &[Instr::Return])?;
+    let first = block(
+        alloc,
+        BlockClass::Main,
+        0,
+        None,
+        &[ValueKind::Rev],
+        main.as_slice(),
+    )?;
+    let mut blocks = Vec::new(alloc);
+    blocks.push(child)?;
+    blocks.push(first)?;
+    let vars: Vec<CodeVar> = Vec::new(alloc);
+    Ok(Code {
+        vars: Items::from_vec(vars),
+        texts: Items::from_vec(Vec::new(alloc)),
+        layouts: Items::from_vec(Vec::new(alloc)),
+        blocks: Items::from_vec(blocks),
+    })
+}
+
+/// How often the snapshot was asked when code without variables, which ends in three legs, has
+/// ended.
+fn asked_by(alloc: Global, setting: &CodeSetting, parts: Parts) -> Result<Option<u64>, AllocError>
+    requires setting { IsSetting setting.now }
+    requires none { setting.now.code.vars ≡ [] }
+{
+    let mut merges = BlockMerges::of(alloc, &setting.code)?;
+    match start_main(alloc, setting, parts, 100) {
+        Ok(runner) => match run_to_end(alloc, setting, &mut merges, runner, 3)? {
+            Some((_, asked)) => Ok(Some(asked)),
+            None => Ok(None),
+        },
+        Err(parts) => {
+            parts.release();
+            Err(AllocError)
+        },
+    }
+}
+
+#[test]
+fn one_settle_asks_three_times(rt: HostRuntime) -> Result<(), Fail> {
+    let alloc = rt.alloc();
+    let verified = match verify(alloc, fork_and_join(alloc)?) {
+        Ok(verified) => verified,
+        Err(_) => panic!(rt; "the code breaks a rule"),
+    };
+    let setting = CodeSetting::new(alloc, verified.into_code(), Vec::new(alloc), 10)?;
+    let parts = Parts { left: 2, asked: 0 };
+    assert_eq!(rt; asked_by(alloc, &setting, parts)?, Some(3));
+    Ok(())
+}

@@ -1,0 +1,39 @@
+use Rattle.std.proofs.Common.{◌∙◌, ℕ, [], sym, ap, subst}
+use Rattle.std.specs.Prelude.{slice_get, IfOk}
+use Rattle.rev_code.specs.Events as events
+use Rattle.rev_code.specs.State.{State}
+use Rattle.rev_code.specs.Variables.{start_locations}
+use Rattle.rev_vm.specs.Meaning.{IsAt}
+use Rattle.rev_vm.specs.Starts.{run_under}
+use Rattle.rev_vm.proofs.Mains.{if_ok, main_called, starts_based}
+use Rattle.rev_vm.proofs.opening.start_main.Goals as goal
+
+pub start-requires-clause-called : goal.start-requires-clause-called
+start-requires-clause-called g c =
+    let q = c.main_of-main.ensures.is in
+    (q.0, [], main_called (run_under c.args.setting.now) c.requires.setting.faultless c.main_of-main.result q.0 q.1 q.2)
+
+pub returns-clause-state : goal.returns-clause-state
+returns-clause-state g c = λ n m.
+    let e = c.main_of-main.ensures.one n m.body m.is m.class in
+    let there = ap (slice_get c.args.setting.now.code.blocks) (sym e) ∙ m.is in
+    let base = starts_based (run_under c.args.setting.now) c.requires.setting.faultless (g.P.Snapshot.base c.args.snapshot) c.requires.base in
+    subst (λ k. IfOk c.start.result (λ r. IsAt (run_under c.args.setting.now) r.revision.run r.revision.memory.delta
+    (g.P.Snapshot.base r.revision.memory.snapshot) r.revision.memory.first.roots
+    (events.start k m.body [] (start_locations c.args.setting.now.code.vars) c.args.fuel))) (sym e)
+    (c.start.ensures.state m.body [] (start_locations c.args.setting.now.code.vars)
+    (main_called (run_under c.args.setting.now) c.requires.setting.faultless c.main_of-main.result m.body there m.class) base)
+
+pub returns-clause-stands : goal.returns-clause-stands
+returns-clause-stands g c =
+    let q = c.main_of-main.ensures.is in
+    let base = starts_based (run_under c.args.setting.now) c.requires.setting.faultless (g.P.Snapshot.base c.args.snapshot) c.requires.base in
+    if_ok c.start.result
+    (λ r. IsAt (run_under c.args.setting.now) r.revision.run r.revision.memory.delta
+    (g.P.Snapshot.base r.revision.memory.snapshot) r.revision.memory.first.roots
+    (events.start c.main_of-main.result q.0 [] (start_locations c.args.setting.now.code.vars) c.args.fuel))
+    (λ r. (s : State ℕ) × IsAt (run_under c.args.setting.now) r.revision.run r.revision.memory.delta
+    (g.P.Snapshot.base r.revision.memory.snapshot) r.revision.memory.first.roots s)
+    (λ r h. (events.start c.main_of-main.result q.0 [] (start_locations c.args.setting.now.code.vars) c.args.fuel, h))
+    (c.start.ensures.state q.0 [] (start_locations c.args.setting.now.code.vars)
+    (main_called (run_under c.args.setting.now) c.requires.setting.faultless c.main_of-main.result q.0 q.1 q.2) base)

@@ -1,0 +1,110 @@
+-- How contracts of other crates speak of the values of this crate, over a run of code.
+--   StandsFor          a runner stands for this state
+--   StandsAtFork       a revision at a Fork, for this state and these arguments of its child
+--   Awaits             a forker behind its Fork, that forked in this state with these arguments
+--   StandsAtJoin       a joiner, for this state
+--   HasClaimed         a joiner that was given an end
+--   Left               what a revision left, that has ended
+--   runner_state, fork_state, joiner_state, claimed_state, stopped_end   what they stand for
+--   runner_group, ..   what their snapshots belong to
+use Rattle.std.specs.Prelude.{ℕ, List}
+use Rattle.rev_code.specs.Words.{Word}
+use Rattle.rev_code.specs.State.{State}
+use Rattle.rev_code.specs.Events as events
+use Rattle.version_map.specs.declared.end.EndValue.{EndValue}
+use Rattle.version_map.specs.declared.snapshot.Snapshot.{Ghosts}
+use Rattle.code_machine.specs.Local.{CodeRun, Local, End}
+use Rattle.rev_vm.specs.declared.end.Broken.{Broken}
+use Rattle.rev_vm.specs.declared.end.Stopped.{Stopped}
+use Rattle.rev_vm.specs.declared.fork.AtFork.{AtFork}
+use Rattle.rev_vm.specs.declared.fork.Parent.{Parent}
+use Rattle.rev_vm.specs.declared.join.AtJoin.{AtJoin}
+use Rattle.rev_vm.specs.declared.join.Claimed.{Claimed}
+use Rattle.rev_vm.specs.declared.runner.Runner.{Runner}
+use Rattle.rev_vm.specs.Meaning.{IsAt, IsAtFork, IsAtJoin, IsClaimed, IsEnd}
+use Rattle.rev_vm.specs.States.{state_at, before_join, end_for, joined_at}
+
+module _ {P S : Type 0} {m : Ghosts P S} where
+  -- ---- a runner
+  abbrev pub StandsFor : CodeRun → Runner P S m → State ℕ → Type 0
+  StandsFor g r c =
+      IsAt g r.revision.run r.revision.memory.delta (m.base r.revision.memory.snapshot)
+      r.revision.memory.first.roots c
+
+  abbrev pub runner_state : CodeRun → Runner P S m → State ℕ
+  runner_state g r =
+      state_at g r.revision.run r.revision.memory.delta (m.base r.revision.memory.snapshot)
+      r.revision.memory.first.roots
+
+  abbrev pub runner_group : Runner P S m → List ℕ
+  runner_group r = m.group r.revision.memory.snapshot
+
+  -- ---- a revision at a Fork, and behind it
+  abbrev pub StandsAtFork : CodeRun → AtFork P S m → State ℕ → List (Word ℕ) → Type 0
+  StandsAtFork g a c args =
+      IsAtFork g a.revision.run a.revision.memory.delta (m.base a.revision.memory.snapshot)
+      a.revision.memory.first.roots a.block c args
+
+  abbrev pub fork_state : CodeRun → AtFork P S m → State ℕ
+  fork_state g a =
+      state_at g a.revision.run a.revision.memory.delta (m.base a.revision.memory.snapshot)
+      a.revision.memory.first.roots
+
+  abbrev pub fork_group : AtFork P S m → List ℕ
+  fork_group a = m.group a.revision.memory.snapshot
+
+  abbrev pub Awaits : CodeRun → Parent P S m → State ℕ → List (Word ℕ) → Type 0
+  Awaits g a c args =
+      IsAt g a.revision.run a.revision.memory.delta (m.base a.revision.memory.snapshot)
+      a.revision.memory.first.roots (events.parent g.share c args 0)
+
+  abbrev pub parent_group : Parent P S m → List ℕ
+  parent_group a = m.group a.revision.memory.snapshot
+
+  -- ---- a joiner
+  abbrev pub StandsAtJoin : CodeRun → AtJoin P S m → State ℕ → Type 0
+  StandsAtJoin g a c =
+      IsAtJoin g a.revision.run a.revision.memory.delta (m.base a.revision.memory.snapshot)
+      a.revision.memory.first.roots a.written a.is_try a.on c
+
+  abbrev pub joiner_state : CodeRun → AtJoin P S m → State ℕ
+  joiner_state g a =
+      before_join g a.revision.run a.revision.memory.delta (m.base a.revision.memory.snapshot)
+      a.revision.memory.first.roots
+
+  abbrev pub joiner_fuel : AtJoin P S m → ℕ
+  joiner_fuel a = a.revision.run.registers.fuel
+
+  abbrev pub joiner_group : AtJoin P S m → List ℕ
+  joiner_group a = m.group a.revision.memory.snapshot
+
+  -- the joiner of a revision that left this end value
+  abbrev pub joiner_with : CodeRun → AtJoin P S m → EndValue → Local ℕ
+  joiner_with g a v = joined_at g (joiner_state g a) a.is_try a.on v
+
+  abbrev pub HasClaimed : CodeRun → Claimed P S m → State ℕ → End ℕ → Type 0
+  HasClaimed g k c j =
+      IsClaimed g k.at.revision.run k.at.revision.memory.delta
+      (m.base k.at.revision.memory.snapshot) k.at.revision.memory.first.roots k.at.written
+      k.at.is_try k.at.on k.end c j
+
+  abbrev pub claimed_state : CodeRun → Claimed P S m → Local ℕ
+  claimed_state g k = joiner_with g k.at k.end
+
+  abbrev pub claimed_group : Claimed P S m → List ℕ
+  claimed_group k = joiner_group k.at
+
+-- ---- a revision that has ended
+module _ {P S : Type 0} where
+  abbrev pub Left : CodeRun → Stopped P S → End ℕ → Type 0
+  Left g s j = IsEnd g j s.end
+
+  abbrev pub stopped_end : CodeRun → Stopped P S → End ℕ
+  stopped_end g s = end_for g s.end
+
+  module _ (m : Ghosts P S) where
+    abbrev pub stopped_group : Stopped P S → List ℕ
+    stopped_group s = m.group s.snapshot
+
+    abbrev pub broken_group : Broken P S → List ℕ
+    broken_group b = m.group b.snapshot
