@@ -1,0 +1,4 @@
+pub mod Arms
+pub mod Forms
+pub mod Landing
+pub mod Loops
