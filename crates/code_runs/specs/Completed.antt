@@ -1,0 +1,16 @@
+-- A world after a complete schedule.
+--   IsAfter   some complete schedule of `main`, with this fuel, comes to the world that this stands for
+use Rattle.std.specs.Prelude.{ℕ, ◌≤◌, List}
+use Rattle.revision_machine.specs.Numbered.{World}
+use Rattle.code_machine.specs.Local.{CodeRun, Local}
+use Rattle.code_outcomes.specs.Outcomes.{IsCompleteRun}
+use Rattle.code_world.specs.declared.world.World as rust
+use Rattle.code_world.specs.Tables.{IsWorld}
+use Rattle.reached_worlds.specs.Reached.{most_fuel}
+
+pub record IsAfter (g : CodeRun) (fuel : ℕ) (v : rust.World) : Type 0 where
+  pub few : fuel ≤ most_fuel
+  pub schedule : List ℕ
+  pub world : World (Local ℕ)
+  pub complete : IsCompleteRun g fuel schedule world
+  pub stands : IsWorld g v world

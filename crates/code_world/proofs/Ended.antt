@@ -1,0 +1,83 @@
+-- What `main` left, where it is over.
+use Rattle.std.proofs.Common.{◌≡◌, ◌∙◌, ℕ, List, [], ◌∷◌, length, Option, Some, None, refl, sym, ap, subst, inl, inr}
+use Rattle.rev_num.specs.Path.{Path}
+use Rattle.revision_machine.specs.Machine.{Entry, Plain, Joined}
+use Rattle.revision_machine.specs.Numbered.{Entries, World, Listing, at_number, paths_of}
+use Rattle.version_map.specs.declared.end.EndValue.{EndValue}
+use Rattle.code_machine.specs.Local.{CodeRun, Local, running, done, trapped, at_work}
+use Rattle.code_machine.specs.Proper.{IsOver}
+use Rattle.code_world.specs.declared.ending.MainEnd.{MainEnd}
+use Rattle.code_world.specs.declared.slot.Slot.{Slot}
+use Rattle.code_world.specs.declared.slot.Slot.TheVariants as slot
+use Rattle.code_world.specs.declared.table.Birth.{Birth}
+use Rattle.code_world.specs.declared.table.Table.{Table}
+use Rattle.code_world.specs.declared.world.World as rust
+use Rattle.code_world.specs.declared.world.World.TheVariants as world
+use Rattle.code_world.specs.Endings.{HasLeft, MainIsOver}
+use Rattle.code_world.specs.Tables.{AreNamed, IsTable, IsWorld}
+use Rattle.code_world.proofs.Finding.{running_at, standing_at, ended_at, joined_at}
+use Rattle.code_world.proofs.Rows.{births_many, none_some, slot_none, some_same}
+use Rattle.code_world.proofs.Worlds.{world_live, world_twice}
+
+-- one at work is not over
+at_work_still : (l : Local ℕ) → IsOver l → l.phase ≡ running → ⊥
+at_work_still l (inl e) r = let z : running ≡ done = sym r ∙ e in cc
+at_work_still l (inr (t, e)) r = let z : running ≡ trapped t = sym r ∙ e in cc
+
+paths_many : {A : Type 0} (w : List (Path × A)) → length (paths_of w) ≡ length w
+paths_many [] = refl
+paths_many (x ∷ w) = ap (λ n. Rattle.std.specs.Prelude.suc n) (paths_many w)
+
+plain_same : (o : Option (Path × Entry (Local ℕ))) (p q : Path) (l k : Local ℕ) → o ≡ Some (p, Plain l) → o ≡ Some (q, Plain k) → k ≡ l
+plain_same o p q l k a b =
+    let z : ◌≡◌ {A = Path × Entry (Local ℕ)} (q, Plain k) (p, Plain l) = some_same (sym b ∙ a) in
+    let y : Plain k ≡ Plain l = ap (λ (x : Path × Entry (Local ℕ)). x.1) z in
+    cc
+
+module _ (g : CodeRun) (t : Table) (w : Entries (Local ℕ)) (is : IsTable g t w) (l : Local ℕ) (at : at_number w 0 ≡ Some ([], Plain l)) where
+  pub has_ended : IsOver l → (v : EndValue) × (at_number t.slots.items 0 ≡ Some (slot.Ended v))
+  has_ended over = by (at_number t.slots.items 0) refl
+    where
+      by : (o : Option Slot) → at_number t.slots.items 0 ≡ o → (v : EndValue) × (at_number t.slots.items 0 ≡ Some (slot.Ended v))
+      by None e = none_some (sym (slot_none g t.slots.items w is.slots 0 e) ∙ at)
+      by (Some (slot.Ended v)) e = (v, e)
+      by (Some (slot.Running r)) e =
+          let x = running_at g t.slots.items w is.slots 0 r e in
+          absurd (at_work_still l over (ap (λ (k : Local ℕ). k.phase) (sym (plain_same (at_number w 0) [] x.path l (at_work x.state) at x.there))))
+      by (Some (slot.Standing a)) e =
+          let x = standing_at g t.slots.items w is.slots 0 a e in
+          absurd (at_work_still l over (ap (λ (k : Local ℕ). k.phase) (sym (plain_same (at_number w 0) [] x.path l (at_work x.state) at x.there))))
+      by (Some slot.Joined) e =
+          let x = joined_at g t.slots.items w is.slots 0 e in
+          let z : ◌≡◌ {A = Path × Entry (Local ℕ)} ([], Plain l) (x.path, Joined x.local) = some_same (sym at ∙ x.there) in
+          let y : Plain l ≡ Joined x.local = ap (λ (i : Path × Entry (Local ℕ)). i.1) z in
+          absurd cc
+
+  pub left : (m : MainEnd) → at_number t.slots.items 0 ≡ Some (slot.Ended m.end) → m.births ≡ t.births → HasLeft g (Listing w) (Some m)
+  left m e same =
+      let x = ended_at g t.slots.items w is.slots 0 m.end e in
+      let bs = ap (λ v. v.items) same in (
+        x.local,
+        at ∙ ap (λ k. Some ([], Plain k)) (sym (plain_same (at_number w 0) [] x.path l x.local at x.there)),
+        x.end,
+        record {
+          named = subst (λ b. AreNamed b (paths_of w)) (sym bs) is.named;
+          all = paths_many w ∙ sym (births_many t.births.items w is.forks) ∙ ap (λ (b : List Birth). length b) (sym bs);
+        },
+      )
+
+module _ (g : CodeRun) (v : rust.World) (w : World (Local ℕ)) (is : IsWorld g v w) (over : MainIsOver w) where
+  pub main_ended : (t : Table) → v ≡ world.Live t → (e : EndValue) × (at_number t.slots.items 0 ≡ Some (slot.Ended e))
+  main_ended t live =
+      let x = world_live g v w t live is in
+      let o : MainIsOver (Listing x.0) = subst MainIsOver x.1 over in
+      has_ended g t x.0 x.2 o.0 o.1 o.2
+
+  pub main_left : (t : Table) → v ≡ world.Live t → (m : MainEnd) → at_number t.slots.items 0 ≡ Some (slot.Ended m.end) → m.births ≡ t.births → HasLeft g w (Some m)
+  main_left t live m e same =
+      let x = world_live g v w t live is in
+      let o : MainIsOver (Listing x.0) = subst MainIsOver x.1 over in
+      subst (λ z. HasLeft g z (Some m)) (sym x.1) (left g t x.0 x.2 o.0 o.1 m e same)
+
+  pub none_left : v ≡ world.Twice → HasLeft g w None
+  none_left e = subst (λ z. HasLeft g z None) (sym (world_twice g v w e is)) tt

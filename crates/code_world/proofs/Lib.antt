@@ -1,0 +1,7 @@
+pub mod Coming
+pub mod Rows
+pub mod Finding
+pub mod Turning
+pub mod Worlds
+pub mod Beginning
+pub mod Ended

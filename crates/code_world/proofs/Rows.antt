@@ -1,0 +1,220 @@
+-- A table of revisions stands for a world, also after a write and with one more.
+use Rattle.std.proofs.Common.{◌≡◌, ◌≢◌, ◌⊎◌, inl, inr, ◌∙◌, ℕ, zero, suc, ◌+◌, ◌<◌, ◌≤◌, List, [], ◌∷◌, ◌++◌, length, Option, Some, None, refl, sym, ap, subst, arith}
+use Rattle.rev_num.specs.Path.{Path, child}
+use Rattle.revision_machine.specs.Machine.{Entry}
+use Rattle.revision_machine.specs.Laws.{local_of}
+use Rattle.revision_machine.specs.Numbered.{Entries, at_number, put_number, paths_of}
+use Rattle.code_machine.specs.Local.{CodeRun, Local}
+use Rattle.code_world.specs.declared.slot.Slot.{Slot}
+use Rattle.code_world.specs.declared.table.Birth.{Birth}
+use Rattle.code_world.specs.Slots.{IsEntry}
+use Rattle.code_world.specs.Tables.{AreSlots, AreForks, HasPath, AreNamed, forks_of}
+use Rattle.code_world.specs.Turns.{born, forked_once}
+
+-- ---- lists
+
+pub none_some : {A : Type 0} {P : Type 0} {x : A} → ◌≡◌ {A = Option A} None (Some x) → P
+none_some e = absurd cc
+
+pub some_same : {A : Type 0} {x y : A} → ◌≡◌ {A = Option A} (Some x) (Some y) → x ≡ y
+some_same e = cc
+
+module _ {A : Type 0} where
+  pub at_front : (xs ys : List A) (n : ℕ) (x : A) → at_number xs n ≡ Some x → at_number (xs ++ ys) n ≡ Some x
+  at_front [] ys n x e = none_some e
+  at_front (y ∷ xs) ys zero x e = e
+  at_front (y ∷ xs) ys (suc n) x e = at_front xs ys n x e
+
+  -- at the end, or before it
+  pub at_more : (xs : List A) (y : A) (n : ℕ) (x : A) → at_number (xs ++ y ∷ []) n ≡ Some x → (at_number xs n ≡ Some x) ⊎ ((n ≡ length xs) × (x ≡ y))
+  at_more [] y zero x e = inr (refl, sym (some_same e))
+  at_more [] y (suc n) x e = none_some e
+  at_more (z ∷ xs) y zero x e = inl e
+  at_more (z ∷ xs) y (suc n) x e = by (at_more xs y n x e)
+    where
+      by : (at_number xs n ≡ Some x) ⊎ ((n ≡ length xs) × (x ≡ y)) → (at_number xs n ≡ Some x) ⊎ ((suc n ≡ suc (length xs)) × (x ≡ y))
+      by (inl h) = inl h
+      by (inr h) = inr (ap suc h.0, h.1)
+
+  pub at_end : (xs : List A) (y : A) → at_number (xs ++ y ∷ []) (length xs) ≡ Some y
+  at_end [] y = refl
+  at_end (x ∷ xs) y = at_end xs y
+
+  pub at_below : (xs : List A) (n : ℕ) (x : A) → at_number xs n ≡ Some x → n < length xs
+  at_below [] n x e = none_some e
+  at_below (y ∷ xs) zero x e = omega arith
+  at_below (y ∷ xs) (suc n) x e = let h = at_below xs n x e in omega (arith, h)
+
+  pub below_at : (xs : List A) (n : ℕ) → n < length xs → (x : A) × (at_number xs n ≡ Some x)
+  below_at [] n h = absurd (omega (arith, h))
+  below_at (y ∷ xs) zero h = (y, refl)
+  below_at (y ∷ xs) (suc n) h = below_at xs n (omega (arith, h))
+
+  pub put_twice : (xs : List A) (n : ℕ) (x y : A) → put_number (put_number xs n x) n y ≡ put_number xs n y
+  put_twice [] n x y = refl
+  put_twice (z ∷ xs) zero x y = refl
+  put_twice (z ∷ xs) (suc n) x y = ap (λ k. z ∷ k) (put_twice xs n x y)
+
+  -- writes at two places
+  pub put_both : (xs : List A) (n m : ℕ) (x y : A) → n ≢ m → put_number (put_number xs n x) m y ≡ put_number (put_number xs m y) n x
+  put_both [] n m x y h = refl
+  put_both (z ∷ xs) zero zero x y h = absurd (h refl)
+  put_both (z ∷ xs) zero (suc m) x y h = refl
+  put_both (z ∷ xs) (suc n) zero x y h = refl
+  put_both (z ∷ xs) (suc n) (suc m) x y h = ap (λ k. z ∷ k) (put_both xs n m x y (λ e. h (ap suc e)))
+
+  pub put_length : (xs : List A) (n : ℕ) (x : A) → length (put_number xs n x) ≡ length xs
+  put_length [] n x = refl
+  put_length (z ∷ xs) zero x = refl
+  put_length (z ∷ xs) (suc n) x = ap suc (put_length xs n x)
+
+  pub more_length : (xs : List A) (x : A) → length (xs ++ x ∷ []) ≡ suc (length xs)
+  more_length [] x = refl
+  more_length (y ∷ xs) x = ap suc (more_length xs x)
+
+  -- what is found after a write
+  pub at_put : (xs : List A) (n : ℕ) (y : A) (m : ℕ) (x : A) → at_number (put_number xs n y) m ≡ Some x → (at_number xs m ≡ Some x) ⊎ ((m ≡ n) × (x ≡ y))
+  at_put [] n y m x e = inl e
+  at_put (z ∷ xs) zero y zero x e = inr (refl, sym (some_same e))
+  at_put (z ∷ xs) zero y (suc m) x e = inl e
+  at_put (z ∷ xs) (suc n) y zero x e = inl e
+  at_put (z ∷ xs) (suc n) y (suc m) x e = by (at_put xs n y m x e)
+    where
+      by : (at_number xs m ≡ Some x) ⊎ ((m ≡ n) × (x ≡ y)) → (at_number xs m ≡ Some x) ⊎ ((suc m ≡ suc n) × (x ≡ y))
+      by (inl h) = inl h
+      by (inr h) = inr (ap suc h.0, h.1)
+
+module _ {A : Type 0} where
+  pub paths_put : (w : List (Path × A)) (n : ℕ) (r : Path) (e x : A) → at_number w n ≡ Some (r, e) → paths_of (put_number w n (r, x)) ≡ paths_of w
+  paths_put [] n r e x h = refl
+  paths_put (y ∷ w) zero r e x h = ap (λ z. z.0 ∷ paths_of w) (sym (some_same h))
+  paths_put (y ∷ w) (suc n) r e x h = ap (λ z. y.0 ∷ z) (paths_put w n r e x h)
+
+  pub paths_more : (w : List (Path × A)) (r : Path) (x : A) → paths_of (w ++ (r, x) ∷ []) ≡ paths_of w ++ r ∷ []
+  paths_more [] r x = refl
+  paths_more (y ∷ w) r x = ap (λ z. y.0 ∷ z) (paths_more w r x)
+
+-- ---- slots
+
+module _ (g : CodeRun) where
+  pub slot_at : (ss : List Slot) (w : Entries (Local ℕ)) → AreSlots g ss w → (n : ℕ) (s : Slot) → at_number ss n ≡ Some s
+      → (r : Path) × (e : Entry (Local ℕ)) × (at_number w n ≡ Some (r, e)) × IsEntry g s e
+  slot_at [] [] h n s e = none_some e
+  slot_at (x ∷ ss) (y ∷ w) h zero s e = (y.0, y.1, refl, subst (λ k. IsEntry g k y.1) (some_same e) h.0)
+  slot_at (x ∷ ss) (y ∷ w) h (suc n) s e = slot_at ss w h.1 n s e
+  slot_at [] (y ∷ w) h n s e = absurd h
+  slot_at (x ∷ ss) [] h n s e = absurd h
+
+  pub slot_none : (ss : List Slot) (w : Entries (Local ℕ)) → AreSlots g ss w → (n : ℕ) → at_number ss n ≡ None → at_number w n ≡ None
+  slot_none [] [] h n e = refl
+  slot_none (x ∷ ss) (y ∷ w) h zero e = none_some (sym e)
+  slot_none (x ∷ ss) (y ∷ w) h (suc n) e = slot_none ss w h.1 n e
+  slot_none [] (y ∷ w) h n e = absurd h
+  slot_none (x ∷ ss) [] h n e = absurd h
+
+  pub slots_many : (ss : List Slot) (w : Entries (Local ℕ)) → AreSlots g ss w → length ss ≡ length w
+  slots_many [] [] h = refl
+  slots_many (x ∷ ss) (y ∷ w) h = ap suc (slots_many ss w h.1)
+  slots_many [] (y ∷ w) h = absurd h
+  slots_many (x ∷ ss) [] h = absurd h
+
+  pub slots_put : (ss : List Slot) (w : Entries (Local ℕ)) → AreSlots g ss w → (n : ℕ) (s : Slot) (r : Path) (e : Entry (Local ℕ)) → IsEntry g s e
+      → AreSlots g (put_number ss n s) (put_number w n (r, e))
+  slots_put [] [] h n s r e is = tt
+  slots_put (x ∷ ss) (y ∷ w) h zero s r e is = (is, h.1)
+  slots_put (x ∷ ss) (y ∷ w) h (suc n) s r e is = (h.0, slots_put ss w h.1 n s r e is)
+  slots_put [] (y ∷ w) h n s r e is = absurd h
+  slots_put (x ∷ ss) [] h n s r e is = absurd h
+
+  pub slots_more : (ss : List Slot) (w : Entries (Local ℕ)) → AreSlots g ss w → (s : Slot) (r : Path) (e : Entry (Local ℕ)) → IsEntry g s e
+      → AreSlots g (ss ++ s ∷ []) (w ++ (r, e) ∷ [])
+  slots_more [] [] h s r e is = (is, tt)
+  slots_more (x ∷ ss) (y ∷ w) h s r e is = (h.0, slots_more ss w h.1 s r e is)
+  slots_more [] (y ∷ w) h s r e is = absurd h
+  slots_more (x ∷ ss) [] h s r e is = absurd h
+
+-- ---- forks
+
+pub forks_at : (bs : List Birth) (w : Entries (Local ℕ)) → AreForks bs w → (n : ℕ) (b : Birth) → at_number bs n ≡ Some b → (r : Path) (e : Entry (Local ℕ)) → at_number w n ≡ Some (r, e)
+    → b.forks ≡ (local_of e).state.forks
+forks_at [] [] h n b i r e j = none_some i
+forks_at (x ∷ bs) (y ∷ w) h zero b i r e j = ap (λ k. k.forks) (sym (some_same i)) ∙ h.0 ∙ ap (λ k. (local_of {L = Local ℕ} k.1).state.forks) (some_same j)
+forks_at (x ∷ bs) (y ∷ w) h (suc n) b i r e j = forks_at bs w h.1 n b i r e j
+forks_at [] (y ∷ w) h n b i r e j = absurd h
+forks_at (x ∷ bs) [] h n b i r e j = absurd h
+
+pub births_many : (bs : List Birth) (w : Entries (Local ℕ)) → AreForks bs w → length bs ≡ length w
+births_many [] [] h = refl
+births_many (x ∷ bs) (y ∷ w) h = ap suc (births_many bs w h.1)
+births_many [] (y ∷ w) h = absurd h
+births_many (x ∷ bs) [] h = absurd h
+
+-- a revision that goes on, with as many forks
+pub forks_kept : (bs : List Birth) (w : Entries (Local ℕ)) → AreForks bs w → (n : ℕ) (r q : Path) (e f : Entry (Local ℕ)) → at_number w n ≡ Some (r, e)
+    → (local_of f).state.forks ≡ (local_of e).state.forks → AreForks bs (put_number w n (q, f))
+forks_kept [] [] h n r q e f i same = tt
+forks_kept (x ∷ bs) (y ∷ w) h zero r q e f i same = (h.0 ∙ ap (λ k. (local_of {L = Local ℕ} k.1).state.forks) (some_same i) ∙ sym same, h.1)
+forks_kept (x ∷ bs) (y ∷ w) h (suc n) r q e f i same = (h.0, forks_kept bs w h.1 n r q e f i same)
+forks_kept [] (y ∷ w) h n r q e f i same = absurd h
+forks_kept (x ∷ bs) [] h n r q e f i same = absurd h
+
+pub forks_put : (bs : List Birth) (w : Entries (Local ℕ)) → AreForks bs w → (n : ℕ) (b : Birth) (r : Path) (e : Entry (Local ℕ)) → b.forks ≡ (local_of e).state.forks
+    → AreForks (put_number bs n b) (put_number w n (r, e))
+forks_put [] [] h n b r e is = tt
+forks_put (x ∷ bs) (y ∷ w) h zero b r e is = (is, h.1)
+forks_put (x ∷ bs) (y ∷ w) h (suc n) b r e is = (h.0, forks_put bs w h.1 n b r e is)
+forks_put [] (y ∷ w) h n b r e is = absurd h
+forks_put (x ∷ bs) [] h n b r e is = absurd h
+
+pub forks_more : (bs : List Birth) (w : Entries (Local ℕ)) → AreForks bs w → (b : Birth) (r : Path) (e : Entry (Local ℕ)) → b.forks ≡ (local_of e).state.forks
+    → AreForks (bs ++ b ∷ []) (w ++ (r, e) ∷ [])
+forks_more [] [] h b r e is = (is, tt)
+forks_more (x ∷ bs) (y ∷ w) h b r e is = (h.0, forks_more bs w h.1 b r e is)
+forks_more [] (y ∷ w) h b r e is = absurd h
+forks_more (x ∷ bs) [] h b r e is = absurd h
+
+pub sum_put : (bs : List Birth) (n : ℕ) (b d : Birth) → at_number bs n ≡ Some b → forks_of (put_number bs n d) + b.forks ≡ forks_of bs + d.forks
+sum_put [] n b d e = none_some e
+sum_put (x ∷ bs) zero b d e = let s : x.forks ≡ b.forks = ap (λ k. k.forks) (some_same e) in omega (arith, s)
+sum_put (x ∷ bs) (suc n) b d e = let h = sum_put bs n b d e in omega (arith, h)
+
+pub sum_more : (bs : List Birth) (b : Birth) → forks_of (bs ++ b ∷ []) ≡ forks_of bs + b.forks
+sum_more [] b = omega arith
+sum_more (x ∷ bs) b = let h = sum_more bs b in omega (arith, h)
+
+pub sum_one : (bs : List Birth) (n : ℕ) (b : Birth) → at_number bs n ≡ Some b → b.forks ≤ forks_of bs
+sum_one [] n b e = none_some e
+sum_one (x ∷ bs) zero b e = let s : x.forks ≡ b.forks = ap (λ k. k.forks) (some_same e) in omega (arith, s)
+sum_one (x ∷ bs) (suc n) b e = let h = sum_one bs n b e in omega (arith, h)
+
+-- ---- paths
+
+pub path_more : (ps : List Path) (p : Path) (n : ℕ) (b : Birth) → HasPath ps n b → HasPath (ps ++ p ∷ []) n b
+path_more ps p zero b h = at_front ps (p ∷ []) 0 [] h
+path_more ps p (suc n) b (q, le, of, is) = (q, le, at_front ps (p ∷ []) b.forker q of, at_front ps (p ∷ []) (suc n) (child q b.place) is)
+
+-- one more fork of a revision, and its child
+pub named_born : (bs : List Birth) (ps : List Path) → length bs ≡ length ps → AreNamed bs ps → (n : ℕ) (b : Birth) → at_number bs n ≡ Some b → (r : Path) → at_number ps n ≡ Some r
+    → AreNamed (born bs n b) (ps ++ child r b.forks ∷ [])
+named_born bs ps many named n b at r path m d e = by (at_more (put_number bs n (forked_once b)) (record { forker = n; place = b.forks; forks = 0 }) m d e)
+  where
+    kept : (at_number bs m ≡ Some d) ⊎ ((m ≡ n) × (d ≡ forked_once b)) → HasPath (ps ++ child r b.forks ∷ []) m d
+    kept (inl h) = path_more ps (child r b.forks) m d (named m d h)
+    kept (inr h) = subst (HasPath (ps ++ child r b.forks ∷ []) m) (sym h.1) (other m (path_more ps (child r b.forks) m b (named m b (ap (at_number bs) h.0 ∙ at))))
+      where
+        other : (k : ℕ) → HasPath (ps ++ child r b.forks ∷ []) k b → HasPath (ps ++ child r b.forks ∷ []) k (forked_once b)
+        other zero h = h
+        other (suc k) h = h
+
+    last : (k : ℕ) → k ≡ length ps → HasPath (ps ++ child r b.forks ∷ []) k (record { forker = n; place = b.forks; forks = 0 })
+    last zero is = absurd (let h = at_below ps n r path in omega (arith, h, is))
+    last (suc k) is = (
+      r,
+      (let h = at_below ps n r path in omega (arith, h, is)),
+      at_front ps (child r b.forks ∷ []) n r path,
+      ap (at_number (ps ++ child r b.forks ∷ [])) is ∙ at_end ps (child r b.forks),
+    )
+
+    by : (at_number (put_number bs n (forked_once b)) m ≡ Some d) ⊎ ((m ≡ length (put_number bs n (forked_once b))) × (d ≡ record { forker = n; place = b.forks; forks = 0 })) → HasPath (ps ++ child r b.forks ∷ []) m d
+    by (inl h) = kept (at_put bs n (forked_once b) m d h)
+    by (inr h) = subst (HasPath (ps ++ child r b.forks ∷ []) m) (sym h.1) (last m (h.0 ∙ put_length bs n (forked_once b) ∙ many))

@@ -1,0 +1,43 @@
+use Rattle.std.proofs.Common.{refl, sym, subst}
+use Rattle.code_machine.specs.Local.{done, end_of, has_ended}
+use Rattle.rev_vm.specs.Legs.{trap_of}
+use Rattle.rev_vm.specs.Meaning.{IsEnd}
+use Rattle.rev_vm.specs.Starts.{run_under}
+use Rattle.code_world.proofs.Coming.{has_ended_done, has_ended_trapped}
+use Rattle.code_world.proofs.advance.advance.Goals as goal
+
+pub run_leg-requires-clause-setting : goal.run_leg-requires-clause-setting
+run_leg-requires-clause-setting c = c.requires.setting
+
+pub run_leg-requires-clause-stands : goal.run_leg-requires-clause-stands
+run_leg-requires-clause-stands c = c.requires.stands
+
+pub fork-requires-clause-setting : goal.fork-requires-clause-setting
+fork-requires-clause-setting c = c.requires.setting
+
+pub fork-requires-clause-stands : goal.fork-requires-clause-stands
+fork-requires-clause-stands c =
+    let e = rw c.in-Ok-Fork.field-0-is at (c.in-Ok-Fork.ensures.event c.requires.stands.0 c.requires.stands.1) in
+    (e.0, e.1, e.3)
+
+pub returns-in-Ok-Fork : goal.returns-in-Ok-Fork
+returns-in-Ok-Fork c = λ s runs.
+    let e = rw c.in-Ok-Fork.field-0-is at (c.in-Ok-Fork.ensures.event s runs) in
+    c.fork.ensures s e.0 e.1 e.2 e.3
+
+pub returns-in-Ok-Join : goal.returns-in-Ok-Join
+returns-in-Ok-Join c = λ s runs.
+    let e = rw c.in-Ok-Join.field-0-is at (c.in-Ok-Join.ensures.event s runs) in
+    (s, refl, e.0, e.1, e.2)
+
+pub returns-in-Ok-End : goal.returns-in-Ok-End
+returns-in-Ok-End c = λ s runs.
+    let e = rw c.in-Ok-End.field-0-is at (c.in-Ok-End.ensures.event s runs) in
+    has_ended_done (run_under c.args.setting.now) s e.0 e.1 e.2 c.retire.result.0
+    (subst (IsEnd (run_under c.args.setting.now) (end_of (has_ended e.0 done))) (sym c.retire.ensures.end) e.3)
+
+pub returns-in-Ok-Trap : goal.returns-in-Ok-Trap
+returns-in-Ok-Trap c = λ s runs.
+    let e = rw c.in-Ok-Trap.field-0-is at (c.in-Ok-Trap.ensures.event s runs) in
+    has_ended_trapped (run_under c.args.setting.now) s e.0 e.1 e.2 c.retire-in-Ok-Trap.result.0
+    (subst (IsEnd (run_under c.args.setting.now) (end_of (has_ended e.0 (trap_of e.0 e.1)))) (sym c.retire-in-Ok-Trap.ensures.end) e.3)

@@ -1,0 +1,15 @@
+use Rattle.rev_vm.specs.Starts.{run_under}
+use Rattle.code_world.proofs.Coming.{has_forked}
+use Rattle.code_world.proofs.advance.fork.Goals as goal
+
+pub fork-requires-clause-setting : goal.fork-requires-clause-setting
+fork-requires-clause-setting c = c.requires.setting
+
+pub fork-requires-clause-at : goal.fork-requires-clause-at
+fork-requires-clause-at c = c.requires.stands
+
+pub returns-in-Ok : goal.returns-in-Ok
+returns-in-Ok c = λ s d args is at.
+    let kid = c.in-Ok.ensures.child d args at in
+    has_forked (run_under c.args.setting.now) c.args.child s d c.args.at.block args is kid.0 kid.1 c.told.result c.in-Ok.kid
+    (c.told.ensures.state (run_under c.args.setting.now) d args (c.in-Ok.ensures.parent d args at)) kid.2

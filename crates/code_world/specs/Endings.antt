@@ -1,0 +1,30 @@
+-- What `main` left.
+--   MainIsOver   `main` is done or has trapped, or a revision was joined a second time
+--   Names        these births name these paths, and no others
+--   HasLeft      what it left in this world, and nothing where a revision was joined a second time
+use Rattle.std.specs.Prelude.{ℕ, ◌≡◌, List, [], length, Option, Some, None}
+use Rattle.rev_num.specs.Path.{Path}
+use Rattle.revision_machine.specs.Machine.{Plain}
+use Rattle.revision_machine.specs.Numbered.{World, Both, Listing, at_number, paths_of}
+use Rattle.code_machine.specs.Local.{CodeRun, Local, end_of}
+use Rattle.code_machine.specs.Proper.{IsOver}
+use Rattle.rev_vm.specs.Meaning.{IsEnd}
+use Rattle.code_world.specs.declared.ending.MainEnd.{MainEnd}
+use Rattle.code_world.specs.declared.table.Birth.{Birth}
+use Rattle.code_world.specs.Tables.{AreNamed}
+
+abbrev pub MainIsOver : World (Local ℕ) → Type 0
+MainIsOver Both = Unit {0}
+MainIsOver (Listing w) = (l : Local ℕ) × (at_number w 0 ≡ Some ([], Plain l)) × IsOver l
+
+pub record Names (births : List Birth) (paths : List Path) : Type 0 where
+  pub named : AreNamed births paths
+  pub all : length paths ≡ length births
+
+abbrev pub HasLeft : CodeRun → World (Local ℕ) → Option MainEnd → Type 0
+HasLeft g Both None = Unit {0}
+HasLeft g (Listing w) (Some m) =
+    (l : Local ℕ) × (at_number w 0 ≡ Some ([], Plain l)) × IsEnd g (end_of l) m.end
+    × Names m.births.items (paths_of w)
+HasLeft g Both (Some m) = ⊥
+HasLeft g (Listing w) None = ⊥

@@ -1,0 +1,19 @@
+//! A world of revisions that run code, on one thread, in any schedule.
+#![tactic(auto)]
+
+mod advance;
+mod answer;
+mod counting;
+mod ending;
+mod lists;
+mod slot;
+mod starting;
+mod table;
+mod turn;
+mod world;
+
+pub use answer::LegAnswer;
+pub use ending::MainEnd;
+pub use slot::Slot;
+pub use table::{Birth, Table};
+pub use world::{World, leg};

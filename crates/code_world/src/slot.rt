@@ -1,0 +1,28 @@
+//! What a world has of a revision.
+
+use rev_vm::{AtJoin, Runner};
+use version_map::{EndValue, Whole};
+
+/// What a world has of a revision. Running revisions and joiners may not be let go by themselves:
+/// `give_up` ends them.
+pub enum Slot {
+    /// Between two events.
+    Running(Runner<Whole>),
+    /// At a join, behind the instructions of its leg.
+    Standing(AtJoin<Whole>),
+    /// It has ended, and this is what it leaves.
+    Ended(EndValue),
+    /// It was joined, and its joiner has what it left.
+    Joined,
+}
+
+impl Slot {
+    /// Lets the revision go.
+    pub fn give_up(self) {
+        match self {
+            Slot::Running(runner) => runner.give_up(),
+            Slot::Standing(at) => at.give_up(),
+            Slot::Ended(_) | Slot::Joined => {},
+        }
+    }
+}

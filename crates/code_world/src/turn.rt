@@ -1,0 +1,156 @@
+//! Legs of the revisions of a table.
+
+ghost use Rattle.std.specs.Prelude.{◌≡◌, ℕ, IfOk, Some};
+ghost use Rattle.block_merges.specs.Merging.{AreMergesOf};
+ghost use Rattle.block_run.specs.Area.{count};
+ghost use Rattle.code_machine.specs.Local.{CodeRun, Local};
+ghost use Rattle.leg_run.specs.Setting.{IsSetting};
+ghost use Rattle.revision_machine.specs.Numbered.{Entries, at_number};
+ghost use Rattle.rev_vm.specs.Starts.{run_under};
+ghost use Rattle.code_world.specs.declared.slot.Slot.TheVariants as slot;
+ghost use Rattle.code_world.specs.Answers.{Answers};
+ghost use Rattle.code_world.specs.Turns.{IsGood, StandsOn, Settles, behind, ends_with};
+
+use crate::advance::{Came, advance, meet};
+use crate::answer::LegAnswer;
+use crate::slot::Slot;
+use crate::table::{Stage, Table};
+use leg_run::CodeSetting;
+use std::alloc::{AllocError, Global};
+use version_map::{Finish, MergeBy};
+
+/// The answer of a leg that ends so.
+fn answer_of(finish: Finish) -> LegAnswer
+    ensures { result ≡ ends_with finish }
+{
+    match finish {
+        Finish::Done => LegAnswer::Ended,
+        Finish::Trapped(_) => LegAnswer::Trapped,
+    }
+}
+
+/// The answer of a joiner behind its join of this revision.
+fn answer_behind(slot: &Slot, on: u32) -> LegAnswer
+    ensures { result ≡ behind slot.now on }
+{
+    match slot {
+        Slot::Running(_) => LegAnswer::Joined { on },
+        _ => LegAnswer::Trapped,
+    }
+}
+
+impl Table {
+    /// The leg of a joiner at its join of a revision that has ended.
+    fn settle<M: MergeBy>(
+        &mut self,
+        alloc: Global,
+        merges: &mut M,
+        number: u32,
+        on: u32,
+    ) -> Result<LegAnswer, AllocError>
+        requires { (g : CodeRun) × (w : Entries (Local ℕ)) × IsGood g self.old w
+            × Settles self.old number on × (M.size merges.old ≡ count g.code.vars) }
+        ensures answer { (g : CodeRun) (w : Entries (Local ℕ)) → IsGood g self.old w
+            → AreMergesOf g (M.merges merges.old)
+            → IfOk result (λ a. Answers g w number a self.new) }
+        ensures size { M.size merges.new ≡ M.size merges.old }
+        ensures same { M.merges merges.new ≡ M.merges merges.old }
+    {
+        let at = self.take_joiner(number as usize);
+        let end = self.take_end(on as usize);
+        let slot = meet(alloc, at, end, merges)?;
+        let answer = answer_behind(&slot, on);
+        self.put(number as usize, slot);
+        Ok(answer)
+    }
+
+    /// The leg of a joiner at its join of this revision.
+    fn join<M: MergeBy>(
+        &mut self,
+        alloc: Global,
+        merges: &mut M,
+        number: u32,
+        on: u32,
+    ) -> Result<LegAnswer, AllocError>
+        requires { (g : CodeRun) × (w : Entries (Local ℕ)) × IsGood g self.old w
+            × StandsOn self.old number on × (M.size merges.old ≡ count g.code.vars) }
+        ensures answer { (g : CodeRun) (w : Entries (Local ℕ)) → IsGood g self.old w
+            → AreMergesOf g (M.merges merges.old)
+            → IfOk result (λ a. Answers g w number a self.new) }
+        ensures size { M.size merges.new ≡ M.size merges.old }
+        ensures same { M.merges merges.new ≡ M.merges merges.old }
+    {
+        match self.stage(on as usize) {
+            Stage::NoSuch => unreachable!(),
+            Stage::Running => Ok(LegAnswer::Waits { on }),
+            Stage::Standing { .. } => Ok(LegAnswer::Waits { on }),
+            Stage::Ended => self.settle(alloc, merges, number, on),
+            Stage::Joined => Ok(LegAnswer::Twice),
+        }
+    }
+
+    /// The leg of a running revision.
+    fn run<M: MergeBy>(
+        &mut self,
+        alloc: Global,
+        setting: &CodeSetting,
+        merges: &mut M,
+        number: u32,
+    ) -> Result<LegAnswer, AllocError>
+        requires setting { IsSetting setting.now }
+        requires runs { (w : Entries (Local ℕ)) × IsGood (run_under setting.now) self.old w }
+        requires size { M.size merges.old ≡ count setting.now.code.vars }
+        requires merges { AreMergesOf (run_under setting.now) (M.merges merges.old) }
+        requires running { (r : _) × (at_number self.old.slots.items number
+            ≡ Some (slot.Running r)) }
+        ensures answer { (w : Entries (Local ℕ)) → IsGood (run_under setting.now) self.old w
+            → IfOk result (λ a. Answers (run_under setting.now) w number a self.new) }
+        ensures size { M.size merges.new ≡ M.size merges.old }
+        ensures same { M.merges merges.new ≡ M.merges merges.old }
+    {
+        let child = self.slots.len() as u32;
+        let runner = self.take_runner(number as usize);
+        match advance(alloc, setting, runner, child)? {
+            Came::Forked(forker, kid) => {
+                self.bear(number, forker, kid)?;
+                Ok(LegAnswer::Forked { child })
+            },
+            Came::Standing(at) => {
+                let on = at.on();
+                self.put(number as usize, Slot::Standing(at));
+                self.join(alloc, merges, number, on)
+            },
+            Came::Ended(end) => {
+                let answer = answer_of(end.finish);
+                self.put(number as usize, Slot::Ended(end));
+                Ok(answer)
+            },
+        }
+    }
+
+    /// The leg of the revision of this number.
+    pub(crate) fn leg<M: MergeBy>(
+        &mut self,
+        alloc: Global,
+        setting: &CodeSetting,
+        merges: &mut M,
+        number: u32,
+    ) -> Result<LegAnswer, AllocError>
+        requires setting { IsSetting setting.now }
+        requires good { (w : Entries (Local ℕ)) × IsGood (run_under setting.now) self.old w }
+        requires size { M.size merges.old ≡ count setting.now.code.vars }
+        requires merges { AreMergesOf (run_under setting.now) (M.merges merges.old) }
+        ensures answer { (w : Entries (Local ℕ)) → IsGood (run_under setting.now) self.old w
+            → IfOk result (λ a. Answers (run_under setting.now) w number a self.new) }
+        ensures size { M.size merges.new ≡ M.size merges.old }
+        ensures same { M.merges merges.new ≡ M.merges merges.old }
+    {
+        match self.stage(number as usize) {
+            Stage::NoSuch => Ok(LegAnswer::NoSuch),
+            Stage::Running => self.run(alloc, setting, merges, number),
+            Stage::Standing { on } => self.join(alloc, merges, number, on),
+            Stage::Ended => Ok(LegAnswer::Over),
+            Stage::Joined => Ok(LegAnswer::Over),
+        }
+    }
+}

@@ -1,0 +1,7 @@
+use Rattle.ready_queue.proofs.queue.ReadyQueue.enter.Goals as goal
+
+pub returns-clause-kept : goal.returns-clause-kept
+returns-clause-kept c = record {
+  ready = c.in_ok-add.ensures.kept;
+  waits = λ on n h. record { waiters = h.waiters; there = h.there; among = h.among };
+}

@@ -1,0 +1,9 @@
+use Rattle.std.proofs.Common.{◌≡◌, ℕ, true, take}
+use Rattle.ready_queue.specs.Heap.{has, Has}
+use Rattle.ready_queue.proofs.queue.add_all.Given as goal
+
+abbrev pub invariant-loop-at : goal.invariant-loop-at
+invariant-loop-at l = record {
+  here : (n : ℕ) → has (take l.at l.numbers) n ≡ true → Has l.ready n;
+  kept : (n : ℕ) → Has l.initial.ready n → Has l.ready n;
+}

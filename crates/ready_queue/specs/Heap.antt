@@ -1,0 +1,17 @@
+-- Numbers in a heap.
+--   above    what is left above a number of 32 bits
+--   has      whether a number stands in a list
+--   Has      it stands in the heap
+use Rattle.std.specs.Prelude.{ℕ, ◌≡◌, ◌-◌, Bool, true, List, nat_eq}
+use Rattle.std.specs.BinaryHeap.{heap_items}
+use Rattle.std.specs.List.{list_any}
+use Rattle.ready_queue.specs.declared.heap.LeastHeap.{LeastHeap}
+
+abbrev pub above : ℕ → ℕ
+above n = 4294967295 - n
+
+abbrev pub has : List ℕ → ℕ → Bool
+has xs n = list_any (λ x. nat_eq x n) xs
+
+abbrev pub Has : LeastHeap → ℕ → Type 0
+Has h n = has (heap_items h.above) (above n) ≡ true

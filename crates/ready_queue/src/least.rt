@@ -1,0 +1,45 @@
+//! A heap of numbers, from which the least comes first.
+
+ghost use Rattle.std.specs.Prelude.{◌≡◌, ◌≤◌, ◌<◌, ◌+◌, ◌⊎◌, ◌^◌, ℕ, IfSome, IfNone, OnOk};
+ghost use Rattle.std.specs.BinaryHeap.{heap_len};
+ghost use Rattle.ready_queue.specs.Heap.{Has};
+
+use crate::heap::LeastHeap;
+use std::alloc::{AllocError, Global};
+use std::collections::BinaryHeap;
+
+impl LeastHeap {
+    /// A heap of none.
+    pub fn new(alloc: Global) -> LeastHeap
+        ensures { (n : ℕ) → Has result n → ⊥ }
+    {
+        LeastHeap {
+            above: BinaryHeap::new(alloc),
+        }
+    }
+
+    /// One number more.
+    pub fn add(&mut self, number: u32) -> Result<(), AllocError>
+        ensures here { OnOk result (Has self.new number) }
+        ensures kept { OnOk result ((n : ℕ) → Has self.old n → Has self.new n) }
+    {
+        self.above.push(u32::MAX - number)?;
+        Ok(())
+    }
+
+    /// The least number, which is taken out once.
+    pub fn take(&mut self) -> Option<u32>
+        ensures least { IfSome result
+            (λ x. (n : ℕ) → n < 2 ^ 32 → Has self.old n → x ≤ n) }
+        ensures kept { IfSome result
+            (λ x. (n : ℕ) → n < 2 ^ 32 → Has self.old n → (n ≡ x) ⊎ Has self.new n) }
+        ensures none { IfNone result ((n : ℕ) → Has self.old n → ⊥) }
+        ensures fewer { IfSome result
+            (λ x. heap_len self.new.above + 1 ≡ heap_len self.old.above) }
+    {
+        match self.above.pop() {
+            Some(above) => Some(u32::MAX - above),
+            None => None,
+        }
+    }
+}

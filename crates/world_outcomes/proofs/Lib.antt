@@ -1,0 +1,5 @@
+pub mod Naming
+pub mod Overlays
+pub mod Starting
+pub mod Shows
+pub mod Ending

@@ -1,0 +1,69 @@
+-- Paths by births.
+use Rattle.std.proofs.Common.{◌≡◌, ◌∙◌, ℕ, zero, suc, ◌<◌, ◌≤◌, List, [], ◌∷◌, ◌++◌, length, reverse, get_or, Option, Some, None, refl, sym, ap, arith}
+use Rattle.std.proofs.lemmas.List.{reverse-append}
+use Rattle.rev_num.specs.Path.{Path, child}
+use Rattle.revision_machine.specs.Numbered.{at_number, or_path}
+use Rattle.code_world.specs.declared.table.Birth.{Birth}
+use Rattle.code_world.specs.Endings.{Names}
+use Rattle.world_outcomes.specs.Births.{forked_as, path_in}
+
+module _ {A : Type 0} where
+  pub at_there : (xs : List A) (n : ℕ) (x : A) → n < length xs → x ≡ get_or xs n x → at_number xs n ≡ Some x
+  at_there [] n x less is = absurd (omega (arith, less))
+  at_there (y ∷ xs) zero x less is = ap (λ z. Some z) (sym is)
+  at_there (y ∷ xs) (suc n) x less is = at_there xs n x (omega (arith, less)) is
+
+  pub at_none : (xs : List A) (n : ℕ) → length xs ≤ n → at_number xs n ≡ None
+  at_none [] n few = refl
+  at_none (x ∷ xs) zero few = absurd (omega (arith, few))
+  at_none (x ∷ xs) (suc n) few = at_none xs n (omega (arith, few))
+
+  at_within : (xs : List A) (n : ℕ) → at_number xs n ≡ None → length xs ≤ n
+  at_within [] n e = omega arith
+  at_within (x ∷ xs) zero e = absurd (let z : Some x ≡ None = e in cc)
+  at_within (x ∷ xs) (suc n) e = let h = at_within xs n e in omega (arith, h)
+
+pub forked_there : (bs : List Birth) (n : ℕ) (b : Birth) → 0 < n → n < length bs → b ≡ get_or bs n b → forked_as bs n ≡ Some b
+forked_there bs zero b some less is = absurd (omega (arith, some))
+forked_there bs (suc n) b some less is = at_there bs (suc n) b less is
+
+pub forked_none : (bs : List Birth) (n : ℕ) → length bs ≤ n → forked_as bs n ≡ None
+forked_none bs zero few = refl
+forked_none bs (suc n) few = at_none bs (suc n) few
+
+module _ (bs : List Birth) (paths : List Path) (names : Names bs paths) where
+  pub forker_before : (n : ℕ) (b : Birth) → forked_as bs n ≡ Some b → b.forker < n
+  forker_before zero b e = absurd (let z : None ≡ Some b = e in cc)
+  forker_before (suc n) b e = let h = (names.named (suc n) b e).1 in omega (arith, h)
+
+  -- the path of a forked revision
+  pub path_more : (n : ℕ) (b : Birth) → forked_as bs n ≡ Some b → path_in paths n ≡ child (path_in paths b.forker) b.place
+  path_more zero b e = absurd (let z : None ≡ Some b = e in cc)
+  path_more (suc n) b e =
+      let h = names.named (suc n) b e in
+      ap (λ o. or_path o []) h.3 ∙ ap (λ q. child q b.place) (sym (ap (λ o. or_path o []) h.2))
+
+  main_path : (o : Option Birth) → at_number bs 0 ≡ o → path_in paths 0 ≡ []
+  main_path (Some b) e = ap (λ o. or_path o []) (names.named 0 b e)
+  main_path None e =
+      let few = at_within bs 0 e in
+      let same = names.all in
+      ap (λ o. or_path o []) (at_none paths 0 (omega (arith, few, same)))
+
+  -- and of any other
+  pub path_none : (n : ℕ) → forked_as bs n ≡ None → path_in paths n ≡ []
+  path_none zero e = main_path (at_number bs 0) refl
+  path_none (suc n) e =
+      let few = at_within bs (suc n) e in
+      let same = names.all in
+      ap (λ o. or_path o []) (at_none paths (suc n) (omega (arith, few, same)))
+
+append_assoc : (xs ys zs : List ℕ) → (xs ++ ys) ++ zs ≡ xs ++ (ys ++ zs)
+append_assoc [] ys zs = refl
+append_assoc (x ∷ xs) ys zs = ap (λ us. x ∷ us) (append_assoc xs ys zs)
+
+-- one place more, with the later ones behind it
+pub place_more : (q more more' : List ℕ) (k : ℕ) → more' ≡ more ++ k ∷ [] → q ++ reverse more' ≡ child q k ++ reverse more
+place_more q more more' k is =
+    ap (λ xs. q ++ xs) (ap reverse is ∙ reverse-append more (k ∷ []))
+    ∙ sym (append_assoc q (k ∷ []) (reverse more))

@@ -1,0 +1,4 @@
+pub mod Making
+pub mod Covering
+pub mod Noting
+pub mod Leading

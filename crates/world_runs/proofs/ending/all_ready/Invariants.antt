@@ -1,0 +1,9 @@
+use Rattle.std.proofs.Common.{◌≡◌, ◌<◌, ℕ, length}
+use Rattle.ready_queue.specs.Queue.{HasReady}
+use Rattle.world_runs.proofs.ending.all_ready.Given as goal
+
+abbrev pub invariant-loop-number : goal.invariant-loop-number
+invariant-loop-number l = record {
+  count : length l.queue.waiters.items ≡ l.number;
+  ready : (m : ℕ) → m < l.number → HasReady l.queue m;
+}

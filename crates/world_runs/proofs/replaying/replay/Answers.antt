@@ -1,0 +1,62 @@
+use Rattle.std.proofs.Common.{◌∙◌, [], refl, arith}
+use Rattle.std.proofs.lemmas.Option.{slice_get-get_or}
+use Rattle.rev_vm.specs.Starts.{run_under}
+use Rattle.reached_worlds.proofs.Reaching.{start_reached}
+use Rattle.world_runs.proofs.Making.{replay_begins, replay_goes, replay_ends, merges_still}
+use Rattle.world_runs.proofs.replaying.replay.Goals as goal
+
+pub begin-requires-clause-setting : goal.begin-requires-clause-setting
+begin-requires-clause-setting g c = c.requires.setting
+
+pub begin-requires-clause-fuel : goal.begin-requires-clause-fuel
+begin-requires-clause-fuel g c = c.requires.fuel
+
+pub loop-at-init : goal.loop-at-init
+loop-at-init g c =
+    let b = c.in-Ok.ensures in
+    let s = run_under c.args.setting.now in
+    record {
+      reached = (_, replay_begins s c.args.fuel b.0 b.1 [] refl, start_reached s b.0 b.1 c.args.fuel c.requires.fuel, b.2);
+      size = c.requires.size;
+      merges = c.requires.merges;
+    }
+
+pub make-requires-clause-setting : goal.make-requires-clause-setting
+make-requires-clause-setting g c = c.requires.setting
+
+pub make-requires-clause-reached : goal.make-requires-clause-reached
+make-requires-clause-reached g c = let i = c.loop-at.invariant.reached in (i.0, i.2, i.3)
+
+pub make-requires-clause-size : goal.make-requires-clause-size
+make-requires-clause-size g c = c.loop-at.invariant.size
+
+pub make-requires-clause-merges : goal.make-requires-clause-merges
+make-requires-clause-merges g c = c.loop-at.invariant.merges
+
+pub returns-in-Ok-None-clause-fault : goal.returns-in-Ok-None-clause-fault
+returns-in-Ok-None-clause-fault g c =
+    let i = c.loop-at.invariant.reached in
+    let k = rw c.in-Ok-None.field-0-is at (c.in-Ok-None.ensures.made i.0 i.2 i.3) in
+    record {
+      before = i.0;
+      replayed = i.1;
+      entry = slice_get-get_or c.args.schedule.now c.loop-at.at 0 c.loop-at-test.true;
+      none = k.0;
+    }
+
+pub loop-at-preserved : goal.loop-at-preserved
+loop-at-preserved g c =
+    let i = c.loop-at.invariant.reached in
+    let s = run_under c.args.setting.now in
+    let k = rw c.in-Ok-Leg.field-0-is at (c.in-Ok-Leg.ensures.made i.0 i.2 i.3) in
+    record {
+      reached = (k.0, replay_goes s c.args.fuel c.args.schedule.now c.loop-at.at i.0 k.0 i.1 _ (slice_get-get_or c.args.schedule.now c.loop-at.at 0 c.loop-at-test.true) k.1, k.2, k.3);
+      size = c.in-Ok-Leg.ensures.size ∙ c.loop-at.invariant.size;
+      merges = merges_still s _ _ c.in-Ok-Leg.ensures.same c.loop-at.invariant.merges;
+    }
+
+pub returns-clause-ok : goal.returns-clause-ok
+returns-clause-ok g c =
+    let i = c.loop-at.invariant.reached in
+    let t = c.loop-at-test.false in
+    (i.0, replay_ends (run_under c.args.setting.now) c.args.fuel c.args.schedule.now c.loop-at.at i.0 i.1 (omega (arith, t)), i.2, i.3)

@@ -1,0 +1,4 @@
+pub mod Made
+pub mod Replay
+pub mod Covers
+pub mod Finish

@@ -1,0 +1,139 @@
+//! A run to its end, by the least number that has a leg.
+
+ghost use Rattle.std.specs.Prelude.{◌≡◌, ◌≤◌, ◌<◌, ◌^◌, ℕ, IfOk, OnOk, length};
+ghost use Rattle.block_merges.specs.Merging.{AreMergesOf};
+ghost use Rattle.block_run.specs.Area.{count};
+ghost use Rattle.code_machine.specs.Local.{Local};
+ghost use Rattle.code_world.specs.Tables.{IsWorld};
+ghost use Rattle.leg_run.specs.Setting.{IsSetting};
+ghost use Rattle.reached_worlds.specs.Reached.{IsReached};
+ghost use Rattle.ready_queue.specs.Queue.{HasReady};
+ghost use Rattle.revision_machine.specs.Numbered.{World as DefinedWorld};
+ghost use Rattle.rev_vm.specs.Starts.{run_under};
+ghost use Rattle.world_runs.specs.Covers.{CoversWorld, CoversWorldBut};
+ghost use Rattle.world_runs.specs.Finish.{HasFinished, HasLeast, HasTried};
+
+use crate::legs::{Made, sort_out};
+use crate::notes::note;
+use code_world::{World, leg};
+use leg_run::CodeSetting;
+use ready_queue::ReadyQueue;
+use std::alloc::{AllocError, Global};
+use version_map::MergeBy;
+
+/// Makes the leg of a revision that was taken out of the queue, where it has one, and notes how it
+/// came out.
+fn try_leg<M: MergeBy>(
+    alloc: Global,
+    setting: &CodeSetting,
+    merges: &mut M,
+    world: World,
+    queue: &mut ReadyQueue,
+    number: u32,
+) -> Result<Made, AllocError>
+    requires setting { IsSetting setting.now }
+    requires reached { (w : DefinedWorld (Local ℕ)) × IsReached (run_under setting.now) w
+        × IsWorld (run_under setting.now) world w
+        × CoversWorldBut (run_under setting.now) w queue.old number }
+    requires size { M.size merges.old ≡ count setting.now.code.vars }
+    requires merges { AreMergesOf (run_under setting.now) (M.merges merges.old) }
+    ensures tried { (w : DefinedWorld (Local ℕ)) → IsReached (run_under setting.now) w
+        → IsWorld (run_under setting.now) world w
+        → CoversWorldBut (run_under setting.now) w queue.old number
+        → IfOk result (λ k. HasTried (run_under setting.now) w number k queue.old queue.new) }
+    ensures size { M.size merges.new ≡ M.size merges.old }
+    ensures same { M.merges merges.new ≡ M.merges merges.old }
+{
+    let table = match world {
+        World::Twice => return Ok(Made::None(World::Twice)),
+        World::Live(table) => table,
+    };
+    let (next, answer) = leg(alloc, setting, merges, World::Live(table), number)?;
+    match note(alloc, queue, number, answer) {
+        Ok(()) => Ok(sort_out(next, answer)),
+        Err(error) => {
+            next.give_up();
+            Err(error)
+        },
+    }
+}
+
+/// Makes the leg of the least number that has one.
+fn make_least<M: MergeBy>(
+    alloc: Global,
+    setting: &CodeSetting,
+    merges: &mut M,
+    mut world: World,
+    queue: &mut ReadyQueue,
+) -> Result<Made, AllocError>
+    requires setting { IsSetting setting.now }
+    requires reached { (w : DefinedWorld (Local ℕ)) × IsReached (run_under setting.now) w
+        × IsWorld (run_under setting.now) world w
+        × CoversWorld (run_under setting.now) w queue.old }
+    requires size { M.size merges.old ≡ count setting.now.code.vars }
+    requires merges { AreMergesOf (run_under setting.now) (M.merges merges.old) }
+    ensures least { (w : DefinedWorld (Local ℕ)) → IsReached (run_under setting.now) w
+        → IsWorld (run_under setting.now) world w
+        → CoversWorld (run_under setting.now) w queue.old
+        → IfOk result (λ k. HasLeast (run_under setting.now) w k queue.new) }
+    ensures size { M.size merges.new ≡ M.size merges.old }
+    ensures same { M.merges merges.new ≡ M.merges merges.old }
+{
+    while let Some(number) = queue.take() {
+        match try_leg(alloc, setting, merges, world, queue, number)? {
+            Made::Leg(next) => return Ok(Made::Leg(next)),
+            Made::None(same) => world = same,
+        }
+    }
+    Ok(Made::None(world))
+}
+
+/// All numbers of a world as ready, and none that waits.
+fn all_ready(alloc: Global, count: usize) -> Result<ReadyQueue, AllocError>
+    requires { count ≤ 2 ^ 32 }
+    ensures count { IfOk result (λ q. length q.waiters.items ≡ count) }
+    ensures ready { IfOk result (λ q. (m : ℕ) → m < count → HasReady q m) }
+{
+    let mut queue = ReadyQueue::new(alloc);
+    for number in 0..count {
+        queue.grow(alloc)?;
+        queue.enter(number as u32)?;
+    }
+    Ok(queue)
+}
+
+/// Makes the leg of the least number that has one, time after time, until none has. Want of memory
+/// is the one error, and the world is lost.
+pub fn finish<M: MergeBy>(
+    alloc: Global,
+    setting: &CodeSetting,
+    merges: &mut M,
+    mut world: World,
+) -> Result<World, AllocError>
+    requires setting { IsSetting setting.now }
+    requires reached { (w : DefinedWorld (Local ℕ)) × IsReached (run_under setting.now) w
+        × IsWorld (run_under setting.now) world w }
+    requires size { M.size merges.old ≡ count setting.now.code.vars }
+    requires merges { AreMergesOf (run_under setting.now) (M.merges merges.old) }
+    ensures finished { (w : DefinedWorld (Local ℕ)) → IsReached (run_under setting.now) w
+        → IsWorld (run_under setting.now) world w
+        → IfOk result (λ v. HasFinished (run_under setting.now) w v) }
+    ensures size { M.size merges.new ≡ M.size merges.old }
+    ensures same { M.merges merges.new ≡ M.merges merges.old }
+{
+    let mut queue = match all_ready(alloc, world.count()) {
+        Ok(queue) => queue,
+        Err(error) => {
+            world.give_up();
+            return Err(error);
+        },
+    };
+    for _ in 0..u64::MAX {
+        match make_least(alloc, setting, merges, world, &mut queue)? {
+            Made::Leg(next) => world = next,
+            Made::None(end) => return Ok(end),
+        }
+    }
+    world.give_up();
+    unreachable!()
+}

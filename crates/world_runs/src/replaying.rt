@@ -1,0 +1,64 @@
+//! Replays of a schedule.
+
+ghost use Rattle.std.specs.Prelude.{◌≡◌, ◌≤◌, ◌<◌, ◌^◌, ℕ, length, IfOk, IfErr};
+ghost use Rattle.block_merges.specs.Merging.{AreMergesOf};
+ghost use Rattle.block_run.specs.Area.{count};
+ghost use Rattle.code_machine.specs.Local.{Local};
+ghost use Rattle.code_world.specs.Tables.{IsWorld};
+ghost use Rattle.leg_run.specs.Setting.{IsSetting};
+ghost use Rattle.reached_worlds.specs.Reached.{IsReached};
+ghost use Rattle.revision_machine.specs.Numbered.{World as DefinedWorld};
+ghost use Rattle.rev_vm.specs.Starts.{run_under};
+ghost use Rattle.world_runs.specs.Replay.{IsIllegal, Replayed};
+
+use crate::legs::{Made, make};
+use code_world::World;
+use leg_run::CodeSetting;
+use std::alloc::{AllocError, Global};
+use version_map::MergeBy;
+
+/// Why a schedule has no world.
+#[derive(Clone, Copy, PartialEq, Eq, Debug)]
+pub enum ReplayFault {
+    /// The first entry without a leg: its place, counted from 0, and its number.
+    Illegal { at: usize, revision: u32 },
+    OutOfMemory,
+}
+
+/// The world after this schedule from the start of `main`, with this fuel. It is refused at the
+/// first entry that names no revision, one that has ended or one that waits, and at any after
+/// Twice.
+pub fn replay<M: MergeBy>(
+    alloc: Global,
+    setting: &CodeSetting,
+    merges: &mut M,
+    fuel: u64,
+    schedule: &[u32],
+) -> Result<World, ReplayFault>
+    requires setting { IsSetting setting.now }
+    requires fuel { fuel ≤ 4000000000 }
+    requires size { M.size merges.old ≡ count setting.now.code.vars }
+    requires merges { AreMergesOf (run_under setting.now) (M.merges merges.old) }
+    ensures ok { IfOk result (λ v. (w : DefinedWorld (Local ℕ))
+        × Replayed (run_under setting.now) fuel schedule.now w
+        × IsReached (run_under setting.now) w × IsWorld (run_under setting.now) v w) }
+    ensures fault { IfErr result
+        (λ f. IsIllegal (run_under setting.now) fuel schedule.now f) }
+{
+    let mut world = match World::begin(alloc, setting, fuel) {
+        Ok(world) => world,
+        Err(_) => return Err(ReplayFault::OutOfMemory),
+    };
+    for at in 0..schedule.len() {
+        let revision = schedule[at];
+        match make(alloc, setting, merges, world, revision) {
+            Ok(Made::Leg(next)) => world = next,
+            Ok(Made::None(same)) => {
+                same.give_up();
+                return Err(ReplayFault::Illegal { at, revision });
+            },
+            Err(_) => return Err(ReplayFault::OutOfMemory),
+        }
+    }
+    Ok(world)
+}

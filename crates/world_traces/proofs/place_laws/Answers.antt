@@ -1,0 +1,8 @@
+use Rattle.world_traces.proofs.Names.{each_has_place, shown_by_places}
+use Rattle.world_traces.proofs.place_laws.Goals as goal
+
+pub returns-clause-each : goal.returns-clause-each
+returns-clause-each c = each_has_place
+
+pub returns-clause-shown : goal.returns-clause-shown
+returns-clause-shown c = shown_by_places
