@@ -10,7 +10,7 @@ use Rattle.hub_algebra.specs.Replay.{IsNotIn, state_here, state_of, replay, stat
 use Rattle.hub_algebra.specs.declared.status.Status.{Status}
 use Rattle.hub_algebra.specs.declared.status.Status.TheVariants.{Ready, Out, Waiting, Over, Gone}
 use Rattle.hub_algebra.proofs.Forkers.{one_forker, one_more, as_many}
-use Rattle.hub_algebra.specs.Hub.{Values, EndsAre, end_of, Statuses, Fits, AllFit, Tied, Forks, Joins, EndsLeg, WasTrapped, all_ended}
+use Rattle.hub_algebra.specs.Hub.{Values, EndsAre, end_of, Statuses, Fits, AllFit, Tied, Forks, Joins, EndsLeg, WasTrapped, Meets, all_ended}
 use Rattle.hub_algebra.proofs.Replay.{put_other, put_here, put_length, at_more, at_end, replay_more, still}
 
 module _ (N : Numbered) (V : Values N) where
@@ -152,6 +152,24 @@ module _ (N : Numbered) (V : Values N) where
           after,
           state_now (schedule ++ k ∷ []) (put_number hub m Gone) fs after k (h.0, Plain l') (put_other v m k (q, Joined lq) apart ∙ put_here w k (h.0, Plain p.state) (h.0, Plain l') h.1) ∙ ap Some (sym (p.comes.1 e lq f.2.2.1)),
         )
+
+    pub meets : (schedule : List ℕ) (hub : Statuses N V) (fs : List ℕ) → T schedule hub fs → (k : ℕ) (a : V.AtJoin) (e : V.End) → at_number hub k ≡ Some Out → Joins N V main schedule k a → at_number hub (V.on a) ≡ Some (Over e)
+        → Meets N V main schedule k a e
+    meets schedule hub fs t k a e out p ended =
+        let h = out_has schedule hub fs t k p.state out p.stands in
+        let f = fit_at hub t.world (V.on a) (Over e) t.fits ended in
+        record {
+          world = t.world;
+          replays = t.replays;
+          path = h.0;
+          state = p.state;
+          joiner = h.1;
+          stands = p.comes;
+          other = f.0.0;
+          last = f.2.0;
+          joinee = f.1 ∙ ap (λ v. Some (f.0.0, v)) f.2.1;
+          is_end = f.2.2;
+        }
 
     -- a join of one that was joined
     pub twice : (schedule : List ℕ) (hub : Statuses N V) (fs : List ℕ) → T schedule hub fs → (k : ℕ) (a : V.AtJoin) → at_number hub k ≡ Some Out → Joins N V main schedule k a → at_number hub (V.on a) ≡ Some Gone → replay N main (schedule ++ k ∷ []) ≡ Some Both

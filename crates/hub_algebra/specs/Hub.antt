@@ -3,10 +3,12 @@
 --   Fits, AllFit  a status is right of a revision, and all are of a world
 --   Tied          the schedule is legal, and what the hub keeps is its replay
 --   Forks, Joins, EndsLeg, WasTrapped   what is handed in is the event of a revision's leg
+--   Meets         a joiner and the end of the revision that it joins, in the world of a schedule
 --   EndsAre       in a world in which all have ended: the ends of those without the mark
 use Rattle.std.specs.Prelude.{Option, Some, None, ◌≡◌, ℕ, List, [], ◌∷◌}
 use Rattle.revision_machine.specs.Machine.{Entry, Plain, Joined}
-use Rattle.revision_machine.specs.Numbered.{Bears, Goes, Wants, Stops, Numbered, Entries, Listing, paths_of}
+use Rattle.rev_num.specs.Path.{Path}
+use Rattle.revision_machine.specs.Numbered.{Bears, Goes, Wants, Stops, Numbered, Entries, Listing, at_number, paths_of}
 use Rattle.hub_algebra.specs.declared.status.Status.{Status}
 use Rattle.hub_algebra.specs.declared.status.Status.TheVariants.{Ready, Out, Waiting, Over, Gone}
 use Rattle.hub_algebra.specs.Replay.{replay, state_after}
@@ -92,6 +94,19 @@ module _ (N : Numbered) (V : Values N) where
     pub state : N.Local
     pub stands : state_after N main at k ≡ Some state
     pub is_end : IsEnd e state
+
+  -- in the world of this schedule the revision k stands before its join, and the one that it joins has this end
+  pub record Meets (main : N.Local) (at : List ℕ) (k : ℕ) (a : V.AtJoin) (e : V.End) : Type 0 where
+    pub world : Entries N.Local
+    pub replays : replay N main at ≡ Some (Listing world)
+    pub path : Path
+    pub state : N.Local
+    pub joiner : at_number world k ≡ Some (path, Plain state)
+    pub stands : Stands a state
+    pub other : Path
+    pub last : N.Local
+    pub joinee : at_number world (V.on a) ≡ Some (other, Plain last)
+    pub is_end : IsEnd e last
 
   -- each revision has ended
   abbrev pub all_ended : Statuses → Type 0

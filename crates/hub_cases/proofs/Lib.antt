@@ -1,1 +1,1 @@
-pub mod Handed
+pub mod Stages

@@ -1,2 +1,2 @@
 pub mod Tree
-pub mod Events
+pub mod Machine

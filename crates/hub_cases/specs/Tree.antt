@@ -1,9 +1,8 @@
 -- A tree of revisions as a machine by numbers. Each but the leaves forks two children and joins two revisions.
 --   next, join   what a revision does next, and what a join makes of it
---   tree         the machine, whose runners, joiners and ends are the revisions themselves
-use Rattle.std.specs.Prelude.{◌≡◌, ℕ, ◌+◌, ◌-◌, ◌^◌, ◌==◌, min, Bool, true, false, cond, List, []}
+--   goes_on, is_early   it has not ended, or not forked both children
+use Rattle.std.specs.Prelude.{◌≡◌, ℕ, ◌+◌, ◌-◌, ◌^◌, ◌==◌, min, Bool, true, false, cond}
 use Rattle.revision_machine.specs.Numbered.{Wish, Bears, Wants, Goes, Stops}
-use Rattle.hub_algebra.specs.HubMachine.{HubMachine}
 use Rattle.hub_cases.specs.declared.node.Node.{Node}
 use Rattle.hub_cases.specs.declared.node.Way.{Way}
 use Rattle.hub_cases.specs.declared.node.Way.TheVariants.{Adds, Again, Traps, Tries}
@@ -121,20 +120,24 @@ forks_at JoinsSecond = 2
 forks_at Ends = 2
 forks_at Over = 2
 
-abbrev pub tree : HubMachine Node Node Node Node
-tree = record {
-  next = next;
-  forks = λ l. forks_at l.stage;
-  join = λ l m lq. joined l lq;
-  runs = λ r. r;
-  on = joinee;
-  joined = joined;
-  trapped = λ e. e.trapped;
-  is_try = λ a. outlives a.way;
-  runner_group = λ r. [];
-  joiner_group = λ a. [];
-}
-
 -- an end is the state in which its revision ended
 abbrev pub is_end : Node → Node → Type 0
 is_end e l = e ≡ l
+
+-- it has not ended
+abbrev pub goes_on : Stage → Bool
+goes_on Begins = true
+goes_on Forked = true
+goes_on JoinsFirst = true
+goes_on JoinsSecond = true
+goes_on Ends = true
+goes_on Over = false
+
+-- it has not forked both children
+abbrev pub is_early : Stage → Bool
+is_early Begins = true
+is_early Forked = true
+is_early JoinsFirst = false
+is_early JoinsSecond = false
+is_early Ends = false
+is_early Over = false

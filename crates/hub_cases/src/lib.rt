@@ -1,16 +1,14 @@
-//! A machine of trees of revisions, and one thread's work at a hub of them.
+//! Tests of threads at a hub, over a machine of trees of revisions.
 #![tactic(auto)]
 
-mod done;
-mod event;
+mod going;
+mod legs;
 mod machine;
 mod node;
-mod note;
-mod worker;
+#[cfg(test)]
+mod tests;
 
-pub use done::Done;
-pub use event::{Event, next_event};
+pub use going::{Done, Forking, Going};
+pub use legs::Room;
 pub use machine::Tree;
 pub use node::{Node, Stage, Way};
-pub use note::{Note, tell};
-pub use worker::{drive, end, fork, join, step, work};

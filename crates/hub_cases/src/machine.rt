@@ -1,8 +1,9 @@
 //! The tree as a machine of revisions.
-ghost use Rattle.std.specs.Prelude.{true, []};
-ghost use Rattle.hub_cases.specs.Tree.{tree, is_end};
+ghost use Rattle.std.specs.Prelude.{◌≡◌, []};
+ghost use Rattle.hub_cases.specs.Tree.{is_end, joined};
+ghost use Rattle.hub_cases.specs.Machine.{tree};
 
-use crate::done::Done;
+use crate::going::{Done, Going, claimed, stopped};
 use crate::node::{Node, Way};
 use turn_hub::Revision;
 
@@ -12,13 +13,13 @@ pub struct Tree;
 impl Revision for Tree {
     type State = Node;
 
-    type Runner = Node;
+    type Runner = Going;
 
     type AtJoin = Node;
 
     type End = Node;
 
-    type Claimed = Node;
+    type Claimed = Going;
 
     type Stopped = Done;
 
@@ -26,11 +27,9 @@ impl Revision for Tree {
 
     ghost ends = { is_end };
 
-    ghost claims = { λ c. c };
+    ghost claimed = { λ c at end. c.node ≡ joined at end };
 
-    ghost stops = { λ s. s.node };
-
-    ghost by = { λ s. s.node.by_join };
+    ghost stopped = { λ s at end. s.node ≡ joined at end };
 
     ghost by_join = { λ e. e.by_join };
 
@@ -42,14 +41,12 @@ impl Revision for Tree {
         at.joinee()
     }
 
-    fn claim(at: Node, end: Node) -> Node {
-        at.joined(end)
+    fn claim(at: Node, end: Node) -> Going {
+        claimed(at, end)
     }
 
     fn trapped(at: Node, end: Node) -> Done {
-        Done {
-            node: at.joined(end),
-        }
+        stopped(at, end)
     }
 
     fn is_trapped(end: &Node) -> bool {

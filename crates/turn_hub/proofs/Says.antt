@@ -5,12 +5,13 @@ use Rattle.revision_machine.proofs.Paths.{some_inj}
 use Rattle.revision_machine.proofs.Numbers.{none_some}
 use Rattle.hub_algebra.specs.declared.status.Status.{Status}
 use Rattle.hub_algebra.specs.declared.status.Status.TheVariants.{Ready, Out, Waiting, Over, Gone}
-use Rattle.hub_algebra.specs.HubMachine.{HubMachine}
+use Rattle.hub_algebra.specs.Hub.{Meets}
+use Rattle.hub_algebra.specs.HubMachine.{HubMachine, numbered, values}
 use Rattle.turn_hub.specs.declared.value.Turn.{Turn}
 use Rattle.turn_hub.specs.declared.view.View.{View}
 use Rattle.turn_hub.specs.declared.answers.JoinAnswer.{JoinAnswer}
 use Rattle.turn_hub.specs.declared.answers.JoinAnswer.TheVariants as join
-use Rattle.turn_hub.proofs.Turns.{within, Next, group_at, drawn, drawn_again, forked, joined, keeps_draw, keeps_commit, keeps_in, keeps_end}
+use Rattle.turn_hub.proofs.Turns.{within, Next, group_at, drawn, drawn_again, forked, joined, meeting, keeps_draw, keeps_commit, keeps_in, keeps_end}
 use Rattle.turn_hub.specs.declared.state.HubState.TheVariants.{All, Twice}
 use Rattle.turn_hub.specs.declared.view.Said.{Said}
 use Rattle.turn_hub.specs.declared.view.Said.TheVariants as mark
@@ -18,7 +19,7 @@ use Rattle.turn_hub.specs.Views.{ended_said, ready_said, all_said, halt_by, or_n
 use Rattle.turn_hub.specs.Seats.{HasState, HasFork, HasJoin, ForkedAs, KeepsAll}
 use Rattle.turn_hub.specs.Found.{ended_here, is_ready}
 use Rattle.turn_hub.specs.Rule.{all_over, done, said_of, says, Told}
-use Rattle.turn_hub.specs.Answers.{IsHalted, Ran, Retried, IsIdleNow, IsFinished, WasHalted, Forked, TookIn, Waited, MetTwice, JoinSays, TakesIn, EndedSays}
+use Rattle.turn_hub.specs.Answers.{IsHalted, Ran, Retried, IsIdleNow, IsFinished, WasHalted, Forked, TookIn, HasMet, Waited, MetTwice, JoinSays, TakesIn, EndedSays}
 
 module _ {L R A E : Type 0} (d : HubMachine L R A E) (ends : E → L → Type 0) where
   pub says_some : (slots : List (Status R A E)) (k : ℕ) (s : Status R A E) → at_number slots k ≡ Some s → at_number (says d ends slots) k ≡ Some (said_of d ends s)
@@ -216,12 +217,17 @@ module _ {L R A E : Type 0} (d : HubMachine L R A E) (ends : E → L → Type 0)
     entry = sym told.found;
   }
 
-  module _ {C S : Type 0} (claims : C → L) (halts : S → L) (by : S → Bool) (claimed : C → List ℕ) (halted : S → List ℕ) where
-    pub takes_says : (v x : V) (slots : List (Status R A E)) (k : ℕ) (a : A) (e : E) (r : JoinAnswer A C S) → TakesIn d ends claims halts by claimed halted a e r → TookIn d ends v x k (d.joined a e)
-        → d.joiner_group a ≡ x.group → x.said ≡ says d ends slots → at_number slots (d.on a) ≡ Some (Over e) → JoinSays d ends claims halts by claimed halted v x k a r
-    takes_says v x slots k a e (join.Claimed c) h s g m is = (subst (TookIn d ends v x k) (sym h.0) s, where_run x.said slots (d.on a) (Over e) m is ∙ ap (λ b. Some (cond b mark.Trapped mark.Done)) h.1, h.2 ∙ g)
-    takes_says v x slots k a e join.Waits h s g m is = absurd h
-    takes_says v x slots k a e (join.Twice b) h s g m is = absurd h
-    takes_says v x slots k a e (join.Trapped c) h s g m is = (subst (TookIn d ends v x k) (sym h.0) s, where_run x.said slots (d.on a) (Over e) m is ∙ ap (λ b. Some (cond b mark.Trapped mark.Done)) h.1, h.2, h.3, h.4 ∙ g)
-    takes_says v x slots k a e (join.Dropped b) h s g m is = (h.0, where_run x.said slots (d.on a) (Over e) m is ∙ ap (λ c. Some (cond c mark.Trapped mark.Done)) h.1, h.2, (e, h.1, s))
-    takes_says v x slots k a e (join.OutOfMemory b) h s g m is = absurd h
+  pub has_met : (v w x : V) (t : Value) (k : ℕ) (a : A) (e : E) → Told d ends v w t → t.state ≡ All → HasJoin d ends v k a → at_number t.revisions.slots.items (d.on a) ≡ Some (Over e)
+      → x ≡ rests (commits k w) → HasMet d ends x k a e
+  has_met v w x t k a e told none event over is = subst (λ y. HasMet d ends y k a e) (sym is)
+      (event.0, told.start ∙ event.2, subst (λ l. Meets (numbered d) (values d ends) event.0 l k a e) (sym told.found) (meeting d ends v w t k a e told none event over))
+
+  module _ {C S : Type 0} (claimed : C → A → E → Type 0) (stopped : S → A → E → Type 0) (group : C → List ℕ) (halted : S → List ℕ) where
+    pub takes_says : (v x : V) (slots : List (Status R A E)) (k : ℕ) (a : A) (e : E) (r : JoinAnswer A C S) → TakesIn d ends claimed stopped group halted a e r → TookIn d ends v x k (d.joined a e)
+        → HasMet d ends x k a e → d.joiner_group a ≡ x.group → x.said ≡ says d ends slots → at_number slots (d.on a) ≡ Some (Over e) → JoinSays d ends claimed stopped group halted v x k a r
+    takes_says v x slots k a e (join.Claimed c) h s met g m is = (where_run x.said slots (d.on a) (Over e) m is ∙ ap (λ b. Some (cond b mark.Trapped mark.Done)) h.1, h.2 ∙ g, (e, h.0, h.1, met, s))
+    takes_says v x slots k a e join.Waits h s met g m is = absurd h
+    takes_says v x slots k a e (join.Twice b) h s met g m is = absurd h
+    takes_says v x slots k a e (join.Trapped c) h s met g m is = (where_run x.said slots (d.on a) (Over e) m is ∙ ap (λ b. Some (cond b mark.Trapped mark.Done)) h.1, h.2, h.3 ∙ g, (e, h.0, h.1, met, s))
+    takes_says v x slots k a e (join.Dropped b) h s met g m is = (h.0, where_run x.said slots (d.on a) (Over e) m is ∙ ap (λ c. Some (cond c mark.Trapped mark.Done)) h.1, h.2, (e, h.1, met, s))
+    takes_says v x slots k a e (join.OutOfMemory b) h s met g m is = absurd h

@@ -8,7 +8,7 @@ use Rattle.revision_machine.proofs.Numbers.{none_some}
 use Rattle.hub_algebra.specs.declared.status.Status.{Status}
 use Rattle.hub_algebra.specs.declared.status.Status.TheVariants.{Ready, Out, Waiting, Over, Gone}
 use Rattle.hub_algebra.specs.Replay.{state_after}
-use Rattle.hub_algebra.specs.Hub.{Tied}
+use Rattle.hub_algebra.specs.Hub.{Tied, Meets}
 use Rattle.hub_algebra.specs.HubMachine.{HubMachine, numbered, values}
 use Rattle.hub_algebra.proofs.Replay.{put_other, put_here}
 use Rattle.hub_algebra.proofs.Hub as hub
@@ -236,6 +236,14 @@ module _ {L R A E : Type 0} (d : HubMachine L R A E) (ends : E → L → Type 0)
             (outs_turn t.revisions.slots.items w.out (d.on a) (Over e) Gone told.hand.holds.outs over refl refl) after.0 (group_put w.group t.revisions.slots.items (d.on a) Gone told.hand.holds.grouped tt),
         (s, w.log ++ k ∷ [], told.start ∙ p.2, inl (refl, refl), after.1),
       )
+
+  pub meeting : (v w : View L) (t : Value) (k : ℕ) (a : A) (e : E) → Told d ends v w t → t.state ≡ All → (p : HasJoin d ends v k a) → at_number t.revisions.slots.items (d.on a) ≡ Some (Over e)
+      → Meets (numbered d) (values d ends) p.0 w.log k a e
+  meeting v w t k a e told none p over =
+      let s : L = p.0 in
+      let now = now_of v w t s k p.1 p.4.state told none p.2 p.3 p.4.stands in
+      let tie = tied_of w t s told.hand (told.start ∙ p.2) none in
+      hub.meets (numbered d) (values d ends) s w.log t.revisions.slots.items t.revisions.forkers.items tie k a e (its_out v w t k p.1 told p.3) record { state = p.4.state; stands = now; comes = p.4.comes } over
 
   -- the last entry: the tables are the replay of the schedule before it
   pub twice : (v w : View L) (t t' : Value) (k : ℕ) (a : A) → Told d ends v w t → t.state ≡ All → HasJoin d ends v k a → at_number t.revisions.slots.items (d.on a) ≡ Some Gone

@@ -1,12 +1,14 @@
 -- What the answers of a hub tell, of the seat's view before a call and after it.
 --   TakenSays    of `take`: what is handed out, and where each answer comes
 --   Forked       of `fork`: the forker's and the child's state, and the entry
+--   HasMet       the joiner and the end that it takes in, in the world of the schedule so far
 --   JoinSays     of `join`
 --   EndedSays    of `end`
 --   IsHalted     a halt was entered, before the call or by it
 use Rattle.std.specs.Prelude.{◌≡◌, ℕ, Bool, true, false, Some, List, length, MatchBool}
 use Rattle.revision_machine.specs.Numbered.{at_number}
-use Rattle.hub_algebra.specs.HubMachine.{HubMachine}
+use Rattle.hub_algebra.specs.Hub.{Meets}
+use Rattle.hub_algebra.specs.HubMachine.{HubMachine, numbered, values}
 use Rattle.turn_hub.specs.declared.state.HubState.TheVariants.{All, Twice}
 use Rattle.turn_hub.specs.declared.view.View.{View}
 use Rattle.turn_hub.specs.declared.view.Said.TheVariants as mark
@@ -103,30 +105,36 @@ module _ {L R A E : Type 0} (d : HubMachine L R A E) (ends : E → L → Type 0)
     pub halt : w.halt ≡ Twice
     pub saw : w.saw ≡ 1
 
-  module _ {C S : Type 0} (claims : C → L) (stops : S → L) (by : S → Bool) (claimed : C → List ℕ) (halted : S → List ℕ) where
+  -- before the entry the joiner and the end of its joinee met in the world of the schedule
+  abbrev pub HasMet : View L → ℕ → A → E → Type 0
+  HasMet w k a e =
+      (start : L) × (w.start ≡ Some start)
+      × Meets (numbered d) (values d ends) start w.found k a e
+
+  module _ {C S : Type 0} (claimed : C → A → E → Type 0) (stopped : S → A → E → Type 0) (group : C → List ℕ) (halted : S → List ℕ) where
     abbrev pub JoinSays : View L → View L → ℕ → A → JoinAnswer A C S → Type 0
     JoinSays v w k a (join.Claimed c) =
-        TookIn v w k (claims c) × (at_number w.said (d.on a) ≡ Some mark.Done)
-        × (claimed c ≡ w.group)
+        (at_number w.said (d.on a) ≡ Some mark.Done) × (group c ≡ w.group)
+        × ((e : E) × claimed c a e × (d.trapped e ≡ false) × HasMet w k a e × TookIn v w k (d.joined a e))
     JoinSays v w k a join.Waits = Waited v w k a
     JoinSays v w k a (join.Twice b) = (b ≡ a) × MetTwice v w k a
     JoinSays v w k a (join.Trapped s) =
-        TookIn v w k (stops s) × (at_number w.said (d.on a) ≡ Some mark.Trapped)
-        × (d.is_try a ≡ false) × (by s ≡ true) × (halted s ≡ w.group)
+        (at_number w.said (d.on a) ≡ Some mark.Trapped) × (d.is_try a ≡ false)
+        × (halted s ≡ w.group)
+        × ((e : E) × stopped s a e × (d.trapped e ≡ true) × HasMet w k a e × TookIn v w k (d.joined a e))
     JoinSays v w k a (join.Dropped b) =
         (b ≡ a) × (at_number w.said (d.on a) ≡ Some mark.Trapped) × (d.is_try a ≡ true)
-        × ((e : E) × (d.trapped e ≡ true) × TookIn v w k (d.joined a e))
+        × ((e : E) × (d.trapped e ≡ true) × HasMet w k a e × TookIn v w k (d.joined a e))
     JoinSays v w k a (join.OutOfMemory b) = (b ≡ a) × IsHalted v w
 
     -- how an end is taken in
     abbrev pub TakesIn : A → E → JoinAnswer A C S → Type 0
     TakesIn a e (join.Claimed c) =
-        (claims c ≡ d.joined a e) × (d.trapped e ≡ false) × (claimed c ≡ d.joiner_group a)
+        claimed c a e × (d.trapped e ≡ false) × (group c ≡ d.joiner_group a)
     TakesIn a e join.Waits = ⊥
     TakesIn a e (join.Twice b) = ⊥
     TakesIn a e (join.Trapped s) =
-        (stops s ≡ d.joined a e) × (d.trapped e ≡ true) × (d.is_try a ≡ false) × (by s ≡ true)
-        × (halted s ≡ d.joiner_group a)
+        stopped s a e × (d.trapped e ≡ true) × (d.is_try a ≡ false) × (halted s ≡ d.joiner_group a)
     TakesIn a e (join.Dropped b) = (b ≡ a) × (d.trapped e ≡ true) × (d.is_try a ≡ true)
     TakesIn a e (join.OutOfMemory b) = ⊥
 

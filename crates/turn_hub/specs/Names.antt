@@ -4,12 +4,14 @@
 --   places                     the seats of a list at their hub's table
 --   began                      the first view of a hub: the number of its seats, its start and its group
 --   run_start, run_group       where a run began, and what its snapshots belong to
+--   run_state, run_schedule, run_forkers, run_ends   what a run tells
 use Rattle.std.specs.Prelude.{◌≡◌, ℕ, List, map, Option}
 use Rattle.atomic_table.specs.declared.shared.Seat.{Seat}
 use Rattle.turn_hub.specs.declared.closing.HubRun.{HubRun}
 use Rattle.turn_hub.specs.declared.hub.TurnHub.{TurnHub}
 use Rattle.turn_hub.specs.declared.revision.Revision.{Ghosts}
 use Rattle.turn_hub.specs.declared.seat.HubSeat.{HubSeat}
+use Rattle.turn_hub.specs.declared.state.HubState.{HubState}
 use Rattle.turn_hub.specs.declared.value.Turn.{Turn}
 use Rattle.turn_hub.specs.declared.view.View.{View}
 use Rattle.turn_hub.specs.Seats.{AreOf}
@@ -26,6 +28,18 @@ module _ {L S R A E C P : Type 0} where
 
   abbrev pub run_group : HubRun L S R A E C P → List ℕ
   run_group run = (first_of run.witness.views).group
+
+  abbrev pub run_state : HubRun L S R A E C P → HubState
+  run_state run = run.state
+
+  abbrev pub run_schedule : HubRun L S R A E C P → List ℕ
+  run_schedule run = run.schedule.items
+
+  abbrev pub run_forkers : HubRun L S R A E C P → List ℕ
+  run_forkers run = run.forkers.items
+
+  abbrev pub run_ends : HubRun L S R A E C P → List (Option E)
+  run_ends run = run.ends.items
 
   module _ {g : Ghosts L S R A E C P} where
     -- what a seat knows

@@ -103,7 +103,7 @@ impl<L: Revision> TurnHub<L> {
         requires event { HasJoin L.machine L.ends seat.old.place.me.0 of at }
         requires group { L.machine.joiner_group at ≡ seat.old.place.me.0.group }
         ensures own { seat.new.place.table_id ≡ seat.old.place.table_id }
-        ensures answer { JoinSays L.machine L.ends L.claims L.stops L.by
+        ensures answer { JoinSays L.machine L.ends L.claimed L.stopped
             L.claimed_group L.stopped_group
             seat.old.place.me.0 seat.new.place.me.0 of at result }
     {

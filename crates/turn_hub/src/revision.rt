@@ -23,14 +23,11 @@ pub trait Revision {
     /// It is the end of that state.
     ghost ends: { Self.End → Self.State → Type 0 };
 
-    /// The state of a joiner that has taken an end in.
-    ghost claims: { Self.Claimed → Self.State };
+    /// It is that joiner, which has taken that end in.
+    ghost claimed: { Self.Claimed → Self.AtJoin → Self.End → Type 0 };
 
-    /// The state of one that has stopped.
-    ghost stops: { Self.Stopped → Self.State };
-
-    /// Its join stopped it, and not a leg.
-    ghost by: { Self.Stopped → Bool };
+    /// It is that joiner, which that end has stopped.
+    ghost stopped: { Self.Stopped → Self.AtJoin → Self.End → Type 0 };
 
     /// A join left this end, and not a leg.
     ghost by_join: { Self.End → Bool };
@@ -47,14 +44,13 @@ pub trait Revision {
     /// Takes in the end of its joinee, which did not end by a trap.
     fn claim(at: Self::AtJoin, end: Self::End) -> Self::Claimed
         requires { machine.trapped end ≡ false }
-        ensures state { claims result ≡ machine.joined at end }
+        ensures of { claimed result at end }
         ensures group { claimed_group result ≡ machine.joiner_group at };
 
     /// Takes in the trap of its joinee.
     fn trapped(at: Self::AtJoin, end: Self::End) -> Self::Stopped
         requires { (machine.trapped end ≡ true) × (machine.is_try at ≡ false) }
-        ensures state { stops result ≡ machine.joined at end }
-        ensures by { by result ≡ true }
+        ensures of { stopped result at end }
         ensures group { stopped_group result ≡ machine.joiner_group at };
 
     /// Whether it ended by a trap.

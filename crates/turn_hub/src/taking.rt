@@ -10,7 +10,7 @@ pub fn take_in<L: Revision>(
     at: L::AtJoin,
     end: L::End,
 ) -> JoinAnswer<L::AtJoin, L::Claimed, L::Stopped>
-    ensures { TakesIn L.machine L.ends L.claims L.stops L.by
+    ensures { TakesIn L.machine L.ends L.claimed L.stopped
         L.claimed_group L.stopped_group at end result }
 {
     if !L::is_trapped(&end) {

@@ -4,6 +4,7 @@ ghost use Rattle.std.specs.Prelude.{◌≡◌, ◌<◌, ◌≤◌, ◌+◌, ◌+
 /// Nothing, of a type that may not be let go.
 pub fn empty<T>(nothing: Option<T>)
     requires { nothing ≡ None }
+    ensures { nothing ≡ None }
 {
     match nothing {
         None => {},

@@ -6,7 +6,7 @@ use Rattle.turn_hub.specs.declared.state.HubState.TheVariants.{All, Twice}
 use Rattle.turn_hub.specs.Views.{rests, stops}
 use Rattle.turn_hub.specs.Found.{ended_here}
 use Rattle.turn_hub.proofs.Turns.{waits, joined, twice, moved_hand, same_hand, has_pass, still_out}
-use Rattle.turn_hub.proofs.Says.{took_in, takes_says, waited, met_twice, now_halted}
+use Rattle.turn_hub.proofs.Says.{took_in, has_met, takes_says, waited, met_twice, now_halted}
 use Rattle.turn_hub.proofs.hub.TurnHub.join.Goals as goal
 
 pub put_back-requires : goal.put_back-requires
@@ -56,8 +56,9 @@ returns-in-Some-clause-answer g c =
     let more : c.enter.new.self.schedule.items ≡ c.enter-turn.result.schedule.items ++ c.args.of ∷ [] = search rules in
     let forkers = c.join.ensures.forkers ∙ ap (λ r. r.forkers.items) same.0 in
     let e = ap (λ m. m.0) c.put_home-in-Some.ensures.rests ∙ ap (λ m. rests m.0) c.commit.ensures.after in
-    takes_says g.L.Revision.machine g.L.Revision.ends _ _ _ _ _ c.args.seat.now.place.me.0 c.put_home-in-Some.new.place.me.0 c.enter-turn.result.revisions.slots.items _ _ _ _ c.take_in.ensures
+    takes_says g.L.Revision.machine g.L.Revision.ends g.L.Revision.claimed g.L.Revision.stopped g.L.Revision.claimed_group g.L.Revision.stopped_group c.args.seat.now.place.me.0 c.put_home-in-Some.new.place.me.0 c.enter-turn.result.revisions.slots.items _ _ _ _ c.take_in.ensures
     (took_in _ _ _ _ _ c.enter-turn.result t' _ _ _ told none c.requires.event was (more, now, forkers, same.1 ∙ none) e)
+    (has_met _ _ _ _ _ c.enter-turn.result _ _ _ told none c.requires.event was e)
     (c.requires.group ∙ (sym told.group ∙ sym (ap (λ v. v.group) e))) (ap (λ v. v.said) e ∙ told.said) was
 
 pub stop_twice-requires-clause-has : goal.stop_twice-requires-clause-has

@@ -1,0 +1,3 @@
+pub mod CodeState
+pub mod Values
+pub mod Laws

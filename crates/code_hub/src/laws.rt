@@ -1,0 +1,17 @@
+//! The laws of a hub of verified code.
+
+ghost use Rattle.code_hub.specs.Laws.{LegComesToJoin, MeetingsFit, OverIsOfCode, ReplaysAreOfCode};
+
+/// The hub's schedules are those of the code: they lead to the same worlds, and are complete where
+/// those are.
+pub fn world_laws()
+    ensures replays { ReplaysAreOfCode }
+    ensures over { OverIsOfCode }
+{}
+
+/// A joiner behind the instructions of a leg stands at the join to which that leg comes. A joiner
+/// and the end that it takes in are of one run, and their fuel is at most that of the start.
+pub fn joiner_laws()
+    ensures comes { LegComesToJoin }
+    ensures fit { MeetingsFit }
+{}

@@ -1,0 +1,20 @@
+-- The tree as a machine, whose joiners and ends are the revisions themselves.
+use Rattle.std.specs.Prelude.{List, []}
+use Rattle.hub_algebra.specs.HubMachine.{HubMachine}
+use Rattle.hub_cases.specs.declared.going.Going.{Going}
+use Rattle.hub_cases.specs.declared.node.Node.{Node}
+use Rattle.hub_cases.specs.Tree.{next, forks_at, joined, joinee, outlives}
+
+abbrev pub tree : HubMachine Node Going Node Node
+tree = record {
+  next = next;
+  forks = λ l. forks_at l.stage;
+  join = λ l m lq. joined l lq;
+  runs = λ r. r.node;
+  on = joinee;
+  joined = joined;
+  trapped = λ e. e.trapped;
+  is_try = λ a. outlives a.way;
+  runner_group = λ r. [];
+  joiner_group = λ a. [];
+}

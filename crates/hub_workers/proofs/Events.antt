@@ -1,0 +1,128 @@
+-- What a revision hands in is the event of its state, and a hand stays that of its seat's run.
+use Rattle.std.proofs.Common.{◌≡◌, ℕ, Bool, true, false, List, Some, MatchBool, sym, ap, ◌∙◌, subst}
+use Rattle.revision_machine.specs.Numbered.{Bears}
+use Rattle.revision_machine.proofs.Paths.{some_inj}
+use Rattle.hub_algebra.specs.Hub.{Stands}
+use Rattle.hub_algebra.specs.HubMachine.{HubMachine, numbered, values}
+use Rattle.turn_hub.specs.declared.view.View.{View}
+use Rattle.turn_hub.specs.Seats.{HasState, HasFork, HasJoin, HasEnd, HasTrap, IsSameSeat}
+use Rattle.turn_hub.specs.Answers.{HasMet}
+use Rattle.hub_workers.specs.declared.legs.Event.TheVariants as event
+use Rattle.hub_workers.specs.Legs.{IsReached, HaveMet, Comes, IsEndBy, IsSameHand}
+use Rattle.hub_workers.specs.Work.{IsHandOf, StandsAtFork}
+
+module _ {H L : Type 0} (begins : H → L → Type 0) (group : H → List ℕ) where
+  pub hand_on :
+      (v : View L) (h h' : H) → IsHandOf begins group v h → IsSameHand begins group h h'
+      → IsHandOf begins group v h'
+  hand_on v h h' of same = (of.0 ∙ sym same.0, (of.1.0, of.1.1, same.1 of.1.0 of.1.2))
+
+  pub hand_stays :
+      (v w : View L) (h : H) → IsHandOf begins group v h → IsSameSeat v w
+      → IsHandOf begins group w h
+  hand_stays v w h of same = (same.1 ∙ of.0, (of.1.0, same.0 ∙ of.1.1, of.1.2))
+
+  pub hand_after :
+      (v w : View L) (h h' : H) → IsHandOf begins group v h → IsSameHand begins group h h'
+      → IsSameSeat v w → IsHandOf begins group w h'
+  hand_after v w h h' of same seat = hand_stays v w h' (hand_on v h h' of same) seat
+
+module _ {L : Type 0} where
+  pub same_twice : (u v w : View L) → IsSameSeat u v → IsSameSeat v w → IsSameSeat u w
+  same_twice u v w a b = (b.0 ∙ a.0, b.1 ∙ a.1, b.2 ∙ a.2)
+
+module _ {H L R A E : Type 0} (d : HubMachine L R A E) (ends : E → L → Type 0)
+    (begins : H → L → Type 0) (group : H → List ℕ) where
+  pub reached :
+      (v : View L) (k : ℕ) (l : L) (h : H) → HasState d ends v k l → IsHandOf begins group v h
+      → IsReached d (begins h) l
+  reached v k l h s of = record {
+    start = s.0;
+    begins = subst (begins h) (some_inj (sym of.1.1 ∙ s.2)) of.1.2;
+    schedule = s.1;
+    number = k;
+    stands = s.4;
+  }
+
+  pub have_met :
+      (v : View L) (k : ℕ) (a : A) (e : E) (h : H) → HasMet d ends v k a e
+      → IsHandOf begins group v h → HaveMet d ends (begins h) a e
+  have_met v k a e h met of = record {
+    start = met.0;
+    begins = subst (begins h) (some_inj (sym of.1.1 ∙ met.1)) of.1.2;
+    schedule = v.found;
+    number = k;
+    meets = met.2;
+  }
+
+module _ {L R A E : Type 0} (d : HubMachine L R A E) (ends : E → L → Type 0) where
+  pub joins_leg :
+      (v : View L) (k : ℕ) (l : L) (a : A) → HasState d ends v k l
+      → Stands (numbered d) (values d ends) a l → HasJoin d ends v k a
+  joins_leg v k l a s comes = (
+    s.0,
+    s.1,
+    s.2,
+    s.3,
+    record {
+      state = l;
+      stands = s.4;
+      comes = comes;
+    },
+  )
+
+  module _ (by_join : E → Bool) where
+    abbrev pub IsHandedIn : View L → ℕ → E → Type 0
+    IsHandedIn v k e = MatchBool (by_join e) (HasTrap d ends v k e) (HasEnd d ends v k e)
+
+    pub ends_leg :
+        {F : Type 0} → (forker : F → ℕ → L) (child : F → L) (v : View L) (k : ℕ) (l : L) (e : E)
+        → HasState d ends v k l → Comes d ends by_join forker child l (event.End e)
+        → IsHandedIn v k e
+    ends_leg forker child v k l e s comes =
+        subst (λ b. MatchBool b (HasTrap d ends v k e) (HasEnd d ends v k e)) (sym comes.2.1) (
+          s.0,
+          s.1,
+          s.2,
+          s.3,
+          record {
+            state = l;
+            last = comes.0;
+            stands = s.4;
+            goes = comes.1;
+            is_end = comes.2.0;
+          },
+        )
+
+    pub traps_join :
+        (v : View L) (k : ℕ) (l : L) (e : E) → HasState d ends v k l
+        → IsEndBy d ends by_join true e l → IsHandedIn v k e
+    traps_join v k l e s by =
+        subst (λ b. MatchBool b (HasTrap d ends v k e) (HasEnd d ends v k e)) (sym by.1) (
+          s.0,
+          s.1,
+          s.2,
+          s.3,
+          record {
+            state = l;
+            stands = s.4;
+            is_end = by.0;
+          },
+        )
+
+  module _ {F : Type 0} (forker : F → ℕ → L) (child : F → L) where
+    abbrev pub forks_leg :
+        (v : View L) (k : ℕ) (at : F) (c : R) → StandsAtFork d ends forker child v k at
+        → d.runs c ≡ child at → HasFork d ends v k c
+    forks_leg v k at c s is = (
+      s.1.0,
+      s.1.1,
+      s.1.2,
+      s.1.3,
+      record {
+        state = s.0;
+        forker = forker at;
+        stands = s.1.4;
+        bears = s.2 ∙ ap (Bears (forker at)) (sym is);
+      },
+    )

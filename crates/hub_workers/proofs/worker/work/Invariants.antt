@@ -1,0 +1,10 @@
+use Rattle.std.proofs.Common.{◌≡◌}
+use Rattle.turn_hub.specs.Seats.{IsSameSeat}
+use Rattle.hub_workers.specs.Work.{IsHandOf}
+use Rattle.hub_workers.proofs.worker.work.Given as goal
+
+abbrev pub invariant-loop : goal.invariant-loop
+invariant-loop g l =
+    (l.seat.place.table_id ≡ l.initial.seat.place.table_id)
+    × IsSameSeat l.initial.seat.place.me.0 l.seat.place.me.0
+    × IsHandOf g.L.Legs.begins g.L.Legs.hand_group l.seat.place.me.0 l.hand

@@ -1,0 +1,4 @@
+pub mod Legs
+pub mod Work
+pub mod Threads
+pub mod Running

@@ -1,0 +1,17 @@
+//! Threads that run the revisions of a hub. Generic in how a revision runs between two events.
+#![tactic(auto)]
+
+mod bell;
+mod gate;
+mod legs;
+mod running;
+mod threads;
+mod vectors;
+mod worker;
+
+pub use bell::Bell;
+pub use gate::{Gate, OpenGate};
+pub use legs::{Event, Legs, Settled};
+pub use running::{Finished, NotBegun, run};
+pub use threads::{Worker, run_workers};
+pub use worker::work;

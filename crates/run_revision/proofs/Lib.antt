@@ -1,0 +1,3 @@
+pub mod Standing
+pub mod Events
+pub mod Taking

@@ -1,0 +1,26 @@
+use Rattle.std.proofs.Common.{◌≡◌, true, false, sym, ap, ◌∙◌}
+use Rattle.rev_code.specs.Events.{past_join}
+use Rattle.code_machine.specs.Local.{at_work}
+use Rattle.code_hub.specs.CodeState.{state_of}
+use Rattle.code_hub.specs.Values.{joined}
+use Rattle.rev_vm.specs.Starts.{run_under}
+use Rattle.rev_vm.specs.Values.{runner_state, joiner_state}
+use Rattle.rev_vm.proofs.Values.{one_state}
+use Rattle.run_revision.proofs.Standing.{at_own}
+use Rattle.run_revision.proofs.Events.{dropped_is}
+use Rattle.run_revision.proofs.legs.CodeRevisionsLegs.dropped.Goals as goal
+
+pub invariant_of-result : goal.invariant_of-result
+invariant_of-result g c =
+    let own = run_under c.at.inside.setting.now in
+    (c.at.invariant.0, at_own own _ _ _ _ _ (c.dropped.ensures.state own (joiner_state own c.at.inside.at) c.at.invariant.1))
+
+pub returns-clause-state : goal.returns-clause-state
+returns-clause-state g c e trap =
+    let own = run_under c.at.inside.setting.now in
+    let s = joiner_state own c.at.inside.at in
+    let r = c.dropped.result.revision in
+    let try : c.at.inside.at.is_try ≡ true = ap (λ a. a.try) c.at.view_is ∙ c.requires in
+    let one = one_state own r.run r.memory.delta (g.P.Snapshot.base r.memory.snapshot) r.memory.first.roots (past_join s true false c.at.inside.at.on) (c.dropped.ensures.state own s c.at.invariant.1) in
+    ap (λ z. state_of own (at_work z)) (sym one)
+    ∙ (sym (ap (state_of own) (dropped_is own s c.at.inside.at.is_try c.at.inside.at.on e.left e.left.phase try trap)) ∙ ap (λ a. joined a e) c.at.view_is)

@@ -1,0 +1,167 @@
+use Rattle.std.proofs.Common.{◌≡◌, refl, ℕ, ◌+◌, ◌<◌, true, false, sym, ap, ◌∙◌, subst}
+use Rattle.block_merges.specs.Merging.{AreMergesOf}
+use Rattle.block_run.specs.Area.{count}
+use Rattle.code_machine.specs.Local.{at_work, end_of, End}
+use Rattle.code_machine.specs.Joining.{join_in, inherit}
+use Rattle.code_hub.specs.CodeState.{state_of}
+use Rattle.code_hub.specs.Values.{code_hub, is_end, joined, LeftValue}
+use Rattle.hub_workers.specs.Legs.{IsEndBy}
+use Rattle.rev_vm.specs.Meaning.{IsClaimed, IsEnd}
+use Rattle.rev_vm.specs.Starts.{run_under}
+use Rattle.rev_vm.specs.States.{end_for}
+use Rattle.rev_vm.specs.Values.{runner_state, joiner_state, joiner_group}
+use Rattle.rev_vm.proofs.Values.{one_state, one_end}
+use Rattle.run_revision.specs.Values.{made_by_join}
+use Rattle.run_revision.proofs.Standing.{at_own, end_own}
+use Rattle.run_revision.proofs.Events.{by_phase}
+use Rattle.run_revision.proofs.Taking.{same_hand, same_end, fuels, left_is, is_done, joined_is, stopped_is, trap_for, end_stops}
+use Rattle.run_revision.proofs.legs.CodeRevisionsLegs.settle.Goals as goal
+
+pub claim-requires : goal.claim-requires
+claim-requires g c =
+    let q = c.requires.met in
+    let own = run_under c.at.inside.setting.now in
+    let its = run_under c.end.inside.setting.now in
+    let mine = run_under c.hand.inside.setting.now in
+    let s = joiner_state own c.at.inside.at in
+    fuels own its mine s c.at.inside.at.is_try c.at.inside.at.on (joiner_group c.at.inside.at) c.end.inside.value c.args.hand.now q.0 q.1 (c.at.view_is ∙ q.2.0) (c.end.view_is ∙ q.2.1) (ap (λ z. z.run) c.hand.view_is) q.4
+
+pub settle-requires : goal.settle-requires
+settle-requires g c =
+    let q = c.requires.met in
+    let own = run_under c.at.inside.setting.now in
+    let its = run_under c.end.inside.setting.now in
+    let mine = run_under c.hand.inside.setting.now in
+    let s = joiner_state own c.at.inside.at in
+    let j : End ℕ = end_for own c.end.inside.value in
+    let same = same_hand own its mine s c.at.inside.at.is_try c.at.inside.at.on (joiner_group c.at.inside.at) c.end.inside.value c.args.hand.now q.0 q.1 (c.at.view_is ∙ q.2.0) (c.end.view_is ∙ q.2.1) (ap (λ z. z.run) c.hand.view_is) q.4 in
+    let alike = same_end own its mine s c.at.inside.at.is_try c.at.inside.at.on (joiner_group c.at.inside.at) c.end.inside.value c.args.hand.now q.0 q.1 (c.at.view_is ∙ q.2.0) (c.end.view_is ∙ q.2.1) (ap (λ z. z.run) c.hand.view_is) q.4 in
+    let at = c.at.inside.at in
+    let has : IsClaimed own at.revision.run at.revision.memory.delta (g.P.Snapshot.base at.revision.memory.snapshot) at.revision.memory.first.roots at.written at.is_try at.on c.end.inside.value s j = record {
+      joiner = c.at.invariant.1;
+      joinee = subst (λ z. IsEnd z (end_for z c.end.inside.value) c.end.inside.value) alike c.end.invariant;
+      done = is_done own its mine s c.at.inside.at.is_try c.at.inside.at.on (joiner_group c.at.inside.at) c.end.inside.value c.args.hand.now q.0 q.1 (c.at.view_is ∙ q.2.0) (c.end.view_is ∙ q.2.1) (ap (λ z. z.run) c.hand.view_is) q.4 q.3;
+    } in
+    let given : IsClaimed own c.claim.result.at.revision.run c.claim.result.at.revision.memory.delta (g.P.Snapshot.base c.claim.result.at.revision.memory.snapshot) c.claim.result.at.revision.memory.first.roots c.claim.result.at.written c.claim.result.at.is_try c.claim.result.at.on c.claim.result.end s j =
+    subst (λ v. IsClaimed own c.claim.result.at.revision.run c.claim.result.at.revision.memory.delta (g.P.Snapshot.base c.claim.result.at.revision.memory.snapshot) c.claim.result.at.revision.memory.first.roots c.claim.result.at.written c.claim.result.at.is_try c.claim.result.at.on v s j) (sym c.claim.ensures.end)
+    (subst (λ k. IsClaimed own k.revision.run k.revision.memory.delta (g.P.Snapshot.base k.revision.memory.snapshot) k.revision.memory.first.roots k.written k.is_try k.on c.end.inside.value s j) (sym c.claim.ensures.at) has) in
+    let merges : AreMergesOf own (g.M.MergeBy.merges c.hand.inside.merges) = subst (λ z. AreMergesOf z (g.M.MergeBy.merges c.hand.inside.merges)) (sym same) c.hand.invariant.2 in
+    (own, s, j, given, c.hand.invariant.1 ∙ ap (λ z. count z.code.vars) (sym same))
+
+pub invariant_of-result : goal.invariant_of-result
+invariant_of-result g c =
+    let q = c.requires.met in
+    let own = run_under c.at.inside.setting.now in
+    let its = run_under c.end.inside.setting.now in
+    let mine = run_under c.hand.inside.setting.now in
+    let s = joiner_state own c.at.inside.at in
+    let j : End ℕ = end_for own c.end.inside.value in
+    let same = same_hand own its mine s c.at.inside.at.is_try c.at.inside.at.on (joiner_group c.at.inside.at) c.end.inside.value c.args.hand.now q.0 q.1 (c.at.view_is ∙ q.2.0) (c.end.view_is ∙ q.2.1) (ap (λ z. z.run) c.hand.view_is) q.4 in
+    let alike = same_end own its mine s c.at.inside.at.is_try c.at.inside.at.on (joiner_group c.at.inside.at) c.end.inside.value c.args.hand.now q.0 q.1 (c.at.view_is ∙ q.2.0) (c.end.view_is ∙ q.2.1) (ap (λ z. z.run) c.hand.view_is) q.4 in
+    let at = c.at.inside.at in
+    let has : IsClaimed own at.revision.run at.revision.memory.delta (g.P.Snapshot.base at.revision.memory.snapshot) at.revision.memory.first.roots at.written at.is_try at.on c.end.inside.value s j = record {
+      joiner = c.at.invariant.1;
+      joinee = subst (λ z. IsEnd z (end_for z c.end.inside.value) c.end.inside.value) alike c.end.invariant;
+      done = is_done own its mine s c.at.inside.at.is_try c.at.inside.at.on (joiner_group c.at.inside.at) c.end.inside.value c.args.hand.now q.0 q.1 (c.at.view_is ∙ q.2.0) (c.end.view_is ∙ q.2.1) (ap (λ z. z.run) c.hand.view_is) q.4 q.3;
+    } in
+    let given : IsClaimed own c.claim.result.at.revision.run c.claim.result.at.revision.memory.delta (g.P.Snapshot.base c.claim.result.at.revision.memory.snapshot) c.claim.result.at.revision.memory.first.roots c.claim.result.at.written c.claim.result.at.is_try c.claim.result.at.on c.claim.result.end s j =
+    subst (λ v. IsClaimed own c.claim.result.at.revision.run c.claim.result.at.revision.memory.delta (g.P.Snapshot.base c.claim.result.at.revision.memory.snapshot) c.claim.result.at.revision.memory.first.roots c.claim.result.at.written c.claim.result.at.is_try c.claim.result.at.on v s j) (sym c.claim.ensures.end)
+    (subst (λ k. IsClaimed own k.revision.run k.revision.memory.delta (g.P.Snapshot.base k.revision.memory.snapshot) k.revision.memory.first.roots k.written k.is_try k.on c.end.inside.value s j) (sym c.claim.ensures.at) has) in
+    let merges : AreMergesOf own (g.M.MergeBy.merges c.hand.inside.merges) = subst (λ z. AreMergesOf z (g.M.MergeBy.merges c.hand.inside.merges)) (sym same) c.hand.invariant.2 in
+    let r = rw c.in-Ok-Run.field-0-is at (c.in-Ok-Run.ensures.settled own s j given merges) in
+    (c.at.invariant.0, at_own own _ _ _ _ _ r.2)
+
+pub invariant_of-hand : goal.invariant_of-hand
+invariant_of-hand g c = (
+  c.hand.invariant.0,
+  c.settle.ensures.merges_size ∙ c.hand.invariant.1,
+  subst (λ f. AreMergesOf (run_under c.hand.inside.setting.now) f) (sym c.settle.ensures.merges_same) c.hand.invariant.2,
+)
+
+pub invariant_of-hand-in-Ok-Trap : goal.invariant_of-hand-in-Ok-Trap
+invariant_of-hand-in-Ok-Trap g c = (
+  c.hand.invariant.0,
+  c.settle.ensures.merges_size ∙ c.hand.invariant.1,
+  subst (λ f. AreMergesOf (run_under c.hand.inside.setting.now) f) (sym c.settle.ensures.merges_same) c.hand.invariant.2,
+)
+
+pub invariant_of-hand-in-Err : goal.invariant_of-hand-in-Err
+invariant_of-hand-in-Err g c = (
+  c.hand.invariant.0,
+  c.settle.ensures.merges_size ∙ c.hand.invariant.1,
+  subst (λ f. AreMergesOf (run_under c.hand.inside.setting.now) f) (sym c.settle.ensures.merges_same) c.hand.invariant.2,
+)
+
+pub leave-requires-clause-end : goal.leave-requires-clause-end
+leave-requires-clause-end g c =
+    let q = c.requires.met in
+    let own = run_under c.at.inside.setting.now in
+    let its = run_under c.end.inside.setting.now in
+    let mine = run_under c.hand.inside.setting.now in
+    let s = joiner_state own c.at.inside.at in
+    let j : End ℕ = end_for own c.end.inside.value in
+    let same = same_hand own its mine s c.at.inside.at.is_try c.at.inside.at.on (joiner_group c.at.inside.at) c.end.inside.value c.args.hand.now q.0 q.1 (c.at.view_is ∙ q.2.0) (c.end.view_is ∙ q.2.1) (ap (λ z. z.run) c.hand.view_is) q.4 in
+    let alike = same_end own its mine s c.at.inside.at.is_try c.at.inside.at.on (joiner_group c.at.inside.at) c.end.inside.value c.args.hand.now q.0 q.1 (c.at.view_is ∙ q.2.0) (c.end.view_is ∙ q.2.1) (ap (λ z. z.run) c.hand.view_is) q.4 in
+    let at = c.at.inside.at in
+    let has : IsClaimed own at.revision.run at.revision.memory.delta (g.P.Snapshot.base at.revision.memory.snapshot) at.revision.memory.first.roots at.written at.is_try at.on c.end.inside.value s j = record {
+      joiner = c.at.invariant.1;
+      joinee = subst (λ z. IsEnd z (end_for z c.end.inside.value) c.end.inside.value) alike c.end.invariant;
+      done = is_done own its mine s c.at.inside.at.is_try c.at.inside.at.on (joiner_group c.at.inside.at) c.end.inside.value c.args.hand.now q.0 q.1 (c.at.view_is ∙ q.2.0) (c.end.view_is ∙ q.2.1) (ap (λ z. z.run) c.hand.view_is) q.4 q.3;
+    } in
+    let given : IsClaimed own c.claim.result.at.revision.run c.claim.result.at.revision.memory.delta (g.P.Snapshot.base c.claim.result.at.revision.memory.snapshot) c.claim.result.at.revision.memory.first.roots c.claim.result.at.written c.claim.result.at.is_try c.claim.result.at.on c.claim.result.end s j =
+    subst (λ v. IsClaimed own c.claim.result.at.revision.run c.claim.result.at.revision.memory.delta (g.P.Snapshot.base c.claim.result.at.revision.memory.snapshot) c.claim.result.at.revision.memory.first.roots c.claim.result.at.written c.claim.result.at.is_try c.claim.result.at.on v s j) (sym c.claim.ensures.end)
+    (subst (λ k. IsClaimed own k.revision.run k.revision.memory.delta (g.P.Snapshot.base k.revision.memory.snapshot) k.revision.memory.first.roots k.written k.is_try k.on c.end.inside.value s j) (sym c.claim.ensures.at) has) in
+    let merges : AreMergesOf own (g.M.MergeBy.merges c.hand.inside.merges) = subst (λ z. AreMergesOf z (g.M.MergeBy.merges c.hand.inside.merges)) (sym same) c.hand.invariant.2 in
+    end_own own _ c.in-Ok-Trap.stopped.end (rw c.in-Ok-Trap.field-0-is at (c.in-Ok-Trap.ensures.settled own s j given merges))
+
+pub returns-in-Ok-Run-clause-state : goal.returns-in-Ok-Run-clause-state
+returns-in-Ok-Run-clause-state g c a e is none met =
+    let own = run_under c.at.inside.setting.now in
+    let its = run_under c.end.inside.setting.now in
+    let mine = run_under c.hand.inside.setting.now in
+    let s = joiner_state own c.at.inside.at in
+    let j : End ℕ = end_for own c.end.inside.value in
+    let same = same_hand own its mine s c.at.inside.at.is_try c.at.inside.at.on (joiner_group c.at.inside.at) c.end.inside.value c.args.hand.now a e (c.at.view_is ∙ is.0) (c.end.view_is ∙ is.1) (ap (λ z. z.run) c.hand.view_is) met in
+    let alike = same_end own its mine s c.at.inside.at.is_try c.at.inside.at.on (joiner_group c.at.inside.at) c.end.inside.value c.args.hand.now a e (c.at.view_is ∙ is.0) (c.end.view_is ∙ is.1) (ap (λ z. z.run) c.hand.view_is) met in
+    let at = c.at.inside.at in
+    let has : IsClaimed own at.revision.run at.revision.memory.delta (g.P.Snapshot.base at.revision.memory.snapshot) at.revision.memory.first.roots at.written at.is_try at.on c.end.inside.value s j = record {
+      joiner = c.at.invariant.1;
+      joinee = subst (λ z. IsEnd z (end_for z c.end.inside.value) c.end.inside.value) alike c.end.invariant;
+      done = is_done own its mine s c.at.inside.at.is_try c.at.inside.at.on (joiner_group c.at.inside.at) c.end.inside.value c.args.hand.now a e (c.at.view_is ∙ is.0) (c.end.view_is ∙ is.1) (ap (λ z. z.run) c.hand.view_is) met none;
+    } in
+    let given : IsClaimed own c.claim.result.at.revision.run c.claim.result.at.revision.memory.delta (g.P.Snapshot.base c.claim.result.at.revision.memory.snapshot) c.claim.result.at.revision.memory.first.roots c.claim.result.at.written c.claim.result.at.is_try c.claim.result.at.on c.claim.result.end s j =
+    subst (λ v. IsClaimed own c.claim.result.at.revision.run c.claim.result.at.revision.memory.delta (g.P.Snapshot.base c.claim.result.at.revision.memory.snapshot) c.claim.result.at.revision.memory.first.roots c.claim.result.at.written c.claim.result.at.is_try c.claim.result.at.on v s j) (sym c.claim.ensures.end)
+    (subst (λ k. IsClaimed own k.revision.run k.revision.memory.delta (g.P.Snapshot.base k.revision.memory.snapshot) k.revision.memory.first.roots k.written k.is_try k.on c.end.inside.value s j) (sym c.claim.ensures.at) has) in
+    let merges : AreMergesOf own (g.M.MergeBy.merges c.hand.inside.merges) = subst (λ z. AreMergesOf z (g.M.MergeBy.merges c.hand.inside.merges)) (sym same) c.hand.invariant.2 in
+    let r = rw c.in-Ok-Run.field-0-is at (c.in-Ok-Run.ensures.settled own s j given merges) in
+    let run = c.in-Ok-Run.runner.revision in
+    let one = one_state own run.run run.memory.delta (g.P.Snapshot.base run.memory.snapshot) run.memory.first.roots r.0 r.2 in
+    ap (λ z. state_of own (at_work z)) (sym one)
+    ∙ (ap (state_of own) (sym r.1)
+    ∙ (ap (λ k. state_of own (join_in own s k.is_try k.on j j.phase)) c.claim.ensures.at
+    ∙ sym (joined_is own its mine s c.at.inside.at.is_try c.at.inside.at.on (joiner_group c.at.inside.at) c.end.inside.value c.args.hand.now a e (c.at.view_is ∙ is.0) (c.end.view_is ∙ is.1) (ap (λ z. z.run) c.hand.view_is) met)))
+
+pub returns-in-Ok-Trap-clause-state : goal.returns-in-Ok-Trap-clause-state
+returns-in-Ok-Trap-clause-state g c a e is none met =
+    let own = run_under c.at.inside.setting.now in
+    let its = run_under c.end.inside.setting.now in
+    let mine = run_under c.hand.inside.setting.now in
+    let s = joiner_state own c.at.inside.at in
+    let j : End ℕ = end_for own c.end.inside.value in
+    let same = same_hand own its mine s c.at.inside.at.is_try c.at.inside.at.on (joiner_group c.at.inside.at) c.end.inside.value c.args.hand.now a e (c.at.view_is ∙ is.0) (c.end.view_is ∙ is.1) (ap (λ z. z.run) c.hand.view_is) met in
+    let alike = same_end own its mine s c.at.inside.at.is_try c.at.inside.at.on (joiner_group c.at.inside.at) c.end.inside.value c.args.hand.now a e (c.at.view_is ∙ is.0) (c.end.view_is ∙ is.1) (ap (λ z. z.run) c.hand.view_is) met in
+    let at = c.at.inside.at in
+    let has : IsClaimed own at.revision.run at.revision.memory.delta (g.P.Snapshot.base at.revision.memory.snapshot) at.revision.memory.first.roots at.written at.is_try at.on c.end.inside.value s j = record {
+      joiner = c.at.invariant.1;
+      joinee = subst (λ z. IsEnd z (end_for z c.end.inside.value) c.end.inside.value) alike c.end.invariant;
+      done = is_done own its mine s c.at.inside.at.is_try c.at.inside.at.on (joiner_group c.at.inside.at) c.end.inside.value c.args.hand.now a e (c.at.view_is ∙ is.0) (c.end.view_is ∙ is.1) (ap (λ z. z.run) c.hand.view_is) met none;
+    } in
+    let given : IsClaimed own c.claim.result.at.revision.run c.claim.result.at.revision.memory.delta (g.P.Snapshot.base c.claim.result.at.revision.memory.snapshot) c.claim.result.at.revision.memory.first.roots c.claim.result.at.written c.claim.result.at.is_try c.claim.result.at.on c.claim.result.end s j =
+    subst (λ v. IsClaimed own c.claim.result.at.revision.run c.claim.result.at.revision.memory.delta (g.P.Snapshot.base c.claim.result.at.revision.memory.snapshot) c.claim.result.at.revision.memory.first.roots c.claim.result.at.written c.claim.result.at.is_try c.claim.result.at.on v s j) (sym c.claim.ensures.end)
+    (subst (λ k. IsClaimed own k.revision.run k.revision.memory.delta (g.P.Snapshot.base k.revision.memory.snapshot) k.revision.memory.first.roots k.written k.is_try k.on c.end.inside.value s j) (sym c.claim.ensures.at) has) in
+    let merges : AreMergesOf own (g.M.MergeBy.merges c.hand.inside.merges) = subst (λ z. AreMergesOf z (g.M.MergeBy.merges c.hand.inside.merges)) (sym same) c.hand.invariant.2 in
+    let end = rw c.in-Ok-Trap.field-0-is at (c.in-Ok-Trap.ensures.settled own s j given merges) in
+    let l = join_in own s c.claim.result.at.is_try c.claim.result.at.on j j.phase in
+    let there : joined a e ≡ state_of own l = joined_is own its mine s c.at.inside.at.is_try c.at.inside.at.on (joiner_group c.at.inside.at) c.end.inside.value c.args.hand.now a e (c.at.view_is ∙ is.0) (c.end.view_is ∙ is.1) (ap (λ z. z.run) c.hand.view_is) met ∙ ap (λ k. state_of own (join_in own s k.is_try k.on j j.phase)) (sym c.claim.ensures.at) in
+    subst (λ z. IsEndBy code_hub is_end (λ (x : LeftValue). made_by_join x.left.phase) true c.leave.result z) (sym there)
+    ((end_stops own l c.in-Ok-Trap.stopped.end end, (sym c.leave.ensures.run, one_end own (end_of l) c.in-Ok-Trap.stopped.end end ∙ sym c.leave.ensures.left)), ap (λ (x : End ℕ). made_by_join x.phase) c.leave.ensures.left ∙ (by_phase c.in-Ok-Trap.stopped.end.finish ∙ (rw c.in-Ok-Trap.field-0-is at c.in-Ok-Trap.ensures.by_join)))

@@ -1,0 +1,94 @@
+//! What a thread works with.
+ghost use Rattle.std.specs.Prelude.{◌≡◌, ℕ, List};
+ghost use Rattle.block_merges.specs.Merging.{AreMergesOf};
+ghost use Rattle.block_run.specs.Area.{count};
+ghost use Rattle.leg_run.specs.Setting.{IsSetting};
+ghost use Rattle.rev_vm.specs.Starts.{run_under};
+
+use leg_run::CodeSetting;
+use std::alloc::Global;
+use std::marker::{Model, PhantomData};
+use version_map::{How, MergeBy, Snapshot};
+
+/// Where a thread puts what is left of the snapshots that it gives back. It is told how each child
+/// has its words.
+pub trait Keeper<P: Snapshot> {
+    /// What they belong to.
+    ghost group: { Self → List ℕ };
+
+    fn keep(&mut self, spent: P::Spent)
+        requires { P.spent_group spent ≡ group self.old }
+        ensures { group self.new ≡ group self.old };
+
+    fn note(&mut self, how: How)
+        ensures { group self.new ≡ group self.old };
+}
+
+/// What a thread needs to run revisions of this setting, of a run whose `main` has this fuel: the
+/// merges of all locations, and a keeper. Contracts see what runs, the fuel and the keeper's group.
+pub struct CodeHand<'a, P: Snapshot, M: MergeBy, K: Keeper<P>> {
+    pub(crate) alloc: Global,
+    pub(crate) setting: &'a CodeSetting,
+    pub(crate) fuel: u64,
+    pub(crate) merges: M,
+    pub(crate) keeper: K,
+    pub(crate) of: PhantomData<&'a P>,
+}
+
+impl<'a, P: Snapshot, M: MergeBy, K: Keeper<P>> Model for CodeHand<'a, P, M, K> {
+    ghost use Rattle.std.specs.Prelude.{◌≡◌};
+    ghost use Rattle.block_merges.specs.Merging.{AreMergesOf};
+    ghost use Rattle.block_run.specs.Area.{count};
+    ghost use Rattle.leg_run.specs.Setting.{IsSetting};
+    ghost use Rattle.rev_vm.specs.Starts.{run_under};
+    ghost use Rattle.run_revision.specs.Hands.{HandValue};
+
+    ghost Value = { HandValue };
+
+    ghost view = { λ h. record { run = run_under h.setting.now; fuel = h.fuel; group = K.group h.keeper } };
+
+    ghost invariant = { λ h. IsSetting h.setting.now × (M.size h.merges ≡ count h.setting.now.code.vars)
+        × AreMergesOf (run_under h.setting.now) (M.merges h.merges) };
+}
+
+impl<'a, P: Snapshot, M: MergeBy, K: Keeper<P>> CodeHand<'a, P, M, K> {
+    /// A hand for the runs of this setting whose `main` has this fuel.
+    pub fn new(
+        alloc: Global,
+        setting: &'a CodeSetting,
+        fuel: u64,
+        merges: M,
+        keeper: K,
+    ) -> CodeHand<'a, P, M, K>
+        requires setting { IsSetting setting.now }
+        requires size { M.size merges ≡ count setting.now.code.vars }
+        requires merges { AreMergesOf (run_under setting.now) (M.merges merges) }
+        ensures run { result.run ≡ run_under setting.entry.now }
+        ensures fuel { result.fuel ≡ fuel }
+        ensures group { result.group ≡ K.group keeper }
+    {
+        CodeHand {
+            alloc,
+            setting,
+            fuel,
+            merges,
+            keeper,
+            of: PhantomData,
+        }
+    }
+
+    /// The merges and the keeper again.
+    pub fn into_parts(self) -> (M, K)
+        ensures { K.group result.1 ≡ self.entry.group }
+    {
+        let CodeHand {
+            alloc: _,
+            setting: _,
+            fuel: _,
+            merges,
+            keeper,
+            of: _,
+        } = self;
+        (merges, keeper)
+    }
+}

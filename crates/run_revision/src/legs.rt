@@ -1,0 +1,162 @@
+//! The legs of revisions of code, between the calls of a hub.
+ghost use Rattle.std.specs.Prelude.{◌≡◌, ◌≢◌};
+ghost use Rattle.version_map.specs.declared.end.Finish.TheVariants.{Done, Trapped};
+ghost use Rattle.rev_vm.specs.Meaning.{IsEnd};
+ghost use Rattle.rev_vm.specs.Starts.{run_under};
+ghost use Rattle.rev_vm.specs.States.{end_for};
+ghost use Rattle.run_revision.specs.Forking as forking;
+ghost use Rattle.run_revision.specs.Hands as hands;
+
+use crate::forking::{CodeFork, CodeParent};
+use crate::hand::{CodeHand, Keeper};
+use crate::joiner::{CodeJoiner, Ended, JoinedBy};
+use crate::left::CodeEnd;
+use crate::machine::CodeRevisions;
+use crate::runner::CodeRunner;
+use hub_workers::{Event, Legs, Settled};
+use leg_run::CodeSetting;
+use rev_vm::{Event as VmEvent, Settled as VmSettled, Stopped, retire, run_leg, settle};
+use std::alloc::AllocError;
+use version_map::{CodeTrap, EndValue, Finish, MergeBy, Snapshot};
+
+/// The trap with which a revision ended.
+fn trap_of(value: &EndValue) -> CodeTrap
+    requires { value.now.finish ≢ Done }
+    ensures { value.now.finish ≡ Trapped result }
+{
+    match value.finish {
+        Finish::Trapped(trap) => trap,
+        Finish::Done => unreachable!(),
+    }
+}
+
+/// What a revision left, whose snapshot is given back.
+fn leave<'a, P: Snapshot, M: MergeBy, K: Keeper<P>>(
+    hand: &mut CodeHand<'a, P, M, K>,
+    setting: &'a CodeSetting,
+    stopped: Stopped<P>,
+) -> CodeEnd<'a>
+    requires end { IsEnd (run_under setting.now) (end_for (run_under setting.now) stopped.end) stopped.end }
+    requires group { P.group stopped.snapshot ≡ hand.old.group }
+    ensures run { result.run ≡ run_under setting.entry.now }
+    ensures left { result.left ≡ end_for (run_under setting.entry.now) stopped.end }
+    ensures hand { hand.new ≡ hand.old }
+{
+    let (value, spent) = retire(stopped);
+    hand.keeper.keep(spent);
+    CodeEnd { setting, value }
+}
+
+impl<'a, P: Snapshot, M: MergeBy, K: Keeper<P>> Legs for CodeRevisions<'a, P, M, K> {
+    type Hand = CodeHand<'a, P, M, K>;
+
+    type AtFork = CodeFork<'a, P>;
+
+    type Parent = CodeParent<'a, P>;
+
+    ghost begins = { hands.begins };
+
+    ghost hand_group = { λ h. h.group };
+
+    ghost fork_group = { λ f. f.group };
+
+    ghost parent_group = { λ p. p.group };
+
+    ghost forker = { forking.forker };
+
+    ghost child = { forking.child };
+
+    ghost told_as = { forking.told_as };
+
+    fn run_leg(
+        hand: &mut CodeHand<'a, P, M, K>,
+        runner: CodeRunner<'a, P>,
+    ) -> Result<Event<CodeFork<'a, P>, CodeJoiner<'a, P>, CodeEnd<'a>>, AllocError> {
+        let CodeRunner { setting, runner } = runner;
+        match run_leg(hand.alloc, runner, setting) {
+            Ok(VmEvent::Fork(at)) => Ok(Event::Fork(CodeFork { setting, at })),
+            Ok(VmEvent::Join(at)) => Ok(Event::Join(CodeJoiner { setting, at })),
+            Ok(VmEvent::End(stopped)) => Ok(Event::End(leave(hand, setting, stopped))),
+            Ok(VmEvent::Trap(stopped)) => Ok(Event::End(leave(hand, setting, stopped))),
+            Err(broken) => {
+                hand.keeper.keep(broken.give_up());
+                Err(AllocError)
+            },
+        }
+    }
+
+    fn split(
+        hand: &mut CodeHand<'a, P, M, K>,
+        at: CodeFork<'a, P>,
+    ) -> Result<(CodeParent<'a, P>, CodeRunner<'a, P>), AllocError> {
+        let CodeFork { setting, at } = at;
+        match at.fork(hand.alloc, setting) {
+            Ok((parent, runner, how)) => {
+                hand.keeper.note(how);
+                Ok((
+                    CodeParent { setting, parent },
+                    CodeRunner { setting, runner },
+                ))
+            },
+            Err(broken) => {
+                hand.keeper.keep(broken.give_up());
+                Err(AllocError)
+            },
+        }
+    }
+
+    fn told(parent: CodeParent<'a, P>, number: u32) -> CodeRunner<'a, P> {
+        let CodeParent { setting, parent } = parent;
+        CodeRunner {
+            setting,
+            runner: parent.told(number),
+        }
+    }
+
+    fn settle(
+        hand: &mut CodeHand<'a, P, M, K>,
+        claimed: JoinedBy<'a, P>,
+    ) -> Result<Settled<CodeRunner<'a, P>, CodeEnd<'a>>, AllocError> {
+        let JoinedBy { at, end } = claimed;
+        let CodeJoiner { setting, at } = at;
+        let CodeEnd { setting: _, value } = end;
+        match settle(hand.alloc, at.claim(value), &mut hand.merges) {
+            Ok(VmSettled::Run(runner)) => Ok(Settled::Run(CodeRunner { setting, runner })),
+            Ok(VmSettled::Trap(stopped)) => Ok(Settled::Trap(leave(hand, setting, stopped))),
+            Err(broken) => {
+                hand.keeper.keep(broken.give_up());
+                Err(AllocError)
+            },
+        }
+    }
+
+    fn retire(hand: &mut CodeHand<'a, P, M, K>, stopped: Ended<'a, P>) -> CodeEnd<'a> {
+        let Ended { at, end } = stopped;
+        let CodeJoiner { setting, at } = at;
+        let trap = trap_of(&end.value);
+        leave(hand, setting, at.trapped(trap))
+    }
+
+    fn dropped(at: CodeJoiner<'a, P>) -> CodeRunner<'a, P> {
+        let CodeJoiner { setting, at } = at;
+        CodeRunner {
+            setting,
+            runner: at.dropped(),
+        }
+    }
+
+    fn give_up_runner(hand: &mut CodeHand<'a, P, M, K>, runner: CodeRunner<'a, P>) {
+        let CodeRunner { setting: _, runner } = runner;
+        hand.keeper.keep(runner.give_up());
+    }
+
+    fn give_up_joiner(hand: &mut CodeHand<'a, P, M, K>, at: CodeJoiner<'a, P>) {
+        let CodeJoiner { setting: _, at } = at;
+        hand.keeper.keep(at.give_up());
+    }
+
+    fn give_up_parent(hand: &mut CodeHand<'a, P, M, K>, parent: CodeParent<'a, P>) {
+        let CodeParent { setting: _, parent } = parent;
+        hand.keeper.keep(parent.give_up());
+    }
+}
