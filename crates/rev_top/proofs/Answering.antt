@@ -11,15 +11,20 @@ use Rattle.rev_words.specs.declared.Words.{Words}
 use Rattle.rev_syntax.specs.Trees.{ProgramTree}
 use Rattle.rev_report.specs.Report.{Output}
 use Rattle.rev_report.specs.Outcome.{report}
-use Rattle.rev_messages.specs.Modes.{summary}
+use Rattle.rev_messages.specs.Modes.{summary, traced}
 use Rattle.rev_messages.specs.Refusals.{shown, status_of}
 use Rattle.rev_messages.specs.declared.refusal.Refusal.{Refusal}
 use Rattle.rev_messages.specs.declared.refusal.Refusal.TheVariants as refusals
 use Rattle.rev_top.specs.Stages.{Onward, Then}
 use Rattle.rev_top.specs.Texts.{Checks}
 use Rattle.rev_code.specs.declared.code.Code.{Code}
+use Rattle.revision_calculus.specs.Program.{Setting}
+use Rattle.trace_diagram.specs.declared.diagram.Trace.{Trace}
+use Rattle.audit_rules.specs.declared.verdict.Verdict.{Verdict}
+use Rattle.audit_rules.specs.declared.verdict.Verdict.TheVariants as verdict
 use Rattle.rev_top.specs.Codes.{ChecksCode}
-use Rattle.rev_top.specs.Answer.{Accepts, Answer, Answers, Fits, Given, Lists, RunsTo, Says, SaysAs, reads, reads_of}
+use Rattle.rev_top.specs.Traces.{Judges, Parts, ReadsTrace, Splits, answer_of, text_of}
+use Rattle.rev_top.specs.Answer.{Accepts, Answer, Answers, AuditsParts, AuditsTrace, Emits, Fits, Given, Lists, RunsCode, RunsTo, Says, SaysAs, Traces, reads, reads_of, setting}
 use Rattle.rev_top.specs.Promises.{Feeds, IsRefused}
 use Rattle.rev_top.proofs.Codes.{code_refused}
 use Rattle.rev_top.proofs.Faults.{text_refused}
@@ -43,6 +48,12 @@ summary_status seed size (o.Done text values) = refl
 summary_status seed size (o.Trapped text values t) = refl
 summary_status seed size o.Twice = refl
 
+pub traced_status : (trace : List ℕ) (x : Outcome) → (traced trace x).status ≡ end_status x
+unfolding end_status
+traced_status trace (o.Done text values) = refl
+traced_status trace (o.Trapped text values t) = refl
+traced_status trace o.Twice = refl
+
 -- a run's own status
 abbrev IsEnd : ℕ → Type 0
 IsEnd n = (n ≤ 3) × (n ≡ 2 → ⊥)
@@ -53,7 +64,7 @@ is_end (o.Done text values) = (omega arith, λ is. absurd (omega arith))
 is_end (o.Trapped text values t) = (omega arith, λ is. absurd (omega arith))
 is_end o.Twice = (omega arith, λ is. absurd (omega arith))
 
--- an output of a run, of a check or of a listing, or a refusal of what was read, which writes nothing on `out`
+-- an output of a run, or of bytes that were made, or a refusal of what was read, which writes nothing on `out`
 pub data IsPlain (a : Answer) : Type 0 where
   ends : IsEnd (shown a).status → IsPlain a
   refuses : (shown a).out ≡ [] → (shown a).status ≡ 2 → IsPlain a
@@ -67,24 +78,65 @@ accept_ends : (p : ProgramTree) (a : Answer) → Accepts p a → IsEnd (shown a)
 accept_ends p a h =
     subst (λ (n : ℕ). IsEnd n) (sym (ap (λ (x : Answer). (shown x).status) h)) (omega arith, λ is. absurd (omega arith))
 
+code_run_ends : (w : Words) (c : Code) (a : Answer) → RunsCode w c a → IsEnd (shown a).status
+code_run_ends w c a h =
+    subst (λ (n : ℕ). IsEnd n) (sym (ap (λ (x : Answer). (shown x).status) h.2 ∙ report_status w.values h.0)) (is_end h.0)
+
+emit_ends : (p : ProgramTree) (a : Answer) → Emits p a → IsEnd (shown a).status
+emit_ends p a h =
+    subst (λ (n : ℕ). IsEnd n) (sym (ap (λ (x : Answer). (shown x).status) h)) (omega arith, λ is. absurd (omega arith))
+
+trace_ends : (w : Words) (p : ProgramTree) (a : Answer) → Traces w p a → IsEnd (shown a).status
+trace_ends w p a h =
+    subst (λ (n : ℕ). IsEnd n)
+    (sym (ap (λ (x : Answer). (shown x).status) h.writes ∙ traced_status (text_of h.trace) h.outcome)) (is_end h.outcome)
+
 list_ends : (c : Code) (a : Answer) → Lists c a → IsEnd (shown a).status
 list_ends c a h =
     subst (λ (n : ℕ). IsEnd n) (sym (ap (λ (x : Answer). (shown x).status) h)) (omega arith, λ is. absurd (omega arith))
 
-of_stage : {X : Type 0} (Stage : Result X Refusal → Type 0) → ((f : Refusal) → Stage (Err f) → status_of f ≡ 2)
-    → (Second : X → Answer → Type 0) → ((x : X) (a : Answer) → Second x a → IsEnd (shown a).status)
+of_stages : {X : Type 0} (Stage : Result X Refusal → Type 0) → ((f : Refusal) → Stage (Err f) → status_of f ≡ 2)
+    → (Second : X → Answer → Type 0) → ((x : X) (a : Answer) → Second x a → IsPlain a)
     → (a : Answer) → Then Stage Second a → IsPlain a
-of_stage {X = X} Stage refused Second second a h = go h.0 h.1 h.2
+of_stages {X = X} Stage refused Second second a h = go h.0 h.1 h.2
   where
     go : (found : Result X Refusal) → Stage found → Onward Second found a → IsPlain a
-    go (Ok x) s on = ends (second x a on)
+    go (Ok x) s on = second x a on
     go (Err f) s on =
         refuses (ap (λ (x : Answer). (shown x).out) on)
         (ap (λ (x : Answer). (shown x).status) on ∙ refused f s)
 
+of_stage : {X : Type 0} (Stage : Result X Refusal → Type 0) → ((f : Refusal) → Stage (Err f) → status_of f ≡ 2)
+    → (Second : X → Answer → Type 0) → ((x : X) (a : Answer) → Second x a → IsEnd (shown a).status)
+    → (a : Answer) → Then Stage Second a → IsPlain a
+of_stage Stage refused Second second = of_stages Stage refused Second (λ x a h. ends (second x a h))
+
 of_text : (text : List ℕ) (Second : ProgramTree → Answer → Type 0) → ((p : ProgramTree) (a : Answer) → Second p a → IsEnd (shown a).status)
     → (a : Answer) → Then (Checks text) Second a → IsPlain a
 of_text text Second second a h = of_stage (Checks text) (text_refused text) Second second a h
+
+-- ---- of an audit
+
+pub split_refused : (all : List ℕ) (f : Refusal) → Splits all (Err f) → status_of f ≡ 2
+split_refused all f h = ap status_of h.0
+
+pub trace_refused : (bytes : List ℕ) (f : Refusal) → ReadsTrace bytes (Err f) → status_of f ≡ 2
+trace_refused bytes f h = ap status_of h.2
+
+judged : (s : Setting) (fuel : ℕ) (t : Trace) (a : Answer) → Judges s fuel t a → IsPlain a
+judged s fuel t a h = go h.0 h.2
+  where
+    go : (v : Verdict) → a ≡ answer_of v → IsPlain a
+    go verdict.Yes is =
+        ends (subst (λ (n : ℕ). IsEnd n) (sym (ap (λ (x : Answer). (shown x).status) is)) (omega arith, λ two. absurd (omega arith)))
+    go (verdict.No r stated c) is =
+        refuses (ap (λ (x : Answer). (shown x).out) is) (ap (λ (x : Answer). (shown x).status) is)
+
+audited : (w : Words) (p : Parts) (a : Answer) → AuditsParts w p a → IsPlain a
+audited w p a h =
+    of_stages (Checks p.text) (text_refused p.text) (AuditsTrace w p.trace)
+    (λ t b k. of_stages (ReadsTrace p.trace) (trace_refused p.trace) (Judges (setting w t) w.fuel) (judged (setting w t) w.fuel) b k)
+    a h
 
 -- one line for each mode
 says_plain : (m : Mode) (w : Words) (read : List ℕ) (a : Answer) → SaysAs m w read a → IsPlain a
@@ -94,6 +146,10 @@ says_plain modes.Check w read a h = of_text read Accepts accept_ends a h
 says_plain modes.Load w read a h =
     of_text (load_text w.seed w.size) (RunsTo w (summary w.seed w.size)) (run_ends (summary w.seed w.size) (summary_status w.seed w.size) w) a h
 says_plain modes.Dis w read a h = of_stage (ChecksCode read) (code_refused read) Lists list_ends a h
+says_plain modes.Exec w read a h = of_stage (ChecksCode read) (code_refused read) (RunsCode w) (code_run_ends w) a h
+says_plain modes.Emit w read a h = of_text read Emits emit_ends a h
+says_plain modes.Trace w read a h = of_text read (Traces w) (trace_ends w) a h
+says_plain modes.Audit w read a h = of_stages (Splits read) (split_refused read) (AuditsParts w) (audited w) a h
 
 at_most_3 : (a : Answer) → IsPlain a → (shown a).status ≤ 3
 at_most_3 a (ends is) = is.0

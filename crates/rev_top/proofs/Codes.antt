@@ -145,6 +145,16 @@ code_refused bytes =
     refusal_of (ReadsFile bytes) KeepsCodeRules (λ r. status_of r ≡ 2)
     (λ r h. file_status h.fault r h.reported) (λ c r h. code_status h.fault r h.reported)
 
+-- ---- code that was read
+
+pub kept_of : (bytes : List ℕ) (c : Code) → ChecksCode bytes (Ok c) → KeepsRules c
+unfolding ChecksCode
+kept_of bytes c h = go h.0 h.2
+  where
+    go : (found : Result Code Refusal) → Onward KeepsCodeRules found (Ok c) → KeepsRules c
+    go (Ok d) on = subst (λ (x : Code). KeepsRules x) (sym on.0) on.1
+    go (Err f) on = absurd (cc)
+
 -- ---- what the code makes of the answers of the calls
 
 pub is_read : ReadsBack → (bytes : List ℕ) (c : Code) → IsFile c bytes → ReadsFile bytes (Ok c)

@@ -1,4 +1,5 @@
 pub mod Answering
+pub mod CodeRuns
 pub mod Codes
 pub mod Faults
 pub mod Findings
@@ -9,3 +10,5 @@ pub mod Real
 pub mod Stages
 pub mod Steps
 pub mod WhyStatus
+pub mod Auditing
+pub mod TraceTexts

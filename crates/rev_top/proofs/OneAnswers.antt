@@ -15,24 +15,32 @@ use Rattle.rev_syntax.specs.declared.scan.LexFault.{LexFault}
 use Rattle.rev_parse.specs.Verdicts.{Verdict, tree, unexpected, too_deep}
 use Rattle.rev_report.specs.Report.{Output}
 use Rattle.rev_report.specs.Outcome.{report}
-use Rattle.rev_messages.specs.Modes.{accepted, summary}
+use Rattle.rev_messages.specs.Modes.{accepted, summary, traced}
 use Rattle.rev_messages.specs.declared.refusal.Refusal.{Refusal}
 use Rattle.rev_messages.specs.declared.refusal.Refusal.TheVariants as refusals
+use Rattle.revision_calculus.specs.Kinded.{IsAccepted}
 use Rattle.revision_calculus.proofs.Outcomes.{one_outcome}
 use Rattle.rev_code.specs.declared.code.Code.{Code}
 use Rattle.rev_report.specs.Report.{done}
+use Rattle.code_file.specs.Files.{file_of}
+use Rattle.code_generation.specs.Generated.{code_of}
 use Rattle.code_listing.specs.Listing.{listing}
 use Rattle.rev_top.specs.Codes.{ChecksCode}
 use Rattle.rev_top.specs.Stages.{Onward, Then}
 use Rattle.rev_top.specs.Texts.{Checks, ChecksTree, reading as read_of}
 use Rattle.rev_top.specs.Findings.{Finding, lexical, syntax, of_funs, of_rules, accepted as accepts, HasVerdict, IsFinding, IsSyntaxFault}
-use Rattle.rev_top.specs.Answer.{Accepts, Answer, Fits, Lists, RunsTo, Says, SaysAs, reads_of, setting, source_limit}
+use Rattle.rev_top.specs.Answer.{Accepts, Answer, AuditsParts, AuditsTrace, Emits, Fits, IsWithin, Lists, RunsCode, RunsTo, Says, SaysAs, Traces, code_run, reads_of, setting, source_limit}
+use Rattle.code_verifier.specs.Verdicts.{KeepsRules}
+use Rattle.code_outcomes.proofs.Outcomes.{each_has_one}
 use Rattle.rev_top.specs.Statuses.{HasOneAnswer, OneAnswer}
-use Rattle.rev_top.proofs.Codes.{one_code, some_code}
+use Rattle.rev_top.specs.Traces.{Splits, text_of}
+use Rattle.rev_top.proofs.Auditing.{one_audited, one_split, some_audited, some_split}
+use Rattle.rev_top.proofs.Codes.{kept_of, one_code, some_code}
 use Rattle.rev_top.proofs.Faults.{one_check}
 use Rattle.rev_top.proofs.Findings.{front_end}
 use Rattle.rev_top.proofs.Real.{funs_told, lexical_told, types_told}
-use Rattle.rev_top.proofs.Stages.{One, one_then}
+use Rattle.rev_top.proofs.Stages.{One, one_after, one_then}
+use Rattle.rev_top.proofs.TraceTexts.{one_trace, some_trace}
 
 -- ---- there is one at most
 
@@ -48,14 +56,49 @@ one_accept p a b h k = h ∙ sym k
 one_list : (c : Code) → One (Lists c)
 one_list c a b h k = h ∙ sym k
 
--- one line for each mode
-pub one_as : (m : Mode) (w : Words) (read : List ℕ) → One (SaysAs m w read)
+one_code_run : (w : Words) (c : Code) → KeepsRules c → One (RunsCode w c)
+one_code_run w c keeps a b h k =
+    let one = each_has_one (code_run w c) keeps w.fuel in
+    let same : h.0 ≡ k.0 = one.only h.0 h.1 ∙ sym (one.only k.0 k.1) in
+    h.2 ∙ ap (λ (x : Outcome). Ok (report w.values x)) same ∙ sym k.2
+
+one_emit : (p : ProgramTree) → One (Emits p)
+one_emit p a b h k = h ∙ sym k
+
+accepted_of : (text : List ℕ) → length text ≤ source_limit → (p : ProgramTree) → Checks text (Ok p) → IsAccepted p
+accepted_of text short p h =
+    let one = front_end text short in
+    let ready = one.ready p ((one.same p).0 h) in
+    record { small = ready.small; funs = ready.funs; rules = ready.rules }
+
+one_traces : (w : Words) (p : ProgramTree) → IsAccepted p → One (Traces w p)
+one_traces w p accepted a b h k =
+    let one = one_outcome (setting w p) w.fuel in
+    let same : h.outcome ≡ k.outcome = one.only h.outcome h.has_outcome ∙ sym (one.only k.outcome k.has_outcome) in
+    let text = one_trace (setting w p) w.fuel accepted h.trace k.trace h.has_trace k.has_trace in
+    h.writes ∙ ap (λ (x : Outcome). Ok (traced (text_of h.trace) x)) same ∙ ap (λ (x : List ℕ). Ok (traced x k.outcome)) text ∙ sym k.writes
+
+one_audit : (w : Words) (all : List ℕ) → One (SaysAs modes.Audit w all)
 unfolding SaysAs
-one_as modes.Run w read = one_then (Checks read) (RunsTo w (report w.values)) (one_check read) (one_run w (report w.values))
-one_as modes.Check w read = one_then (Checks read) Accepts (one_check read) one_accept
-one_as modes.Load w read =
+one_audit w all =
+    one_after (Splits all) (AuditsParts w) (one_split all)
+    (λ p s. one_after (Checks p.text) (AuditsTrace w p.trace) (one_check p.text)
+    (λ t c. one_audited w t (accepted_of p.text s.1 t c) p.trace))
+
+-- one line for each mode
+pub one_as : (m : Mode) (w : Words) (read : List ℕ) → IsWithin (reads_of m) (length read) → One (SaysAs m w read)
+unfolding SaysAs
+one_as modes.Run w read short = one_then (Checks read) (RunsTo w (report w.values)) (one_check read) (one_run w (report w.values))
+one_as modes.Check w read short = one_then (Checks read) Accepts (one_check read) one_accept
+one_as modes.Load w read short =
     one_then (Checks (load_text w.seed w.size)) (RunsTo w (summary w.seed w.size)) (one_check (load_text w.seed w.size)) (one_run w (summary w.seed w.size))
-one_as modes.Dis w read = one_then (ChecksCode read) Lists (one_code read) one_list
+one_as modes.Dis w read short = one_then (ChecksCode read) Lists (one_code read) one_list
+one_as modes.Exec w read short =
+    one_after (ChecksCode read) (RunsCode w) (one_code read) (λ c h. one_code_run w c (kept_of read c h))
+one_as modes.Emit w read short = one_then (Checks read) Emits (one_check read) one_emit
+one_as modes.Trace w read short =
+    one_after (Checks read) (Traces w) (one_check read) (λ p h. one_traces w p (accepted_of read short p h))
+one_as modes.Audit w read short = one_audit w read
 
 pub one_fits : (r : Option ℕ) (all : List ℕ) → One (Fits r all)
 one_fits None all a b h k = h ∙ sym k
@@ -64,9 +107,15 @@ one_fits (Some limit) all (Ok x) (Err g) h k = absurd (omega (arith, h.1, k.1))
 one_fits (Some limit) all (Err f) (Ok y) h k = absurd (omega (arith, h.1, k.1))
 one_fits (Some limit) all (Err f) (Err g) h k = ap (λ (z : Refusal). Err z) (h.0 ∙ sym k.0)
 
+within : (r : Option ℕ) (all read : List ℕ) → Fits r all (Ok read) → IsWithin r (length read)
+within None all read h = tt
+within (Some limit) all read h = subst (λ (t : List ℕ). length t ≤ limit) (sym h.0) h.1
+
 pub one_says : (w : Option Words) (all : List ℕ) → One (Says w all)
 one_says None all a b h k = h ∙ sym k
-one_says (Some w) all a b h k = one_then (Fits (reads_of w.mode) all) (SaysAs w.mode w) (one_fits (reads_of w.mode) all) (one_as w.mode w) a b h k
+one_says (Some w) all a b h k =
+    one_after (Fits (reads_of w.mode) all) (SaysAs w.mode w) (one_fits (reads_of w.mode) all)
+    (λ read fits. one_as w.mode w read (within (reads_of w.mode) all read fits)) a b h k
 
 -- ---- there is one
 
@@ -111,13 +160,18 @@ module _ (text : List ℕ) where
   some_check : length text ≤ source_limit → (found : Result ProgramTree Refusal) × Checks text found
   some_check short = let one = front_end text short in of_finding one.finding one.found
 
-some_stage : {X : Type 0} (Stage : Result X Refusal → Type 0) → ((found : Result X Refusal) × Stage found)
-    → (Second : X → Answer → Type 0) → ((x : X) → (a : Answer) × Second x a) → (a : Answer) × Then Stage Second a
-some_stage {X = X} Stage one Second second = go one.0 one.1
+-- the next stage may rest on the value of this one
+some_after : {X : Type 0} (Stage : Result X Refusal → Type 0) → ((found : Result X Refusal) × Stage found)
+    → (Second : X → Answer → Type 0) → ((x : X) → Stage (Ok x) → (a : Answer) × Second x a) → (a : Answer) × Then Stage Second a
+some_after {X = X} Stage one Second second = go one.0 one.1
   where
     go : (found : Result X Refusal) → Stage found → (a : Answer) × Then Stage Second a
-    go (Ok x) s = let next = second x in (next.0, (Ok x, s, next.1))
+    go (Ok x) s = let next = second x s in (next.0, (Ok x, s, next.1))
     go (Err f) s = (Err f, (Err f, s, refl))
+
+some_stage : {X : Type 0} (Stage : Result X Refusal → Type 0) → ((found : Result X Refusal) × Stage found)
+    → (Second : X → Answer → Type 0) → ((x : X) → (a : Answer) × Second x a) → (a : Answer) × Then Stage Second a
+some_stage Stage one Second second = some_after Stage one Second (λ x s. second x)
 
 some_then : (text : List ℕ) (Second : ProgramTree → Answer → Type 0) → ((p : ProgramTree) → (a : Answer) × Second p a) → length text ≤ source_limit
     → (a : Answer) × Then (Checks text) Second a
@@ -132,6 +186,27 @@ some_accept p = (Ok accepted, refl)
 some_list : (c : Code) → (a : Answer) × Lists c a
 some_list c = (Ok (done (listing c)), refl)
 
+some_code_run : (w : Words) (c : Code) → KeepsRules c → (a : Answer) × RunsCode w c a
+some_code_run w c keeps =
+    let one = each_has_one (code_run w c) keeps w.fuel in
+    (Ok (report w.values one.is), (one.is, one.has, refl))
+
+some_emit : (p : ProgramTree) → (a : Answer) × Emits p a
+some_emit p = (Ok (done (file_of (code_of p))), refl)
+
+some_traces : (w : Words) (p : ProgramTree) → (a : Answer) × Traces w p a
+some_traces w p =
+    let one = one_outcome (setting w p) w.fuel in
+    let t = some_trace (setting w p) w.fuel in
+    (Ok (traced (text_of t.0) one.is), record { outcome = one.is; has_outcome = one.has; trace = t.0; has_trace = t.1; writes = refl })
+
+some_audit : (w : Words) (all : List ℕ) → (a : Answer) × SaysAs modes.Audit w all a
+unfolding SaysAs
+some_audit w all =
+    some_after (Splits all) (some_split all) (AuditsParts w)
+    (λ p s. some_after (Checks p.text) (some_check p.text s.1) (AuditsTrace w p.trace)
+    (λ t c. some_audited w t (accepted_of p.text s.1 t c) p.trace))
+
 -- one line for each mode
 some_as : (m : Mode) (w : Words) → KeepsRanges w → (read all : List ℕ) → Fits (reads_of m) all (Ok read) → (a : Answer) × SaysAs m w read a
 unfolding SaysAs
@@ -143,6 +218,13 @@ some_as modes.Load w keeps read all h =
     let size = keeps.size.1 in
     some_then (load_text w.seed w.size) (RunsTo w (summary w.seed w.size)) (some_run w (summary w.seed w.size)) (load_text-short w.seed w.size (omega (arith, size)))
 some_as modes.Dis w keeps read all h = some_stage (ChecksCode read) (some_code read) Lists some_list
+some_as modes.Exec w keeps read all h =
+    some_after (ChecksCode read) (some_code read) (RunsCode w) (λ c k. some_code_run w c (kept_of read c k))
+some_as modes.Emit w keeps read all h =
+    some_then read Emits some_emit (subst (λ (t : List ℕ). length t ≤ source_limit) (sym h.0) h.1)
+some_as modes.Trace w keeps read all h =
+    some_then read (Traces w) (some_traces w) (subst (λ (t : List ℕ). length t ≤ source_limit) (sym h.0) h.1)
+some_as modes.Audit w keeps read all h = some_audit w read
 
 some_says : (w : Words) → KeepsRanges w → (all : List ℕ) → (a : Answer) × Says (Some w) all a
 some_says w keeps all = let one = some_fits (reads_of w.mode) all in go one.0 one.1

@@ -45,14 +45,18 @@ module _ {X Y : Type 0} (Stage : Result X Refusal → Type 0) (Says : X → Resu
       go (Ok x) s on = second x f on
       go (Err g) s on = let same : f ≡ g = cc in subst P (sym same) (first g s)
 
-  pub one_then : One Stage → ((x : X) → One (Says x)) → One (Then Stage Says)
-  one_then one next a b h k = go h.0 k.0 (one h.0 k.0 h.1 k.1) h.2 k.2
+  -- the next stage may rest on the value of this one
+  pub one_after : One Stage → ((x : X) → Stage (Ok x) → One (Says x)) → One (Then Stage Says)
+  one_after one next a b h k = go h.0 k.0 (one h.0 k.0 h.1 k.1) h.1 h.2 k.2
     where
-      go : (x y : Result X Refusal) → x ≡ y → Onward Says x a → Onward Says y b → a ≡ b
-      go (Ok x) (Ok y) same on on2 = let e : x ≡ y = cc in next x a b on (subst (λ z. Says z b) (sym e) on2)
-      go (Ok x) (Err g) same on on2 = cc
-      go (Err f) (Ok y) same on on2 = cc
-      go (Err f) (Err g) same on on2 = let e : f ≡ g = cc in on ∙ ap (λ (z : Refusal). Err z) e ∙ sym on2
+      go : (x y : Result X Refusal) → x ≡ y → Stage x → Onward Says x a → Onward Says y b → a ≡ b
+      go (Ok x) (Ok y) same s on on2 = let e : x ≡ y = cc in next x s a b on (subst (λ z. Says z b) (sym e) on2)
+      go (Ok x) (Err g) same s on on2 = cc
+      go (Err f) (Ok y) same s on on2 = cc
+      go (Err f) (Err g) same s on on2 = let e : f ≡ g = cc in on ∙ ap (λ (z : Refusal). Err z) e ∙ sym on2
+
+  pub one_then : One Stage → ((x : X) → One (Says x)) → One (Then Stage Says)
+  one_then one next = one_after one (λ x s. next x)
 
 -- what is made of a fault that is reported
 reported : {X Y : Type 0} (view : X → Y) (Stage : Result Y Refusal → Type 0) (o : Option Refusal)

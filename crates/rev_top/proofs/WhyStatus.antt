@@ -10,69 +10,140 @@ use Rattle.rev_words.specs.declared.Words.{Words}
 use Rattle.rev_syntax.specs.Trees.{ProgramTree}
 use Rattle.rev_report.specs.Report.{Output}
 use Rattle.rev_report.specs.Outcome.{report}
-use Rattle.rev_messages.specs.Modes.{summary}
+use Rattle.rev_messages.specs.Modes.{summary, traced}
 use Rattle.rev_messages.specs.Refusals.{shown, status_of}
 use Rattle.rev_messages.specs.declared.refusal.Refusal.{Refusal}
 use Rattle.rev_messages.specs.declared.refusal.Refusal.TheVariants as refusals
-use Rattle.revision_calculus.specs.Complete.{HasOutcome}
+use Rattle.revision_calculus.specs.Program.{Setting}
+use Rattle.trace_diagram.specs.declared.diagram.Trace.{Trace}
+use Rattle.audit_rules.specs.Verdicts.{Audits}
+use Rattle.audit_rules.specs.declared.verdict.Verdict.{Verdict}
+use Rattle.audit_rules.specs.declared.verdict.Verdict.TheVariants as verdict
 use Rattle.rev_code.specs.declared.code.Code.{Code}
 use Rattle.rev_top.specs.Codes.{ChecksCode}
 use Rattle.rev_top.specs.Stages.{Onward, Then}
 use Rattle.rev_top.specs.Texts.{Checks}
-use Rattle.rev_top.specs.Answer.{Accepts, Answer, Fits, Lists, RunsTo, Says, SaysAs, reads_of, setting}
-use Rattle.rev_top.specs.Statuses.{HasCauses, IsAtFault, IsFault, IsTrap, Ran, Runs, StatusLaw}
-use Rattle.rev_top.proofs.Answering.{end_status, report_status, summary_status}
+use Rattle.rev_top.specs.Traces.{Judges, Parts, ReadsTrace, Splits, answer_of, text_of}
+use Rattle.rev_top.specs.Answer.{Accepts, Answer, AuditsParts, AuditsTrace, Emits, Fits, Lists, RunsCode, RunsTo, Says, SaysAs, Traces, reads_of, setting}
+use Rattle.rev_top.specs.Statuses.{Ends, EndsAs, HasCauses, IsAtFault, IsAuditFault, IsFault, IsTrap, Ran, StatusLaw, differs, in_length, in_text, in_trace}
+use Rattle.rev_top.proofs.Answering.{end_status, report_status, split_refused, summary_status, trace_refused, traced_status}
+use Rattle.rev_top.proofs.TraceTexts.{some_trace}
 use Rattle.rev_top.proofs.Codes.{code_refused}
 use Rattle.rev_top.proofs.Faults.{text_refused}
 use Rattle.rev_top.proofs.OneAnswers.{one_says}
 
--- the program of a mode that runs it, and its outcome
-record EndsAs (m : Mode) (w : Words) (read : List ℕ) (x : Outcome) : Type 0 where
-  program : ProgramTree
-  runs : Runs m w read program
-  ends : HasOutcome (setting w program) w.fuel x
-
--- why a mode says what it says: what it was given is at fault, or it has run its program, or there was none to run
+-- why a mode says what it says: what it was given is at fault, or what it ran has ended, or there was
+-- nothing to run
 data Tells (m : Mode) (w : Words) (read : List ℕ) (a : Answer) : Type 0 where
   at_fault : (f : Refusal) → IsFault m w read f → a ≡ Err f → Tells m w read a
-  at_end : (x : Outcome) → EndsAs m w read x → (shown a).status ≡ end_status x → Tells m w read a
+  at_end : (x : Outcome) → Ends m w read x → (shown a).status ≡ end_status x → Tells m w read a
   no_run : (shown a).status ≡ 0 → Tells m w read a
+
+-- of a mode that runs a text
+runs_text : (m : Mode) (w : Words) (read text : List ℕ) → ((f : Refusal) → Checks text (Err f) → IsFault m w read f)
+    → ((x : Outcome) → EndsAs w text x → Ends m w read x)
+    → (write : Outcome → Output) → ((x : Outcome) → (write x).status ≡ end_status x)
+    → (a : Answer) → Then (Checks text) (RunsTo w write) a → Tells m w read a
+runs_text m w read text fault end write status a h = go h.0 h.1 h.2
+  where
+    go : (found : Result ProgramTree Refusal) → Checks text found → Onward (RunsTo w write) found a → Tells m w read a
+    go (Ok p) s on =
+        at_end on.0 (end on.0 (p, s, on.1))
+        (ap (λ (x : Answer). (shown x).status) on.2 ∙ status on.0)
+    go (Err f) s on = at_fault f (fault f s) on
+
+-- of a mode that writes something of a text, and runs nothing
+makes_of : {X : Type 0} (m : Mode) (w : Words) (read : List ℕ) (Stage : Result X Refusal → Type 0)
+    → ((f : Refusal) → Stage (Err f) → IsFault m w read f)
+    → (Says : X → Answer → Type 0) → ((x : X) (a : Answer) → Says x a → (shown a).status ≡ 0)
+    → (a : Answer) → Then Stage Says a → Tells m w read a
+makes_of {X = X} m w read Stage fault Says status a h = go h.0 h.1 h.2
+  where
+    go : (found : Result X Refusal) → Stage found → Onward Says found a → Tells m w read a
+    go (Ok x) s on = no_run (status x a on)
+    go (Err f) s on = at_fault f (fault f s) on
+
+tells_trace : (w : Words) (read : List ℕ) (a : Answer) → Then (Checks read) (Traces w) a → Tells modes.Trace w read a
+tells_trace w read a h = go h.0 h.1 h.2
+  where
+    go : (found : Result ProgramTree Refusal) → Checks read found → Onward (Traces w) found a → Tells modes.Trace w read a
+    go (Ok p) s on =
+        at_end on.outcome (p, s, on.has_outcome)
+        (ap (λ (x : Answer). (shown x).status) on.writes ∙ traced_status (text_of on.trace) on.outcome)
+    go (Err f) s on = at_fault f s on
+
+tells_exec : (w : Words) (read : List ℕ) (a : Answer) → Then (ChecksCode read) (RunsCode w) a → Tells modes.Exec w read a
+tells_exec w read a h = go h.0 h.1 h.2
+  where
+    go : (found : Result Code Refusal) → ChecksCode read found → Onward (RunsCode w) found a → Tells modes.Exec w read a
+    go (Ok c) s on =
+        at_end on.0 (c, s, on.1)
+        (ap (λ (x : Answer). (shown x).status) on.2 ∙ report_status w.values on.0)
+    go (Err f) s on = at_fault f s on
+
+-- ---- of an audit
+
+tells_verdict : (w : Words) (read : List ℕ) (p : Parts) → Splits read (Ok p) → (t : ProgramTree) → Checks p.text (Ok t)
+    → (trace : Trace) → ReadsTrace p.trace (Ok trace) → (a : Answer) → Judges (setting w t) w.fuel trace a → Tells modes.Audit w read a
+tells_verdict w read p split t checked trace r a h = go h.0 h.1 h.2
+  where
+    go : (v : Verdict) → Audits (setting w t) w.fuel trace v → a ≡ answer_of v → Tells modes.Audit w read a
+    go verdict.Yes says is = no_run (ap (λ (x : Answer). (shown x).status) is)
+    go (verdict.No q stated c) says is =
+        at_fault (refusals.Differs q) (differs p split t checked trace r (verdict.No q stated c, says, refl)) is
+
+tells_bytes : (w : Words) (read : List ℕ) (p : Parts) → Splits read (Ok p) → (t : ProgramTree) → Checks p.text (Ok t)
+    → (a : Answer) → AuditsTrace w p.trace t a → Tells modes.Audit w read a
+tells_bytes w read p split t checked a h = go h.0 h.1 h.2
+  where
+    go : (found : Result Trace Refusal) → ReadsTrace p.trace found → Onward (Judges (setting w t) w.fuel) found a → Tells modes.Audit w read a
+    go (Ok trace) r on = tells_verdict w read p split t checked trace r a on
+    go (Err f) r on = at_fault f (in_trace p split t checked r) on
+
+tells_parts : (w : Words) (read : List ℕ) (p : Parts) → Splits read (Ok p) → (a : Answer) → AuditsParts w p a → Tells modes.Audit w read a
+tells_parts w read p split a h = go h.0 h.1 h.2
+  where
+    go : (found : Result ProgramTree Refusal) → Checks p.text found → Onward (AuditsTrace w p.trace) found a → Tells modes.Audit w read a
+    go (Ok t) s on = tells_bytes w read p split t s a on
+    go (Err f) s on = at_fault f (in_text p split s) on
+
+tells_audit : (w : Words) (read : List ℕ) (a : Answer) → Then (Splits read) (AuditsParts w) a → Tells modes.Audit w read a
+tells_audit w read a h = go h.0 h.1 h.2
+  where
+    go : (found : Result Parts Refusal) → Splits read found → Onward (AuditsParts w) found a → Tells modes.Audit w read a
+    go (Ok p) s on = tells_parts w read p s a on
+    go (Err f) s on = at_fault f (in_length s) on
 
 -- one line for each mode
 tells : (m : Mode) (w : Words) (read : List ℕ) (a : Answer) → SaysAs m w read a → Tells m w read a
 unfolding SaysAs
-tells modes.Run w read a h = go h.0 h.1 h.2
-  where
-    go : (found : Result ProgramTree Refusal) → Checks read found → Onward (RunsTo w (report w.values)) found a → Tells modes.Run w read a
-    go (Ok p) s on =
-        at_end on.0 (record { program = p; runs = s; ends = on.1 })
-        (ap (λ (x : Answer). (shown x).status) on.2 ∙ report_status w.values on.0)
-    go (Err f) s on = at_fault f s on
-tells modes.Check w read a h = go h.0 h.1 h.2
-  where
-    go : (found : Result ProgramTree Refusal) → Checks read found → Onward Accepts found a → Tells modes.Check w read a
-    go (Ok p) s on = no_run (ap (λ (x : Answer). (shown x).status) on)
-    go (Err f) s on = at_fault f s on
-tells modes.Load w read a h = go h.0 h.1 h.2
-  where
-    go : (found : Result ProgramTree Refusal) → Checks (load_text w.seed w.size) found → Onward (RunsTo w (summary w.seed w.size)) found a → Tells modes.Load w read a
-    go (Ok p) s on =
-        at_end on.0 (record { program = p; runs = s; ends = on.1 })
-        (ap (λ (x : Answer). (shown x).status) on.2 ∙ summary_status w.seed w.size on.0)
-    go (Err f) s on = at_fault f s on
-tells modes.Dis w read a h = go h.0 h.1 h.2
-  where
-    go : (found : Result Code Refusal) → ChecksCode read found → Onward Lists found a → Tells modes.Dis w read a
-    go (Ok c) s on = no_run (ap (λ (x : Answer). (shown x).status) on)
-    go (Err f) s on = at_fault f s on
+tells modes.Run w read a h = runs_text modes.Run w read read (λ f k. k) (λ x k. k) (report w.values) (report_status w.values) a h
+tells modes.Check w read a h =
+    makes_of modes.Check w read (Checks read) (λ f k. k) Accepts (λ p b k. ap (λ (x : Answer). (shown x).status) k) a h
+tells modes.Load w read a h =
+    runs_text modes.Load w read (load_text w.seed w.size) (λ f k. k) (λ x k. k)
+    (summary w.seed w.size) (summary_status w.seed w.size) a h
+tells modes.Dis w read a h =
+    makes_of modes.Dis w read (ChecksCode read) (λ f k. k) Lists (λ c b k. ap (λ (x : Answer). (shown x).status) k) a h
+tells modes.Exec w read a h = tells_exec w read a h
+tells modes.Emit w read a h =
+    makes_of modes.Emit w read (Checks read) (λ f k. k) Emits (λ p b k. ap (λ (x : Answer). (shown x).status) k) a h
+tells modes.Trace w read a h = tells_trace w read a h
+tells modes.Audit w read a h = tells_audit w read a h
 
--- an answer of the mode, where its program has an outcome, with this status
-says_end : (m : Mode) (w : Words) (read : List ℕ) (x : Outcome) → EndsAs m w read x → (a : Answer) × SaysAs m w read a × ((shown a).status ≡ end_status x)
+-- an answer of the mode, where what it runs has an outcome, with this status
+says_end : (m : Mode) (w : Words) (read : List ℕ) (x : Outcome) → Ends m w read x → (a : Answer) × SaysAs m w read a × ((shown a).status ≡ end_status x)
 unfolding SaysAs
-says_end modes.Run w read x h = (Ok (report w.values x), (Ok h.program, h.runs, (x, h.ends, refl)), report_status w.values x)
-says_end modes.Check w read x h = absurd h.runs
-says_end modes.Load w read x h = (Ok (summary w.seed w.size x), (Ok h.program, h.runs, (x, h.ends, refl)), summary_status w.seed w.size x)
-says_end modes.Dis w read x h = absurd h.runs
+says_end modes.Run w read x h = (Ok (report w.values x), (Ok h.0, h.1, (x, h.2, refl)), report_status w.values x)
+says_end modes.Check w read x h = absurd h
+says_end modes.Load w read x h = (Ok (summary w.seed w.size x), (Ok h.0, h.1, (x, h.2, refl)), summary_status w.seed w.size x)
+says_end modes.Dis w read x h = absurd h
+says_end modes.Exec w read x h = (Ok (report w.values x), (Ok h.0, h.1, (x, h.2, refl)), report_status w.values x)
+says_end modes.Emit w read x h = absurd h
+says_end modes.Trace w read x h =
+    let t = some_trace (setting w h.0) w.fuel in
+    (Ok (traced (text_of t.0) x), (Ok h.0, h.1, record { outcome = x; has_outcome = h.2; trace = t.0; has_trace = t.1; writes = refl }), traced_status (text_of t.0) x)
+says_end modes.Audit w read x h = absurd h
 
 trap_status : (x : Outcome) → end_status x ≡ 1 → IsTrap x
 unfolding end_status
@@ -102,12 +173,29 @@ not_two (o.Done text values) is = absurd (omega (arith, is))
 not_two (o.Trapped text values t) is = absurd (omega (arith, is))
 not_two o.Twice is = absurd (omega (arith, is))
 
+judged_refused : (s : Setting) (fuel : ℕ) (t : Trace) (f : Refusal) → Judges s fuel t (Err f) → status_of f ≡ 2
+judged_refused s fuel t f h = go h.0 h.2
+  where
+    go : (v : Verdict) → Err f ≡ answer_of v → status_of f ≡ 2
+    go verdict.Yes is = cc
+    go (verdict.No r stated c) is = let e : f ≡ refusals.Differs r = cc in ap status_of e
+
+audit_refused : (w : Words) (all : List ℕ) (f : Refusal) → IsAuditFault w all f → status_of f ≡ 2
+audit_refused w all f (in_length s) = split_refused all f s
+audit_refused w all f (in_text p s t) = text_refused p.text f t
+audit_refused w all f (in_trace p s t c r) = trace_refused p.trace f r
+audit_refused w all f (differs p s t c trace r j) = judged_refused (setting w t) w.fuel trace f j
+
 -- one line for each mode
 fault_is_refused : (m : Mode) (w : Words) (read : List ℕ) (f : Refusal) → IsFault m w read f → status_of f ≡ 2
 fault_is_refused modes.Run w read f h = text_refused read f h
 fault_is_refused modes.Check w read f h = text_refused read f h
 fault_is_refused modes.Load w read f h = text_refused (load_text w.seed w.size) f h
 fault_is_refused modes.Dis w read f h = code_refused read f h
+fault_is_refused modes.Exec w read f h = code_refused read f h
+fault_is_refused modes.Emit w read f h = text_refused read f h
+fault_is_refused modes.Trace w read f h = text_refused read f h
+fault_is_refused modes.Audit w read f h = audit_refused w read f h
 
 module _ (w : Words) (all : List ℕ) where
   -- too long
@@ -129,7 +217,7 @@ module _ (w : Words) (all : List ℕ) where
     of_tells : (read : List ℕ) → Fits (reads_of w.mode) all (Ok read) → Tells w.mode w read a → Reason
     of_tells read fits (at_fault f h is) = fault f (inr (read, fits, h)) is
     of_tells read fits (at_end x e is) =
-        ran x (record { read = read; fits = fits; program = e.program; runs = e.runs; ends = e.ends }) is
+        ran x (record { read = read; fits = fits; ends = e }) is
     of_tells read fits (no_run is) = done is
 
     of_read : (found : Result (List ℕ) Refusal) → Fits (reads_of w.mode) all found → Onward (SaysAs w.mode w) found a → Reason
@@ -145,7 +233,7 @@ module _ (w : Words) (all : List ℕ) where
     -- the answer to a run has its status
     ran_status : (x : Outcome) → Ran w all x → (shown a).status ≡ end_status x
     ran_status x r =
-        let one = says_end w.mode w r.read x (record { program = r.program; runs = r.runs; ends = r.ends }) in
+        let one = says_end w.mode w r.read x r.ends in
         ap (λ (y : Answer). (shown y).status) (one_says (Some w) all a one.0 says (Ok r.read, r.fits, one.1)) ∙ one.2
 
     trapped_why : Reason → (shown a).status ≡ 1 → (x : Outcome) × Ran w all x × IsTrap x

@@ -1,7 +1,8 @@
 -- What a call answers, by its words and by the bytes that it reads.
 --
 -- `reads` is how much of the source a call reads. `SaysAs` is what each mode says of what it read,
--- stage after stage: the text, then the run; or the code file, then its listing. `Says` is the answer
+-- stage after stage: the text, then the run; or the code file, then its listing; or the text,
+-- then the trace behind it, then its audit. `Says` is the answer
 -- to words and bytes: usage, then the length, then the mode; `Answers` is the same of a source, which
 -- may fail.
 use Rattle.std.specs.Prelude.{ℕ, List, [], ◌≡◌, ◌≤◌, ◌<◌, ◌⊎◌, ◌+◌, length, Option, Some, None, Result, Ok, Err}
@@ -13,19 +14,26 @@ use Rattle.rev_words.specs.declared.Mode.TheVariants as modes
 use Rattle.rev_words.specs.declared.Words.{Words}
 use Rattle.rev_report.specs.Report.{Output, done}
 use Rattle.rev_report.specs.Outcome.{report}
-use Rattle.rev_messages.specs.Modes.{accepted, summary}
+use Rattle.rev_messages.specs.Modes.{accepted, summary, traced}
 use Rattle.rev_messages.specs.Refusals.{shown}
 use Rattle.rev_messages.specs.declared.refusal.Refusal.{Refusal}
 use Rattle.rev_messages.specs.declared.refusal.Refusal.TheVariants as refusals
 use Rattle.rev_code.specs.declared.code.Code.{Code}
+use Rattle.code_machine.specs.Local.{CodeRun}
+use Rattle.code_outcomes.specs.Outcomes.{HasOutcome as HasCodeOutcome}
+use Rattle.code_file.specs.Files.{file_of}
+use Rattle.code_generation.specs.Generated.{code_of}
 use Rattle.code_listing.specs.Listing.{listing}
 use Rattle.rev_syntax.specs.Trees.{ProgramTree}
 use Rattle.rev_parse.specs.SmallTree.{most_bytes}
 use Rattle.revision_calculus.specs.Program.{Setting}
 use Rattle.revision_calculus.specs.Complete.{HasOutcome}
+use Rattle.trace_diagram.specs.declared.diagram.Trace.{Trace}
+use Rattle.trace_making.specs.Traced.{HasTrace}
 use Rattle.rev_top.specs.Codes.{ChecksCode}
 use Rattle.rev_top.specs.Stages.{Then}
 use Rattle.rev_top.specs.Texts.{Checks}
+use Rattle.rev_top.specs.Traces.{Judges, Parts, ReadsTrace, Splits, text_of}
 
 abbrev pub Answer : Type 0
 Answer = Result Output Refusal
@@ -36,7 +44,7 @@ Answer = Result Output Refusal
 abbrev pub source_limit : ℕ
 source_limit = most_bytes
 
--- the most bytes that a code file may have
+-- the most bytes that a code file may have, and a text with a trace behind it
 abbrev pub file_limit : ℕ
 file_limit = 16777216
 
@@ -46,6 +54,10 @@ reads_of modes.Run = Some source_limit
 reads_of modes.Check = Some source_limit
 reads_of modes.Load = None
 reads_of modes.Dis = Some file_limit
+reads_of modes.Exec = Some file_limit
+reads_of modes.Emit = Some source_limit
+reads_of modes.Trace = Some source_limit
+reads_of modes.Audit = Some file_limit
 
 -- words without a reading read nothing
 abbrev pub reads : Option Words → Option ℕ
@@ -66,17 +78,50 @@ RunsTo w write p a = (o : Outcome) × HasOutcome (setting w p) w.fuel o × (a �
 abbrev pub Accepts : ProgramTree → Answer → Type 0
 Accepts p a = a ≡ Ok accepted
 
+-- the file of the program's code is written
+abbrev pub Emits : ProgramTree → Answer → Type 0
+Emits p a = a ≡ Ok (done (file_of (code_of p)))
+
+-- the trace of the final state of every complete run of the program is written, with the message and
+-- the status of their outcome
+pub record Traces (w : Words) (p : ProgramTree) (a : Answer) : Type 0 where
+  pub outcome : Outcome
+  pub has_outcome : HasOutcome (setting w p) w.fuel outcome
+  pub trace : Option Trace
+  pub has_trace : HasTrace (setting w p) w.fuel trace
+  pub writes : a ≡ Ok (traced (text_of trace) outcome)
+
+-- the trace is read and audited
+abbrev pub AuditsTrace : Words → (trace : List ℕ) → ProgramTree → Answer → Type 0
+AuditsTrace w trace p = Then (ReadsTrace trace) (Judges (setting w p) w.fuel)
+
+-- the text is checked, and then the trace behind it
+abbrev pub AuditsParts : Words → Parts → Answer → Type 0
+AuditsParts w p = Then (Checks p.text) (AuditsTrace w p.trace)
+
+-- what running code is given
+abbrev pub code_run : Words → Code → CodeRun
+code_run w c = record { code = c; inputs = w.numbers; share = w.share }
+
+-- what is written of the outcome that the code has, whatever the order of the legs of its revisions
+abbrev pub RunsCode : Words → Code → Answer → Type 0
+RunsCode w c a = (o : Outcome) × HasCodeOutcome (code_run w c) w.fuel o × (a ≡ Ok (report w.values o))
+
 -- the code keeps all rules, and its listing is written
 abbrev pub Lists : Code → Answer → Type 0
 Lists c a = a ≡ Ok (done (listing c))
 
--- what each mode says of the bytes that it read: of its text, and then of the run; or of its code file
+-- what each mode says of the bytes that it read
 unfoldable pub SaysAs : Mode → Words → List ℕ → Answer → Type 0
 SaysAs modes.Run w text = Then (Checks text) (RunsTo w (report w.values))
 SaysAs modes.Check w text = Then (Checks text) Accepts
 SaysAs modes.Load w nothing =
     Then (Checks (load_text w.seed w.size)) (RunsTo w (summary w.seed w.size))
 SaysAs modes.Dis w file = Then (ChecksCode file) Lists
+SaysAs modes.Exec w file = Then (ChecksCode file) (RunsCode w)
+SaysAs modes.Emit w text = Then (Checks text) Emits
+SaysAs modes.Trace w text = Then (Checks text) (Traces w)
+SaysAs modes.Audit w all = Then (Splits all) (AuditsParts w)
 
 -- ---- the order of the refusals: words, read fault, length, and what the mode says
 

@@ -7,3 +7,4 @@ pub mod Stages
 pub mod Statuses
 pub mod Stops
 pub mod Texts
+pub mod Traces

@@ -12,6 +12,7 @@ use Rattle.rev_words.specs.declared.Mode.TheVariants as modes
 use Rattle.rev_words.specs.declared.Words.{Words}
 use Rattle.rev_code.specs.declared.code.Code.{Code}
 use Rattle.code_file.specs.Laws.{AreBytes, IsFile}
+use Rattle.code_outcomes.specs.Outcomes.{HasOutcome as HasCodeOutcome}
 use Rattle.code_listing.specs.Listing.{listing}
 use Rattle.code_verifier.specs.Verdicts.{KeepsRules}
 use Rattle.rev_report.specs.Report.{Output, done}
@@ -20,9 +21,11 @@ use Rattle.rev_report.specs.Status.{refused_status, trapped_status, twice_status
 use Rattle.rev_messages.specs.declared.refusal.Refusal.{Refusal}
 use Rattle.rev_syntax.specs.Trees.{ProgramTree}
 use Rattle.revision_calculus.specs.Complete.{HasOutcome}
+use Rattle.trace_diagram.specs.declared.diagram.Trace.{Trace}
 use Rattle.rev_top.specs.Codes.{ChecksCode}
 use Rattle.rev_top.specs.Texts.{Checks}
-use Rattle.rev_top.specs.Answer.{Answer, Fits, Says, file_limit, reads_of, setting}
+use Rattle.rev_top.specs.Traces.{Judges, Parts, ReadsTrace, Splits}
+use Rattle.rev_top.specs.Answer.{Answer, Fits, Says, code_run, file_limit, reads_of, setting}
 
 -- ---- one answer
 
@@ -37,34 +40,60 @@ OneAnswer = (texts : List (List ℕ)) (all : List ℕ) → HasOneAnswer (reading
 
 -- ---- causes
 
--- the mode runs a program, and this is the one
-abbrev pub Runs : Mode → Words → List ℕ → ProgramTree → Type 0
-Runs modes.Run w read p = Checks read (Ok p)
-Runs modes.Check w read p = ⊥
-Runs modes.Load w read p = Checks (load_text w.seed w.size) (Ok p)
-Runs modes.Dis w read p = ⊥
+-- a program that keeps all rules, and the outcome of every complete run of it
+abbrev pub EndsAs : Words → (text : List ℕ) → Outcome → Type 0
+EndsAs w text end = (p : ProgramTree) × Checks text (Ok p) × HasOutcome (setting w p) w.fuel end
 
--- what the mode is given is at fault, first of all in this: the text of a program, or a code file
+-- code that keeps all rules, and its outcome
+abbrev pub CodeEndsAs : Words → (file : List ℕ) → Outcome → Type 0
+CodeEndsAs w file end = (c : Code) × ChecksCode file (Ok c) × HasCodeOutcome (code_run w c) w.fuel end
+
+-- the mode runs what it read, and this is the outcome
+abbrev pub Ends : Mode → Words → List ℕ → Outcome → Type 0
+Ends modes.Run w read end = EndsAs w read end
+Ends modes.Check w read end = ⊥
+Ends modes.Load w read end = EndsAs w (load_text w.seed w.size) end
+Ends modes.Dis w read end = ⊥
+Ends modes.Exec w read end = CodeEndsAs w read end
+Ends modes.Emit w read end = ⊥
+Ends modes.Trace w read end = EndsAs w read end
+Ends modes.Audit w read end = ⊥
+
+-- what is at fault first in the parts of a source: the text is too long or no program, or the trace
+-- is none, or it is not that of the program's runs
+pub data IsAuditFault (w : Words) (all : List ℕ) (f : Refusal) : Type 0 where
+  in_length : Splits all (Err f) → IsAuditFault w all f
+  in_text : (p : Parts) → Splits all (Ok p) → Checks p.text (Err f) → IsAuditFault w all f
+  in_trace : (p : Parts) → Splits all (Ok p) → (t : ProgramTree) → Checks p.text (Ok t)
+      → ReadsTrace p.trace (Err f) → IsAuditFault w all f
+  differs : (p : Parts) → Splits all (Ok p) → (t : ProgramTree) → Checks p.text (Ok t)
+      → (trace : Trace) → ReadsTrace p.trace (Ok trace)
+      → Judges (setting w t) w.fuel trace (Err f) → IsAuditFault w all f
+
+-- what the mode is given is at fault, first of all in this: the text of a program, a code file, or a
+-- text with a trace
 abbrev pub IsFault : Mode → Words → List ℕ → Refusal → Type 0
 IsFault modes.Run w read f = Checks read (Err f)
 IsFault modes.Check w read f = Checks read (Err f)
 IsFault modes.Load w read f = Checks (load_text w.seed w.size) (Err f)
 IsFault modes.Dis w read f = ChecksCode read (Err f)
+IsFault modes.Exec w read f = ChecksCode read (Err f)
+IsFault modes.Emit w read f = Checks read (Err f)
+IsFault modes.Trace w read f = Checks read (Err f)
+IsFault modes.Audit w read f = IsAuditFault w read f
 
--- a program was run, and this is its outcome
+-- something was run, and this is its outcome
 pub record Ran (w : Words) (all : List ℕ) (end : Outcome) : Type 0 where
   pub read : List ℕ
   pub fits : Fits (reads_of w.mode) all (Ok read)
-  pub program : ProgramTree
-  pub runs : Runs w.mode w read program
-  pub ends : HasOutcome (setting w program) w.fuel end
+  pub ends : Ends w.mode w read end
 
 abbrev pub IsTrap : Outcome → Type 0
 IsTrap (o.Done text values) = ⊥
 IsTrap (o.Trapped text values t) = Unit {0}
 IsTrap o.Twice = ⊥
 
--- the source is too long, or else this is the first fault of the text or the code file
+-- the source is too long, or else this is the first fault of what it gives
 abbrev pub IsAtFault : Words → List ℕ → Refusal → Type 0
 IsAtFault w all f = Fits (reads_of w.mode) all (Err f)
     ⊎ ((read : List ℕ) × Fits (reads_of w.mode) all (Ok read) × IsFault w.mode w read f)

@@ -14,12 +14,17 @@ ghost use Rattle.rev_top.specs.Answer.{SaysAs, Takes, reads, reads_of, setting, 
 ghost use Rattle.rev_top.specs.Stops.{Meets};
 ghost use Rattle.rev_top.specs.Texts.{Checks};
 
+use crate::audits::audit;
 use crate::code::checked_code;
+use crate::emits::emit;
+use crate::execs::exec;
 use crate::stop::Stop;
 use crate::text::checked;
+use crate::traces::trace;
 use code_listing::disassemble;
+use code_runs::run_code;
 use code_verifier::Verified;
-use plain_runner::run_plain;
+use codegen::generate;
 use rev_io::{Source, read_text};
 use rev_messages::{accepted_report, done_report, refusal_bytes, summary_report};
 use rev_num::Outcome;
@@ -29,24 +34,21 @@ use rev_words::{Mode, Words, load_text, read_words};
 use std::alloc::{AllocError, Global};
 
 /// The most bytes that the text of a program may have.
-const SOURCE_LIMIT: usize = 1_048_576;
+pub(crate) const SOURCE_LIMIT: usize = 1_048_576;
 
-/// The most bytes that a code file may have.
+/// The most bytes that a code file may have, and a text with a trace behind it.
 const FILE_LIMIT: usize = 16_777_216;
 
-/// The outcome of the program with the input numbers, the share and the fuel of the words.
-fn outcome_of(alloc: Global, words: &Words, typed: &Typed) -> Result<Outcome, AllocError>
+/// The outcome of the program with the input numbers, the share and the fuel of the words, by a run of
+/// its code.
+pub(crate) fn outcome_of(alloc: Global, words: &Words, typed: &Typed) -> Result<Outcome, AllocError>
     requires { words.now.fuel ≤ 4000000000 }
     ensures { IfOk result (λ o. HasOutcome
         (setting words.now (whole typed.now.expanded.program)) words.now.fuel o) }
 {
-    run_plain(
-        alloc,
-        typed,
-        words.numbers.as_slice(),
-        words.share,
-        words.fuel,
-    )
+    let code = generate(alloc, typed)?;
+    let numbers = Vec::from_slice(alloc, words.numbers.as_slice())?;
+    run_code(alloc, code, numbers, words.share, words.fuel)
 }
 
 /// The report of a run, with the values of `main` where they are asked for.
@@ -135,6 +137,10 @@ fn say(alloc: Global, words: &Words, bytes: &[u8]) -> Result<Report, Stop>
         Mode::Check => check(alloc, words, bytes),
         Mode::Load => load(alloc, words),
         Mode::Dis => dis(alloc, bytes),
+        Mode::Exec => exec(alloc, words, bytes),
+        Mode::Emit => emit(alloc, bytes),
+        Mode::Trace => trace(alloc, words, bytes),
+        Mode::Audit => audit(alloc, words, bytes),
     }
 }
 
@@ -148,6 +154,10 @@ fn limit_of(mode: Mode) -> Option<usize>
         Mode::Check => Some(SOURCE_LIMIT),
         Mode::Load => None,
         Mode::Dis => Some(FILE_LIMIT),
+        Mode::Exec => Some(FILE_LIMIT),
+        Mode::Emit => Some(SOURCE_LIMIT),
+        Mode::Trace => Some(SOURCE_LIMIT),
+        Mode::Audit => Some(FILE_LIMIT),
     }
 }
 

@@ -7,13 +7,15 @@ ghost use Rattle.rev_words.specs.Reading.{reading};
 ghost use Rattle.rev_top.specs.Promises.{Keeps};
 
 mod answer;
+mod audits;
 mod code;
 mod deliver;
+mod emits;
+mod execs;
 mod law;
 mod stop;
-#[cfg(test)]
-mod tests;
 mod text;
+mod traces;
 
 use deliver::happen;
 pub use deliver::out_of_memory;
@@ -27,7 +29,7 @@ use rev_io::{Sink, Source};
 /// |---|---|
 /// | 0 | done |
 /// | 1 | `main` trapped |
-/// | 2 | the source is too long, or holds no program or no code that keeps all rules |
+/// | 2 | the source is too long, or holds no program or no code that keeps all rules, or a trace that is none or not the program's |
 /// | 3 | a revision was joined twice |
 /// | 4 | the words have no reading |
 /// | 5 | the source failed |

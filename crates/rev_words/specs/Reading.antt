@@ -23,6 +23,10 @@ mode_named text =
     else if bytes_eq text (codes "check") then Some modes.Check
     else if bytes_eq text (codes "load") then Some modes.Load
     else if bytes_eq text (codes "dis") then Some modes.Dis
+    else if bytes_eq text (codes "exec") then Some modes.Exec
+    else if bytes_eq text (codes "emit") then Some modes.Emit
+    else if bytes_eq text (codes "trace") then Some modes.Trace
+    else if bytes_eq text (codes "audit") then Some modes.Audit
     else None
 
 -- the numbers that the texts spell, if each is a decimal in 64 bits

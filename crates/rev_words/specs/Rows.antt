@@ -38,6 +38,13 @@ pub record RowsAreRead : Type 0 where
   pub load : reading (words_in (codes "load --seed 9 --size 3"))
       ≡ Some (record run_alone { mode = modes.Load; seed = 9; size = 3 })
   pub dis : reading (words_in (codes "dis")) ≡ Some (record run_alone { mode = modes.Dis })
+  pub exec : reading (words_in (codes "exec --values"))
+      ≡ Some (record run_alone { mode = modes.Exec; values = true })
+  pub emit : reading (words_in (codes "emit")) ≡ Some (record run_alone { mode = modes.Emit })
+  pub trace : reading (words_in (codes "trace --share 10"))
+      ≡ Some (record run_alone { mode = modes.Trace; share = 10 })
+  pub audit : reading (words_in (codes "audit --fuel 100"))
+      ≡ Some (record run_alone { mode = modes.Audit; fuel = 100 })
 
 pub record RowsAreUsage : Type 0 where
   pub no_words : reading [] ≡ None

@@ -38,6 +38,15 @@ pub enum Mode {
     Load,
     /// Reads a code file and lists its code.
     Dis,
+    /// Reads a code file, runs its code and reports its outcome.
+    Exec,
+    /// Reads the text of a program and writes the file of its code.
+    Emit,
+    /// Reads the text of a program, runs it and writes the trace of its run.
+    Trace,
+    /// Reads the text of a program and a trace behind it, and says whether the trace is that of the
+    /// program's run.
+    Audit,
 }
 
 /// What words say.

@@ -68,6 +68,10 @@ fn mode_named(text: &str) -> Option<Mode>
         "check" => Some(Mode::Check),
         "load" => Some(Mode::Load),
         "dis" => Some(Mode::Dis),
+        "exec" => Some(Mode::Exec),
+        "emit" => Some(Mode::Emit),
+        "trace" => Some(Mode::Trace),
+        "audit" => Some(Mode::Audit),
         _ => None,
     }
 }

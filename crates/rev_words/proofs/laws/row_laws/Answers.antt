@@ -15,6 +15,10 @@ returns-clause-read c = record {
   check = refl;
   load = refl;
   dis = refl;
+  exec = refl;
+  emit = refl;
+  trace = refl;
+  audit = refl;
 }
 
 pub returns-clause-usage : goal.returns-clause-usage

@@ -1,11 +1,14 @@
-// Whole calls: the words and the source, and then both outputs and the status.
+//! Whole calls, as tables: the words and the source, and then both outputs and the status.
+#![tactic(auto)]
+
 mod codes;
 mod merges;
 mod runs;
 mod texts;
+mod traces;
 
-use super::*;
-use rev_io::{CalmSink, CalmSource, MemSink, MemSource};
+use rev_io::{CalmSink, CalmSource, MemSink, MemSource, Source};
+use rev_top::rev_main;
 use std::alloc::AllocError;
 use std::test::Fail;
 

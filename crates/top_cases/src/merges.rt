@@ -1,31 +1,40 @@
 // Merges of programs that keep all rules, on three numbers.
-use super::*;
-use crate::stop::Stop;
-use crate::text::checked;
+use crate::many;
+use merge_decl::expand_funs;
 use rev_num::NumFault;
+use rev_parse::parse;
+use rev_syntax::tokens;
+use rev_types::{Typed, check};
+use std::alloc::{AllocError, Global};
+use std::test::Fail;
+
+const LIMIT: usize = 1_048_576;
 
 const GREATEST: i64 = 9223372036854775807;
 
 const LEAST: i64 = -9223372036854775808;
 
-/// What the last merge of the text, which is at most a megabyte, gives for the joiner's value, the
-/// joinee's and the root's.
-fn merged(
-    rt: &HostRuntime,
-    text: &str,
-    numbers: (i64, i64, i64),
-) -> Result<Option<Result<i64, NumFault>>, Stop> {
-    if text.len() > 1_048_576 {
-        return Ok(None);
+/// The program of a text, if that keeps all rules.
+fn typed_of(alloc: Global, text: &[u8]) -> Option<Typed> {
+    if text.len() > LIMIT {
+        return None;
     }
-    let typed = checked(rt.alloc(), text.as_bytes())?;
+    let tokens = tokens(alloc, text).ok()?;
+    let program = parse(alloc, text, tokens.as_slice()).ok()?;
+    let expanded = expand_funs(alloc, program).ok()?;
+    check(alloc, expanded).ok()
+}
+
+/// What the last merge of the text gives for the joiner's value, the joinee's and the root's.
+fn merged(rt: &HostRuntime, text: &str, numbers: (i64, i64, i64)) -> Option<Result<i64, NumFault>> {
+    let typed = typed_of(rt.alloc(), text.as_bytes())?;
     let count = typed.expanded.merges.as_slice().len();
     if count == 0 || count > 1000 {
-        return Ok(None);
+        return None;
     }
     let last = (count - 1) as u32;
     let (main, join, root) = numbers;
-    Ok(Some(typed.merge_value(last, main, join, root)))
+    Some(typed.merge_value(last, main, join, root))
 }
 
 /// Whether the last merge of the text gives this.
@@ -35,10 +44,7 @@ fn gives(
     numbers: (i64, i64, i64),
     want: Result<i64, NumFault>,
 ) -> bool {
-    match merged(rt, text, numbers) {
-        Ok(found) => found == Some(want),
-        Err(_) => false,
-    }
+    merged(rt, text, numbers) == Some(want)
 }
 
 #[test]

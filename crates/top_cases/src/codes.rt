@@ -1,4 +1,4 @@
-// Code files and what `dis` writes of them.
+// Code files, what `dis` writes of them, and what `emit` writes.
 use super::*;
 
 /// `main` prints 7.
@@ -109,5 +109,26 @@ fn words_and_sources(rt: HostRuntime) -> Result<(), Fail> {
     let mut text = source_over(&rt, SEVEN, 0)?;
     let want = ("", "error: bad magic\n", 2);
     assert!(rt; answers(&rt, "dis", &mut text, want)?);
+    Ok(())
+}
+
+#[test]
+fn emitted(rt: HostRuntime) -> Result<(), Fail> {
+    let file = str::from_utf8(PRINTS_SEVEN.as_slice()).unwrap_or("");
+    let wants = [
+        ("emit", SEVEN, (file, "", 0)),
+        ("emit --fuel 1 --values", SEVEN, (file, "", 0)),
+        (
+            "emit",
+            "main { print y; }",
+            ("", "error: line 1 column 14: unknown name\n", 2),
+        ),
+    ];
+    for (line, text, want) in wants {
+        assert!(rt;
+            answers(&rt, line, &mut source_over(&rt, text, 0)?, want)?,
+            "{text}"
+        );
+    }
     Ok(())
 }
