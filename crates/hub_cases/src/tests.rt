@@ -76,6 +76,17 @@ fn two_threads_run_a_tree(rt: HostRuntime) -> Result<(), Fail> {
     Ok(())
 }
 
+// A hub that looked through all revisions at each call would not end in time.
+#[test]
+fn one_thread_runs_a_large_tree(rt: HostRuntime) -> Result<(), Fail> {
+    let first = Going::root(Way::Adds, 12);
+    let run = run_tree(&rt, rt.alloc(), first, false, 4_000_000_000).ok_or("memory")?;
+    assert!(rt; run.state() == HubState::All);
+    assert_eq!(rt; run.schedule().len(), 24571);
+    assert_eq!(rt; leaves(run.ends()), 4096);
+    Ok(())
+}
+
 #[test]
 fn two_threads_join_again(rt: HostRuntime) -> Result<(), Fail> {
     let first = Going::root(Way::Again, 9);
@@ -98,7 +109,7 @@ fn two_threads_find_no_memory(rt: HostRuntime) -> Result<(), Fail> {
 fn joins_take_in(rt: HostRuntime) -> Result<(), Fail> {
     let first = Going::root(Way::Adds, 1);
     let run = run_tree(&rt, rt.alloc(), first, false, 99).ok_or("memory")?;
-    assert!(rt; run.schedule() == [0, 0, 1, 0, 2, 0, 0].as_slice());
+    assert!(rt; run.schedule() == [0, 0, 2, 1, 0, 0, 0].as_slice());
     assert!(rt; run.forkers() == [0, 0, 0].as_slice());
     assert!(rt; run.state() == HubState::All);
     Ok(())
@@ -108,7 +119,7 @@ fn joins_take_in(rt: HostRuntime) -> Result<(), Fail> {
 fn joins_again(rt: HostRuntime) -> Result<(), Fail> {
     let first = Going::root(Way::Again, 1);
     let run = run_tree(&rt, rt.alloc(), first, false, 99).ok_or("memory")?;
-    assert!(rt; run.schedule() == [0, 0, 1, 0, 0].as_slice());
+    assert!(rt; run.schedule() == [0, 0, 2, 1, 0, 0].as_slice());
     assert!(rt; run.state() == HubState::Twice);
     Ok(())
 }
@@ -117,7 +128,7 @@ fn joins_again(rt: HostRuntime) -> Result<(), Fail> {
 fn joins_trap(rt: HostRuntime) -> Result<(), Fail> {
     let first = Going::root(Way::Traps, 1);
     let run = run_tree(&rt, rt.alloc(), first, false, 99).ok_or("memory")?;
-    assert!(rt; run.schedule() == [0, 0, 1, 0, 2].as_slice());
+    assert!(rt; run.schedule() == [0, 0, 2, 1, 0].as_slice());
     assert!(rt; has_end(run.ends(), 0) && !has_end(run.ends(), 1) && has_end(run.ends(), 2));
     Ok(())
 }
@@ -126,7 +137,7 @@ fn joins_trap(rt: HostRuntime) -> Result<(), Fail> {
 fn joins_drop_a_trap(rt: HostRuntime) -> Result<(), Fail> {
     let first = Going::root(Way::Tries, 1);
     let run = run_tree(&rt, rt.alloc(), first, false, 99).ok_or("memory")?;
-    assert!(rt; run.schedule() == [0, 0, 1, 0, 2, 0, 0].as_slice());
+    assert!(rt; run.schedule() == [0, 0, 2, 1, 0, 0, 0].as_slice());
     Ok(())
 }
 

@@ -10,8 +10,11 @@ use Rattle.turn_hub.specs.declared.value.Turn.{Turn}
 use Rattle.turn_hub.specs.declared.state.HubState.{HubState}
 use Rattle.turn_hub.specs.declared.state.HubState.TheVariants.{All}
 use Rattle.turn_hub.specs.Views.{opens}
+use Rattle.turn_hub.specs.Chains.{HasOne}
+use Rattle.turn_hub.specs.Queued.{Queued}
 use Rattle.turn_hub.specs.Rule.{OutsAre, AreOfGroup, SoundFrom, Turned}
 use Rattle.turn_hub.proofs.Keeps.{starts}
+use Rattle.turn_hub.proofs.Queues.{queue_one}
 
 module _ {L R A E : Type 0} (d : HubMachine L R A E) (ends : E → L → Type 0) where
   one_ready : (c : R) → OutsAre {R = R} {A = A} {E = E} (Ready c ∷ []) []
@@ -19,11 +22,12 @@ module _ {L R A E : Type 0} (d : HubMachine L R A E) (ends : E → L → Type 0)
   one_ready c (suc n) = refl
 
   pub begins : (first : View L) (t : Turn R A E) (c : R) (seats : ℕ) → first ≡ opens seats (Some (d.runs c)) (d.runner_group c) → 0 < seats
-      → t.schedule.items ≡ [] → t.state ≡ All → t.revisions.slots.items ≡ Ready c ∷ [] → t.revisions.forkers.items ≡ 0 ∷ [] → Turned d ends first (opening (0 ∷ []) (Some t ∷ []) first)
-  begins first t c seats is some_seat schedule free slots forkers =
+      → t.schedule.items ≡ [] → t.state ≡ All → t.revisions.slots.items ≡ Ready c ∷ [] → t.revisions.forkers.items ≡ 0 ∷ [] → HasOne t.revisions.queue → Turned d ends first (opening (0 ∷ []) (Some t ∷ []) first)
+  begins first t c seats is some_seat schedule free slots forkers one =
       subst (λ f. Turned d ends f (opening (0 ∷ []) (Some t ∷ []) f)) (sym is) (starts d ends (opens seats (Some (d.runs c)) (d.runner_group c)) t refl refl refl refl some_seat free record {
         schedule = schedule;
         outs = subst (λ l. OutsAre l []) (sym slots) (one_ready c);
         sound = subst (λ (z : HubState × List (Status R A E) × List ℕ). SoundFrom d ends (Some (d.runs c)) z.0 [] z.1 z.2) (λ i. (sym free i, sym slots i, sym forkers i)) (hub.opens (numbered d) (values d ends) (d.runs c) c refl);
         grouped = subst (AreOfGroup d ends (d.runner_group c)) (sym slots) (refl, tt);
+        queued = subst (λ l. Queued d l t.revisions.queue) (sym slots) (queue_one d c t.revisions.queue one);
       })

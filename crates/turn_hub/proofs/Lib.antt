@@ -1,5 +1,7 @@
 pub mod Lists
 pub mod Outs
+pub mod Ways
+pub mod Queues
 pub mod Keeps
 pub mod Turns
 pub mod Begins

@@ -1,5 +1,5 @@
 -- What a view says is what the value was.
-use Rattle.std.proofs.Common.{◌≡◌, ◌<◌, ℕ, zero, suc, Bool, true, false, cond, List, [], ◌∷◌, ◌++◌, length, refl, sym, ap, ◌∙◌, subst, Option, Some, None}
+use Rattle.std.proofs.Common.{◌≡◌, ℕ, zero, suc, Bool, true, false, cond, List, [], ◌∷◌, ◌++◌, length, refl, sym, ap, ◌∙◌, subst, Some}
 use Rattle.revision_machine.specs.Numbered.{at_number, put_number}
 use Rattle.revision_machine.proofs.Paths.{some_inj}
 use Rattle.revision_machine.proofs.Numbers.{none_some}
@@ -11,7 +11,7 @@ use Rattle.turn_hub.specs.declared.value.Turn.{Turn}
 use Rattle.turn_hub.specs.declared.view.View.{View}
 use Rattle.turn_hub.specs.declared.answers.JoinAnswer.{JoinAnswer}
 use Rattle.turn_hub.specs.declared.answers.JoinAnswer.TheVariants as join
-use Rattle.turn_hub.proofs.Turns.{within, Next, group_at, drawn, drawn_again, forked, joined, meeting, keeps_draw, keeps_commit, keeps_in, keeps_end}
+use Rattle.turn_hub.proofs.Turns.{Next, group_at, drawn, drawn_again, forked, joined, meeting, keeps_draw, keeps_commit, keeps_in, keeps_end}
 use Rattle.turn_hub.specs.declared.state.HubState.TheVariants.{All, Twice}
 use Rattle.turn_hub.specs.declared.view.Said.{Said}
 use Rattle.turn_hub.specs.declared.view.Said.TheVariants as mark
@@ -68,20 +68,9 @@ module _ {L R A E : Type 0} (d : HubMachine L R A E) (ends : E → L → Type 0)
   says_all (Over e ∷ slots) = all_by (d.trapped e) (says d ends slots) ∙ says_all slots
   says_all (Gone ∷ slots) = says_all slots
 
-  none_ready : (slots : List (Status R A E)) → ((k : ℕ) → k < length slots → is_ready d slots (at_number slots k) ≡ false) → (k : ℕ) → is_ready d slots (at_number slots k) ≡ false
-  none_ready slots h k = of_entry (at_number slots k) refl
-    where
-      of_entry : (o : Option (Status R A E)) → at_number slots k ≡ o → is_ready d slots (at_number slots k) ≡ false
-      of_entry None e = ap (is_ready d slots) e
-      of_entry (Some s) e = h k (within slots k s e)
-
-  pub where_idle : (said : List Said) (slots : List (Status R A E)) → said ≡ says d ends slots → all_over slots ≡ false → ((k : ℕ) → k < length slots → is_ready d slots (at_number slots k) ≡ false)
+  pub where_idle : (said : List Said) (slots : List (Status R A E)) → said ≡ says d ends slots → all_over slots ≡ false → ((k : ℕ) → is_ready d slots (at_number slots k) ≡ false)
       → (all_said said ≡ false) × ((k : ℕ) → ready_said said (at_number said k) ≡ false)
-  where_idle said slots e over h = (ap all_said e ∙ says_all slots ∙ over, λ k. ap (λ z. ready_said z (at_number z k)) e ∙ says_ready slots k ∙ none_ready slots h k)
-
-  pub where_none : (said : List Said) (seen slots : List (Status R A E)) → seen ≡ slots → said ≡ says d ends slots → all_over slots ≡ false → ((k : ℕ) → k < length seen → is_ready d seen (at_number seen k) ≡ false)
-      → (all_said said ≡ false) × ((k : ℕ) → ready_said said (at_number said k) ≡ false)
-  where_none said seen slots same e over h = where_idle said slots e over (subst (λ z. (k : ℕ) → k < length z → is_ready d z (at_number z k) ≡ false) same h)
+  where_idle said slots e over h = (ap all_said e ∙ says_all slots ∙ over, λ k. ap (λ z. ready_said z (at_number z k)) e ∙ says_ready slots k ∙ h k)
 
   pub where_retry : (said : List Said) (slots : List (Status R A E)) (n : ℕ) (a : A) → said ≡ says d ends slots → at_number slots n ≡ Some (Waiting a) → is_ready d slots (at_number slots n) ≡ true
       → (at_number said n ≡ Some (mark.Waits (d.on a))) × (ended_said (at_number said (d.on a)) ≡ true)
@@ -131,9 +120,9 @@ module _ {L R A E : Type 0} (d : HubMachine L R A E) (ends : E → L → Type 0)
     group = group_at d ends w.group t.revisions.slots.items n (Waiting a) told.hand.holds.grouped e;
   }
 
-  pub idle_now : (v w x : V) (t : Value) (seen : List (Status R A E)) → Told d ends v w t → t.state ≡ All → seen ≡ t.revisions.slots.items → all_over t.revisions.slots.items ≡ false
-      → ((k : ℕ) → k < length seen → is_ready d seen (at_number seen k) ≡ false) → x ≡ rests w → IsIdleNow d ends v x
-  idle_now v w x t seen told none same over f is = let g = where_none w.said seen t.revisions.slots.items same told.said over f in subst (IsIdleNow d ends v) (sym is) record {
+  pub idle_now : (v w x : V) (t : Value) → Told d ends v w t → t.state ≡ All → all_over t.revisions.slots.items ≡ false
+      → ((k : ℕ) → is_ready d t.revisions.slots.items (at_number t.revisions.slots.items k) ≡ false) → x ≡ rests w → IsIdleNow d ends v x
+  idle_now v w x t told none over f is = let g = where_idle w.said t.revisions.slots.items told.said over f in subst (IsIdleNow d ends v) (sym is) record {
     free = told.entered ∙ none;
     keeps = keeps_all v w t told;
     unfinished = g.0;

@@ -20,6 +20,7 @@ use Rattle.turn_hub.specs.declared.state.HubState.TheVariants.{All, Twice, NoMem
 use Rattle.turn_hub.specs.Views.{commits, hands_in, draws, stops, rests, or_no_memory}
 use Rattle.turn_hub.specs.Seats.{HasState, HasFork, HasJoin, HasEnd, HasTrap, ForkedAs, KeepsOthers}
 use Rattle.turn_hub.specs.Found.{ended_here}
+use Rattle.turn_hub.specs.Queued.{Queued}
 use Rattle.turn_hub.specs.Rule.{is_out, OutsAre, all_over, done, IsOfGroup, AreOfGroup, EnteredTwice, SoundFrom, InHand, Told}
 use Rattle.turn_hub.proofs.Lists.{is_at_same, is_at_other, count_gone, count_other, pass_named, pass_left}
 
@@ -47,11 +48,6 @@ module _ {R A E : Type 0} where
   outs_more [] s (suc n) e = refl
   outs_more (x ∷ slots) s zero e = refl
   outs_more (x ∷ slots) s (suc n) e = outs_more slots s n e
-
-  pub within : (slots : List (Status R A E)) (n : ℕ) (x : Status R A E) → at_number slots n ≡ Some x → n < length slots
-  within [] n x e = none_some e
-  within (y ∷ slots) zero x e = omega arith
-  within (y ∷ slots) (suc n) x e = let r = within slots n x e in omega arith
 
   -- where all is over, each status is
   abbrev pub IsEnded : Status R A E → Type 0
@@ -103,7 +99,7 @@ module _ {L R A E : Type 0} (d : HubMachine L R A E) (ends : E → L → Type 0)
   -- the value after a step
   abbrev pub Next : Value → List ℕ → Slots → List ℕ → HubState → Type 0
   Next t log slots fs state =
-      (t.schedule.items ≡ log) × (t.revisions.slots.items ≡ slots) × (t.revisions.forkers.items ≡ fs) × (t.state ≡ state)
+      (t.schedule.items ≡ log) × (t.revisions.slots.items ≡ slots) × (t.revisions.forkers.items ≡ fs) × (t.state ≡ state) × Queued d slots t.revisions.queue
 
   -- groups of lists that change
   group_put : (g : List ℕ) (slots : Slots) (n : ℕ) (s : Status R A E) → AreOfGroup d ends g slots → IsOfGroup d ends g s → AreOfGroup d ends g (put_number slots n s)
@@ -145,6 +141,7 @@ module _ {L R A E : Type 0} (d : HubMachine L R A E) (ends : E → L → Type 0)
       outs = subst (λ l. OutsAre l u.out) (sym next.1) outs;
       sound = subst (λ (z : Option L × HubState × List ℕ × Slots × List ℕ). SoundFrom d ends z.0 z.1 z.2 z.3 z.4) (λ i. (sym same.2 i, sym next.3 i, sym same.3 i, sym next.1 i, sym next.2 i)) ties;
       grouped = subst (AreOfGroup d ends u.group) (sym next.1) groups;
+      queued = subst (λ l. Queued d l t'.revisions.queue) (sym next.1) next.4;
     };
     saw = λ o. absurd (blind o);
     halt = same.4 ∙ sym next.3;
@@ -159,7 +156,7 @@ module _ {L R A E : Type 0} (d : HubMachine L R A E) (ends : E → L → Type 0)
       let tie = tied_of v t start.0 h start.1 none in
       let after = hub.taken (numbered d) (values d ends) start.0 v.log t.revisions.slots.items t.revisions.forkers.items tie n r e in (
         in_hand (draws n v) t' start.0 v.log (put_number t.revisions.slots.items n Out) t.revisions.forkers.items (h.has, h.part, start.1, refl, h.halt ∙ none) (not_over v t n (Ready r) h none e (λ z. z))
-            (next.0 ∙ h.holds.schedule, next.1, next.2, next.3) (outs_draw t.revisions.slots.items v.out n (Ready r) h.holds.outs e refl) after.0 (group_put v.group t.revisions.slots.items n Out h.holds.grouped tt),
+            (next.0 ∙ h.holds.schedule, next.1, next.2, next.3, next.4) (outs_draw t.revisions.slots.items v.out n (Ready r) h.holds.outs e refl) after.0 (group_put v.group t.revisions.slots.items n Out h.holds.grouped tt),
         (start.0, v.log, start.1, inl (refl, refl), after.1),
       )
 
@@ -170,7 +167,7 @@ module _ {L R A E : Type 0} (d : HubMachine L R A E) (ends : E → L → Type 0)
       let tie = tied_of v t start.0 h start.1 none in
       let after = hub.retried (numbered d) (values d ends) start.0 v.log t.revisions.slots.items t.revisions.forkers.items tie n a e in (
         in_hand (draws n v) t' start.0 v.log (put_number t.revisions.slots.items n Out) t.revisions.forkers.items (h.has, h.part, start.1, refl, h.halt ∙ none) (not_over v t n (Waiting a) h none e (λ z. z))
-            (next.0 ∙ h.holds.schedule, next.1, next.2, next.3) (outs_draw t.revisions.slots.items v.out n (Waiting a) h.holds.outs e refl) after.0 (group_put v.group t.revisions.slots.items n Out h.holds.grouped tt),
+            (next.0 ∙ h.holds.schedule, next.1, next.2, next.3, next.4) (outs_draw t.revisions.slots.items v.out n (Waiting a) h.holds.outs e refl) after.0 (group_put v.group t.revisions.slots.items n Out h.holds.grouped tt),
         (start.0, v.log, start.1, inl (refl, refl), after.1),
       )
 
@@ -204,7 +201,7 @@ module _ {L R A E : Type 0} (d : HubMachine L R A E) (ends : E → L → Type 0)
       let tie = tied_of w t s told.hand (told.start ∙ p.2) none in
       let after = hub.forked (numbered d) (values d ends) s w.log t.revisions.slots.items t.revisions.forkers.items tie k c out record { state = p.4.state; forker = p.4.forker; stands = now; bears = p.4.bears } in (
         left_hand v w (commits k w) t t' s k (w.log ++ k ∷ []) (t.revisions.slots.items ++ Ready c ∷ []) (t.revisions.forkers.items ++ k ∷ []) told none p.2 out (refl, refl, refl, refl, refl, refl, refl)
-            (next.0 ∙ ap (λ l. l ++ k ∷ []) told.hand.holds.schedule, next.1, next.2, next.3)
+            (next.0 ∙ ap (λ l. l ++ k ∷ []) told.hand.holds.schedule, next.1, next.2, next.3, next.4)
             (λ j. told.hand.holds.outs j ∙ sym (outs_more t.revisions.slots.items (Ready c) j refl)) after.0 (group_more w.group t.revisions.slots.items (Ready c) told.hand.holds.grouped group),
         (s, w.log ++ k ∷ [], told.start ∙ p.2, inl (refl, refl), after.1),
         (s, w.log ++ k ∷ [], told.start ∙ p.2, inl (refl, refl), after.2),
@@ -219,7 +216,7 @@ module _ {L R A E : Type 0} (d : HubMachine L R A E) (ends : E → L → Type 0)
       let tie = tied_of w t s told.hand (told.start ∙ p.2) none in
       let after = hub.waits (numbered d) (values d ends) s w.log t.revisions.slots.items t.revisions.forkers.items tie k a out record { state = p.4.state; stands = now; comes = p.4.comes } in
       left_hand v w (hands_in k w) t t' s k w.log (put_number t.revisions.slots.items k (Waiting a)) t.revisions.forkers.items told none p.2 out (refl, refl, refl, refl, refl, refl, refl)
-      (next.0 ∙ told.hand.holds.schedule, next.1, next.2, next.3)
+      (next.0 ∙ told.hand.holds.schedule, next.1, next.2, next.3, next.4)
       (outs_in t.revisions.slots.items w.out k (Waiting a) told.hand.holds.outs out refl) after (group_put w.group t.revisions.slots.items k (Waiting a) told.hand.holds.grouped group)
 
   pub joined : (v w : View L) (t t' : Value) (k : ℕ) (a : A) (e : E) → Told d ends v w t → t.state ≡ All → HasJoin d ends v k a → at_number t.revisions.slots.items (d.on a) ≡ Some (Over e)
@@ -232,7 +229,7 @@ module _ {L R A E : Type 0} (d : HubMachine L R A E) (ends : E → L → Type 0)
       let tie = tied_of w t s told.hand (told.start ∙ p.2) none in
       let after = hub.joined (numbered d) (values d ends) s w.log t.revisions.slots.items t.revisions.forkers.items tie k a e out record { state = p.4.state; stands = now; comes = p.4.comes } over in (
         left_hand v w (commits k w) t t' s k (w.log ++ k ∷ []) (put_number t.revisions.slots.items (d.on a) Gone) t.revisions.forkers.items told none p.2 out (refl, refl, refl, refl, refl, refl, refl)
-            (next.0 ∙ ap (λ l. l ++ k ∷ []) told.hand.holds.schedule, next.1, next.2, next.3)
+            (next.0 ∙ ap (λ l. l ++ k ∷ []) told.hand.holds.schedule, next.1, next.2, next.3, next.4)
             (outs_turn t.revisions.slots.items w.out (d.on a) (Over e) Gone told.hand.holds.outs over refl refl) after.0 (group_put w.group t.revisions.slots.items (d.on a) Gone told.hand.holds.grouped tt),
         (s, w.log ++ k ∷ [], told.start ∙ p.2, inl (refl, refl), after.1),
       )
@@ -263,6 +260,7 @@ module _ {L R A E : Type 0} (d : HubMachine L R A E) (ends : E → L → Type 0)
           outs = subst (λ l. OutsAre l w.out) (sym next.1) told.hand.holds.outs;
           sound = subst (λ (z : Option L × HubState × Slots × List ℕ). SoundFrom d ends z.0 z.1 (w.log ++ k ∷ []) z.2 z.3) (λ i. (sym (told.start ∙ p.2) i, sym next.3 i, sym next.1 i, sym next.2 i)) entered;
           grouped = subst (AreOfGroup d ends w.group) (sym next.1) told.hand.holds.grouped;
+          queued = subst (λ l. Queued d l t'.revisions.queue) (sym next.1) next.4;
         };
         saw = λ o. ap (λ z. done z t'.revisions.slots.items) next.3;
         halt = sym next.3;
@@ -278,7 +276,7 @@ module _ {L R A E : Type 0} (d : HubMachine L R A E) (ends : E → L → Type 0)
       let tie = tied_of w t s told.hand (told.start ∙ p.2) none in
       let after = hub.ended (numbered d) (values d ends) s w.log t.revisions.slots.items t.revisions.forkers.items tie k e out record { state = p.4.state; last = p.4.last; stands = now; goes = p.4.goes; is_end = p.4.is_end } in
       left_hand v w (hands_in k (commits k w)) t t' s k (w.log ++ k ∷ []) (put_number t.revisions.slots.items k (Over e)) t.revisions.forkers.items told none p.2 out (refl, refl, refl, refl, refl, refl, refl)
-      (next.0 ∙ ap (λ l. l ++ k ∷ []) told.hand.holds.schedule, next.1, next.2, next.3)
+      (next.0 ∙ ap (λ l. l ++ k ∷ []) told.hand.holds.schedule, next.1, next.2, next.3, next.4)
       (outs_in t.revisions.slots.items w.out k (Over e) told.hand.holds.outs out refl) after (group_put w.group t.revisions.slots.items k (Over e) told.hand.holds.grouped tt)
 
   pub handed_in : (v w : View L) (t t' : Value) (k : ℕ) (e : E) → Told d ends v w t → t.state ≡ All → HasTrap d ends v k e
@@ -290,7 +288,7 @@ module _ {L R A E : Type 0} (d : HubMachine L R A E) (ends : E → L → Type 0)
       let tie = tied_of w t s told.hand (told.start ∙ p.2) none in
       let after = hub.handed_in (numbered d) (values d ends) s w.log t.revisions.slots.items t.revisions.forkers.items tie k e out record { state = p.4.state; stands = now; is_end = p.4.is_end } in
       left_hand v w (hands_in k w) t t' s k w.log (put_number t.revisions.slots.items k (Over e)) t.revisions.forkers.items told none p.2 out (refl, refl, refl, refl, refl, refl, refl)
-      (next.0 ∙ told.hand.holds.schedule, next.1, next.2, next.3)
+      (next.0 ∙ told.hand.holds.schedule, next.1, next.2, next.3, next.4)
       (outs_in t.revisions.slots.items w.out k (Over e) told.hand.holds.outs out refl) after (group_put w.group t.revisions.slots.items k (Over e) told.hand.holds.grouped tt)
 
   -- want of memory, where nothing was entered
@@ -306,6 +304,7 @@ module _ {L R A E : Type 0} (d : HubMachine L R A E) (ends : E → L → Type 0)
           outs = subst (λ l. OutsAre l w.out) (sym next.1) h.holds.outs;
           sound = subst (λ (z : Option L × HubState × Slots × List ℕ). SoundFrom d ends z.0 z.1 w.log z.2 z.3) (λ i. (sym start.1 i, sym next.3 i, sym next.1 i, sym next.2 i)) tie;
           grouped = subst (AreOfGroup d ends w.group) (sym next.1) h.holds.grouped;
+          queued = subst (λ l. Queued d l t'.revisions.queue) (sym next.1) next.4;
         };
         saw = λ o. ap (λ z. done z t'.revisions.slots.items) next.3;
         halt = sym next.3;
@@ -322,6 +321,7 @@ module _ {L R A E : Type 0} (d : HubMachine L R A E) (ends : E → L → Type 0)
       outs = subst (λ l. OutsAre l w.out) (sym next.1) h.holds.outs;
       sound = subst (λ (z : HubState × Slots × List ℕ). SoundFrom d ends w.start z.0 w.log z.1 z.2) (λ i. (sym next.3 i, sym next.1 i, sym next.2 i)) h.holds.sound;
       grouped = subst (AreOfGroup d ends w.group) (sym next.1) h.holds.grouped;
+      queued = subst (λ l. Queued d l t'.revisions.queue) (sym next.1) next.4;
     };
     saw = λ o. ap (λ (z : HubState × Slots). done z.0 z.1) (λ i. (next.3 i, next.1 i)) ∙ h.saw o;
     halt = h.halt ∙ sym next.3;

@@ -1,8 +1,10 @@
 pub mod Passes
+pub mod Chains
 pub mod Views
 pub mod Rule
 pub mod Seats
 pub mod Found
+pub mod Queued
 pub mod Answers
 pub mod Left
 pub mod Closing

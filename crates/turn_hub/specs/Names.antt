@@ -5,9 +5,11 @@
 --   began                      the first view of a hub: the number of its seats, its start and its group
 --   run_start, run_group       where a run began, and what its snapshots belong to
 --   run_state, run_schedule, run_forkers, run_ends   what a run tells
+--   schedule_numbers, schedule_state, schedule_start, schedule_group   what its schedule tells
 use Rattle.std.specs.Prelude.{◌≡◌, ℕ, List, map, Option}
 use Rattle.atomic_table.specs.declared.shared.Seat.{Seat}
 use Rattle.turn_hub.specs.declared.closing.HubRun.{HubRun}
+use Rattle.turn_hub.specs.declared.closing.order.HubSchedule.{HubSchedule}
 use Rattle.turn_hub.specs.declared.hub.TurnHub.{TurnHub}
 use Rattle.turn_hub.specs.declared.revision.Revision.{Ghosts}
 use Rattle.turn_hub.specs.declared.seat.HubSeat.{HubSeat}
@@ -16,6 +18,19 @@ use Rattle.turn_hub.specs.declared.value.Turn.{Turn}
 use Rattle.turn_hub.specs.declared.view.View.{View}
 use Rattle.turn_hub.specs.Seats.{AreOf}
 use Rattle.turn_hub.specs.Views.{first_of}
+
+module _ {S : Type 0} where
+  abbrev pub schedule_numbers : HubSchedule S → List ℕ
+  schedule_numbers order = order.numbers.items
+
+  abbrev pub schedule_state : HubSchedule S → HubState
+  schedule_state order = order.state
+
+  abbrev pub schedule_start : HubSchedule S → Option S
+  schedule_start order = (first_of order.witness.views).start
+
+  abbrev pub schedule_group : HubSchedule S → List ℕ
+  schedule_group order = (first_of order.witness.views).group
 
 module _ {L S R A E C P : Type 0} where
   -- a hub's first view: the number of its seats, where its run began, and what its snapshots belong to

@@ -22,6 +22,7 @@ use Rattle.turn_hub.specs.declared.view.Said.TheVariants as mark
 use Rattle.turn_hub.specs.declared.view.View.{View}
 use Rattle.turn_hub.specs.declared.value.Turn.{Turn}
 use Rattle.turn_hub.specs.Passes.{total, times, named, Fresh}
+use Rattle.turn_hub.specs.Queued.{Queued}
 use Rattle.turn_hub.specs.Views.{halts, has_turn, parts_of, names, commits, hands_in, draws, stops, rests}
 
 module _ {R A E : Type 0} where
@@ -92,6 +93,7 @@ module _ {L R A E : Type 0} (d : HubMachine L R A E) (ends : E → L → Type 0)
     pub outs : OutsAre t.revisions.slots.items out
     pub sound : SoundFrom start t.state log t.revisions.slots.items t.revisions.forkers.items
     pub grouped : AreOfGroup group t.revisions.slots.items
+    pub queued : Queued d t.revisions.slots.items t.revisions.queue
 
   pub record Knows (start : Option L) (group log out : List ℕ) (over : ℕ) (state : HubState) (v : View L) : Type 0 where
     pub begun : 0 < v.parts → (v.start ≡ start) × (v.group ≡ group)

@@ -2,7 +2,7 @@
 ghost use Rattle.std.specs.Prelude.{◌≡◌, ◌<◌, ℕ, [], Some, None, IfOk, IfErr, OnOk, MatchBool};
 
 use crate::answers::{JoinAnswer, Taken};
-use crate::find::{all_have_ended, find, has_ended};
+use crate::ended::has_ended;
 use crate::hub::TurnHub;
 use crate::revision::Revision;
 use crate::seat::HubSeat;
@@ -29,8 +29,8 @@ impl<L: Revision> TurnHub<L> {
             self.put_home(&mut seat.place, turn);
             return Taken::Halted { twice };
         }
-        let Some(number) = find::<L>(turn.revisions.slots.as_slice()) else {
-            let over = all_have_ended(turn.revisions.slots.as_slice());
+        let Some(number) = turn.revisions.queue.take() else {
+            let over = turn.revisions.queue.unfinished == 0;
             self.put_home(&mut seat.place, turn);
             return if over { Taken::Finished } else { Taken::Idle };
         };
@@ -114,10 +114,17 @@ impl<L: Revision> TurnHub<L> {
         }
         let on = L::on(&at);
         if !has_ended::<L>(turn.revisions.slots.as_slice(), on) {
-            turn.revisions.put_back(of, Status::Waiting(at));
-            self.hand_in(&mut seat.place, of);
-            self.put_home(&mut seat.place, turn);
-            return JoinAnswer::Waits;
+            return match turn.revisions.keep(of, at, on) {
+                Ok(()) => {
+                    self.hand_in(&mut seat.place, of);
+                    self.put_home(&mut seat.place, turn);
+                    JoinAnswer::Waits
+                },
+                Err(at) => {
+                    self.put_home_halted(&mut seat.place, turn);
+                    JoinAnswer::OutOfMemory(at)
+                },
+            };
         }
         if !turn.enter(of) {
             self.put_home_halted(&mut seat.place, turn);
@@ -163,7 +170,7 @@ impl<L: Revision> TurnHub<L> {
             return Err(end);
         }
         if L::is_by_join(&end) {
-            turn.revisions.put_back(of, Status::Over(end));
+            turn.revisions.end(of, end);
             self.hand_in(&mut seat.place, of);
             self.put_home(&mut seat.place, turn);
             return Ok(());
@@ -172,7 +179,7 @@ impl<L: Revision> TurnHub<L> {
             self.put_home_halted(&mut seat.place, turn);
             return Err(end);
         }
-        turn.revisions.put_back(of, Status::Over(end));
+        turn.revisions.end(of, end);
         self.commit(&mut seat.place, of);
         self.hand_in(&mut seat.place, of);
         self.put_home(&mut seat.place, turn);

@@ -5,6 +5,9 @@ ghost use Rattle.turn_hub.specs.Seats.{IsIdle, AreOf};
 ghost use Rattle.turn_hub.specs.Passes.{named};
 ghost use Rattle.turn_hub.specs.Closing.{saw_of, halt_known, held_by, ClosedTurn, IsClosed};
 
+mod order;
+mod retyped;
+
 use crate::answers::Kept;
 use crate::hub::TurnHub;
 use crate::revision::Revision;
@@ -15,6 +18,7 @@ use crate::steps::{TakeIn, Witness};
 use crate::value::Turn;
 use crate::view::View;
 use atomic_table::Badge;
+pub use order::HubSchedule;
 
 /// A run that a hub kept. `close` alone makes one. It tells where the run began, and what its
 /// snapshots belong to.

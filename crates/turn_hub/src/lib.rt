@@ -4,12 +4,15 @@
 
 mod answers;
 mod calls;
+mod chains;
 mod closing;
-mod find;
+mod ended;
 mod hub;
 mod opening;
+mod queueing;
 mod revision;
 mod revisions;
+mod run_queue;
 mod seat;
 mod state;
 mod steps;
@@ -19,10 +22,11 @@ mod vectors;
 mod view;
 
 pub use answers::{JoinAnswer, Kept, Taken};
-pub use closing::{HubEnd, HubRun};
+pub use closing::{HubEnd, HubRun, HubSchedule};
 pub use hub::TurnHub;
 pub use revision::Revision;
 pub use revisions::Revisions;
+pub use run_queue::{Chain, RunQueue};
 pub use seat::HubSeat;
 pub use state::HubState;
 pub use value::Turn;

@@ -1,7 +1,8 @@
 //! What lies in the slot while nobody has the turn.
-ghost use Rattle.std.specs.Prelude.{◌≡◌, ◌++◌, [], ◌∷◌, length, Some, None, MatchOption, MatchBool, IfOk, IfErr};
+ghost use Rattle.std.specs.Prelude.{◌≡◌, ◌≤◌, ◌++◌, [], ◌∷◌, length, Some, None, MatchOption, MatchBool, IfOk, IfErr};
 ghost use Rattle.hub_algebra.specs.declared.status.Status.TheVariants.{Ready};
 ghost use Rattle.turn_hub.specs.declared.state.HubState.TheVariants.{All};
+ghost use Rattle.turn_hub.specs.Chains.{AddsOne, KeepsLists};
 ghost use Rattle.turn_hub.specs.Views.{halt_by};
 
 use crate::revisions::Revisions;
@@ -43,16 +44,25 @@ impl<R, A, E> Turn<R, A, E> {
     /// One more entry, and one more revision, and its number. The runner comes back for want of
     /// memory.
     pub fn grow(&mut self, of: u32, child: R) -> Result<u32, R>
+        requires queue { (length self.old.revisions.queue.links.items
+            ≡ length self.old.revisions.slots.items)
+            × (length self.old.revisions.slots.items
+            ≤ length self.old.revisions.queue.waiters.items) }
+        requires few { self.old.revisions.queue.unfinished
+            ≤ length self.old.revisions.slots.items }
         ensures ok { IfOk result (λ n. (n ≡ length self.old.revisions.slots.items)
             × (self.new.schedule.items ≡ self.old.schedule.items ++ of ∷ [])
             × (self.new.revisions.slots.items
             ≡ self.old.revisions.slots.items ++ Ready child ∷ [])
             × (self.new.revisions.forkers.items
             ≡ self.old.revisions.forkers.items ++ of ∷ [])) }
+        ensures added { IfOk result
+            (λ n. AddsOne self.old.revisions.queue self.new.revisions.queue n) }
         ensures err { IfErr result (λ c. (c ≡ child)
             × (self.new.schedule.items ≡ self.old.schedule.items)
             × (self.new.revisions.slots.items ≡ self.old.revisions.slots.items)
-            × (self.new.revisions.forkers.items ≡ self.old.revisions.forkers.items)) }
+            × (self.new.revisions.forkers.items ≡ self.old.revisions.forkers.items)
+            × KeepsLists self.old.revisions.queue self.new.revisions.queue) }
         ensures state { self.new.state ≡ self.old.state }
     {
         if self.schedule.try_reserve(1).is_err() {

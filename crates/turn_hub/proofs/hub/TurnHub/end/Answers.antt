@@ -5,15 +5,33 @@ use Rattle.turn_hub.specs.declared.state.HubState.TheVariants.{All}
 use Rattle.turn_hub.specs.Views.{rests, hands_in}
 use Rattle.turn_hub.specs.Seats.{HasTrap, HasEnd}
 use Rattle.turn_hub.specs.Answers.{EndedSays}
+use Rattle.turn_hub.specs.Chains.{EndsOne}
+use Rattle.turn_hub.specs.Queued.{Queued}
+use Rattle.turn_hub.proofs.Queues.{out_within, waits_within, queue_some, queue_end, queue_same}
 use Rattle.turn_hub.proofs.Turns.{ended, handed_in, moved_hand, same_hand, has_pass, still_out, named_again}
 use Rattle.turn_hub.proofs.Says.{ended_leg, ended_trap}
 use Rattle.turn_hub.proofs.hub.TurnHub.end.Goals as goal
 
-pub put_back-requires : goal.put_back-requires
-put_back-requires g c =
+pub end-requires-clause-out : goal.end-requires-clause-out
+end-requires-clause-out g c =
     let by : g.L.Revision.by_join c.args.end ≡ true = search rules in
     let event = subst (λ b. MatchBool b (HasTrap g.L.Revision.machine g.L.Revision.ends c.args.seat.now.place.me.0 c.args.of c.args.end) (HasEnd g.L.Revision.machine g.L.Revision.ends c.args.seat.now.place.me.0 c.args.of c.args.end)) by c.requires.event in
     still_out _ _ _ _ _ _ _ c.enter-turn.ensures.told event.3
+
+pub end-requires-clause-within : goal.end-requires-clause-within
+end-requires-clause-within g c =
+    let by : g.L.Revision.by_join c.args.end ≡ true = search rules in
+    let event = subst (λ b. MatchBool b (HasTrap g.L.Revision.machine g.L.Revision.ends c.args.seat.now.place.me.0 c.args.of c.args.end) (HasEnd g.L.Revision.machine g.L.Revision.ends c.args.seat.now.place.me.0 c.args.of c.args.end)) by c.requires.event in
+    let told = c.enter-turn.ensures.told in
+    let queued = told.hand.holds.queued in
+    ((out_within g.L.Revision.machine _ _ _ _ queued (still_out _ _ _ _ _ _ _ told event.3)).1, waits_within g.L.Revision.machine _ _ _ queued)
+
+pub end-requires-clause-some : goal.end-requires-clause-some
+end-requires-clause-some g c =
+    let by : g.L.Revision.by_join c.args.end ≡ true = search rules in
+    let event = subst (λ b. MatchBool b (HasTrap g.L.Revision.machine g.L.Revision.ends c.args.seat.now.place.me.0 c.args.of c.args.end) (HasEnd g.L.Revision.machine g.L.Revision.ends c.args.seat.now.place.me.0 c.args.of c.args.end)) by c.requires.event in
+    let told = c.enter-turn.ensures.told in
+    queue_some g.L.Revision.machine _ _ _ told.hand.holds.queued (still_out _ _ _ _ _ _ _ told event.3)
 
 pub hand_in-requires-clause-has : goal.hand_in-requires-clause-has
 hand_in-requires-clause-has g c =
@@ -26,7 +44,9 @@ put_home-requires-clause-hand g c =
     let none : c.enter-turn.result.state ≡ All = search rules in
     let by : g.L.Revision.by_join c.args.end ≡ true = search rules in
     let event = subst (λ b. MatchBool b (HasTrap g.L.Revision.machine g.L.Revision.ends c.args.seat.now.place.me.0 c.args.of c.args.end) (HasEnd g.L.Revision.machine g.L.Revision.ends c.args.seat.now.place.me.0 c.args.of c.args.end)) by c.requires.event in
-    moved_hand _ _ _ _ _ (handed_in _ _ _ _ c.enter-turn.result _ _ _ c.enter-turn.ensures.told none event (refl, c.put_back.ensures.now, c.put_back.ensures.forkers, none)) (ap (λ m. m.0) c.hand_in.ensures.after)
+    let told = c.enter-turn.ensures.told in
+    let queued = queue_end g.L.Revision.machine _ _ _ _ _ told.hand.holds.queued (still_out _ _ _ _ _ _ _ told event.3) c.end.ensures.queue in
+    moved_hand _ _ _ _ _ (handed_in _ _ _ _ c.enter-turn.result _ _ _ c.enter-turn.ensures.told none event (refl, c.end.ensures.now, c.end.ensures.forkers, none, queued)) (ap (λ m. m.0) c.hand_in.ensures.after)
 
 pub returns-then-is_by_join-clause-ok : goal.returns-then-is_by_join-clause-ok
 returns-then-is_by_join-clause-ok g c =
@@ -39,13 +59,31 @@ pub put_home_halted-requires-then-not-enter-clause-hand : goal.put_home_halted-r
 put_home_halted-requires-then-not-enter-clause-hand g c =
     let same = c.enter.ensures.same in
     let less : c.enter.new.self.schedule.items ≡ c.enter-turn.result.schedule.items = search rules in
-    same_hand _ _ _ c.enter-turn.result _ c.enter-turn.ensures.told.hand (less, ap (λ r. r.slots.items) same.0, ap (λ r. r.forkers.items) same.0, same.1)
+    same_hand _ _ _ c.enter-turn.result _ c.enter-turn.ensures.told.hand (less, ap (λ r. r.slots.items) same.0, ap (λ r. r.forkers.items) same.0, same.1, queue_same g.L.Revision.machine _ _ _ c.enter-turn.ensures.told.hand.holds.queued (ap (λ r. r.queue) same.0))
 
-pub put_back-requires-2 : goal.put_back-requires-2
-put_back-requires-2 g c =
+pub end-requires-2-clause-out : goal.end-requires-2-clause-out
+end-requires-2-clause-out g c =
     let by : g.L.Revision.by_join c.args.end ≡ false = search rules in
     let event = subst (λ b. MatchBool b (HasTrap g.L.Revision.machine g.L.Revision.ends c.args.seat.now.place.me.0 c.args.of c.args.end) (HasEnd g.L.Revision.machine g.L.Revision.ends c.args.seat.now.place.me.0 c.args.of c.args.end)) by c.requires.event in
     ap (λ r. at_number r.slots.items c.args.of) c.enter.ensures.same.0 ∙ still_out _ _ _ _ _ _ _ c.enter-turn.ensures.told event.3
+
+pub end-requires-2-clause-within : goal.end-requires-2-clause-within
+end-requires-2-clause-within g c =
+    let by : g.L.Revision.by_join c.args.end ≡ false = search rules in
+    let event = subst (λ b. MatchBool b (HasTrap g.L.Revision.machine g.L.Revision.ends c.args.seat.now.place.me.0 c.args.of c.args.end) (HasEnd g.L.Revision.machine g.L.Revision.ends c.args.seat.now.place.me.0 c.args.of c.args.end)) by c.requires.event in
+    let told = c.enter-turn.ensures.told in
+    let out = ap (λ r. at_number r.slots.items c.args.of) c.enter.ensures.same.0 ∙ still_out _ _ _ _ _ _ _ told event.3 in
+    let queued = subst (λ r. Queued g.L.Revision.machine r.slots.items r.queue) (sym c.enter.ensures.same.0) told.hand.holds.queued in
+    ((out_within g.L.Revision.machine _ _ _ _ queued out).1, waits_within g.L.Revision.machine _ _ _ queued)
+
+pub end-requires-2-clause-some : goal.end-requires-2-clause-some
+end-requires-2-clause-some g c =
+    let by : g.L.Revision.by_join c.args.end ≡ false = search rules in
+    let event = subst (λ b. MatchBool b (HasTrap g.L.Revision.machine g.L.Revision.ends c.args.seat.now.place.me.0 c.args.of c.args.end) (HasEnd g.L.Revision.machine g.L.Revision.ends c.args.seat.now.place.me.0 c.args.of c.args.end)) by c.requires.event in
+    let told = c.enter-turn.ensures.told in
+    let out = ap (λ r. at_number r.slots.items c.args.of) c.enter.ensures.same.0 ∙ still_out _ _ _ _ _ _ _ told event.3 in
+    let queued = subst (λ r. Queued g.L.Revision.machine r.slots.items r.queue) (sym c.enter.ensures.same.0) told.hand.holds.queued in
+    queue_some g.L.Revision.machine _ _ _ queued out
 
 pub commit-requires-clause-has : goal.commit-requires-clause-has
 commit-requires-clause-has g c =
@@ -63,9 +101,12 @@ put_home-requires-2-clause-hand g c =
     let event = subst (λ b. MatchBool b (HasTrap g.L.Revision.machine g.L.Revision.ends c.args.seat.now.place.me.0 c.args.of c.args.end) (HasEnd g.L.Revision.machine g.L.Revision.ends c.args.seat.now.place.me.0 c.args.of c.args.end)) by c.requires.event in
     let same = c.enter.ensures.same in
     let more : c.enter.new.self.schedule.items ≡ c.enter-turn.result.schedule.items ++ c.args.of ∷ [] = search rules in
-    let now = c.put_back-2.ensures.now ∙ ap (λ r. put_number r.slots.items c.args.of (Over c.args.end)) same.0 in
-    let forkers = c.put_back-2.ensures.forkers ∙ ap (λ r. r.forkers.items) same.0 in
-    moved_hand _ _ _ _ _ (ended _ _ _ _ c.enter-turn.result _ _ _ c.enter-turn.ensures.told none event (more, now, forkers, same.1 ∙ none)) (ap (λ m. m.0) c.hand_in-2.ensures.after ∙ ap (λ m. hands_in c.args.of m.0) c.commit.ensures.after)
+    let now = c.end-2.ensures.now ∙ ap (λ r. put_number r.slots.items c.args.of (Over c.args.end)) same.0 in
+    let forkers = c.end-2.ensures.forkers ∙ ap (λ r. r.forkers.items) same.0 in
+    let told = c.enter-turn.ensures.told in
+    let ends = subst (λ r. EndsOne r.queue c.end-2.new.self.queue c.args.of) same.0 c.end-2.ensures.queue in
+    let queued = queue_end g.L.Revision.machine _ _ _ _ _ told.hand.holds.queued (still_out _ _ _ _ _ _ _ told event.3) ends in
+    moved_hand _ _ _ _ _ (ended _ _ _ _ c.enter-turn.result _ _ _ c.enter-turn.ensures.told none event (more, now, forkers, same.1 ∙ none, queued)) (ap (λ m. m.0) c.hand_in-2.ensures.after ∙ ap (λ m. hands_in c.args.of m.0) c.commit.ensures.after)
 
 pub returns-clause-ok : goal.returns-clause-ok
 returns-clause-ok g c =

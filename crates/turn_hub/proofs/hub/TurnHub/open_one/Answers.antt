@@ -15,4 +15,4 @@ new-requires-2 g c =
     let is = c.in_ok-revisions.ensures.ok in
     let first : first_of c.in-Some.badge.views ≡ opens c.args.seats (Some (g.L.Revision.machine.runs c.args.first)) (g.L.Revision.machine.runner_group c.args.first) = search rules in
     subst (λ (xs : List (Option (Turn g.row.L-Runner.Denot g.row.L-AtJoin.Denot g.row.L-End.Denot))). Turned g.L.Revision.machine g.L.Revision.ends (first_of c.in-Some.badge.views) (opening (0 ∷ []) xs (first_of c.in-Some.badge.views))) (sym homes)
-    (begins _ _ (first_of c.in-Some.badge.views) t c.args.first c.args.seats first c.requires schedule refl is.0 is.1)
+    (begins _ _ (first_of c.in-Some.badge.views) t c.args.first c.args.seats first c.requires schedule refl is.0 is.1 c.in_ok-revisions.ensures.queue)

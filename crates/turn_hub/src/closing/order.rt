@@ -1,0 +1,65 @@
+//! The schedule of a run, for who has no use for its ends.
+ghost use Rattle.std.specs.Prelude.{◌≡◌};
+
+use crate::closing::HubRun;
+use crate::revision::Revision;
+use crate::state::HubState;
+use crate::view::View;
+use atomic_table::Badge;
+
+/// The schedule of a run that a hub kept, without the ends, so that it borrows nothing. It is made of
+/// a `HubRun` alone. It tells where the run began, and what its snapshots belonged to.
+#[derive(Drop)]
+pub struct HubSchedule<S> {
+    numbers: Vec<u32>,
+    forkers: Vec<u32>,
+    state: HubState,
+    witness: Badge<View<S>>,
+}
+
+impl<S> HubSchedule<S> {
+    /// The numbers of the revisions in the order of their legs.
+    pub fn numbers(&self) -> &[u32]
+        ensures { result.now ≡ self.now.numbers.items }
+    {
+        self.numbers.as_slice()
+    }
+
+    /// By number, the revision that forked it, and 0 for the first.
+    pub fn forkers(&self) -> &[u32]
+        ensures { result.now ≡ self.now.forkers.items }
+    {
+        self.forkers.as_slice()
+    }
+
+    /// Which halt was entered first, if any.
+    pub fn state(&self) -> HubState
+        ensures { result ≡ self.now.state }
+    {
+        self.state
+    }
+}
+
+impl<L: Revision> HubRun<L> {
+    /// The schedule of the run. The ends are let go.
+    pub fn into_schedule(self) -> HubSchedule<L::State>
+        ensures numbers { result.numbers ≡ self.schedule }
+        ensures forkers { result.forkers ≡ self.forkers }
+        ensures state { result.state ≡ self.state }
+        ensures witness { result.witness ≡ self.witness }
+    {
+        let HubRun {
+            schedule,
+            ends: _,
+            forkers,
+            state,
+            witness,
+        } = self;
+        HubSchedule {
+            numbers: schedule,
+            forkers,
+            state,
+            witness,
+        }
+    }
+}
