@@ -145,7 +145,7 @@ module _ (code : Code) (ok : IsAccepted code (notes_of code)) (inputs : List ℤ
       let same : k.frame.body ≡ b = some_eq (sym k.frame.is ∙ (ap (slice_get code.blocks) e ∙ block_is)) in
       subst (λ (y : CodeBlock). c'.at < length y.instrs) same k.frame.inside
 
-  module _ (roomy : IsRoomy code b r (length ws)) (few : length b.instrs < 2 ^ 64) where
+  module _ (roomy : IsRoomy code b r (length ws)) (few : length b.instrs < 2 ^ 32) where
     pub placed : IsPlaced b r (length ws) (taken x)
     placed =
         let a = found c (setting_in code inputs m) b x has in

@@ -38,7 +38,7 @@ run_of b ws r = record {
 pub record IsPlaced (b : CodeBlock) (r : Registers) (n taken : ℕ) : Type 0 where
   pub found : low b r + taken ≤ r.top
   pub within : r.top ≤ n
-  pub at : r.at + 1 < 2 ^ 64
+  pub at : r.at + 1 < 2 ^ 32
 
 abbrev pub Steps : Plain → Run → Run → Stop → Type 0
 Steps p q q' stop.Goes = p ≡ moves q'

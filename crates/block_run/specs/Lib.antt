@@ -1,3 +1,4 @@
 pub mod Remembering
 pub mod Area
+pub mod Stops
 pub mod Standing

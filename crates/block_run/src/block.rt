@@ -13,17 +13,17 @@ ghost use Rattle.block_run.specs.Standing.{Ends, Here, IsRoomy, Mode};
 
 use crate::instruction::act;
 use crate::memory::Memory;
-use crate::registers::{Registers, Stop, Variable};
+use crate::registers::{Act, Registers, Stop, Variable};
 use rev_code::{Code, CodeBlock, Instr};
 use version_map::Snapshot;
 
 /// The instruction at a place.
 #[inline(always)]
-fn fetch(instrs: &[Instr], at: usize) -> &Instr
+fn fetch(instrs: &[Instr], at: u32) -> &Instr
     requires { at < length instrs.now }
     ensures { slice_get instrs.now at ≡ Some result.now }
 {
-    &instrs[at]
+    &instrs[at as usize]
 }
 
 /// Does instructions of a block up to a trap, or to one that leaves the block or meets another
@@ -42,7 +42,7 @@ pub fn run_block<P: Snapshot>(
     requires inputs { AreInputs inputs.now }
     requires size { P.size memory.old.snapshot ≡ count code.now.vars }
     requires block { slice_get code.now.blocks registers.old.block ≡ Some b.now }
-    requires short { length b.now.instrs < 2 ^ 63 }
+    requires short { length b.now.instrs < 2 ^ 32 }
     requires stands { (m : Mode) × (c : State ℕ)
         × Here code.now inputs.now m b.now c words.old registers.old
         (under memory.old.delta (P.base memory.old.snapshot)) (at memory.old.first.roots) }
@@ -62,15 +62,25 @@ pub fn run_block<P: Snapshot>(
     ensures size { P.size memory.new.snapshot ≡ P.size memory.old.snapshot }
     ensures group { P.group memory.new.snapshot ≡ P.group memory.old.snapshot }
 {
-    let mut r = *registers;
+    let mut r = Registers {
+        block: registers.block,
+        at: registers.at,
+        base: registers.base,
+        top: registers.top,
+        fuel: registers.fuel,
+        line: registers.line,
+    };
     let instrs = b.instrs.as_slice();
     loop {
         let x = fetch(instrs, r.at);
         match act(code, table, inputs, b, memory, words, &mut r, x) {
-            Stop::Goes => {},
-            stop => {
-                *registers = r;
-                return stop;
+            Act::Goes => {},
+            last => {
+                registers.at = r.at;
+                registers.top = r.top;
+                registers.fuel = r.fuel;
+                registers.line = r.line;
+                return last.stop();
             },
         }
     }

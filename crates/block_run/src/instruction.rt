@@ -10,12 +10,13 @@ ghost use Rattle.version_map.specs.Overlay.{under};
 ghost use Rattle.block_run.specs.Remembering.{Kept, Wrote};
 ghost use Rattle.block_run.specs.Area.{count, pushes, run_of, taken, Does, IsAct, IsOperand};
 ghost use Rattle.block_run.specs.Area.{IsPlaced, IsTable, IsVariable, StaysIn};
+ghost use Rattle.block_run.specs.Stops.{stop_of};
 
 use crate::memory::Memory;
-use crate::registers::{Registers, Stop, Variable};
+use crate::registers::{Act, Fault, Registers, Variable};
 use crate::values;
 use rev_code::{Code, CodeBlock, Instr};
-use rev_num::{Cause, word_of_int};
+use rev_num::word_of_int;
 use version_map::Snapshot;
 
 /// The location of a cell, where the index is inside.
@@ -63,13 +64,13 @@ fn act_load_shared<P: Snapshot>(
     r: &mut Registers,
     v: u16,
     t: Variable,
-) -> Stop
+) -> Act
     requires placed { IsPlaced b.now r.old (length words.old) 0 }
     requires room { r.old.top < length words.old }
     requires variable { IsVariable (scalar code.now.vars v) t (P.size memory.old.snapshot) }
     ensures does { Does (p.from_scalar (under memory.old.delta (P.base memory.old.snapshot))
         (run_of b.now words.old r.old) (scalar code.now.vars v))
-        (run_of b.now words.old r.old) (run_of b.now words.new r.new) result
+        (run_of b.now words.old r.old) (run_of b.now words.new r.new) (stop_of result)
         (Kept (P.size memory.old.snapshot)
         (under memory.old.delta (P.base memory.old.snapshot))
         (under memory.new.delta (P.base memory.new.snapshot))
@@ -96,12 +97,12 @@ fn act_store_shared<P: Snapshot>(
     r: &mut Registers,
     v: u16,
     t: Variable,
-) -> Stop
+) -> Act
     requires placed { IsPlaced b.now r.old (length words.now) 1 }
     requires variable { IsVariable (scalar code.now.vars v) t (P.size memory.old.snapshot) }
     ensures does { Does (p.into_scalar (run_of b.now words.now r.old) (scalar code.now.vars v)
         (run_of b.now words.now r.old).stack)
-        (run_of b.now words.now r.old) (run_of b.now words.now r.new) result
+        (run_of b.now words.now r.old) (run_of b.now words.now r.new) (stop_of result)
         (Kept (P.size memory.old.snapshot)
         (under memory.old.delta (P.base memory.old.snapshot))
         (under memory.new.delta (P.base memory.new.snapshot))
@@ -118,7 +119,7 @@ fn act_store_shared<P: Snapshot>(
     memory.write(t.first, word);
     r.top -= 1;
     r.at += 1;
-    Stop::Goes
+    Act::Goes
 }
 
 /// Puts a cell in place of its index.
@@ -131,13 +132,13 @@ fn act_load_cell<P: Snapshot>(
     r: &mut Registers,
     v: u16,
     t: Variable,
-) -> Stop
+) -> Act
     requires placed { IsPlaced b.now r.old (length words.old) 1 }
     requires variable { IsVariable (array code.now.vars v) t (P.size memory.old.snapshot) }
     requires few { t.first + t.cells < 2 ^ 32 }
     ensures does { Does (p.from_cell (under memory.old.delta (P.base memory.old.snapshot))
         (run_of b.now words.old r.old) (array code.now.vars v) (run_of b.now words.old r.old).stack)
-        (run_of b.now words.old r.old) (run_of b.now words.new r.new) result
+        (run_of b.now words.old r.old) (run_of b.now words.new r.new) (stop_of result)
         (Kept (P.size memory.old.snapshot)
         (under memory.old.delta (P.base memory.old.snapshot))
         (under memory.new.delta (P.base memory.new.snapshot))
@@ -151,7 +152,7 @@ fn act_load_cell<P: Snapshot>(
     ensures group { P.group memory.new.snapshot ≡ P.group memory.old.snapshot }
 {
     match cell(t, values::top(b, words, r)) {
-        None => Stop::Traps(Cause::Index),
+        None => Act::Traps(Fault::Index),
         Some(location) => {
             let word = memory.read(location);
             values::put(b, words, r, word)
@@ -169,13 +170,13 @@ fn act_store_cell<P: Snapshot>(
     r: &mut Registers,
     v: u16,
     t: Variable,
-) -> Stop
+) -> Act
     requires placed { IsPlaced b.now r.old (length words.now) 2 }
     requires variable { IsVariable (array code.now.vars v) t (P.size memory.old.snapshot) }
     requires few { t.first + t.cells < 2 ^ 32 }
     ensures does { Does (p.into_cell (run_of b.now words.now r.old) (array code.now.vars v)
         (run_of b.now words.now r.old).stack)
-        (run_of b.now words.now r.old) (run_of b.now words.now r.new) result
+        (run_of b.now words.now r.old) (run_of b.now words.now r.new) (stop_of result)
         (Kept (P.size memory.old.snapshot)
         (under memory.old.delta (P.base memory.old.snapshot))
         (under memory.new.delta (P.base memory.new.snapshot))
@@ -190,12 +191,12 @@ fn act_store_cell<P: Snapshot>(
 {
     let (index, word) = values::two(b, words, r);
     match cell(t, index) {
-        None => Stop::Traps(Cause::Index),
+        None => Act::Traps(Fault::Index),
         Some(location) => {
             memory.write(location, word);
             r.top -= 2;
             r.at += 1;
-            Stop::Goes
+            Act::Goes
         },
     }
 }
@@ -209,18 +210,18 @@ fn act_check_cell(
     r: &mut Registers,
     v: u16,
     t: Variable,
-) -> Stop
+) -> Act
     requires placed { IsPlaced b.now r.old (length words.now) 1 }
     requires variable { IsVariable (array code.now.vars v) t (count code.now.vars) }
     requires few { t.first + t.cells < 2 ^ 32 }
     ensures { IsAct (p.over_cell (run_of b.now words.now r.old) (array code.now.vars v)
-        (run_of b.now words.now r.old).stack) b.now words.now words.now r.old r.new result }
+        (run_of b.now words.now r.old).stack) b.now words.now words.now r.old r.new (stop_of result) }
 {
     match cell(t, values::top(b, words, r)) {
-        None => Stop::Traps(Cause::Index),
+        None => Act::Traps(Fault::Index),
         Some(_) => {
             r.at += 1;
-            Stop::Goes
+            Act::Goes
         },
     }
 }
@@ -236,7 +237,7 @@ pub fn act<P: Snapshot>(
     words: &mut [u64],
     r: &mut Registers,
     x: &Instr,
-) -> Stop
+) -> Act
     requires table { IsTable code.now.vars table.now }
     requires size { P.size memory.old.snapshot ≡ count code.now.vars }
     requires operand { IsOperand code.now.vars b.now x.now }
@@ -245,7 +246,7 @@ pub fn act<P: Snapshot>(
     ensures does { Does (p.plain code.now.vars inputs.now
         (under memory.old.delta (P.base memory.old.snapshot))
         (run_of b.now words.old r.old) x.now)
-        (run_of b.now words.old r.old) (run_of b.now words.new r.new) result
+        (run_of b.now words.old r.old) (run_of b.now words.new r.new) (stop_of result)
         (Kept (P.size memory.old.snapshot)
         (under memory.old.delta (P.base memory.old.snapshot))
         (under memory.new.delta (P.base memory.new.snapshot))
@@ -306,12 +307,12 @@ pub fn act<P: Snapshot>(
         Instr::Charge(line) => values::act_charge(b, words, r, line),
         Instr::Assert => values::act_assert(b, words, r),
         Instr::Pop => values::act_pop(b, words, r),
-        Instr::Apply(_) => Stop::Leaves,
-        Instr::Call(_) => Stop::Leaves,
-        Instr::Fork(_) => Stop::Leaves,
-        Instr::Join => Stop::Leaves,
-        Instr::Print(_) => Stop::Leaves,
-        Instr::Return => Stop::Leaves,
-        Instr::TryJoin => Stop::Leaves,
+        Instr::Apply(_) => Act::Leaves,
+        Instr::Call(_) => Act::Leaves,
+        Instr::Fork(_) => Act::Leaves,
+        Instr::Join => Act::Leaves,
+        Instr::Print(_) => Act::Leaves,
+        Instr::Return => Act::Leaves,
+        Instr::TryJoin => Act::Leaves,
     }
 }

@@ -11,5 +11,5 @@ mod values;
 pub use block::run_block;
 pub use instruction::act;
 pub use memory::Memory;
-pub use registers::{Registers, Stop, Variable};
+pub use registers::{Act, Fault, Registers, Stop, Variable};
 pub use table::table_of;

@@ -1,6 +1,7 @@
 //! What a revision reads and writes.
 
 ghost use Rattle.std.specs.Prelude.{◌≡◌, ◌<◌, ◌++◌, ℕ, IfOk, Option, option_to_list};
+ghost use Rattle.version_map.specs.declared.snapshot.Collapsed.{Collapsed};
 ghost use Rattle.version_map.specs.declared.snapshot.How.TheVariants as how;
 ghost use Rattle.version_map.specs.Deltas.{at, locations, IsEmpty};
 ghost use Rattle.version_map.specs.Overlay.{under, Agree};
@@ -33,6 +34,8 @@ impl<P: Snapshot> Memory<P> {
             (at self.old.first.roots) (at self.new.first.roots) }
         ensures size { P.size self.new.snapshot ≡ P.size self.old.snapshot }
         ensures group { P.group self.new.snapshot ≡ P.group self.old.snapshot }
+        ensures answered { (c : Collapsed) → P.answered self.old.snapshot c
+            → P.answered self.new.snapshot c }
     {
         match self.delta.get(location) {
             Some(word) => word,
@@ -50,6 +53,8 @@ impl<P: Snapshot> Memory<P> {
             (at self.old.first.roots) (at self.new.first.roots) location }
         ensures size { P.size self.new.snapshot ≡ P.size self.old.snapshot }
         ensures group { P.group self.new.snapshot ≡ P.group self.old.snapshot }
+        ensures answered { (c : Collapsed) → P.answered self.old.snapshot c
+            → P.answered self.new.snapshot c }
     {
         match self.first.get(location) {
             Some(_) => {},
@@ -70,6 +75,8 @@ impl<P: Snapshot> Memory<P> {
             (at self.old.first.roots) (at self.new.first.roots) location word }
         ensures size { P.size self.new.snapshot ≡ P.size self.old.snapshot }
         ensures group { P.group self.new.snapshot ≡ P.group self.old.snapshot }
+        ensures answered { (c : Collapsed) → P.answered self.old.snapshot c
+            → P.answered self.new.snapshot c }
     {
         self.remember(location);
         self.delta.set(location, word);

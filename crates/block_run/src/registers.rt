@@ -1,5 +1,8 @@
 //! Where a revision stands, and what an instruction comes to.
 
+ghost use Rattle.std.specs.Prelude.{◌≡◌};
+ghost use Rattle.block_run.specs.Stops.{cause_of, stop_of};
+
 use rev_num::Cause;
 
 /// Where a revision stands: its block, the place there, the first local of its frame and the first
@@ -7,20 +10,70 @@ use rev_num::Cause;
 #[derive(Clone, Copy, PartialEq, Eq, Debug)]
 pub struct Registers {
     pub block: u16,
-    pub at: usize,
+    pub at: u32,
     pub base: usize,
     pub top: usize,
     pub fuel: u64,
     pub line: u32,
 }
 
-/// What an instruction comes to.
+/// Why an instruction of a block traps.
+#[derive(Clone, Copy, PartialEq, Eq, Debug)]
+pub enum Fault {
+    Overflow,
+    ZeroDivisor,
+    Index,
+    Assert,
+    Spent,
+}
+
+/// What one instruction comes to. It is small, so that the loop that looks at it for each
+/// instruction need not keep it in memory.
+#[derive(Clone, Copy, PartialEq, Eq, Debug)]
+pub enum Act {
+    Goes,
+    Traps(Fault),
+    /// It calls, returns, prints, or meets another revision, and nothing has changed yet.
+    Leaves,
+}
+
+/// Why a run of instructions stops. No run stops with Goes.
 #[derive(Clone, Copy, PartialEq, Eq, Debug)]
 pub enum Stop {
     Goes,
     Traps(Cause),
-    /// It calls, returns, prints, or meets another revision, and nothing has changed yet.
+    /// The next instruction calls, returns, prints, or meets another revision.
     Leaves,
+}
+
+impl Act {
+    /// What a run comes to whose last instruction comes to this.
+    #[inline(always)]
+    pub fn stop(self) -> Stop
+        ensures { result ≡ stop_of self }
+    {
+        match self {
+            Act::Goes => Stop::Goes,
+            Act::Traps(fault) => Stop::Traps(fault.cause()),
+            Act::Leaves => Stop::Leaves,
+        }
+    }
+}
+
+impl Fault {
+    /// The cause of the trap.
+    #[inline(always)]
+    pub fn cause(self) -> Cause
+        ensures { result ≡ cause_of self }
+    {
+        match self {
+            Fault::Overflow => Cause::Overflow,
+            Fault::ZeroDivisor => Cause::ZeroDivisor,
+            Fault::Index => Cause::Index,
+            Fault::Assert => Cause::Assert,
+            Fault::Spent => Cause::Spent,
+        }
+    }
 }
 
 /// Where the locations of a shared variable lie.

@@ -95,7 +95,7 @@ no_location : (l : ℕ) (x : Location ℕ) → slice_get [] l ≡ Some x → ⊥
 no_location l x h = cc
 
 -- a block has fewer instructions than a place can name
-pub block_short : (code : Code) → IsAccepted code (notes_of code) → (n : ℕ) (b : CodeBlock) → slice_get code.blocks n ≡ Some b → length b.instrs < 2 ^ 63
+pub block_short : (code : Code) → IsAccepted code (notes_of code) → (n : ℕ) (b : CodeBlock) → slice_get code.blocks n ≡ Some b → length b.instrs < 2 ^ 32
 block_short code ok n b is =
     let a = fifth_of (nat_le (rules.locations code.vars) rules.most_locations && nat_le (rules.count_class is_procedure code.blocks) rules.most_blocks
     && nat_le (rules.count_class is_value_class code.blocks) rules.most_blocks && nat_le (length code.blocks) rules.most_u16)
@@ -149,7 +149,7 @@ module _ (code : Code) (ok : IsAccepted code (notes_of code)) (n : ℕ) (b : Cod
       let d = h.are.room n b h.cost is h.is class 0 x.0 x.1 in
       let g = h.room in omega (arith, d, g)
 
-  pub short : length b.instrs < 2 ^ 63
+  pub short : length b.instrs < 2 ^ 32
   short = block_short code ok n b is
 
   pub roomy : (at size : ℕ) → HasRoom code n at size → (r : Registers) → r.block ≡ n → r.base ≡ at → IsRoomy code b r size

@@ -29,12 +29,12 @@ pub enum Then {
 }
 
 /// Whether a fun is applied at this place, or the block gives its value.
-fn then_at(b: &CodeBlock, at: usize) -> Then
+fn then_at(b: &CodeBlock, at: u32) -> Then
     requires { (slice_get b.now.instrs at ≡ Some i.Return)
         ⊎ ((k : ℕ) × (slice_get b.now.instrs at ≡ Some (i.Apply k))) }
     ensures { IsThen b.now at result }
 {
-    match b.instrs.as_slice()[at] {
+    match b.instrs.as_slice()[at as usize] {
         Instr::Apply(k) => Then::Applies(k),
         _ => Then::Gives,
     }
@@ -63,7 +63,7 @@ fn top_word(words: &[u64], r: &Registers) -> u64
 /// Goes on behind an application, whose value comes in place of the arguments from `base` on.
 fn go_on(words: &mut [u64], r: &mut Registers, base: usize, value: u64)
     requires within { base < length words.old }
-    requires place { r.old.at + 1 < 2 ^ 64 }
+    requires place { r.old.at + 1 < 2 ^ 32 }
     ensures words { words.new ≡ slice_set words.old base value }
     ensures registers { r.new ≡ record r.old { at = r.old.at + 1; top = base + 1 } }
 {

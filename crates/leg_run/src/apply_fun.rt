@@ -36,7 +36,7 @@ fn cause_of(fault: NumFault) -> Cause
 /// Goes on behind an application, whose value comes in place of the arguments from `low` on.
 fn take_value(run: &mut Run, low: usize, value: u64)
     requires within { low < length run.old.words.items }
-    requires place { run.old.registers.at + 1 < 2 ^ 63 }
+    requires place { run.old.registers.at + 1 < 2 ^ 32 }
     ensures words { run.new.words.items ≡ slice_set run.old.words.items low value }
     ensures registers { run.new.registers ≡ record run.old.registers {
       at = run.old.registers.at + 1;

@@ -89,26 +89,24 @@ fn enter(
     called: &CodeBlock,
     room: usize,
 ) -> Result<(), AllocError>
-    requires place { run.old.registers.at + 1 < 2 ^ 63 }
+    requires place { run.old.registers.at + 1 < 2 ^ 32 }
     requires args { low b.now run.old.registers + length (params called.now)
         ≤ length run.old.words.items }
     requires room { room < 2 ^ 32 }
     requires frame { length called.now.locals ≤ room }
     ensures { IfOk result (λ _. Entered b.now n called.now room run.old run.new) }
 {
-    let r = run.registers;
-    let low = low_of(b, &r);
+    let low = low_of(b, &run.registers);
     let frame = begin_frame(&mut run.words, called, n, low, room)?;
     run.below.push(Waiting {
-        block: r.block,
-        at: r.at + 1,
-        base: r.base,
+        block: run.registers.block,
+        at: run.registers.at + 1,
+        base: run.registers.base,
     })?;
-    run.registers = Registers {
-        fuel: r.fuel,
-        line: r.line,
-        ..frame
-    };
+    run.registers.block = frame.block;
+    run.registers.at = frame.at;
+    run.registers.base = frame.base;
+    run.registers.top = frame.top;
     Ok(())
 }
 
@@ -164,16 +162,11 @@ fn go_back(run: &mut Run, b: &CodeBlock, w: Waiting)
     ensures words { run.new.words.items ≡ returned b.now.result run.old.registers run.old.words.items }
     ensures rest { SameRest run.old run.new }
 {
-    let r = run.registers;
-    let top = move_result(run.words.as_mut_slice(), &r, b);
-    run.registers = Registers {
-        block: w.block,
-        at: w.at,
-        base: w.base,
-        top,
-        fuel: r.fuel,
-        line: r.line,
-    };
+    let top = move_result(run.words.as_mut_slice(), &run.registers, b);
+    run.registers.block = w.block;
+    run.registers.at = w.at;
+    run.registers.base = w.base;
+    run.registers.top = top;
 }
 
 /// Returns to the frame below; in the first frame the revision ends.

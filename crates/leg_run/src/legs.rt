@@ -25,11 +25,11 @@ use std::alloc::AllocError;
 use version_map::Snapshot;
 
 /// The instruction at a place.
-fn instr_at(b: &CodeBlock, at: usize) -> Instr
+fn instr_at(b: &CodeBlock, at: u32) -> Instr
     requires { at < length b.now.instrs }
     ensures { slice_get b.now.instrs at ≡ Some result }
 {
-    b.instrs.as_slice()[at]
+    b.instrs.as_slice()[at as usize]
 }
 
 /// Does an instruction that leaves its block, or ends the leg there.

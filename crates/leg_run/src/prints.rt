@@ -123,7 +123,7 @@ fn layout_at(code: &Code, n: u32) -> &[LayoutItem]
 fn print_items(run: &mut Run, texts: &[Bytes], items: &[LayoutItem]) -> Result<(), AllocError>
     requires top { run.old.registers.top ≤ length run.old.words.items }
     requires enough { widths items.now ≤ run.old.registers.top }
-    requires place { run.old.registers.at + 1 < 2 ^ 63 }
+    requires place { run.old.registers.at + 1 < 2 ^ 32 }
     ensures { IfOk result (λ _. Printed texts.now items.now run.old run.new) }
 {
     let first = run.registers.top - values_of(items);

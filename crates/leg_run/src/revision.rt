@@ -11,7 +11,7 @@ use version_map::Snapshot;
 #[derive(Clone, Copy, PartialEq, Eq, Debug)]
 pub struct Waiting {
     pub block: u16,
-    pub at: usize,
+    pub at: u32,
     pub base: usize,
 }
 

@@ -1,6 +1,11 @@
 //! Codes with a child, and what they leave.
 
-ghost use Rattle.std.specs.Prelude.{◌≡◌, IfOk};
+ghost use Rattle.std.specs.Prelude.{◌≡◌, IfOk, IfSome};
+ghost use Rattle.plain_words.specs.Agreement.{AreInputs};
+ghost use Rattle.block_run.specs.Area.{count};
+ghost use Rattle.block_merges.specs.Merging.{AreMergesOf};
+ghost use Rattle.leg_run.specs.Setting.{IsSetting};
+ghost use Rattle.rev_vm.specs.Starts.{run_under};
 
 use crate::driver::run_to_end;
 use block_merges::BlockMerges;
@@ -10,7 +15,7 @@ use rev_code::{BlockClass, Code, CodeBlock, CodeVar, Instr, LayoutItem};
 use rev_num::{Items, ValueKind};
 use rev_vm::{start_main, start_whole};
 use std::alloc::{AllocError, Global};
-use version_map::{EndValue, Snapshot};
+use version_map::{EndValue, MergeBy, Snapshot};
 
 pub fn items<T: Copy>(alloc: Global, all: &[T]) -> Result<Items<T>, AllocError> {
     Ok(Items::from_vec(Vec::from_slice(alloc, all)?))
@@ -111,17 +116,40 @@ pub fn code_of(alloc: Global, child: &[Instr], main: &[Instr]) -> Result<Code, A
     })
 }
 
-/// What verified code leaves that ends in so many legs, with fuel 10,000 of which a child gets 100.
-pub fn left_by(alloc: Global, code: Code, legs: u32) -> Result<Option<EndValue>, AllocError> {
-    let verified = match verify(alloc, code) {
-        Ok(verified) => verified,
-        Err(_) => return Ok(None),
-    };
-    let setting = CodeSetting::new(alloc, verified.into_code(), Vec::new(alloc), 100)?;
-    let mut merges = BlockMerges::of(alloc, &setting.code)?;
+/// The setting of verified code with these inputs, where a child gets at most 100 of the fuel.
+pub fn setting_of(
+    alloc: Global,
+    code: Code,
+    inputs: Vec<i64>,
+) -> Result<Option<CodeSetting>, AllocError>
+    requires { AreInputs inputs.items }
+    ensures { IfOk result (λ o. IfSome o (λ s. IsSetting s)) }
+{
+    match verify(alloc, code) {
+        Ok(verified) => {
+            let setting = CodeSetting::new(alloc, verified.into_code(), inputs, 100)?;
+            Ok(Some(setting))
+        },
+        Err(_) => Ok(None),
+    }
+}
+
+/// What the code of a setting leaves that ends in so many legs, with fuel 10,000.
+pub fn left_under<M: MergeBy>(
+    alloc: Global,
+    setting: &CodeSetting,
+    merges: &mut M,
+    legs: u32,
+) -> Result<Option<EndValue>, AllocError>
+    requires setting { IsSetting setting.now }
+    requires size { M.size merges.old ≡ count setting.now.code.vars }
+    requires merges { AreMergesOf (run_under setting.now) (M.merges merges.old) }
+    ensures merges_size { M.size merges.new ≡ M.size merges.old }
+    ensures merges_same { M.merges merges.new ≡ M.merges merges.old }
+{
     let snapshot = start_whole(alloc, &setting.code)?;
-    match start_main(alloc, &setting, snapshot, 10_000) {
-        Ok(runner) => match run_to_end(alloc, &setting, &mut merges, runner, legs)? {
+    match start_main(alloc, setting, snapshot, 10_000) {
+        Ok(runner) => match run_to_end(alloc, setting, merges, runner, legs)? {
             Some((end, ())) => Ok(Some(end)),
             None => Ok(None),
         },
@@ -130,4 +158,27 @@ pub fn left_by(alloc: Global, code: Code, legs: u32) -> Result<Option<EndValue>,
             Err(AllocError)
         },
     }
+}
+
+/// What verified code with these inputs leaves that ends in so many legs.
+pub fn left_with(
+    alloc: Global,
+    code: Code,
+    inputs: Vec<i64>,
+    legs: u32,
+) -> Result<Option<EndValue>, AllocError>
+    requires { AreInputs inputs.items }
+{
+    match setting_of(alloc, code, inputs)? {
+        None => Ok(None),
+        Some(setting) => {
+            let mut merges = BlockMerges::of(alloc, &setting.code)?;
+            left_under(alloc, &setting, &mut merges, legs)
+        },
+    }
+}
+
+/// What verified code without inputs leaves that ends in so many legs.
+pub fn left_by(alloc: Global, code: Code, legs: u32) -> Result<Option<EndValue>, AllocError> {
+    left_with(alloc, code, Vec::new(alloc), legs)
 }

@@ -218,6 +218,8 @@ where
     requires stands { (c : State ℕ) × StandsFor (run_under setting.now) runner c }
     requires size { M.size merges.old ≡ count setting.now.code.vars }
     requires merges { AreMergesOf (run_under setting.now) (M.merges merges.old) }
+    ensures merges_size { M.size merges.new ≡ M.size merges.old }
+    ensures merges_same { M.merges merges.new ≡ M.merges merges.old }
 {
     let mut now = Turn::Goes(runner, None);
     for number in 0..legs {

@@ -14,5 +14,7 @@ mod merges;
 mod runs;
 #[cfg(test)]
 mod snapshots;
+#[cfg(test)]
+mod wants;
 
 pub use driver::run_to_end;

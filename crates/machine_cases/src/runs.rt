@@ -1,6 +1,9 @@
 //! Codes run to their ends.
 
-use crate::codes::{code_of, left_by};
+ghost use Rattle.std.specs.Prelude.{IfOk};
+ghost use Rattle.plain_words.specs.Agreement.{AreInputs};
+
+use crate::codes::{code_of, left_by, left_with};
 use rev_code::Instr;
 use rev_num::Cause;
 use std::alloc::{AllocError, Global};
@@ -241,6 +244,49 @@ fn causes_of_traps(rt: HostRuntime) -> Result<(), Fail> {
         Instr::Return,
     ];
     assert!(rt; traps(alloc, least.as_slice(), Cause::Overflow)?);
+    Ok(())
+}
+
+/// Two inputs.
+fn two_inputs(alloc: Global) -> Result<Vec<i64>, AllocError>
+    ensures { IfOk result (λ inputs. AreInputs inputs.items) }
+{
+    Vec::from_slice(alloc, &[30, -4])
+}
+
+#[test]
+fn inputs_inside_and_outside(rt: HostRuntime) -> Result<(), Fail> {
+    let alloc = rt.alloc();
+    let main = [
+        Instr::Charge(7),
+        Instr::PushInt(1),
+        Instr::LoadInput,
+        Instr::Print(0),
+        Instr::Charge(8),
+        Instr::PushInt(0),
+        Instr::LoadInput,
+        Instr::CountInput,
+        Instr::Sub,
+        Instr::Print(0),
+        Instr::Charge(9),
+        Instr::PushInt(2),
+        Instr::LoadInput,
+        Instr::Print(0),
+        Instr::Return,
+    ];
+    let code = code_of(alloc, &[Instr::Return], main.as_slice())?;
+    let trap = CodeTrap {
+        cause: Cause::Index,
+        line: 9,
+        origin: None,
+    };
+    match left_with(alloc, code, two_inputs(alloc)?, 1)? {
+        None => panic!(rt; "the code does not end"),
+        Some(end) => {
+            assert_eq!(rt; end.finish, Finish::Trapped(trap));
+            assert!(rt; end.text.as_slice() == b"-4\n28\n".as_slice());
+        },
+    }
     Ok(())
 }
 

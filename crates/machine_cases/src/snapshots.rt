@@ -16,25 +16,31 @@ use std::alloc::{AllocError, Global};
 use std::test::Fail;
 use version_map::{Collapsed, Delta, How, Snapshot, collapse_all};
 
-/// A snapshot of no locations, which has two parts to take, and counts how often it was asked.
+/// A snapshot whose locations are all 0, and which forks where it has none. It has parts to take,
+/// counts how often it was asked, and knows what its last call other than `read` answered, where
+/// that was a collapse.
 #[derive(Drop)]
 struct Parts {
+    locations: u32,
     left: u64,
     asked: u64,
+    last: Option<Collapsed>,
 }
 
 impl Snapshot for Parts {
-    ghost use Rattle.std.specs.Prelude.{[]};
+    ghost use Rattle.std.specs.Prelude.{[], ◌≡◌, Some};
 
     type Spent = u64;
 
-    ghost size = { λ _. 0 };
+    ghost size = { λ p. p.locations };
 
     ghost base = { λ _ l. 0 };
 
     ghost depth = { λ p. p.left };
 
     ghost group = { λ _. [] };
+
+    ghost answered = { λ p c. p.last ≡ Some c };
 
     ghost spent_group = { λ _. [] };
 
@@ -43,16 +49,23 @@ impl Snapshot for Parts {
     }
 
     fn fork(&mut self, alloc: Global, delta: &mut Delta) -> Result<(Parts, How), AllocError> {
-        Ok((Parts { left: 0, asked: 0 }, How::Copied))
+        if self.locations > 0 {
+            return Err(AllocError);
+        }
+        self.last = None;
+        Ok((new_parts(0), How::Copied))
     }
 
     fn collapse(&mut self, into: &mut Delta) -> Collapsed {
         self.asked = self.asked.saturating_add(1);
-        if self.left == 0 {
-            return Collapsed::Kept { count: 2 };
-        }
-        self.left -= 1;
-        Collapsed::Took
+        let answer = if self.left == 0 {
+            Collapsed::Kept { count: 2 }
+        } else {
+            self.left -= 1;
+            Collapsed::Took
+        };
+        self.last = Some(answer);
+        answer
     }
 
     fn release(self) -> u64 {
@@ -60,10 +73,22 @@ impl Snapshot for Parts {
     }
 }
 
+/// A snapshot of no locations and of so many parts, which was not asked yet.
+fn new_parts(left: u64) -> Parts
+    ensures { (result.left ≡ left) × (result.locations ≡ 0) }
+{
+    Parts {
+        locations: 0,
+        left,
+        asked: 0,
+        last: None,
+    }
+}
+
 #[test]
 fn two_parts_are_taken_by_three_questions(rt: HostRuntime) -> Result<(), Fail> {
     let alloc = rt.alloc();
-    let mut parts = Parts { left: 2, asked: 0 };
+    let mut parts = new_parts(2);
     let mut delta = Delta::new(alloc, 0)?;
     let last = collapse_all(&mut parts, &mut delta);
     assert_eq!(rt; last, Collapsed::Kept { count: 2 });
@@ -110,6 +135,7 @@ fn fork_and_join(alloc: Global) -> Result<Code, AllocError>
 fn asked_by(alloc: Global, setting: &CodeSetting, parts: Parts) -> Result<Option<u64>, AllocError>
     requires setting { IsSetting setting.now }
     requires none { setting.now.code.vars ≡ [] }
+    requires parts { parts.locations ≡ 0 }
 {
     let mut merges = BlockMerges::of(alloc, &setting.code)?;
     match start_main(alloc, setting, parts, 100) {
@@ -132,7 +158,7 @@ fn one_settle_asks_three_times(rt: HostRuntime) -> Result<(), Fail> {
         Err(_) => panic!(rt; "the code breaks a rule"),
     };
     let setting = CodeSetting::new(alloc, verified.into_code(), Vec::new(alloc), 10)?;
-    let parts = Parts { left: 2, asked: 0 };
+    let parts = new_parts(2);
     assert_eq!(rt; asked_by(alloc, &setting, parts)?, Some(3));
     Ok(())
 }

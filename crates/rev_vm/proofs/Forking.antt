@@ -144,7 +144,7 @@ module _ (g : CodeRun) (run : Run) (delta : Delta) (base : ℕ → ℕ) (first :
         let same : t.typed.frame.body ≡ s.body = some_eq (sym t.typed.frame.is ∙ ap (slice_get g.code.blocks) s.here.block ∙ s.is) in
         subst (λ (y : CodeBlock). suc c.at < length y.instrs) same t.typed.frame.inside
 
-    pub place : run.registers.at + 1 < 2 ^ 63
+    pub place : run.registers.at + 1 < 2 ^ 32
     place =
         let s = h.stands.stands in
         let a = block_short g.code accepted run.registers.block s.body s.is in

@@ -80,7 +80,7 @@ pub record IsEnd (g : CodeRun) (j : End ℕ) (v : EndValue) : Type 0 where
 pub record IsReady (run : Run) : Type 0 where
   pub some : 1 ≤ run.registers.top
   pub within : run.registers.top ≤ length run.words.items
-  pub at : run.registers.at + 1 < 2 ^ 64
+  pub at : run.registers.at + 1 < 2 ^ 32
 
 -- at a join of revision `on`, with what it wrote so far
 pub record IsAtJoin (g : CodeRun) (run : Run) (delta : Delta) (base : ℕ → ℕ) (first : Delta)

@@ -118,7 +118,7 @@ fn child_frame(
 fn leave_fork(run: &mut Run, taken: usize, part: u64) -> Result<(), AllocError>
     requires taken { taken ≤ run.old.registers.top }
     requires room { run.old.registers.top - taken < length run.old.words.items }
-    requires place { run.old.registers.at + 1 < 2 ^ 63 }
+    requires place { run.old.registers.at + 1 < 2 ^ 32 }
     requires part { part ≤ run.old.registers.fuel }
     requires few { run.old.forks ≤ length run.old.meetings.items }
     ensures forker { IfOk result (λ _. IsForker taken part run.old run.new) }

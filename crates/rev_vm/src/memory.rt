@@ -3,6 +3,7 @@
 ghost use Rattle.std.specs.Prelude.{◌≡◌, ◌<◌, ◌++◌, ℕ, List, All, IfOk, IfErr, length, map};
 ghost use Rattle.rev_code.specs.Words.{Word};
 ghost use Rattle.rev_code.specs.State.{Location};
+ghost use Rattle.version_map.specs.declared.snapshot.Collapsed.{Collapsed};
 ghost use Rattle.version_map.specs.Composing.{Entry};
 ghost use Rattle.version_map.specs.Deltas.{at};
 ghost use Rattle.version_map.specs.Overlay.{under};
@@ -31,6 +32,8 @@ pub fn read_all<P: Snapshot>(
         (at memory.old.first.roots) (at memory.new.first.roots) }
     ensures size { P.size memory.new.snapshot ≡ P.size memory.old.snapshot }
     ensures group { P.group memory.new.snapshot ≡ P.group memory.old.snapshot }
+    ensures answered { (c : Collapsed) → P.answered memory.old.snapshot c
+        → P.answered memory.new.snapshot c }
 {
     let mut words = Vec::new(alloc);
     for at in 0..written.len() {
@@ -48,6 +51,8 @@ pub fn write_all<P: Snapshot>(memory: &mut Memory<P>, written: &[Written], value
         (under memory.new.delta (P.base memory.new.snapshot)) (at memory.new.first.roots) }
     ensures size { P.size memory.new.snapshot ≡ P.size memory.old.snapshot }
     ensures group { P.group memory.new.snapshot ≡ P.group memory.old.snapshot }
+    ensures answered { (c : Collapsed) → P.answered memory.old.snapshot c
+        → P.answered memory.new.snapshot c }
 {
     for at in 0..written.len() {
         memory.write(written[at].location, values[at]);

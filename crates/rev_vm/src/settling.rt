@@ -5,9 +5,11 @@ ghost use Rattle.std.specs.Prelude.{Bool, true, None, All, IfOk, IfErr, length, 
 ghost use Rattle.rev_num.specs.declared.outcome.Cause.TheVariants as cause;
 ghost use Rattle.rev_code.specs.State.{State};
 ghost use Rattle.version_map.specs.declared.end.Finish.TheVariants as finish;
+ghost use Rattle.version_map.specs.declared.snapshot.Collapsed.{Collapsed};
+ghost use Rattle.version_map.specs.Collapsing.{HasCollapsed};
 ghost use Rattle.version_map.specs.Composing.{composed, entries};
 ghost use Rattle.version_map.specs.Deltas.{at, locations};
-ghost use Rattle.version_map.specs.Overlay.{under};
+ghost use Rattle.version_map.specs.Overlay.{under, Agree};
 ghost use Rattle.block_run.specs.Area.{count};
 ghost use Rattle.block_run.specs.Remembering.{Kept};
 ghost use Rattle.code_machine.specs.Local.{CodeRun, End, end_of, at_work, Local};
@@ -29,7 +31,7 @@ use leg_run::{Revision, Run};
 use rev_num::Cause;
 use std::alloc::{AllocError, Global};
 use version_map::{
-    CodeTrap, EndValue, Finish, MergeBy, MergeTrap, Snapshot, collapse_all, compose,
+    CodeTrap, Delta, EndValue, Finish, MergeBy, MergeTrap, Snapshot, collapse_all, compose,
 };
 
 /// What becomes of a joiner.
@@ -43,6 +45,19 @@ pub enum Settled<P: Snapshot> {
 pub(crate) enum Merged {
     Words(Vec<u64>),
     Fault(MergeTrap),
+}
+
+/// Collapses a joiner's snapshot until the answer is Kept or Base.
+fn collapse<P: Snapshot>(snapshot: &mut P, into: &mut Delta)
+    requires { locations into.old ≡ P.size snapshot.old }
+    ensures collapsed { HasCollapsed P.answered snapshot.new }
+    ensures size { P.size snapshot.new ≡ P.size snapshot.old }
+    ensures group { P.group snapshot.new ≡ P.group snapshot.old }
+    ensures locations { locations into.new ≡ locations into.old }
+    ensures base { Agree (P.size snapshot.old) (under into.new (P.base snapshot.new))
+        (under into.old (P.base snapshot.old)) }
+{
+    let _answer = collapse_all(snapshot, into);
 }
 
 /// The new words of the locations that the joinee wrote.
@@ -63,6 +78,8 @@ fn merge_words<P: Snapshot, M: MergeBy>(
         (at memory.old.first.roots) (at memory.new.first.roots) }
     ensures size { P.size memory.new.snapshot ≡ P.size memory.old.snapshot }
     ensures group { P.group memory.new.snapshot ≡ P.group memory.old.snapshot }
+    ensures answered { (c : Collapsed) → P.answered memory.old.snapshot c
+        → P.answered memory.new.snapshot c }
     ensures merges_size { M.size merges.new ≡ M.size merges.old }
     ensures merges_same { M.merges merges.new ≡ M.merges merges.old }
 {
@@ -143,6 +160,10 @@ fn take_over<P: Snapshot>(
         ≡ P.size revision.memory.snapshot) }
     ensures group { IfOk result (λ r. P.group r.revision.memory.snapshot
         ≡ P.group revision.memory.snapshot) }
+    ensures answered { IfOk result (λ r. (c : Collapsed)
+        → P.answered revision.memory.snapshot c → P.answered r.revision.memory.snapshot c) }
+    ensures broken_answered { IfErr result (λ b. (c : Collapsed)
+        → P.answered revision.memory.snapshot c → P.answered b.snapshot c) }
     ensures broken { IfErr result (λ b. P.group b.snapshot ≡ P.group revision.memory.snapshot) }
 {
     let EndValue {
@@ -194,6 +215,11 @@ pub fn settle<P: Snapshot, M: MergeBy>(
           ≡ P.group claimed.at.revision.memory.snapshot
       | settled.Trap t ↦ P.group t.snapshot ≡ P.group claimed.at.revision.memory.snapshot
     ]) }
+    ensures collapsed { IfOk result (λ s. elim s [
+      | settled.Run r ↦ HasCollapsed P.answered r.revision.memory.snapshot
+      | settled.Trap t ↦ HasCollapsed P.answered t.snapshot
+    ]) }
+    ensures broken_collapsed { IfErr result (λ b. HasCollapsed P.answered b.snapshot) }
     ensures broken { IfErr result
         (λ b. P.group b.snapshot ≡ P.group claimed.at.revision.memory.snapshot) }
     ensures merges_size { M.size merges.new ≡ M.size merges.old }
@@ -206,7 +232,7 @@ pub fn settle<P: Snapshot, M: MergeBy>(
         on,
         written,
     } = at;
-    collapse_all(&mut revision.memory.snapshot, &mut revision.memory.delta);
+    collapse(&mut revision.memory.snapshot, &mut revision.memory.delta);
     match merge_words(alloc, &mut revision.memory, &end, merges) {
         Err(_) => Err(break_off(revision)),
         Ok(Merged::Fault(trap)) => {

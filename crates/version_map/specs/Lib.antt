@@ -3,3 +3,4 @@ pub mod Deltas
 pub mod Overlay
 pub mod Endings
 pub mod Composing
+pub mod Collapsing

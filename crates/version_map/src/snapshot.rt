@@ -2,6 +2,7 @@
 ghost use Rattle.std.specs.Prelude.{◌≡◌, ◌≢◌, ℕ, ◌<◌, ◌≤◌, List, IfOk, IfErr};
 ghost use Rattle.version_map.specs.Deltas.{locations, IsEmpty};
 ghost use Rattle.version_map.specs.Overlay.{under, Agree};
+ghost use Rattle.version_map.specs.declared.snapshot.Collapsed.{Collapsed};
 ghost use Rattle.version_map.specs.declared.snapshot.Collapsed.TheVariants as collapsed;
 
 use crate::delta::Delta;
@@ -46,6 +47,10 @@ pub trait Snapshot: Sized {
     // What it belongs to. No call changes it.
     ghost group: { Self → List ℕ };
 
+    // That its last call other than `read` was a collapse that gave this answer, as far as the
+    // snapshot tells it.
+    ghost answered: { Self → Collapsed → Type 0 };
+
     // The group of the snapshot that was given back.
     ghost spent_group: { Self.Spent → List ℕ };
 
@@ -56,6 +61,7 @@ pub trait Snapshot: Sized {
         ensures size { size self.new ≡ size self.old }
         ensures group { group self.new ≡ group self.old }
         ensures depth { depth self.new ≡ depth self.old }
+        ensures answered { (c : Collapsed) → answered self.old c → answered self.new c }
         ensures base { Agree (size self.old) (base self.new) (base self.old) };
 
     /// A child, whose base is this base under the delta. The base under the delta stays what it is.
@@ -84,6 +90,7 @@ pub trait Snapshot: Sized {
         ensures locations { locations into.new ≡ locations into.old }
         ensures base { Agree (size self.old) (under into.new (base self.new))
             (under into.old (base self.old)) }
+        ensures answered { answered self.new result }
         ensures took { result ≡ collapsed.Took → depth self.new < depth self.old };
 
     /// Gives the snapshot back.
@@ -95,6 +102,7 @@ pub trait Snapshot: Sized {
 pub fn collapse_all<P: Snapshot>(snapshot: &mut P, into: &mut Delta) -> Collapsed
     requires { locations into.old ≡ P.size snapshot.old }
     ensures last { result ≢ collapsed.Took }
+    ensures answered { P.answered snapshot.new result }
     ensures size { P.size snapshot.new ≡ P.size snapshot.old }
     ensures group { P.group snapshot.new ≡ P.group snapshot.old }
     ensures locations { locations into.new ≡ locations into.old }

@@ -29,6 +29,7 @@ impl Whole {
 
 impl Snapshot for Whole {
     ghost use Rattle.std.specs.Prelude.{vec_len, slice_index};
+    ghost use Rattle.version_map.specs.declared.snapshot.Collapsed.TheVariants as collapsed;
 
     type Spent = ();
 
@@ -39,6 +40,8 @@ impl Snapshot for Whole {
     ghost depth = { λ _. 0 };
 
     ghost group = { λ _. [] };
+
+    ghost answered = { λ _ c. c ≡ collapsed.Base };
 
     ghost spent_group = { λ _. [] };
 

@@ -8,9 +8,10 @@ use Rattle.block_run.specs.Standing.{Mode, Here, Ahead, weight}
 use Rattle.block_run.proofs.block.run_block.Given as goal
 
 -- each state for which the machine stood at first has steps to one for which it stands now
-abbrev pub invariant-loop-stop : goal.invariant-loop-stop
-invariant-loop-stop g l = record {
+abbrev pub invariant-loop-last : goal.invariant-loop-last
+invariant-loop-last g l = record {
   instrs : l.instrs ≡ l.b.instrs;
+  registers : l.registers ≡ l.initial.registers;
   words : length l.words ≡ length l.initial.words;
   ahead : (m : Mode) (c : State ℕ) → Here l.code l.inputs m l.b c l.initial.words l.initial.registers
       (under l.initial.memory.delta (g.P.Snapshot.base l.initial.memory.snapshot)) (at l.initial.memory.first.roots)
@@ -25,5 +26,5 @@ invariant-loop-stop g l = record {
   group : g.P.Snapshot.group l.memory.snapshot ≡ g.P.Snapshot.group l.initial.memory.snapshot;
 }
 
-abbrev pub decreases-loop-stop : goal.decreases-loop-stop
-decreases-loop-stop g l = weight l.b.instrs l.r.at l.r.fuel
+abbrev pub decreases-loop-last : goal.decreases-loop-last
+decreases-loop-last g l = weight l.b.instrs l.r.at l.r.fuel

@@ -8,4 +8,6 @@ loop-number-preserved g c = record {
   goes = c.in_ok-now-in-Goes.ensures.turn;
   size = c.go_on.ensures.merges_size ∙ c.loop-number.invariant.size;
   merges = subst (λ ms. AreMergesOf (run_under c.args.setting.now) ms) (sym c.go_on.ensures.merges_same) c.loop-number.invariant.merges;
+  merges_size = c.go_on.ensures.merges_size ∙ c.loop-number.invariant.merges_size;
+  merges_same = c.go_on.ensures.merges_same ∙ c.loop-number.invariant.merges_same;
 }

@@ -10,4 +10,6 @@ invariant-loop-number g l = record {
   goes : Goes (run_under l.fn.setting) l.now;
   size : g.M.MergeBy.size l.merges ≡ count l.fn.setting.code.vars;
   merges : AreMergesOf (run_under l.fn.setting) (g.M.MergeBy.merges l.merges);
+  merges_size : g.M.MergeBy.size l.merges ≡ g.M.MergeBy.size l.initial.merges;
+  merges_same : g.M.MergeBy.merges l.merges ≡ g.M.MergeBy.merges l.initial.merges;
 }

@@ -16,4 +16,5 @@ loop-at-preserved g c =
       kept = kept_on _ _ _ _ _ _ _ _ inv.size inv.kept c.read.ensures.kept;
       size = c.read.ensures.size ∙ inv.size;
       group = c.read.ensures.group ∙ inv.group;
+      answered = λ a h. c.read.ensures.answered a (inv.answered a h);
     }

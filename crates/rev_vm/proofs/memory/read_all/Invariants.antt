@@ -1,4 +1,5 @@
 use Rattle.std.proofs.Common.{◌≡◌, map, take}
+use Rattle.version_map.specs.declared.snapshot.Collapsed.{Collapsed}
 use Rattle.version_map.specs.Deltas.{at}
 use Rattle.version_map.specs.Overlay.{under}
 use Rattle.block_run.specs.Remembering.{Kept}
@@ -12,4 +13,5 @@ invariant-loop-at g l = record {
       (at l.initial.memory.first.roots) (at l.memory.first.roots);
   size : g.P.Snapshot.size l.memory.snapshot ≡ g.P.Snapshot.size l.initial.memory.snapshot;
   group : g.P.Snapshot.group l.memory.snapshot ≡ g.P.Snapshot.group l.initial.memory.snapshot;
+  answered : (c : Collapsed) → g.P.Snapshot.answered l.initial.memory.snapshot c → g.P.Snapshot.answered l.memory.snapshot c;
 }

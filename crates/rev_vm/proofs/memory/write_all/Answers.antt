@@ -18,6 +18,7 @@ loop-at-preserved g c =
           (at c.loop-at.memory.first.roots) (at c.write.new.self.first.roots) (get_or c.args.written.now c.loop-at.at no_entry).location (get_or c.args.values.now c.loop-at.at 0)) inv.size c.write.ensures.wrote);
       size = c.write.ensures.size ∙ inv.size;
       group = c.write.ensures.group ∙ inv.group;
+      answered = λ a h. c.write.ensures.answered a (inv.answered a h);
     }
 
 pub returns-clause-wrote : goal.returns-clause-wrote

@@ -1,4 +1,5 @@
 use Rattle.std.proofs.Common.{◌≡◌}
+use Rattle.version_map.specs.declared.snapshot.Collapsed.{Collapsed}
 use Rattle.version_map.specs.Deltas.{at}
 use Rattle.version_map.specs.Overlay.{under}
 use Rattle.rev_vm.proofs.Writing.{IsOn}
@@ -12,4 +13,5 @@ invariant-loop-at g l = record {
       (under l.memory.delta (g.P.Snapshot.base l.memory.snapshot)) (at l.memory.first.roots);
   size : g.P.Snapshot.size l.memory.snapshot ≡ g.P.Snapshot.size l.initial.memory.snapshot;
   group : g.P.Snapshot.group l.memory.snapshot ≡ g.P.Snapshot.group l.initial.memory.snapshot;
+  answered : (c : Collapsed) → g.P.Snapshot.answered l.initial.memory.snapshot c → g.P.Snapshot.answered l.memory.snapshot c;
 }

@@ -1,0 +1,91 @@
+//! A run for which memory is wanting.
+
+ghost use Rattle.std.specs.Prelude.{◌≡◌};
+ghost use Rattle.block_run.specs.Area.{count};
+ghost use Rattle.block_merges.specs.Merging.{AreMergesOf};
+ghost use Rattle.leg_run.specs.Setting.{IsSetting};
+ghost use Rattle.rev_vm.specs.Starts.{run_under};
+
+use crate::codes::{code_of, left_under, setting_of};
+use block_merges::BlockMerges;
+use leg_run::CodeSetting;
+use rev_code::{Code, Instr};
+use std::alloc::{AllocError, Global};
+use std::test::Fail;
+use version_map::MergeBy;
+
+/// A child that calls, applies a fun, prints and writes a cumulative cell, and `main`, which forks
+/// and joins it and writes the same cell.
+fn code(alloc: Global) -> Result<Code, AllocError> {
+    let child = [
+        Instr::Charge(9),
+        Instr::PushInt(6),
+        Instr::PushInt(2),
+        Instr::PushInt(1),
+        Instr::Apply(0),
+        Instr::Print(0),
+        Instr::Charge(10),
+        Instr::PushInt(4),
+        Instr::PushInt(5),
+        Instr::StoreCell(1),
+        Instr::Return,
+    ];
+    let main = [
+        Instr::Charge(2),
+        Instr::Fork(2),
+        Instr::StoreLocal(2),
+        Instr::Charge(3),
+        Instr::PushInt(4),
+        Instr::PushInt(20),
+        Instr::StoreCell(1),
+        Instr::Charge(4),
+        Instr::Call(2),
+        Instr::Charge(5),
+        Instr::LoadLocal(2),
+        Instr::Join,
+        Instr::Charge(6),
+        Instr::PushInt(4),
+        Instr::LoadCell(1),
+        Instr::Print(0),
+        Instr::Return,
+    ];
+    code_of(alloc, child.as_slice(), main.as_slice())
+}
+
+/// Whether the run comes to its end and leaves this text.
+fn comes_to<M: MergeBy>(
+    alloc: Global,
+    setting: &CodeSetting,
+    merges: &mut M,
+    text: &str,
+) -> Result<bool, AllocError>
+    requires setting { IsSetting setting.now }
+    requires size { M.size merges.old ≡ count setting.now.code.vars }
+    requires merges { AreMergesOf (run_under setting.now) (M.merges merges.old) }
+    ensures merges_size { M.size merges.new ≡ M.size merges.old }
+    ensures merges_same { M.merges merges.new ≡ M.merges merges.old }
+{
+    match left_under(alloc, setting, merges, 3)? {
+        None => Ok(false),
+        Some(end) => Ok(end.text.as_slice() == text.as_bytes()),
+    }
+}
+
+// Under `rt try --test --fail-alloc` with a number one allocation is refused: one of those before
+// the first run, where the test ends, or one of the first run, which then answers that memory is
+// wanting, and the second goes on with what the first has borrowed.
+#[test]
+fn a_run_after_one_that_wanted_memory(rt: HostRuntime) -> Result<(), Fail> {
+    let alloc = rt.alloc();
+    let setting = match setting_of(alloc, code(alloc)?, Vec::new(alloc))? {
+        Some(setting) => setting,
+        None => panic!(rt; "the code breaks a rule"),
+    };
+    let mut merges = BlockMerges::of(alloc, &setting.code)?;
+    match comes_to(alloc, &setting, &mut merges, "7\n7\n10\n") {
+        Ok(good) => assert!(rt; good),
+        Err(_) => println!(rt; "memory was wanting")?,
+    }
+    assert!(rt; comes_to(alloc, &setting, &mut merges, "7\n7\n10\n")?);
+    Ok(())
+}
