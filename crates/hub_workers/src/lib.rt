@@ -14,4 +14,5 @@ pub use gate::{Gate, OpenGate};
 pub use legs::{Event, Legs, Settled};
 pub use running::{Finished, NotBegun, run};
 pub use threads::{Worker, run_workers};
+pub use vectors::take_last;
 pub use worker::work;

@@ -1,5 +1,5 @@
 //! What a thread works with.
-ghost use Rattle.std.specs.Prelude.{◌≡◌, ℕ, List};
+ghost use Rattle.std.specs.Prelude.{◌≡◌, ◌+◌, ℕ, List};
 ghost use Rattle.block_merges.specs.Merging.{AreMergesOf};
 ghost use Rattle.block_run.specs.Area.{count};
 ghost use Rattle.leg_run.specs.Setting.{IsSetting};
@@ -16,23 +16,32 @@ pub trait Keeper<P: Snapshot> {
     /// What they belong to.
     ghost group: { Self → List ℕ };
 
+    /// Of how many snapshots something is left.
+    ghost left_of: { P.Spent → ℕ };
+
+    /// Of how many snapshots it has what is left.
+    ghost kept: { Self → ℕ };
+
     fn keep(&mut self, spent: P::Spent)
         requires { P.spent_group spent ≡ group self.old }
-        ensures { group self.new ≡ group self.old };
+        ensures group { group self.new ≡ group self.old }
+        ensures kept { kept self.new ≡ kept self.old + left_of spent };
 
     fn note(&mut self, how: How)
-        ensures { group self.new ≡ group self.old };
+        ensures group { group self.new ≡ group self.old }
+        ensures kept { kept self.new ≡ kept self.old };
 }
 
 /// What a thread needs to run revisions of this setting, of a run whose `main` has this fuel: the
-/// merges of all locations, and a keeper. Contracts see what runs, the fuel and the keeper's group.
+/// merges of all locations, and a keeper. Contracts see what runs, the fuel, and of the keeper its
+/// group and how much it has.
 pub struct CodeHand<'a, P: Snapshot, M: MergeBy, K: Keeper<P>> {
     pub(crate) alloc: Global,
     pub(crate) setting: &'a CodeSetting,
     pub(crate) fuel: u64,
     pub(crate) merges: M,
     pub(crate) keeper: K,
-    pub(crate) of: PhantomData<&'a P>,
+    pub(crate) of: PhantomData<P>,
 }
 
 impl<'a, P: Snapshot, M: MergeBy, K: Keeper<P>> Model for CodeHand<'a, P, M, K> {
@@ -45,7 +54,12 @@ impl<'a, P: Snapshot, M: MergeBy, K: Keeper<P>> Model for CodeHand<'a, P, M, K> 
 
     ghost Value = { HandValue };
 
-    ghost view = { λ h. record { run = run_under h.setting.now; fuel = h.fuel; group = K.group h.keeper } };
+    ghost view = { λ h. record {
+      run = run_under h.setting.now;
+      fuel = h.fuel;
+      group = K.group h.keeper;
+      kept = K.kept h.keeper;
+    } };
 
     ghost invariant = { λ h. IsSetting h.setting.now × (M.size h.merges ≡ count h.setting.now.code.vars)
         × AreMergesOf (run_under h.setting.now) (M.merges h.merges) };
@@ -66,6 +80,7 @@ impl<'a, P: Snapshot, M: MergeBy, K: Keeper<P>> CodeHand<'a, P, M, K> {
         ensures run { result.run ≡ run_under setting.entry.now }
         ensures fuel { result.fuel ≡ fuel }
         ensures group { result.group ≡ K.group keeper }
+        ensures kept { result.kept ≡ K.kept keeper }
     {
         CodeHand {
             alloc,
@@ -79,7 +94,8 @@ impl<'a, P: Snapshot, M: MergeBy, K: Keeper<P>> CodeHand<'a, P, M, K> {
 
     /// The merges and the keeper again.
     pub fn into_parts(self) -> (M, K)
-        ensures { K.group result.1 ≡ self.entry.group }
+        ensures group { K.group result.1 ≡ self.entry.group }
+        ensures kept { K.kept result.1 ≡ self.entry.kept }
     {
         let CodeHand {
             alloc: _,

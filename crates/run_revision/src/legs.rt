@@ -1,6 +1,7 @@
 //! The legs of revisions of code, between the calls of a hub.
 ghost use Rattle.std.specs.Prelude.{◌≡◌, ◌≢◌};
 ghost use Rattle.version_map.specs.declared.end.Finish.TheVariants.{Done, Trapped};
+ghost use Rattle.hub_workers.specs.Legs.{IsSameHand};
 ghost use Rattle.rev_vm.specs.Meaning.{IsEnd};
 ghost use Rattle.rev_vm.specs.Starts.{run_under};
 ghost use Rattle.rev_vm.specs.States.{end_for};
@@ -40,7 +41,7 @@ fn leave<'a, P: Snapshot, M: MergeBy, K: Keeper<P>>(
     requires group { P.group stopped.snapshot ≡ hand.old.group }
     ensures run { result.run ≡ run_under setting.entry.now }
     ensures left { result.left ≡ end_for (run_under setting.entry.now) stopped.end }
-    ensures hand { hand.new ≡ hand.old }
+    ensures hand { IsSameHand hands.begins (λ h. h.group) hand.old hand.new }
 {
     let (value, spent) = retire(stopped);
     hand.keeper.keep(spent);
@@ -146,7 +147,6 @@ impl<'a, P: Snapshot, M: MergeBy, K: Keeper<P>> Legs for CodeRevisions<'a, P, M,
     }
 
     fn give_up_runner(hand: &mut CodeHand<'a, P, M, K>, runner: CodeRunner<'a, P>) {
-        let CodeRunner { setting: _, runner } = runner;
         hand.keeper.keep(runner.give_up());
     }
 

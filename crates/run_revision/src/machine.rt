@@ -8,13 +8,14 @@ use crate::joiner::{CodeJoiner, Ended, JoinedBy};
 use crate::left::CodeEnd;
 use crate::runner::CodeRunner;
 use crate::state::AnyState;
+use leg_run::CodeSetting;
 use std::marker::PhantomData;
 use turn_hub::Revision;
 use version_map::{MergeBy, Snapshot};
 
 /// The machine of verified code, over these snapshots, for threads with these merges and keepers.
 pub struct CodeRevisions<'a, P: Snapshot, M: MergeBy, K: Keeper<P>> {
-    of: PhantomData<(&'a P, M, K)>,
+    of: PhantomData<(&'a CodeSetting, P, M, K)>,
 }
 
 impl<'a, P: Snapshot, M: MergeBy, K: Keeper<P>> Revision for CodeRevisions<'a, P, M, K> {

@@ -59,4 +59,12 @@ impl<'a, P: Snapshot> CodeRunner<'a, P> {
             Err(snapshot) => Err(snapshot),
         }
     }
+
+    /// What is left of its snapshot, which is given back.
+    pub fn give_up(self) -> P::Spent
+        ensures { P.spent_group result ≡ self.entry.group }
+    {
+        let CodeRunner { setting: _, runner } = self;
+        runner.give_up()
+    }
 }

@@ -8,6 +8,7 @@ use Rattle.segment_store.specs.Entry.{Entry, Look}
 use Rattle.segment_store.specs.Store.{sees, pops, IsSegment}
 use Rattle.segment_store.specs.declared.store.Store.{Store}
 use Rattle.segment_store.specs.declared.store.Hold.{Hold}
+use Rattle.segment_store.specs.declared.store.Spent.{Spent}
 use Rattle.segment_store.specs.Own.{root_in}
 use Rattle.segment_store.specs.Base.{value, absorbed, Sound, Rests, Forked, IsTaken, Popped}
 use Rattle.segment_store.specs.Base.{IsShared, FoundAll}
@@ -21,6 +22,10 @@ IsSeatOf s seat = seat.table_id ≡ s.table.shared.table_id
 -- a delta with a place for each of its locations
 abbrev pub IsDeltaOf : Store → Delta → Type 0
 IsDeltaOf s d = locations d ≡ vec_len s.initial
+
+-- how many holds it is left of
+abbrev pub gathered : Spent → ℕ
+gathered s = s.seat.me.0.holds
 
 abbrev pub IsSameHold : Hold → Hold → Type 0
 IsSameHold h k = (k.seat.me.0.chain ≡ h.seat.me.0.chain) × (k.own ≡ h.own)

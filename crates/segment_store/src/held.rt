@@ -17,6 +17,8 @@ pub struct Held<'a> {
 }
 
 impl<'a> Snapshot for Held<'a> {
+    ghost use Rattle.version_map.specs.declared.snapshot.Collapsed.TheVariants as collapsed;
+
     type Spent = Spent;
 
     ghost size = { λ h. vec_len h.store.now.initial };
@@ -26,6 +28,13 @@ impl<'a> Snapshot for Held<'a> {
     ghost depth = { λ h. h.hold.depth };
 
     ghost group = { λ h. group_of h.hold.seat.table_id };
+
+    // Base: its chain has no segment. Kept: this count of references was found, which is above 1.
+    ghost answered = { λ h c. elim c [
+      | collapsed.Took ↦ Unit {0}
+      | collapsed.Kept n ↦ 1 < n
+      | collapsed.Base ↦ h.hold.depth ≡ 0
+    ] };
 
     ghost spent_group = { λ s. group_of s.seat.table_id };
 

@@ -83,20 +83,20 @@ impl Closed {
     }
 }
 
-/// What is left of holds that were given back.
+/// What is left of holds that were given back, with their number modulo 2^64.
 #[derive(Drop)]
 pub struct Spent {
     seat: Place,
     holds: u64,
-    ghost some: { 0 < holds },
+    ghost some: { 0 < seat.me.0.holds },
     ghost empty: { (seat.me.0.chain ≡ []) × (seat.me.0.build ≡ 0) × (seat.me.1 ≡ [])
-        × (holds ≡ seat.me.0.holds) × (seat.me.0.left ≡ 0) },
+        × (holds ≡ seat.me.0.holds % 2 ^ 64) × (seat.me.0.left ≡ 0) },
 }
 
 impl Store {
     ghost use Rattle.segment_store.specs.Names.{IsOf, IsSeatOf, IsDeltaOf, IsSameHold, TookFirst};
     ghost use Rattle.segment_store.specs.Names.{FoundAllIn};
-    ghost use Rattle.segment_store.specs.Names.{base};
+    ghost use Rattle.segment_store.specs.Names.{base, gathered};
     ghost use Rattle.segment_store.specs.First.{AreFreeAtFirst};
     ghost use Rattle.version_map.specs.declared.snapshot.Collapsed.TheVariants as collapsed;
     ghost use Rattle.version_map.specs.declared.snapshot.How.TheVariants.{Shared, Copied};
@@ -296,14 +296,24 @@ impl Store {
 
     /// Joins two spent holds.
     pub fn gather(&self, into: &mut Spent, other: Spent)
-        requires own { IsSeatOf self.now into.old.seat × IsSeatOf self.now other.seat
-            × (into.old.holds + other.holds < 2 ^ 64) }
+        requires own { IsSeatOf self.now into.old.seat × IsSeatOf self.now other.seat }
         ensures { (into.new.seat.table_id ≡ into.old.seat.table_id)
-            × (into.new.holds ≡ into.old.holds + other.holds) }
+            × (gathered into.new ≡ gathered into.old + gathered other) }
     {
         let Spent { seat, holds } = other;
         self.join(&mut into.seat, seat);
-        into.holds += holds;
+        into.holds = into.holds.wrapping_add(holds);
+    }
+
+    /// A hold of nothing, which is made and given back at once. Others can be gathered into it.
+    pub fn purse(&self, hold: &mut Hold) -> Spent
+        requires own { IsOf self.now hold.old }
+        ensures own { IsOf self.now hold.new × IsSameHold hold.old hold.new
+            × (hold.new.depth ≡ hold.old.depth) }
+        ensures spent { IsSeatOf self.now result.seat × (gathered result ≡ 1) }
+    {
+        let seat = self.split_off(&mut hold.seat, hold.first, hold.depth);
+        Spent { seat, holds: 1 }
     }
 
     /// Ends the store. `out` is how many of the holds that were made were not gathered, and `live`
@@ -314,8 +324,8 @@ impl Store {
             × (get_elem? s.views all.seat.id ≡ some all.seat.me.0)
             × (result.live ≡ live_segments self.stride s.words self.segments) }
         ensures group { IsSeatOf self result.witness }
-        ensures out { (made : ℕ) × (all.holds ≤ made)
-            × (made < 2 ^ 64 → (result.out ≡ made - all.holds)
+        ensures out { (made : ℕ) × (gathered all ≤ made)
+            × (made < 2 ^ 64 → (result.out ≡ made - gathered all)
             × (result.out ≡ 0 → result.live ≡ 0)) }
     {
         let witness = self.witness(&mut all.seat);
@@ -343,7 +353,7 @@ impl Store {
     /// Gives back the reference.
     pub fn release(&self, hold: Hold) -> Spent
         requires own { IsOf self.now hold }
-        ensures { IsSeatOf self.now result.seat × (result.holds ≡ 1) }
+        ensures { IsSeatOf self.now result.seat × (gathered result ≡ 1) }
     {
         let Hold {
             mut seat,

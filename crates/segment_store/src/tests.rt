@@ -1,4 +1,4 @@
-ghost use Rattle.std.specs.Prelude.{◌≡◌, ◌≤◌, ◌^◌, vec_len, IfOk};
+ghost use Rattle.std.specs.Prelude.{◌≡◌, vec_len, IfOk};
 ghost use Rattle.segment_store.specs.Names.{IsOf};
 ghost use Rattle.version_map.specs.Deltas.{locations};
 
@@ -12,7 +12,7 @@ const ROUNDS: u32 = 100_000;
 
 fn look(store: &Store, mut hold: Hold) -> (u64, u64, Spent)
     requires { IsOf store.now hold × (vec_len store.now.initial ≡ 70) }
-    ensures { (result.2.seat.table_id ≡ store.now.table.shared.table_id) × (result.2.holds ≡ 1) }
+    ensures { result.2.seat.table_id ≡ store.now.table.shared.table_id }
 {
     let first = store.read(&mut hold, 0);
     let second = store.read(&mut hold, 69);
@@ -21,7 +21,7 @@ fn look(store: &Store, mut hold: Hold) -> (u64, u64, Spent)
 
 fn work(store: &Store, mut hold: Hold, mut into: Delta) -> (u64, u64, Spent)
     requires { IsOf store.now hold × (vec_len store.now.initial ≡ 70) × (locations into ≡ 70) }
-    ensures { (result.2.seat.table_id ≡ store.now.table.shared.table_id) × (result.2.holds ≡ 1) }
+    ensures { result.2.seat.table_id ≡ store.now.table.shared.table_id }
 {
     store.collapse(&mut hold, &mut into);
     look(store, hold)
@@ -48,13 +48,11 @@ fn two_threads_read_what_they_forked_from(rt: HostRuntime) -> Result<(), Fail> {
         move || -> (u64, u64, Spent)
             requires { IsOf shared.now child × (vec_len shared.now.initial ≡ 70)
                 × (locations more ≡ 70) }
-            ensures { (result.2.seat.table_id ≡ shared.entry.now.table.shared.table_id)
-                × (result.2.holds ≡ 1) }
+            ensures { result.2.seat.table_id ≡ shared.entry.now.table.shared.table_id }
         { work(shared, child, more) },
         move || -> (u64, u64, Spent)
             requires { IsOf shared.now main × (vec_len shared.now.initial ≡ 70) }
-            ensures { (result.2.seat.table_id ≡ shared.entry.now.table.shared.table_id)
-                × (result.2.holds ≡ 1) }
+            ensures { result.2.seat.table_id ≡ shared.entry.now.table.shared.table_id }
         { look(shared, main) },
     );
     assert!(rt; a.0 == 5 && b.0 == 5 && b.1 == 7);
@@ -75,8 +73,7 @@ fn rounds(
     count: u32,
 ) -> Result<(u64, Spent), AllocError>
     requires { IsOf store.now hold × (vec_len store.now.initial ≡ 70) }
-    ensures { IfOk result (λ r. (r.1.seat.table_id ≡ store.now.table.shared.table_id)
-        × (r.1.holds ≤ 2 ^ 33)) }
+    ensures { IfOk result (λ r. r.1.seat.table_id ≡ store.now.table.shared.table_id) }
 {
     let mut delta = Delta::new(alloc, 70)?;
     let (first, _) = store.fork(alloc, &mut hold, &mut delta)?;
@@ -107,13 +104,13 @@ fn two_threads_leave_no_segment_in_use(rt: HostRuntime) -> Result<(), Fail> {
         &rt,
         move || -> Result<(u64, Spent), AllocError>
             requires { IsOf shared.now child × (vec_len shared.now.initial ≡ 70) }
-            ensures { IfOk result (λ r. (r.1.seat.table_id
-                ≡ shared.entry.now.table.shared.table_id) × (r.1.holds ≤ 2 ^ 33)) }
+            ensures { IfOk result
+                (λ r. r.1.seat.table_id ≡ shared.entry.now.table.shared.table_id) }
         { rounds(alloc, shared, child, ROUNDS) },
         move || -> Result<(u64, Spent), AllocError>
             requires { IsOf shared.now main × (vec_len shared.now.initial ≡ 70) }
-            ensures { IfOk result (λ r. (r.1.seat.table_id
-                ≡ shared.entry.now.table.shared.table_id) × (r.1.holds ≤ 2 ^ 33)) }
+            ensures { IfOk result
+                (λ r. r.1.seat.table_id ≡ shared.entry.now.table.shared.table_id) }
         { rounds(alloc, shared, main, ROUNDS) },
     );
     let (wrong, mut all) = a?;

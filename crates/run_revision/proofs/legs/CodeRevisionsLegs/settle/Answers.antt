@@ -11,6 +11,7 @@ use Rattle.rev_vm.specs.Starts.{run_under}
 use Rattle.rev_vm.specs.States.{end_for}
 use Rattle.rev_vm.specs.Values.{runner_state, joiner_state, joiner_group}
 use Rattle.rev_vm.proofs.Values.{one_state, one_end}
+use Rattle.run_revision.specs.Hands.{begins}
 use Rattle.run_revision.specs.Values.{made_by_join}
 use Rattle.run_revision.proofs.Standing.{at_own, end_own}
 use Rattle.run_revision.proofs.Events.{by_phase}
@@ -165,3 +166,7 @@ returns-in-Ok-Trap-clause-state g c a e is none met =
     let there : joined a e ≡ state_of own l = joined_is own its mine s c.at.inside.at.is_try c.at.inside.at.on (joiner_group c.at.inside.at) c.end.inside.value c.args.hand.now a e (c.at.view_is ∙ is.0) (c.end.view_is ∙ is.1) (ap (λ z. z.run) c.hand.view_is) met ∙ ap (λ k. state_of own (join_in own s k.is_try k.on j j.phase)) (sym c.claim.ensures.at) in
     subst (λ z. IsEndBy code_hub is_end (λ (x : LeftValue). made_by_join x.left.phase) true c.leave.result z) (sym there)
     ((end_stops own l c.in-Ok-Trap.stopped.end end, (sym c.leave.ensures.run, one_end own (end_of l) c.in-Ok-Trap.stopped.end end ∙ sym c.leave.ensures.left)), ap (λ (x : End ℕ). made_by_join x.phase) c.leave.ensures.left ∙ (by_phase c.in-Ok-Trap.stopped.end.finish ∙ (rw c.in-Ok-Trap.field-0-is at c.in-Ok-Trap.ensures.by_join)))
+
+pub returns-in-Ok-Trap-clause-hand : goal.returns-in-Ok-Trap-clause-hand
+returns-in-Ok-Trap-clause-hand g c =
+    (c.leave.ensures.hand.0 ∙ ap (λ h. h.group) c.hand.view_is, λ l b. c.leave.ensures.hand.1 l (subst (λ h. begins h l) (sym c.hand.view_is) b))

@@ -40,12 +40,15 @@ returns-clause-out c = let z = c.args.self.sized in let q = c.args.all.empty in 
     (slots_items c.close_with-closed.result.words) f.2 c.word.result c.loop-k.live
     c.word.ensures (inv.0
     ∙ ap (live_segments c.args.self.stride (slots_items c.close_with-closed.result.words))
-    all) in
-    subst (λ (h : ℕ). (made : ℕ) × (h ≤ made)
-    × (made < 18446744073709551616
-    → ((c.word.result + (18446744073709551616 - h)) % 18446744073709551616 ≡ made - h)
-    × ((c.word.result + (18446744073709551616 - h)) % 18446744073709551616 ≡ 0
-    → c.loop-k.live ≡ 0))) (sym held) a
+    all) in (
+      a.0,
+      a.1,
+      λ fits. let under = a.1 in
+          let few : c.args.all.seat.me.0.holds % 18446744073709551616 ≡ c.args.all.seat.me.0.holds = omega arith in
+          subst (λ (h : ℕ). ((c.word.result + (18446744073709551616 - h)) % 18446744073709551616 ≡ a.0 - c.args.all.seat.me.0.holds)
+          × ((c.word.result + (18446744073709551616 - h)) % 18446744073709551616 ≡ 0 → c.loop-k.live ≡ 0))
+          (sym (held ∙ few)) (a.2 fits),
+    )
 
 pub returns-clause-counts : goal.returns-clause-counts
 returns-clause-counts c = let z = c.args.self.sized in

@@ -1,0 +1,4 @@
+pub mod Births
+pub mod CodeRuns
+pub mod Runs
+pub mod Laws

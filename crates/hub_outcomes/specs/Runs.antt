@@ -1,0 +1,28 @@
+-- A run of verified code that a hub kept.
+--   IsRunOf   of `main` with this fuel; no halt was entered, or that of a second join
+-- Of the machine that the hub runs only the ends have to be those of code.
+use Rattle.std.specs.Prelude.{◌≢◌, ◌≤◌, ℕ, List}
+use Rattle.reached_worlds.specs.Reached.{most_fuel}
+use Rattle.turn_hub.specs.declared.answers.Kept.{Kept}
+use Rattle.turn_hub.specs.declared.closing.HubRun.{HubRun}
+use Rattle.turn_hub.specs.declared.state.HubState.TheVariants.{NoMemory}
+use Rattle.turn_hub.specs.Closing.{ClosedHub}
+use Rattle.turn_hub.specs.Names.{run_state, run_schedule, run_forkers, run_ends}
+use Rattle.code_machine.specs.Local.{CodeRun}
+use Rattle.code_hub.specs.CodeState.{CodeState}
+use Rattle.code_hub.specs.Values.{RunnerValue, JoinerValue, LeftValue, is_end, code_hub}
+use Rattle.code_hub.specs.Laws.{IsStart}
+
+pub record IsRunOf {M S R A C P : Type 0} (g : CodeRun) (fuel : ℕ)
+    (run : HubRun M S R A LeftValue C P) : Type 0 where
+  pub few : fuel ≤ most_fuel
+  pub start : CodeState
+  pub begins : IsStart g fuel start
+  pub group : List ℕ
+  pub kept : List (Kept RunnerValue JoinerValue)
+  pub taken : ℕ → ℕ
+  -- what the run tells is what its hub leaves
+  pub closed :
+      ClosedHub code_hub is_end start group (run_state run) (run_schedule run) (run_forkers run)
+      (run_ends run) kept taken
+  pub known : run_state run ≢ NoMemory

@@ -1,0 +1,13 @@
+//! The outcome of verified code from a run that a hub kept.
+#![tactic(auto)]
+
+mod births;
+mod ends;
+mod laws;
+mod outcomes;
+#[cfg(test)]
+mod tests;
+
+pub use births::births_of;
+pub use laws::{birth_law, run_law};
+pub use outcomes::outcome_of_run;

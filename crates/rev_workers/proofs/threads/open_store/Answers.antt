@@ -1,0 +1,24 @@
+use Rattle.std.proofs.Common.{◌≡◌, ◌/◌, ◌^◌, [], None, arith}
+use Rattle.std.specs.Prelude.{min}
+use Rattle.segment_store.specs.declared.store.Hold.{Hold}
+use Rattle.segment_store.specs.declared.store.Store.{Store}
+use Rattle.segment_store.specs.Names.{IsOf}
+use Rattle.rev_vm.proofs.Mains.{if_ok}
+use Rattle.rev_workers.specs.Stores.{IsOpened}
+use Rattle.rev_workers.proofs.Limits.{few_locations}
+use Rattle.rev_workers.proofs.Opened.{words_many, opened_is}
+use Rattle.rev_workers.proofs.threads.open_store.Goals as goal
+
+pub open-requires : goal.open-requires
+open-requires c =
+    let m = words_many c.args.setting.now.code.vars c.in_ok-words.words c.in_ok-words.ensures.words in
+    let few = few_locations c.args.setting.now.code c.requires.faultless in
+    omega (arith, m, few)
+
+pub returns : goal.returns
+returns c = if_ok c.open.result
+    (λ (r : Store × Hold). IsOf r.0 r.1 × (r.1.seat.me.0.chain ≡ []) × (r.1.own ≡ None) × (r.0.initial ≡ c.in_ok-words.words)
+    × (r.0.segments ≡ min c.args.segments (2 ^ 26 / r.0.stride)))
+    (λ (r : Store × Hold). IsOpened c.args.setting.now.code.vars r.0 r.1)
+    (λ r h. opened_is c.args.setting.now.code.vars c.in_ok-words.words r.0 r.1 c.in_ok-words.ensures.words c.in_ok-words.ensures.short h.0 h.1 h.2 h.3)
+    c.open.ensures.hold

@@ -1,0 +1,24 @@
+-- The schedule of a run of verified code.
+--   IsLegalOf   it leads from this first state to a world, or in Twice to a join of what was joined; where no halt was
+--               entered it is complete
+--   IsOfCode    the same from `main` with this fuel
+use Rattle.std.specs.Prelude.{ℕ, List}
+use Rattle.revision_machine.specs.Numbered.{Entries, Both, Listing, begin, Replays, CompleteSchedule}
+use Rattle.turn_hub.specs.declared.state.HubState.{HubState}
+use Rattle.turn_hub.specs.declared.state.HubState.TheVariants.{All, Twice, NoMemory}
+use Rattle.code_machine.specs.Local.{CodeRun, IsVerified, Local}
+use Rattle.code_machine.specs.Machines.{numbered, IsMain, start_in}
+
+module _ (g : CodeRun) (main : Local ℕ) where
+  abbrev pub IsLegalOf : HubState → List ℕ → Type 0
+  IsLegalOf All ns =
+      (w : Entries (Local ℕ)) × CompleteSchedule (numbered g) main (begin (numbered g) main) ns (Listing w)
+  IsLegalOf Twice ns = Replays (numbered g) (begin (numbered g) main) ns Both
+  IsLegalOf NoMemory ns =
+      (w : Entries (Local ℕ)) × Replays (numbered g) (begin (numbered g) main) ns (Listing w)
+
+pub record IsOfCode (g : CodeRun) (fuel : ℕ) (state : HubState) (ns : List ℕ) : Type 0 where
+  pub verified : IsVerified g
+  pub block : ℕ
+  pub main : IsMain g block
+  pub legal : IsLegalOf g (start_in g block main.body fuel) state ns

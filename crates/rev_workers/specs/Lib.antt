@@ -1,0 +1,5 @@
+pub mod CodeRuns
+pub mod Hands
+pub mod Runs
+pub mod Stores
+pub mod Ran

@@ -1,0 +1,110 @@
+//! The hands of threads that run code over a store.
+ghost use Rattle.std.specs.Prelude.{◌≡◌, ◌+◌, ◌≤◌, [], length, All, IfOk, vec_capacity};
+ghost use Rattle.leg_run.specs.Setting.{IsSetting};
+ghost use Rattle.segment_store.specs.Names.{IsOf, IsSameHold, IsSeatOf, gathered};
+ghost use Rattle.rev_workers.specs.Hands.{IsHandFor, IsHandAt, AreMergesFor, kept_by};
+
+use crate::keeper::StoreKeeper;
+use block_merges::BlockMerges;
+use hub_workers::take_last;
+use leg_run::CodeSetting;
+use run_revision::{CodeHand, CodeRevisions};
+use segment_store::{Held, Hold, Spent, Store};
+use std::alloc::{AllocError, Global};
+use turn_hub::append;
+
+/// The machine of verified code over the holds of a store.
+pub type StoreRevisions<'a, 's> = CodeRevisions<'a, Held<'s>, BlockMerges<'a>, StoreKeeper<'s>>;
+
+/// What a thread works with that runs code over a store.
+pub type StoreHand<'a, 's> = CodeHand<'a, Held<'s>, BlockMerges<'a>, StoreKeeper<'s>>;
+
+// The merges of the code, for each of so many threads.
+fn merges_for<'a>(
+    alloc: Global,
+    setting: &'a CodeSetting,
+    workers: u32,
+) -> Result<Vec<BlockMerges<'a>>, AllocError>
+    requires { IsSetting setting.now }
+    ensures each { IfOk result (λ ms. All (AreMergesFor setting.entry.now) ms.items) }
+    ensures many { IfOk result (λ ms. length ms.items ≡ workers) }
+{
+    let mut list = Vec::new(alloc);
+    for _ in 0..workers {
+        list.push(BlockMerges::of(alloc, &setting.code)?)?;
+    }
+    Ok(list)
+}
+
+// One hand for each of these merges, with a keeper of the store.
+fn give_hands<'a, 's>(
+    alloc: Global,
+    setting: &'a CodeSetting,
+    fuel: u64,
+    store: &'s Store,
+    hold: &mut Hold,
+    merges: Vec<BlockMerges<'a>>,
+    hands: &mut Vec<StoreHand<'a, 's>>,
+)
+    requires setting { IsSetting setting.now }
+    requires own { IsOf store.now hold.old }
+    requires merges { All (AreMergesFor setting.now) merges.items }
+    requires room { (hands.old.items ≡ []) × (length merges.items ≤ vec_capacity hands.old) }
+    ensures own { IsOf store.entry.now hold.new × IsSameHold hold.old hold.new }
+    ensures each { All (IsHandFor setting.entry.now fuel store.entry.now) hands.new.items }
+    ensures many { length hands.new.items ≡ length merges.entry.items }
+{
+    let mut rest = merges;
+    let count = rest.len();
+    for _ in 0..count {
+        let merges = take_last(&mut rest);
+        let keeper = StoreKeeper::new(store, hold);
+        append(hands, CodeHand::new(alloc, setting, fuel, merges, keeper));
+    }
+}
+
+/// A hand for each of so many threads. Want of memory is the one error.
+pub(crate) fn hands_for<'a, 's>(
+    alloc: Global,
+    setting: &'a CodeSetting,
+    fuel: u64,
+    store: &'s Store,
+    hold: &mut Hold,
+    workers: u32,
+) -> Result<Vec<StoreHand<'a, 's>>, AllocError>
+    requires setting { IsSetting setting.now }
+    requires own { IsOf store.now hold.old }
+    ensures own { IsOf store.entry.now hold.new × IsSameHold hold.old hold.new }
+    ensures each { IfOk result (λ hs. All (IsHandFor setting.entry.now fuel store.entry.now)
+        hs.items) }
+    ensures many { IfOk result (λ hs. length hs.items ≡ workers) }
+{
+    let merges = merges_for(alloc, setting, workers)?;
+    let mut hands = Vec::with_capacity(alloc, merges.len())?;
+    give_hands(alloc, setting, fuel, store, hold, merges, &mut hands);
+    Ok(hands)
+}
+
+/// Gathers all that these hands kept, and adds up how many children were copied, up to 2^64 - 1.
+pub(crate) fn give_back<'a, 's>(
+    store: &'s Store,
+    hands: Vec<StoreHand<'a, 's>>,
+    all: &mut Spent,
+) -> u64
+    requires own { IsSeatOf store.now all.old.seat }
+    requires hands { All (IsHandAt store.now) hands.items }
+    ensures own { IsSeatOf store.entry.now all.new.seat }
+    ensures all { gathered all.new ≡ gathered all.old + kept_by hands.entry.items }
+{
+    let mut rest = hands;
+    let mut copies: u64 = 0;
+    let count = rest.len();
+    for _ in 0..count {
+        let (_, keeper) = take_last(&mut rest).into_parts();
+        let (spent, more) = keeper.into_parts();
+        store.gather(all, spent);
+        copies = copies.saturating_add(more);
+    }
+    rest.destroy_empty();
+    copies
+}

@@ -1,0 +1,12 @@
+//! Verified code, run by threads over shared segments.
+#![tactic(auto)]
+
+mod code_run;
+mod hands;
+mod keeper;
+mod threads;
+
+pub use code_run::{NotRun, run_code};
+pub use hands::{StoreHand, StoreRevisions};
+pub use keeper::StoreKeeper;
+pub use threads::{NotRan, Ran, run_threads};

@@ -1,0 +1,187 @@
+//! A run of verified code by threads, from its store's opening to its close.
+ghost use Rattle.std.specs.Prelude.{◌≡◌, ◌≢◌, ◌<◌, All, IfErr, IfOk, IfSome};
+ghost use Rattle.leg_run.specs.Setting.{IsSetting};
+ghost use Rattle.rev_vm.specs.Starts.{run_under};
+ghost use Rattle.segment_store.specs.Group.{closed_group};
+ghost use Rattle.segment_store.specs.Names.{IsSeatOf};
+ghost use Rattle.turn_hub.specs.declared.state.HubState.TheVariants.{NoMemory};
+ghost use Rattle.turn_hub.specs.Names.{run_state, run_schedule};
+ghost use Rattle.rev_workers.specs.CodeRuns.{IsOfCode};
+ghost use Rattle.rev_workers.specs.Hands.{IsHandAt, store_group};
+ghost use Rattle.rev_workers.specs.Ran.{IsNotRan};
+ghost use Rattle.rev_workers.specs.Runs.{IsRunOfCode, IsSameRun};
+ghost use Rattle.rev_workers.specs.Stores.{IsOpened};
+
+use crate::code_run::{NotRun, run_code};
+use crate::hands::{StoreRevisions, give_back, hands_for};
+use hub_workers::{Finished, Gate};
+use leg_run::CodeSetting;
+use rev_vm::start_words;
+use segment_store::{Closed, Held, Hold, Spent, Store};
+use std::alloc::{AllocError, Global};
+use std::sync::Wait;
+use std::thread::Threads;
+use turn_hub::{HubRun, HubState};
+
+/// What threads leave of a run that did not end for want of memory.
+#[derive(Drop)]
+pub struct Ran<'a> {
+    /// The schedule, the ends and the forkers.
+    pub run: HubRun<StoreRevisions<'a, 'a>>,
+    /// How many children got words of their own, up to 2^64 - 1.
+    pub copies: u64,
+    /// How many segments of the store were in use at its close.
+    pub live: u32,
+    /// What the close of the store counted.
+    pub closed: Closed,
+}
+
+/// Why threads leave no run.
+#[derive(Drop)]
+pub enum NotRan {
+    /// Memory was wanting.
+    OutOfMemory,
+    /// Segments were in use at the close of the store: a hold was not given back.
+    InUse(Closed),
+}
+
+// A run, unless memory was wanting, with what is left of all holds.
+struct Left<'a> {
+    run: Option<HubRun<StoreRevisions<'a, 'a>>>,
+    all: Spent,
+    copies: u64,
+}
+
+// A store with the words with which the shared variables start, and its first hold.
+fn open_store(
+    alloc: Global,
+    setting: &CodeSetting,
+    segments: u32,
+) -> Result<(Store, Hold), AllocError>
+    requires { IsSetting setting.now }
+    ensures { IfOk result (λ r. IsOpened setting.now.code.vars r.0 r.1) }
+{
+    let words = start_words(alloc, &setting.code)?;
+    Store::open(alloc, segments, words)
+}
+
+// The run, which has no hold of its store, unless it ended for want of memory.
+fn told<'a, 's>(run: HubRun<StoreRevisions<'a, 's>>) -> Option<HubRun<StoreRevisions<'a, 'a>>>
+    ensures { IfSome result (λ r. (run_state r ≢ NoMemory) × IsSameRun run.entry r) }
+{
+    match run.state() {
+        HubState::NoMemory => None,
+        HubState::All | HubState::Twice => Some(run.as_of::<StoreRevisions<'a, 'a>>()),
+    }
+}
+
+// What is left of a run that has come to its end.
+fn left_of<'a, 's>(
+    store: &'s Store,
+    finished: Finished<StoreRevisions<'a, 's>>,
+    all: Spent,
+) -> Left<'a>
+    requires own { IsSeatOf store.now all.seat }
+    requires hands { All (IsHandAt store.now) finished.hands.items }
+    ensures own { IsSeatOf store.entry.now result.all.seat }
+    ensures run { IfSome result.run (λ r. (run_state r ≢ NoMemory)
+        × IsSameRun finished.entry.run r) }
+{
+    let Finished { run, hands } = finished;
+    let mut all = all;
+    let copies = give_back(store, hands, &mut all);
+    Left {
+        run: told(run),
+        all,
+        copies,
+    }
+}
+
+// A run over an open store, by so many threads.
+fn run_over<'a, 's, G: Gate + Sync, R: Threads + Wait + Sync>(
+    rt: &R,
+    alloc: Global,
+    setting: &'a CodeSetting,
+    store: &'s Store,
+    hold: Hold,
+    fuel: u64,
+    workers: u32,
+    gate: &G,
+) -> Left<'a>
+    requires setting { IsSetting setting.now }
+    requires opened { IsOpened setting.now.code.vars store.now hold }
+    requires some { 0 < workers }
+    ensures own { IsSeatOf store.entry.now result.all.seat }
+    ensures state { IfSome result.run (λ r. run_state r ≢ NoMemory) }
+    ensures schedule { IfSome result.run (λ r. IsOfCode (run_under setting.entry.now) fuel
+        (run_state r) (run_schedule r)) }
+    ensures run { IfSome result.run (λ r. IsRunOfCode (run_under setting.entry.now) fuel
+        (store_group store.entry.now) r) }
+{
+    let mut hold = hold;
+    let mut all = store.purse(&mut hold);
+    let Ok(hands) = hands_for(alloc, setting, fuel, store, &mut hold, workers) else {
+        store.gather(&mut all, store.release(hold));
+        return Left {
+            run: None,
+            all,
+            copies: 0,
+        };
+    };
+    match run_code(rt, alloc, setting, Held { store, hold }, fuel, hands, gate) {
+        Ok(finished) => left_of(store, finished, all),
+        Err(NotRun { spent, hands }) => {
+            store.gather(&mut all, spent);
+            let copies = give_back(store, hands, &mut all);
+            Left {
+                run: None,
+                all,
+                copies,
+            }
+        },
+    }
+}
+
+/// A run of `main` of verified code with this fuel, by so many threads over a store of so many
+/// segments. Where a thread can't be made, the caller does its work; all threads have ended when it
+/// returns. Its schedule is legal for the code and complete, and where a revision was joined a
+/// second time that join is its last entry. All holds are given back, also where memory was
+/// wanting, and no segment of the store is in use at its close.
+pub fn run_threads<'a, G: Gate + Sync, R: Threads + Wait + Sync>(
+    rt: &R,
+    alloc: Global,
+    setting: &'a CodeSetting,
+    fuel: u64,
+    workers: u32,
+    segments: u32,
+    gate: &G,
+) -> Result<Ran<'a>, NotRan>
+    requires setting { IsSetting setting.now }
+    requires some { 0 < workers }
+    ensures schedule { IfOk result (λ r. IsOfCode (run_under setting.entry.now) fuel
+        (run_state r.run) (run_schedule r.run)) }
+    ensures state { IfOk result (λ r. run_state r.run ≢ NoMemory) }
+    ensures run { IfOk result (λ r. IsRunOfCode (run_under setting.entry.now) fuel
+        (closed_group r.closed) r.run) }
+    ensures live { IfOk result (λ r. (r.live ≡ r.closed.live) × (r.live ≡ 0)) }
+    ensures err { IfErr result IsNotRan }
+{
+    let Ok((store, hold)) = open_store(alloc, setting, segments) else {
+        return Err(NotRan::OutOfMemory);
+    };
+    let Left { run, all, copies } = run_over(rt, alloc, setting, &store, hold, fuel, workers, gate);
+    let closed = store.close(all);
+    let Some(run) = run else {
+        return Err(NotRan::OutOfMemory);
+    };
+    let live = closed.live();
+    if live > 0 {
+        return Err(NotRan::InUse(closed));
+    }
+    Ok(Ran {
+        run,
+        copies,
+        live,
+        closed,
+    })
+}

@@ -1,0 +1,57 @@
+//! What a run by threads leaves.
+
+ghost use Rattle.std.specs.Prelude.{◌≡◌};
+ghost use Rattle.thread_runs.specs.Runs.{numbers_of};
+
+use rev_num::Outcome;
+use run_revision::AnyState;
+use segment_store::Closed;
+use turn_hub::HubSchedule;
+
+/// A run by threads that is over. It owns what it tells: the schedule is one that a hub kept, and a
+/// store made what its close counted. `run_threads` alone makes one.
+#[derive(Drop)]
+pub struct Ran {
+    pub(crate) outcome: Outcome,
+    pub(crate) order: HubSchedule<AnyState>,
+    pub(crate) copies: u64,
+    pub(crate) live: u32,
+    pub(crate) closed: Closed,
+}
+
+impl Ran {
+    /// The outcome of the run, which is that of its schedule.
+    pub fn outcome(&self) -> &Outcome
+        ensures { result.now ≡ self.now.outcome }
+    {
+        &self.outcome
+    }
+
+    /// The numbers of the revisions in the order of their legs, as the threads made it.
+    pub fn schedule(&self) -> &[u32]
+        ensures { result.now ≡ numbers_of self.now }
+    {
+        self.order.numbers()
+    }
+
+    /// How many forks gave the child words of its own, since no segment was free.
+    pub fn copies(&self) -> u64
+        ensures { result ≡ self.now.copies }
+    {
+        self.copies
+    }
+
+    /// How many segments are in use behind the run.
+    pub fn live(&self) -> u32
+        ensures { result ≡ self.now.live }
+    {
+        self.live
+    }
+
+    /// What the close of the run's store counted.
+    pub fn closed(&self) -> &Closed
+        ensures { result.now ≡ self.now.closed }
+    {
+        &self.closed
+    }
+}

@@ -1,0 +1,60 @@
+//! A run of verified code by threads.
+
+ghost use Rattle.std.specs.Prelude.{◌≤◌, IfOk};
+ghost use Rattle.code_outcomes.specs.Outcomes.{HasOutcome};
+ghost use Rattle.thread_runs.specs.Runs.{IsRunOf};
+
+use crate::ran::Ran;
+use code_runs::note_inputs;
+use code_verifier::Verified;
+use hub_outcomes::outcome_of_run;
+use hub_workers::Gate;
+use leg_run::CodeSetting;
+use rev_workers::{Ran as Left, run_threads as run_over_store};
+use std::alloc::{AllocError, Global};
+use std::sync::Wait;
+use std::thread::Threads;
+
+/// A run of verified code with these inputs, share and fuel, of which there are at most
+/// 4,000,000,000 units, by so many threads, of which the caller is one. A thread enters the gate
+/// before each leg. Revisions share what they have not written in so many segments at most; where
+/// none is free a fork copies. All threads have ended when it returns. Want of memory is the one
+/// error.
+pub fn run_threads<R: Threads + Wait + Sync, G: Gate + Sync>(
+    rt: &R,
+    alloc: Global,
+    code: Verified,
+    inputs: Vec<i64>,
+    share: u64,
+    fuel: u64,
+    workers: u32,
+    segments: u32,
+    gate: &G,
+) -> Result<Ran, AllocError>
+    requires fuel { fuel ≤ 4000000000 }
+    requires workers { 1 ≤ workers }
+    ensures run { IfOk result (λ r. IsRunOf
+        (record { code = code.code; inputs = inputs.items; share = share }) fuel r) }
+    ensures outcome { IfOk result (λ r. HasOutcome
+        (record { code = code.code; inputs = inputs.items; share = share }) fuel r.outcome) }
+{
+    note_inputs(&inputs);
+    let setting = CodeSetting::new(alloc, code.into_code(), inputs, share)?;
+    let Ok(left) = run_over_store(rt, alloc, &setting, fuel, workers, segments, gate) else {
+        return Err(AllocError);
+    };
+    let outcome = outcome_of_run(alloc, &setting, &left.run)?;
+    let Left {
+        run,
+        copies,
+        live,
+        closed,
+    } = left;
+    Ok(Ran {
+        outcome,
+        order: run.into_schedule(),
+        copies,
+        live,
+        closed,
+    })
+}
