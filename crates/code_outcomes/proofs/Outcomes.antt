@@ -18,11 +18,11 @@ module _ (g : CodeRun) (ok : IsVerified g) (fuel : ℕ) where
 
   -- by this main block
   module _ (n : ℕ) (m : IsMain g n) where
-    record IsBy (ns : List ℕ) (w : World (Local ℕ)) : Type 0 where
-      legal : Replays (numbered g) (begin (numbered g) (start_in g n m.body fuel)) ns w
-      over : IsOver (numbered g) (start_in g n m.body fuel) w
+    pub record IsBy (ns : List ℕ) (w : World (Local ℕ)) : Type 0 where
+      pub legal : Replays (numbered g) (begin (numbered g) (start_in g n m.body fuel)) ns w
+      pub over : IsOver (numbered g) (start_in g n m.body fuel) w
 
-    by_main : (ns : List ℕ) (w : World (Local ℕ)) → IsCompleteRun g fuel ns w → IsBy ns w
+    pub by_main : (ns : List ℕ) (w : World (Local ℕ)) → IsCompleteRun g fuel ns w → IsBy ns w
     by_main ns w h = go h.block (main_is_one g ok h.block n h.main m) h.main h.legal h.over
       where
         moved : (b : CodeBlock) → b ≡ m.body

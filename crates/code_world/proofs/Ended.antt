@@ -13,7 +13,7 @@ use Rattle.code_world.specs.declared.table.Birth.{Birth}
 use Rattle.code_world.specs.declared.table.Table.{Table}
 use Rattle.code_world.specs.declared.world.World as rust
 use Rattle.code_world.specs.declared.world.World.TheVariants as world
-use Rattle.code_world.specs.Endings.{HasLeft, MainIsOver}
+use Rattle.code_world.specs.Endings.{HasLeft, IsEndAt, MainIsOver, left_in}
 use Rattle.code_world.specs.Tables.{AreNamed, IsTable, IsWorld}
 use Rattle.code_world.proofs.Finding.{running_at, standing_at, ended_at, joined_at}
 use Rattle.code_world.proofs.Rows.{births_many, none_some, slot_none, some_same}
@@ -81,3 +81,30 @@ module _ (g : CodeRun) (v : rust.World) (w : World (Local ℕ)) (is : IsWorld g 
 
   pub none_left : v ≡ world.Twice → HasLeft g w None
   none_left e = subst (λ z. HasLeft g z None) (sym (world_twice g v w e is)) tt
+
+-- ---- what a revision left
+
+module _ (g : CodeRun) (t : Table) (w : Entries (Local ℕ)) (is : IsTable g t w) (n : ℕ) where
+  end_at : (o : Option Slot) → at_number t.slots.items n ≡ o → IsEndAt g (Listing w) n (left_in o)
+  end_at None e = λ r l there. none_some (sym (slot_none g t.slots.items w is.slots n e) ∙ there)
+  end_at (Some (slot.Ended v)) e = let x = ended_at g t.slots.items w is.slots n v e in (x.path, x.local, x.there, x.end)
+  end_at (Some (slot.Running r)) e = λ q l there.
+      let x = running_at g t.slots.items w is.slots n r e in
+      ap (λ (k : Local ℕ). k.phase) (plain_same (at_number w n) x.path q (at_work x.state) l x.there there)
+  end_at (Some (slot.Standing a)) e = λ q l there.
+      let x = standing_at g t.slots.items w is.slots n a e in
+      ap (λ (k : Local ℕ). k.phase) (plain_same (at_number w n) x.path q (at_work x.state) l x.there there)
+  end_at (Some slot.Joined) e = λ q l there.
+      let x = joined_at g t.slots.items w is.slots n e in
+      let z : ◌≡◌ {A = Path × Entry (Local ℕ)} (q, Plain l) (x.path, Joined x.local) = some_same (sym there ∙ x.there) in
+      let y : Plain l ≡ Joined x.local = ap (λ (i : Path × Entry (Local ℕ)). i.1) z in
+      absurd cc
+
+module _ (g : CodeRun) (v : rust.World) (w : World (Local ℕ)) (is : IsWorld g v w) (n : ℕ) where
+  pub left_live : (t : Table) → v ≡ world.Live t → (o : Option EndValue) → o ≡ left_in (at_number t.slots.items n) → IsEndAt g w n o
+  left_live t live o e =
+      let x = world_live g v w t live is in
+      subst (λ z. IsEndAt g z n o) (sym x.1) (subst (IsEndAt g (Listing x.0) n) (sym e) (end_at g t x.0 x.2 n (at_number t.slots.items n) refl))
+
+  pub left_twice : v ≡ world.Twice → IsEndAt g w n None
+  left_twice e = subst (λ z. IsEndAt g z n None) (sym (world_twice g v w e is)) refl

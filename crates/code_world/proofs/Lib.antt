@@ -5,3 +5,4 @@ pub mod Turning
 pub mod Worlds
 pub mod Beginning
 pub mod Ended
+pub mod Listed

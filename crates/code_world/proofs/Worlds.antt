@@ -32,6 +32,9 @@ module _ (g : CodeRun) where
       let k = world_live v w t e h in
       (k.0, record { verified = ok; reached = subst (IsReached g) k.1 r; table = k.2 })
 
+  pub good_listing : IsVerified g → (v : rust.World) (w : Entries (Local ℕ)) (t : Table) → v ≡ world.Live t → IsReached g (Listing w) → IsWorld g v (Listing w) → IsGood g t w
+  good_listing ok v w t e r h = record { verified = ok; reached = r; table = subst (λ z. IsWorld g z (Listing w)) e h }
+
   pub in_world : (x : Entries (Local ℕ)) (n : ℕ) (a : LegAnswer) (t : Table) → Answers g x n a t → LegAnswers g (Listing x) n a (world_after t a)
   in_world x n answer.Twice t k = (k, refl)
   in_world x n (answer.Forked m) t k = (t, refl, k)

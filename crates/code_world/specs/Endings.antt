@@ -1,15 +1,20 @@
--- What `main` left.
+-- What `main` left, and what another revision left.
 --   MainIsOver   `main` is done or has trapped, or a revision was joined a second time
 --   Names        these births name these paths, and no others
 --   HasLeft      what it left in this world, and nothing where a revision was joined a second time
+--   IsEndAt      what the revision of this number left, and nothing where none has ended that was
+--                not joined
 use Rattle.std.specs.Prelude.{ℕ, ◌≡◌, List, [], length, Option, Some, None}
 use Rattle.rev_num.specs.Path.{Path}
 use Rattle.revision_machine.specs.Machine.{Plain}
 use Rattle.revision_machine.specs.Numbered.{World, Both, Listing, at_number, paths_of}
-use Rattle.code_machine.specs.Local.{CodeRun, Local, end_of}
+use Rattle.version_map.specs.declared.end.EndValue.{EndValue}
+use Rattle.code_machine.specs.Local.{CodeRun, Local, running, end_of}
 use Rattle.code_machine.specs.Proper.{IsOver}
 use Rattle.rev_vm.specs.Meaning.{IsEnd}
 use Rattle.code_world.specs.declared.ending.MainEnd.{MainEnd}
+use Rattle.code_world.specs.declared.slot.Slot.{Slot}
+use Rattle.code_world.specs.declared.slot.Slot.TheVariants as slot
 use Rattle.code_world.specs.declared.table.Birth.{Birth}
 use Rattle.code_world.specs.Tables.{AreNamed}
 
@@ -28,3 +33,15 @@ HasLeft g (Listing w) (Some m) =
     × Names m.births.items (paths_of w)
 HasLeft g Both (Some m) = ⊥
 HasLeft g (Listing w) None = ⊥
+
+abbrev pub IsEndAt : CodeRun → World (Local ℕ) → ℕ → Option EndValue → Type 0
+IsEndAt g Both n o = o ≡ None
+IsEndAt g (Listing w) n (Some v) =
+    (r : Path) × (l : Local ℕ) × (at_number w n ≡ Some (r, Plain l)) × IsEnd g (end_of l) v
+IsEndAt g (Listing w) n None =
+    (r : Path) (l : Local ℕ) → at_number w n ≡ Some (r, Plain l) → l.phase ≡ running
+
+-- the end value in a place of a table, where there is one
+abbrev pub left_in : Option Slot → Option EndValue
+left_in (Some (slot.Ended v)) = Some v
+left_in _ = None

@@ -6,3 +6,4 @@ pub mod Came
 pub mod Answers
 pub mod Endings
 pub mod Counts
+pub mod Meetings

@@ -23,15 +23,15 @@ use version_map::{CodeTrap, EndValue, Finish, MergeBy, Whole};
 
 /// What the instructions of a leg come to.
 pub enum Came {
-    /// A fork: the forker, and its child.
-    Forked(Runner<Whole>, Runner<Whole>),
+    /// A fork: the forker, its child, and the line.
+    Forked(Runner<Whole>, Runner<Whole>, u32),
     /// A join.
     Standing(AtJoin<Whole>),
     /// The revision has ended.
     Ended(EndValue),
 }
 
-/// The forker, which holds its child's number, and the child.
+/// The forker, which holds its child's number, the child, and the line of the fork.
 fn fork(
     alloc: Global,
     setting: &CodeSetting,
@@ -46,8 +46,9 @@ fn fork(
         → StandsAtFork (run_under setting.now) at d args
         → IfOk result (λ k. HasCome (run_under setting.now) child c k) }
 {
+    let line = at.line();
     match at.fork(alloc, setting) {
-        Ok((parent, kid, _)) => Ok(Came::Forked(parent.told(child), kid)),
+        Ok((parent, kid, _)) => Ok(Came::Forked(parent.told(child), kid, line)),
         Err(broken) => {
             broken.give_up();
             Err(AllocError)

@@ -5,7 +5,9 @@ mod advance;
 mod answer;
 mod counting;
 mod ending;
+mod left;
 mod lists;
+mod noted;
 mod slot;
 mod starting;
 mod table;
@@ -14,6 +16,7 @@ mod world;
 
 pub use answer::LegAnswer;
 pub use ending::MainEnd;
+pub use noted::NotedLeg;
 pub use slot::Slot;
 pub use table::{Birth, Table};
-pub use world::{World, leg};
+pub use world::{World, leg, leg_noting};

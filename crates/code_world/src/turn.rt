@@ -1,6 +1,7 @@
 //! Legs of the revisions of a table.
 
 ghost use Rattle.std.specs.Prelude.{◌≡◌, ℕ, IfOk, Some};
+ghost use Rattle.rev_code.specs.State.{State};
 ghost use Rattle.block_merges.specs.Merging.{AreMergesOf};
 ghost use Rattle.block_run.specs.Area.{count};
 ghost use Rattle.code_machine.specs.Local.{CodeRun, Local};
@@ -8,11 +9,14 @@ ghost use Rattle.leg_run.specs.Setting.{IsSetting};
 ghost use Rattle.revision_machine.specs.Numbered.{Entries, at_number};
 ghost use Rattle.rev_vm.specs.Starts.{run_under};
 ghost use Rattle.code_world.specs.declared.slot.Slot.TheVariants as slot;
+ghost use Rattle.code_world.specs.Slots.{StandsAtJoin, WholeJoin};
 ghost use Rattle.code_world.specs.Answers.{Answers};
+ghost use Rattle.code_world.specs.Meetings.{HasNoted};
 ghost use Rattle.code_world.specs.Turns.{IsGood, StandsOn, Settles, behind, ends_with};
 
 use crate::advance::{Came, advance, meet};
 use crate::answer::LegAnswer;
+use crate::noted::{NotedLeg, noted_end, noted_fork, noted_join};
 use crate::slot::Slot;
 use crate::table::{Stage, Table};
 use leg_run::CodeSetting;
@@ -40,6 +44,19 @@ fn answer_behind(slot: &Slot, on: u32) -> LegAnswer
 }
 
 impl Table {
+    /// The line of the join at which a revision stands.
+    fn join_line(&self, number: usize) -> u32
+        requires { (a : WholeJoin) × (at_number self.now.slots.items number
+            ≡ Some (slot.Standing a)) }
+        ensures { (g : CodeRun) (a : WholeJoin) (c : State ℕ) → at_number self.now.slots.items number
+            ≡ Some (slot.Standing a) → StandsAtJoin g a c → result ≡ c.line }
+    {
+        match self.slots.get(number) {
+            Some(Slot::Standing(at)) => at.line(),
+            _ => unreachable!(),
+        }
+    }
+
     /// The leg of a joiner at its join of a revision that has ended.
     fn settle<M: MergeBy>(
         &mut self,
@@ -96,7 +113,7 @@ impl Table {
         setting: &CodeSetting,
         merges: &mut M,
         number: u32,
-    ) -> Result<LegAnswer, AllocError>
+    ) -> Result<NotedLeg, AllocError>
         requires setting { IsSetting setting.now }
         requires runs { (w : Entries (Local ℕ)) × IsGood (run_under setting.now) self.old w }
         requires size { M.size merges.old ≡ count setting.now.code.vars }
@@ -104,26 +121,30 @@ impl Table {
         requires running { (r : _) × (at_number self.old.slots.items number
             ≡ Some (slot.Running r)) }
         ensures answer { (w : Entries (Local ℕ)) → IsGood (run_under setting.now) self.old w
-            → IfOk result (λ a. Answers (run_under setting.now) w number a self.new) }
+            → IfOk result (λ a. Answers (run_under setting.now) w number a.answer self.new) }
+        ensures noted { (w : Entries (Local ℕ)) → IsGood (run_under setting.now) self.old w
+            → IfOk result (λ a. HasNoted (run_under setting.now) w number a.answer a.meeting) }
         ensures size { M.size merges.new ≡ M.size merges.old }
         ensures same { M.merges merges.new ≡ M.merges merges.old }
     {
         let child = self.slots.len() as u32;
         let runner = self.take_runner(number as usize);
         match advance(alloc, setting, runner, child)? {
-            Came::Forked(forker, kid) => {
+            Came::Forked(forker, kid, line) => {
                 self.bear(number, forker, kid)?;
-                Ok(LegAnswer::Forked { child })
+                Ok(noted_fork(child, line))
             },
             Came::Standing(at) => {
                 let on = at.on();
+                let line = at.line();
                 self.put(number as usize, Slot::Standing(at));
-                self.join(alloc, merges, number, on)
+                let answer = self.join(alloc, merges, number, on)?;
+                Ok(noted_join(answer, on, line))
             },
             Came::Ended(end) => {
                 let answer = answer_of(end.finish);
                 self.put(number as usize, Slot::Ended(end));
-                Ok(answer)
+                Ok(noted_end(answer))
             },
         }
     }
@@ -135,22 +156,28 @@ impl Table {
         setting: &CodeSetting,
         merges: &mut M,
         number: u32,
-    ) -> Result<LegAnswer, AllocError>
+    ) -> Result<NotedLeg, AllocError>
         requires setting { IsSetting setting.now }
         requires good { (w : Entries (Local ℕ)) × IsGood (run_under setting.now) self.old w }
         requires size { M.size merges.old ≡ count setting.now.code.vars }
         requires merges { AreMergesOf (run_under setting.now) (M.merges merges.old) }
         ensures answer { (w : Entries (Local ℕ)) → IsGood (run_under setting.now) self.old w
-            → IfOk result (λ a. Answers (run_under setting.now) w number a self.new) }
+            → IfOk result (λ a. Answers (run_under setting.now) w number a.answer self.new) }
+        ensures noted { (w : Entries (Local ℕ)) → IsGood (run_under setting.now) self.old w
+            → IfOk result (λ a. HasNoted (run_under setting.now) w number a.answer a.meeting) }
         ensures size { M.size merges.new ≡ M.size merges.old }
         ensures same { M.merges merges.new ≡ M.merges merges.old }
     {
         match self.stage(number as usize) {
-            Stage::NoSuch => Ok(LegAnswer::NoSuch),
+            Stage::NoSuch => Ok(noted_end(LegAnswer::NoSuch)),
             Stage::Running => self.run(alloc, setting, merges, number),
-            Stage::Standing { on } => self.join(alloc, merges, number, on),
-            Stage::Ended => Ok(LegAnswer::Over),
-            Stage::Joined => Ok(LegAnswer::Over),
+            Stage::Standing { on } => {
+                let line = self.join_line(number as usize);
+                let answer = self.join(alloc, merges, number, on)?;
+                Ok(noted_join(answer, on, line))
+            },
+            Stage::Ended => Ok(noted_end(LegAnswer::Over)),
+            Stage::Joined => Ok(noted_end(LegAnswer::Over)),
         }
     }
 }

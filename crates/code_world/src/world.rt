@@ -7,13 +7,15 @@ ghost use Rattle.code_machine.specs.Local.{Local};
 ghost use Rattle.code_machine.specs.Machines.{IsMain, numbered, start_in};
 ghost use Rattle.leg_run.specs.Setting.{IsSetting};
 ghost use Rattle.reached_worlds.specs.Reached.{IsReached};
-ghost use Rattle.revision_machine.specs.Numbered.{World as DefinedWorld};
+ghost use Rattle.revision_machine.specs.Numbered.{Entries, Listing, World as DefinedWorld};
 ghost use Rattle.revision_machine.specs.Numbered as numbers;
 ghost use Rattle.rev_vm.specs.Starts.{run_under};
 ghost use Rattle.code_world.specs.Answers.{LegAnswers, world_after};
+ghost use Rattle.code_world.specs.Meetings.{HasNoted};
 ghost use Rattle.code_world.specs.Tables.{IsWorld};
 
 use crate::answer::LegAnswer;
+use crate::noted::{NotedLeg, noted_end};
 use crate::table::Table;
 use leg_run::CodeSetting;
 use std::alloc::{AllocError, Global};
@@ -77,12 +79,38 @@ pub fn leg<M: MergeBy>(
     ensures size { M.size merges.new ≡ M.size merges.old }
     ensures same { M.merges merges.new ≡ M.merges merges.old }
 {
+    let (next, noted) = leg_noting(alloc, setting, merges, world, revision)?;
+    Ok((next, noted.answer))
+}
+
+/// As `leg`, and the entry that the leg adds to the revision's list of forks and joins.
+pub fn leg_noting<M: MergeBy>(
+    alloc: Global,
+    setting: &CodeSetting,
+    merges: &mut M,
+    world: World,
+    revision: u32,
+) -> Result<(World, NotedLeg), AllocError>
+    requires setting { IsSetting setting.now }
+    requires reached { (w : DefinedWorld (Local ℕ)) × IsReached (run_under setting.now) w
+        × IsWorld (run_under setting.now) world w }
+    requires size { M.size merges.old ≡ count setting.now.code.vars }
+    requires merges { AreMergesOf (run_under setting.now) (M.merges merges.old) }
+    ensures answer { (w : DefinedWorld (Local ℕ)) → IsReached (run_under setting.now) w
+        → IsWorld (run_under setting.now) world w
+        → IfOk result (λ r. LegAnswers (run_under setting.now) w revision r.1.answer r.0) }
+    ensures noted { (w : Entries (Local ℕ)) → IsReached (run_under setting.now) (Listing w)
+        → IsWorld (run_under setting.now) world (Listing w)
+        → IfOk result (λ r. HasNoted (run_under setting.now) w revision r.1.answer r.1.meeting) }
+    ensures size { M.size merges.new ≡ M.size merges.old }
+    ensures same { M.merges merges.new ≡ M.merges merges.old }
+{
     let mut table = match world {
         World::Live(table) => table,
-        World::Twice => return Ok((World::Twice, LegAnswer::Twice)),
+        World::Twice => return Ok((World::Twice, noted_end(LegAnswer::Twice))),
     };
     match table.leg(alloc, setting, merges, revision) {
-        Ok(answer) => Ok((world_of(table, answer), answer)),
+        Ok(noted) => Ok((world_of(table, noted.answer), noted)),
         Err(error) => {
             table.give_up();
             Err(error)

@@ -5,6 +5,6 @@ mod parts;
 mod places;
 mod traces;
 
-pub use parts::part_of;
-pub use places::places_of;
-pub use traces::trace_of;
+pub use parts::{cause_place, part_of, place_at};
+pub use places::{place_of, places_of};
+pub use traces::{put_in_order, trace_of};

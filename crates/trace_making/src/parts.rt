@@ -40,7 +40,7 @@ fn events_of(alloc: Global, list: &[Noted]) -> Result<Vec<TraceEvent>, AllocErro
 }
 
 /// The place of the location of this number, or nothing where there is none.
-fn place_at(alloc: Global, places: &[Bytes], number: u32) -> Result<Bytes, AllocError>
+pub fn place_at(alloc: Global, places: &[Bytes], number: u32) -> Result<Bytes, AllocError>
     ensures { IfOk result (λ p. p ≡ spec.place_at places.now number) }
 {
     match places.get(number as usize) {
@@ -50,7 +50,7 @@ fn place_at(alloc: Global, places: &[Bytes], number: u32) -> Result<Bytes, Alloc
 }
 
 /// The place of the location whose merge faulted, or nothing for another cause.
-fn cause_place(alloc: Global, places: &[Bytes], cause: Cause) -> Result<Bytes, AllocError>
+pub fn cause_place(alloc: Global, places: &[Bytes], cause: Cause) -> Result<Bytes, AllocError>
     ensures { IfOk result (λ p. p ≡ spec.cause_place places.now cause) }
 {
     match cause {

@@ -9,7 +9,7 @@ ghost use Rattle.revision_calculus.specs.Outcome.{show_all};
 
 use itoa::Buffer;
 use plain_runner::shown_values;
-use rev_num::{Bytes, Items, Shown};
+use rev_num::{Bytes, Items};
 use rev_types::Typed;
 use std::alloc::{AllocError, Global};
 
@@ -26,11 +26,11 @@ fn append_cell(text: &mut Vec<u8>, cell: u32) -> Result<(), AllocError>
 }
 
 /// The place of a location: the name of its variable, and the number of its cell in an array.
-fn place_of(alloc: Global, shown: &Shown) -> Result<Bytes, AllocError>
-    ensures { IfOk result (λ p. p ≡ place_of shown.now.name shown.now.cell) }
+pub fn place_of(alloc: Global, name: &[u8], cell: Option<u32>) -> Result<Bytes, AllocError>
+    ensures { IfOk result (λ p. p ≡ place_of name.now cell) }
 {
-    let mut text = Vec::from_slice(alloc, shown.name.as_slice())?;
-    if let Some(cell) = shown.cell {
+    let mut text = Vec::from_slice(alloc, name)?;
+    if let Some(cell) = cell {
         append_cell(&mut text, cell)?;
     }
     Ok(Items::from_vec(text))
@@ -46,7 +46,7 @@ pub fn places_of(alloc: Global, typed: &Typed) -> Result<Vec<Bytes>, AllocError>
     let shown = shown_values(alloc, typed, &[])?;
     let mut places = Vec::with_capacity(alloc, shown.len())?;
     for one in &shown {
-        places.push(place_of(alloc, one)?)?;
+        places.push(place_of(alloc, one.name.as_slice(), one.cell)?)?;
     }
     Ok(places)
 }

@@ -31,7 +31,7 @@ fn post_order(first: &Path, second: &Path) -> Ordering
 }
 
 /// Puts the parts into post-order.
-fn put_in_order(parts: &mut Vec<Part>)
+pub fn put_in_order(parts: &mut Vec<Part>)
     ensures moved { IsPermutation parts.old.items parts.new.items }
     ensures sorted { IsSortedBy is_sooner parts.new.items }
 {

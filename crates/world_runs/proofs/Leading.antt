@@ -105,11 +105,11 @@ module _ (g : CodeRun) where
   Leads v (n ∷ ns) w =
       (u : World (Local ℕ)) × (numbers.leg (numbered g) v n ≡ Some u) × ((m : ℕ) → m < n → numbers.leg (numbered g) v m ≡ None) × Leads u ns w
 
-  leads_on : (v : World (Local ℕ)) (ns : List ℕ) (w : World (Local ℕ)) → Leads v ns w → (n : ℕ) (u : World (Local ℕ)) → numbers.leg (numbered g) w n ≡ Some u → ((m : ℕ) → m < n → numbers.leg (numbered g) w m ≡ None) → Leads v (ns ++ n ∷ []) u
+  pub leads_on : (v : World (Local ℕ)) (ns : List ℕ) (w : World (Local ℕ)) → Leads v ns w → (n : ℕ) (u : World (Local ℕ)) → numbers.leg (numbered g) w n ≡ Some u → ((m : ℕ) → m < n → numbers.leg (numbered g) w m ≡ None) → Leads v (ns ++ n ∷ []) u
   leads_on v [] w e n u leg least = (u, subst (λ z. numbers.leg (numbered g) z n ≡ Some u) (sym e) leg, (λ m less. subst (λ z. numbers.leg (numbered g) z m ≡ None) (sym e) (least m less)), refl)
   leads_on v (k ∷ ns) w (x, l, s, rest) n u leg least = (x, l, s, leads_on x ns w rest n u leg least)
 
-  leads_replays : (v : World (Local ℕ)) (ns : List ℕ) (w : World (Local ℕ)) → Leads v ns w → Replays (numbered g) v ns w
+  pub leads_replays : (v : World (Local ℕ)) (ns : List ℕ) (w : World (Local ℕ)) → Leads v ns w → Replays (numbered g) v ns w
   leads_replays v [] w e = e
   leads_replays v (n ∷ ns) w (u, l, s, rest) = (u, l, leads_replays u ns w rest)
 
@@ -118,7 +118,7 @@ module _ (g : CodeRun) where
   replays_on s [] v ms w e r = subst (λ z. Replays (numbered g) z ms w) (sym e) r
   replays_on s (n ∷ ns) v ms w (u, l, rest) r = (u, l, replays_on u ns v ms w rest r)
 
-  leads_least : (main : Local ℕ) (v : World (Local ℕ)) (ns : List ℕ) (w : World (Local ℕ)) → Leads v ns w → ((m : ℕ) → numbers.leg (numbered g) w m ≡ None) → Least (numbered g) main v ns w
+  pub leads_least : (main : Local ℕ) (v : World (Local ℕ)) (ns : List ℕ) (w : World (Local ℕ)) → Leads v ns w → ((m : ℕ) → numbers.leg (numbered g) w m ≡ None) → Least (numbered g) main v ns w
   leads_least main v [] w e over = (e, λ m. subst (λ z. numbers.leg (numbered g) z m ≡ None) (sym e) (over m))
   leads_least main v (n ∷ ns) w (u, l, s, rest) over = (u, l, s, leads_least main u ns w rest over)
 
@@ -126,7 +126,7 @@ module _ (g : CodeRun) where
   longer [] ys = omega arith
   longer (x ∷ xs) ys = let a = longer xs ys in omega (arith, a)
 
-  longer_one : (xs : List ℕ) (x : ℕ) → length (xs ++ x ∷ []) ≡ length xs + 1
+  pub longer_one : (xs : List ℕ) (x : ℕ) → length (xs ++ x ∷ []) ≡ length xs + 1
   longer_one [] x = refl
   longer_one (y ∷ xs) x = let a = longer_one xs x in omega (arith, a)
 
@@ -140,10 +140,10 @@ module _ (g : CodeRun) where
     pub stands : IsWorld g v last
     pub covers : CoversWorld g last q
 
-  pub came_none : (w : World (Local ℕ)) (v : rust.World) (q : ReadyQueue) → IsReached g w → IsWorld g v w → CoversWorld g w q → Came w 0 v q
+  unfoldable pub came_none : (w : World (Local ℕ)) (v : rust.World) (q : ReadyQueue) → IsReached g w → IsWorld g v w → CoversWorld g w q → Came w 0 v q
   came_none w v q h is c = record { schedule = []; last = w; count = refl; leads = refl; reached = h; stands = is; covers = c }
 
-  pub came_more : (w : World (Local ℕ)) (turns : ℕ) (v : rust.World) (q : ReadyQueue) (c : Came w turns v q) → (v' : rust.World) (q' : ReadyQueue) → HasLeast g c.last (made.Leg v') q' → Came w (turns + 1) v' q'
+  unfoldable pub came_more : (w : World (Local ℕ)) (turns : ℕ) (v : rust.World) (q : ReadyQueue) (c : Came w turns v q) → (v' : rust.World) (q' : ReadyQueue) → HasLeast g c.last (made.Leg v') q' → Came w (turns + 1) v' q'
   came_more w turns v q c v' q' (n, u, leg, least, h, is, covers) = record {
     schedule = c.schedule ++ n ∷ [];
     last = u;
@@ -154,7 +154,7 @@ module _ (g : CodeRun) where
     covers = covers;
   }
 
-  pub came_last : (w : World (Local ℕ)) (turns : ℕ) (v : rust.World) (q : ReadyQueue) (c : Came w turns v q) → (v' : rust.World) (q' : ReadyQueue) → HasLeast g c.last (made.None v') q' → HasFinished g w v'
+  unfoldable pub came_last : (w : World (Local ℕ)) (turns : ℕ) (v : rust.World) (q : ReadyQueue) (c : Came w turns v q) → (v' : rust.World) (q' : ReadyQueue) → HasLeast g c.last (made.None v') q' → HasFinished g w v'
   came_last w turns v q c v' q' (over, is) = record {
     schedule = c.schedule;
     end = c.last;

@@ -89,7 +89,7 @@ fn make_least<M: MergeBy>(
 }
 
 /// All numbers of a world as ready, and none that waits.
-fn all_ready(alloc: Global, count: usize) -> Result<ReadyQueue, AllocError>
+pub fn all_ready(alloc: Global, count: usize) -> Result<ReadyQueue, AllocError>
     requires { count ≤ 2 ^ 32 }
     ensures count { IfOk result (λ q. length q.waiters.items ≡ count) }
     ensures ready { IfOk result (λ q. (m : ℕ) → m < count → HasReady q m) }

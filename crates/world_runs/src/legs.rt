@@ -23,7 +23,7 @@ pub enum Made {
 }
 
 /// What came of a leg that came out so.
-pub(crate) fn sort_out(world: World, answer: LegAnswer) -> Made
+pub fn sort_out(world: World, answer: LegAnswer) -> Made
     ensures { result ≡ made_of world answer }
 {
     match answer {

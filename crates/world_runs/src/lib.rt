@@ -6,6 +6,7 @@ mod legs;
 mod notes;
 mod replaying;
 
-pub use ending::finish;
-pub use legs::{Made, make};
+pub use ending::{all_ready, finish};
+pub use legs::{Made, make, sort_out};
+pub use notes::note;
 pub use replaying::{ReplayFault, replay};

@@ -25,6 +25,16 @@ pub enum ReplayFault {
     OutOfMemory,
 }
 
+impl From<AllocError> for ReplayFault {
+    ghost use Rattle.world_runs.specs.declared.replaying.ReplayFault.{ReplayFault};
+
+    ghost from_gives = { λ _ f. f ≡ ReplayFault.OutOfMemory };
+
+    fn from(_: AllocError) -> ReplayFault {
+        ReplayFault::OutOfMemory
+    }
+}
+
 /// The world after this schedule from the start of `main`, with this fuel. It is refused at the
 /// first entry that names no revision, one that has ended or one that waits, and at any after
 /// Twice.
@@ -44,6 +54,8 @@ pub fn replay<M: MergeBy>(
         × IsReached (run_under setting.now) w × IsWorld (run_under setting.now) v w) }
     ensures fault { IfErr result
         (λ f. IsIllegal (run_under setting.now) fuel schedule.now f) }
+    ensures size { M.size merges.new ≡ M.size merges.old }
+    ensures same { M.merges merges.new ≡ M.merges merges.old }
 {
     let mut world = match World::begin(alloc, setting, fuel) {
         Ok(world) => world,

@@ -11,5 +11,8 @@ fork-requires-clause-at c = c.requires.stands
 pub returns-in-Ok : goal.returns-in-Ok
 returns-in-Ok c = λ s d args is at.
     let kid = c.in-Ok.ensures.child d args at in
-    has_forked (run_under c.args.setting.now) c.args.child s d c.args.at.block args is kid.0 kid.1 c.told.result c.in-Ok.kid
-    (c.told.ensures.state (run_under c.args.setting.now) d args (c.in-Ok.ensures.parent d args at)) kid.2
+    let one = c.line-line.ensures (run_under c.args.setting.now) d args at in (
+      has_forked (run_under c.args.setting.now) c.args.child s d c.args.at.block args is kid.0 kid.1 c.told.result c.in-Ok.kid
+          (c.told.ensures.state (run_under c.args.setting.now) d args (c.in-Ok.ensures.parent d args at)) kid.2,
+      record { at = d; block = c.args.at.block; args = args; comes = is; is = one },
+    )

@@ -17,8 +17,8 @@ loop-at-init g c =
     let s = run_under c.args.setting.now in
     record {
       reached = (_, replay_begins s c.args.fuel b.0 b.1 [] refl, start_reached s b.0 b.1 c.args.fuel c.requires.fuel, b.2);
-      size = c.requires.size;
-      merges = c.requires.merges;
+      size = refl;
+      same = refl;
     }
 
 pub make-requires-clause-setting : goal.make-requires-clause-setting
@@ -28,10 +28,10 @@ pub make-requires-clause-reached : goal.make-requires-clause-reached
 make-requires-clause-reached g c = let i = c.loop-at.invariant.reached in (i.0, i.2, i.3)
 
 pub make-requires-clause-size : goal.make-requires-clause-size
-make-requires-clause-size g c = c.loop-at.invariant.size
+make-requires-clause-size g c = c.loop-at.invariant.size ∙ c.requires.size
 
 pub make-requires-clause-merges : goal.make-requires-clause-merges
-make-requires-clause-merges g c = c.loop-at.invariant.merges
+make-requires-clause-merges g c = merges_still (run_under c.args.setting.now) _ _ c.loop-at.invariant.same c.requires.merges
 
 pub returns-in-Ok-None-clause-fault : goal.returns-in-Ok-None-clause-fault
 returns-in-Ok-None-clause-fault g c =
@@ -52,7 +52,7 @@ loop-at-preserved g c =
     record {
       reached = (k.0, replay_goes s c.args.fuel c.args.schedule.now c.loop-at.at i.0 k.0 i.1 _ (slice_get-get_or c.args.schedule.now c.loop-at.at 0 c.loop-at-test.true) k.1, k.2, k.3);
       size = c.in-Ok-Leg.ensures.size ∙ c.loop-at.invariant.size;
-      merges = merges_still s _ _ c.in-Ok-Leg.ensures.same c.loop-at.invariant.merges;
+      same = c.in-Ok-Leg.ensures.same ∙ c.loop-at.invariant.same;
     }
 
 pub returns-clause-ok : goal.returns-clause-ok

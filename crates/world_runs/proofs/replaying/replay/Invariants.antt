@@ -1,6 +1,4 @@
 use Rattle.std.proofs.Common.{◌≡◌, ℕ, take}
-use Rattle.block_merges.specs.Merging.{AreMergesOf}
-use Rattle.block_run.specs.Area.{count}
 use Rattle.code_machine.specs.Local.{Local}
 use Rattle.code_world.specs.Tables.{IsWorld}
 use Rattle.reached_worlds.specs.Reached.{IsReached}
@@ -13,6 +11,6 @@ abbrev pub invariant-loop-at : goal.invariant-loop-at
 invariant-loop-at g l = record {
   reached : (w : World (Local ℕ)) × Replayed (run_under l.setting) l.fuel (take l.at l.schedule) w
       × IsReached (run_under l.setting) w × IsWorld (run_under l.setting) l.world w;
-  size : g.M.MergeBy.size l.merges ≡ count l.setting.code.vars;
-  merges : AreMergesOf (run_under l.setting) (g.M.MergeBy.merges l.merges);
+  size : g.M.MergeBy.size l.merges ≡ g.M.MergeBy.size l.initial.merges;
+  same : g.M.MergeBy.merges l.merges ≡ g.M.MergeBy.merges l.initial.merges;
 }

@@ -1,7 +1,13 @@
+use Rattle.std.proofs.Common.{◌∙◌, None, refl, sym, ap, subst}
+use Rattle.rev_code.specs.Step.{joins}
 use Rattle.revision_machine.specs.Numbered.{at_number}
 use Rattle.rev_vm.specs.Starts.{run_under}
+use Rattle.code_world.specs.declared.answer.LegAnswer.TheVariants as answer
+use Rattle.code_world.specs.Answers.{Answers}
+use Rattle.code_world.specs.Meetings.{join_meeting}
 use Rattle.code_world.proofs.Finding.{stage_none, stage_running, stage_standing, stage_ended, stage_joined}
-use Rattle.code_world.proofs.Turning.{no_such, over_ended, over_joined}
+use Rattle.code_world.proofs.Listed.{noted_so, join_noted, joins_noted}
+use Rattle.code_world.proofs.Turning.{joiner, no_such, over_ended, over_joined}
 use Rattle.code_world.proofs.table.Table.leg.Goals as goal
 
 pub run-requires-clause-setting : goal.run-requires-clause-setting
@@ -23,21 +29,60 @@ pub join-requires : goal.join-requires
 join-requires g c =
     (run_under c.args.setting.now, c.requires.good.0, c.requires.good.1, stage_standing (at_number c.args.self.now.slots.items c.args.number) c.in-Standing.on c.in-Standing.ensures, c.requires.size)
 
+pub join_line-line-requires : goal.join_line-line-requires
+join_line-line-requires g c =
+    let e = stage_standing (at_number c.args.self.now.slots.items c.args.number) c.in-Standing.on c.in-Standing.ensures in
+    (e.0, e.1)
+
 pub returns-in-NoSuch-clause-answer : goal.returns-in-NoSuch-clause-answer
 returns-in-NoSuch-clause-answer g c = λ w good.
-    no_such (run_under c.args.setting.now) c.args.self.now w good c.args.number (stage_none (at_number c.args.self.now.slots.items c.args.number) c.in-NoSuch.ensures)
+    let s = run_under c.args.setting.now in
+    subst (λ z. Answers s w c.args.number z c.args.self.now) (sym c.noted_end.ensures.answer)
+    (no_such s c.args.self.now w good c.args.number (stage_none (at_number c.args.self.now.slots.items c.args.number) c.in-NoSuch.ensures))
+
+pub returns-in-NoSuch-clause-noted : goal.returns-in-NoSuch-clause-noted
+returns-in-NoSuch-clause-noted g c = λ w good.
+    noted_so (run_under c.args.setting.now) w c.args.number answer.NoSuch c.noted_end.result.answer None c.noted_end.result.meeting c.noted_end.ensures.answer c.noted_end.ensures.meeting refl
 
 pub returns-in-Running-clause-answer : goal.returns-in-Running-clause-answer
 returns-in-Running-clause-answer g c = c.run.ensures.answer
 
-pub returns-in-Standing-clause-answer : goal.returns-in-Standing-clause-answer
-returns-in-Standing-clause-answer g c = λ w good. c.join.ensures.answer (run_under c.args.setting.now) w good c.requires.merges
+pub returns-in-Running-clause-noted : goal.returns-in-Running-clause-noted
+returns-in-Running-clause-noted g c = c.run.ensures.noted
+
+pub returns-in_ok-answer-in-Standing-clause-answer : goal.returns-in_ok-answer-in-Standing-clause-answer
+returns-in_ok-answer-in-Standing-clause-answer g c = λ w good.
+    let s = run_under c.args.setting.now in
+    subst (λ z. Answers s w c.args.number z c.join.new.self) (sym c.noted_join.ensures.answer)
+    (c.in_ok-answer-in-Standing.ensures.answer s w good c.requires.merges)
+
+pub returns-in_ok-answer-in-Standing-clause-noted : goal.returns-in_ok-answer-in-Standing-clause-noted
+returns-in_ok-answer-in-Standing-clause-noted g c = λ w good.
+    let s = run_under c.args.setting.now in
+    let e = stage_standing (at_number c.args.self.now.slots.items c.args.number) c.in-Standing.on c.in-Standing.ensures in
+    let k = joiner s c.args.self.now w good c.args.number e.0 e.1 in
+    noted_so s w c.args.number c.in_ok-answer-in-Standing.answer c.noted_join.result.answer (join_meeting c.in_ok-answer-in-Standing.answer c.in-Standing.on c.join_line-line.result) c.noted_join.result.meeting
+    c.noted_join.ensures.answer c.noted_join.ensures.meeting
+    (joins_noted s w c.args.number c.in_ok-answer-in-Standing.answer c.in-Standing.on c.join_line-line.result
+    (join_noted s w c.args.number k.path k.state k.there k.at e.0.is_try c.in-Standing.on c.join_line-line.result (k.comes ∙ ap (λ m. joins k.at e.0.is_try m) e.2) (c.join_line-line.ensures s e.0 k.at e.1 k.stands)))
 
 pub returns-in-Ended-clause-answer : goal.returns-in-Ended-clause-answer
 returns-in-Ended-clause-answer g c = λ w good.
+    let s = run_under c.args.setting.now in
     let e = stage_ended (at_number c.args.self.now.slots.items c.args.number) c.in-Ended.ensures in
-    over_ended (run_under c.args.setting.now) c.args.self.now w good c.args.number e.0 e.1
+    subst (λ z. Answers s w c.args.number z c.args.self.now) (sym c.noted_end-in-Ended.ensures.answer)
+    (over_ended s c.args.self.now w good c.args.number e.0 e.1)
+
+pub returns-in-Ended-clause-noted : goal.returns-in-Ended-clause-noted
+returns-in-Ended-clause-noted g c = λ w good.
+    noted_so (run_under c.args.setting.now) w c.args.number answer.Over c.noted_end-in-Ended.result.answer None c.noted_end-in-Ended.result.meeting c.noted_end-in-Ended.ensures.answer c.noted_end-in-Ended.ensures.meeting refl
 
 pub returns-in-Joined-clause-answer : goal.returns-in-Joined-clause-answer
 returns-in-Joined-clause-answer g c = λ w good.
-    over_joined (run_under c.args.setting.now) c.args.self.now w good c.args.number (stage_joined (at_number c.args.self.now.slots.items c.args.number) c.in-Joined.ensures)
+    let s = run_under c.args.setting.now in
+    subst (λ z. Answers s w c.args.number z c.args.self.now) (sym c.noted_end-in-Joined.ensures.answer)
+    (over_joined s c.args.self.now w good c.args.number (stage_joined (at_number c.args.self.now.slots.items c.args.number) c.in-Joined.ensures))
+
+pub returns-in-Joined-clause-noted : goal.returns-in-Joined-clause-noted
+returns-in-Joined-clause-noted g c = λ w good.
+    noted_so (run_under c.args.setting.now) w c.args.number answer.Over c.noted_end-in-Joined.result.answer None c.noted_end-in-Joined.result.meeting c.noted_end-in-Joined.ensures.answer c.noted_end-in-Joined.ensures.meeting refl

@@ -1,11 +1,17 @@
-use Rattle.std.proofs.Common.{◌∙◌, ◌++◌, [], ◌∷◌, length, sym, ap, subst, arith}
+use Rattle.std.proofs.Common.{◌≡◌, ◌∙◌, ◌++◌, [], ◌∷◌, length, None, Some, sym, ap, subst, arith}
+use Rattle.rev_code.specs.Step.{joins}
+use Rattle.leg_run.specs.declared.revision.Meeting.TheVariants as meeting
+use Rattle.code_machine.specs.Leg.{leg}
 use Rattle.revision_machine.specs.Numbered.{at_number, put_number}
 use Rattle.rev_vm.specs.Starts.{run_under}
+use Rattle.code_world.specs.declared.answer.LegAnswer.TheVariants as answer
 use Rattle.code_world.specs.declared.slot.Slot.TheVariants as slot
 use Rattle.code_world.specs.Answers.{Answers}
-use Rattle.code_world.specs.Turns.{born}
+use Rattle.code_world.specs.Meetings.{join_meeting}
+use Rattle.code_world.specs.Turns.{born, ends_with}
+use Rattle.code_world.proofs.Listed.{noted_so, fork_noted, join_noted, end_noted, ends_noted, joins_noted}
 use Rattle.code_world.proofs.Rows.{at_below, put_length}
-use Rattle.code_world.proofs.Turning.{many_slots, births_below, few_forks, at_its_join, still_standing, forks_off, ends_so, runner}
+use Rattle.code_world.proofs.Turning.{many_slots, births_below, few_forks, at_its_join, still_standing, forks_off, ends_so, runner, world_length}
 use Rattle.code_world.proofs.table.Table.run.Goals as goal
 
 pub overflow_cast-child : goal.overflow_cast-child
@@ -72,25 +78,59 @@ returns-in_ok-bear-in-Forked-clause-answer g c = λ w good.
     let k = runner s c.args.self.now w good c.args.number c.take_runner-runner.result c.take_runner-runner.ensures.was in
     let come = rw c.in-Forked.is at (c.in_ok-forker.ensures k.state k.runs) in
     let b = c.in_ok-bear-in-Forked.ensures.births in
-    forks_off s c.args.self.now w good c.args.number c.take_runner-runner.result c.take_runner-runner.ensures.was c.len-child.result (c.len-child.ensures ∙ c.args.self.now.slots.ok.0) c.in-Forked.forker c.in-Forked.kid come c.bear.new.self
+    subst (λ z. Answers s w c.args.number z c.bear.new.self) (sym c.noted_fork.ensures.answer)
+    (forks_off s c.args.self.now w good c.args.number c.take_runner-runner.result c.take_runner-runner.ensures.was c.len-child.result (c.len-child.ensures ∙ c.args.self.now.slots.ok.0) c.in-Forked.forker c.in-Forked.kid come.0 c.bear.new.self
     (c.in_ok-bear-in-Forked.ensures.slots ∙ ap (λ ss. put_number ss c.args.number (slot.Running c.in-Forked.forker) ++ slot.Running c.in-Forked.kid ∷ []) c.take_runner-runner.ensures.now)
-    b.0 (ap (λ bs. at_number bs.items c.args.number) (sym c.take_runner-runner.ensures.births) ∙ b.1) (b.2 ∙ ap (λ bs. born bs.items c.args.number b.0) c.take_runner-runner.ensures.births)
+    b.0 (ap (λ bs. at_number bs.items c.args.number) (sym c.take_runner-runner.ensures.births) ∙ b.1) (b.2 ∙ ap (λ bs. born bs.items c.args.number b.0) c.take_runner-runner.ensures.births))
 
-pub returns-in-Standing-clause-answer : goal.returns-in-Standing-clause-answer
-returns-in-Standing-clause-answer g c = λ w good.
+pub returns-in_ok-bear-in-Forked-clause-noted : goal.returns-in_ok-bear-in-Forked-clause-noted
+returns-in_ok-bear-in-Forked-clause-noted g c = λ w good.
+    let s = run_under c.args.setting.now in
+    let k = runner s c.args.self.now w good c.args.number c.take_runner-runner.result c.take_runner-runner.ensures.was in
+    let come = rw c.in-Forked.is at (c.in_ok-forker.ensures k.state k.runs) in
+    let number = c.len-child.ensures ∙ c.args.self.now.slots.ok.0 ∙ sym (world_length s c.args.self.now w good c.args.number) in
+    noted_so s w c.args.number (answer.Forked c.len-child.result) c.noted_fork.result.answer (Some (meeting.Forked c.len-child.result c.in-Forked.line)) c.noted_fork.result.meeting
+    c.noted_fork.ensures.answer c.noted_fork.ensures.meeting
+    (fork_noted s w c.args.number k.path k.state k.there c.len-child.result c.in-Forked.line number come.1)
+
+pub returns-in_ok-answer-in-Standing-clause-answer : goal.returns-in_ok-answer-in-Standing-clause-answer
+returns-in_ok-answer-in-Standing-clause-answer g c = λ w good.
     let s = run_under c.args.setting.now in
     let k = runner s c.args.self.now w good c.args.number c.take_runner-runner.result c.take_runner-runner.ensures.was in
     let come = rw c.in-Standing.is at (c.in_ok-forker.ensures k.state k.runs) in
     let slots = c.put.ensures.now ∙ ap (λ ss. put_number ss c.args.number (slot.Standing c.in-Standing.at)) c.take_runner-runner.ensures.now in
-    c.join.ensures.answer s w
+    subst (λ z. Answers s w c.args.number z c.join.new.self) (sym c.noted_join.ensures.answer)
+    (c.in_ok-answer-in-Standing.ensures.answer s w
     (at_its_join s c.args.self.now w good c.args.number c.take_runner-runner.result c.take_runner-runner.ensures.was c.in-Standing.at come c.put.new.self slots (c.put.ensures.births ∙ c.take_runner-runner.ensures.births))
-    c.requires.merges
+    c.requires.merges)
+
+pub returns-in_ok-answer-in-Standing-clause-noted : goal.returns-in_ok-answer-in-Standing-clause-noted
+returns-in_ok-answer-in-Standing-clause-noted g c = λ w good.
+    let s = run_under c.args.setting.now in
+    let k = runner s c.args.self.now w good c.args.number c.take_runner-runner.result c.take_runner-runner.ensures.was in
+    let come = rw c.in-Standing.is at (c.in_ok-forker.ensures k.state k.runs) in
+    let a = c.in-Standing.at in
+    let comes : leg s k.state ≡ joins come.2 a.is_try c.on-on.result =
+    ap (λ l. leg s l.state) come.1 ∙ come.3 ∙ ap (λ m. joins come.2 a.is_try m) (sym c.on-on.ensures) in
+    noted_so s w c.args.number c.in_ok-answer-in-Standing.answer c.noted_join.result.answer (join_meeting c.in_ok-answer-in-Standing.answer c.on-on.result c.line-line.result) c.noted_join.result.meeting
+    c.noted_join.ensures.answer c.noted_join.ensures.meeting
+    (joins_noted s w c.args.number c.in_ok-answer-in-Standing.answer c.on-on.result c.line-line.result
+    (join_noted s w c.args.number k.path k.state k.there come.2 a.is_try c.on-on.result c.line-line.result comes (c.line-line.ensures s come.2 come.4)))
 
 pub returns-in-Ended-clause-answer : goal.returns-in-Ended-clause-answer
 returns-in-Ended-clause-answer g c = λ w good.
     let s = run_under c.args.setting.now in
     let k = runner s c.args.self.now w good c.args.number c.take_runner-runner.result c.take_runner-runner.ensures.was in
     let come = rw c.in-Ended.is at (c.in_ok-forker.ensures k.state k.runs) in
-    subst (λ z. Answers s w c.args.number z c.put-in-Ended.new.self) (sym c.answer_of-answer.ensures)
+    subst (λ z. Answers s w c.args.number z c.put-in-Ended.new.self) (sym (c.noted_end.ensures.answer ∙ c.answer_of-answer.ensures))
     (ends_so s c.args.self.now w good c.args.number c.take_runner-runner.result c.take_runner-runner.ensures.was c.in-Ended.end come c.put-in-Ended.new.self
     (c.put-in-Ended.ensures.now ∙ ap (λ ss. put_number ss c.args.number (slot.Ended c.in-Ended.end)) c.take_runner-runner.ensures.now) (c.put-in-Ended.ensures.births ∙ c.take_runner-runner.ensures.births))
+
+pub returns-in-Ended-clause-noted : goal.returns-in-Ended-clause-noted
+returns-in-Ended-clause-noted g c = λ w good.
+    let s = run_under c.args.setting.now in
+    let k = runner s c.args.self.now w good c.args.number c.take_runner-runner.result c.take_runner-runner.ensures.was in
+    let come = rw c.in-Ended.is at (c.in_ok-forker.ensures k.state k.runs) in
+    noted_so s w c.args.number (ends_with c.in-Ended.end.finish) c.noted_end.result.answer None c.noted_end.result.meeting
+    (c.noted_end.ensures.answer ∙ c.answer_of-answer.ensures) c.noted_end.ensures.meeting
+    (ends_noted s w c.args.number c.in-Ended.end.finish (end_noted s w c.args.number k.path k.state k.there come.after come.goes))

@@ -1,0 +1,5 @@
+use Rattle.code_traces.proofs.Tracing.{of_program}
+use Rattle.code_traces.proofs.program_trace_law.Goals as goal
+
+pub returns : goal.returns
+returns c = of_program

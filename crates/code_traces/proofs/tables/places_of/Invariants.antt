@@ -1,0 +1,7 @@
+use Rattle.std.proofs.Common.{◌≡◌, ◌++◌, drop}
+use Rattle.world_traces.specs.Parts.{places}
+use Rattle.code_traces.proofs.tables.places_of.Given as goal
+
+-- the later variables are still to come
+abbrev pub invariant-loop-at : goal.invariant-loop-at
+invariant-loop-at l = l.list.items ++ places (drop l.at l.variables) ≡ places l.variables

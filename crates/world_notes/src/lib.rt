@@ -1,0 +1,9 @@
+//! Runs of a world of code with notes of what each revision did.
+#![tactic(auto)]
+
+mod noted;
+mod notes;
+mod running;
+
+pub use noted::Noted;
+pub use running::{finish_noting, first_notes};

@@ -1,0 +1,138 @@
+//! What is noted of a leg.
+
+ghost use Rattle.std.specs.Prelude.{◌≡◌, ◌<◌, ℕ, IfOk, OnOk, length};
+ghost use Rattle.code_machine.specs.Local.{CodeRun, Local};
+ghost use Rattle.code_world.specs.declared.world.World as rust;
+ghost use Rattle.code_world.specs.Answers.{LegAnswers};
+ghost use Rattle.revision_machine.specs.Numbered.{Entries, Listing};
+ghost use Rattle.world_notes.specs.Changes.{HasAdded, HasEnd, HasNoted, IsBorn, IsChanged};
+ghost use Rattle.world_notes.specs.Changes.{IsEndIn, IsOverNow};
+
+use crate::noted::Noted;
+use code_world::{LegAnswer, NotedLeg, World};
+use leg_run::Meeting;
+use rev_num::Items;
+use std::alloc::{AllocError, Global};
+use version_map::EndValue;
+
+/// Adds an entry to the list of a revision, where there is one.
+fn add_meeting(
+    notes: &mut Vec<Noted>,
+    number: usize,
+    meeting: Option<Meeting>,
+) -> Result<(), AllocError>
+    requires { number < length notes.old.items }
+    ensures { OnOk result
+        (IsChanged number (HasAdded meeting) notes.old.items notes.new.items) }
+{
+    notes[number].add(meeting)?;
+    Ok(())
+}
+
+/// Notes what a revision left.
+fn set_end(notes: &mut Vec<Noted>, number: usize, end: Option<EndValue>)
+    requires { number < length notes.old.items }
+    ensures { (v : rust.World) → IsEndIn v number end
+        → IsChanged number (HasEnd v number) notes.old.items notes.new.items }
+{
+    notes[number].end_with(end);
+}
+
+/// A copy of what a revision left.
+fn copy_end(alloc: Global, end: &EndValue) -> Result<EndValue, AllocError>
+    ensures { IfOk result (λ v. v ≡ end.now) }
+{
+    let written = Vec::from_slice(alloc, end.written.as_slice())?;
+    let text = Vec::from_slice(alloc, end.text.as_slice())?;
+    Ok(EndValue {
+        written: Items::from_vec(written),
+        text: Items::from_vec(text),
+        fuel: end.fuel,
+        finish: end.finish,
+    })
+}
+
+/// A copy of what the revision of this number left, where it has ended.
+fn end_copied(alloc: Global, world: &World, number: u32) -> Result<Option<EndValue>, AllocError>
+    ensures { IfOk result (λ o. IsEndIn world.now number o) }
+{
+    match world.end_of(number) {
+        Some(end) => {
+            let copy = copy_end(alloc, end)?;
+            Ok(Some(copy))
+        },
+        None => Ok(None),
+    }
+}
+
+/// Notes of a revision that has ended in this world, and the entry of its last join, where that
+/// ended it.
+fn note_end(
+    alloc: Global,
+    notes: &mut Vec<Noted>,
+    world: &World,
+    number: u32,
+    meeting: Option<Meeting>,
+) -> Result<(), AllocError>
+    requires { number < length notes.old.items }
+    ensures { OnOk result
+        (IsOverNow world.now number meeting notes.old.items notes.new.items) }
+{
+    add_meeting(notes, number as usize, meeting)?;
+    let end = end_copied(alloc, world, number)?;
+    set_end(notes, number as usize, end);
+    Ok(())
+}
+
+/// Notes of a fork, of which the child comes last.
+fn note_fork(
+    alloc: Global,
+    notes: &mut Vec<Noted>,
+    number: u32,
+    meeting: Option<Meeting>,
+) -> Result<(), AllocError>
+    requires { number < length notes.old.items }
+    ensures { OnOk result (IsBorn number meeting notes.old.items notes.new.items) }
+{
+    add_meeting(notes, number as usize, meeting)?;
+    notes.push(Noted::new(alloc))?;
+    Ok(())
+}
+
+/// Notes of a leg of this revision that came out so, in the world after it.
+pub(crate) fn note_leg(
+    alloc: Global,
+    notes: &mut Vec<Noted>,
+    world: &World,
+    number: u32,
+    leg: NotedLeg,
+) -> Result<(), AllocError>
+    requires { (g : CodeRun) × (w : Entries (Local ℕ))
+        × LegAnswers g (Listing w) number leg.answer world.now
+        × (length notes.old.items ≡ length w) }
+    ensures { OnOk result
+        (HasNoted world.now number leg.answer leg.meeting notes.old.items notes.new.items) }
+{
+    match leg.answer {
+        LegAnswer::Forked { child: _child } => {
+            note_fork(alloc, notes, number, leg.meeting)?;
+            Ok(())
+        },
+        LegAnswer::Joined { on: _on } => {
+            add_meeting(notes, number as usize, leg.meeting)?;
+            Ok(())
+        },
+        LegAnswer::Ended => {
+            note_end(alloc, notes, world, number, leg.meeting)?;
+            Ok(())
+        },
+        LegAnswer::Trapped => {
+            note_end(alloc, notes, world, number, leg.meeting)?;
+            Ok(())
+        },
+        LegAnswer::Waits { on: _other } => Ok(()),
+        LegAnswer::Twice => Ok(()),
+        LegAnswer::NoSuch => Ok(()),
+        LegAnswer::Over => Ok(()),
+    }
+}
