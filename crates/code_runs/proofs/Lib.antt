@@ -1,2 +1,4 @@
 pub mod Completing
 pub mod Least
+pub mod Schedules
+pub mod Underway

@@ -13,7 +13,7 @@ fn note_input(input: i64)
 
 /// Looks at each input. A list does not tell of its numbers that they have the range of their type,
 /// so it is read once.
-pub(crate) fn note_inputs(inputs: &Vec<i64>)
+pub fn note_inputs(inputs: &Vec<i64>)
     ensures { AreInputs inputs.now.items }
 {
     for at in 0..inputs.len() {

@@ -3,7 +3,10 @@
 
 mod after;
 mod inputs;
+mod laws;
 mod running;
 
 pub use after::outcome_after;
-pub use running::run_code;
+pub use inputs::note_inputs;
+pub use laws::schedule_laws;
+pub use running::{replay_code, run_code};

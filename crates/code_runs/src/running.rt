@@ -1,7 +1,14 @@
-//! A run of verified code.
+//! Runs of verified code.
 
-ghost use Rattle.std.specs.Prelude.{◌≤◌, IfOk};
+ghost use Rattle.std.specs.Prelude.{◌≡◌, ◌≤◌, ℕ, IfErr, IfOk};
+ghost use Rattle.block_merges.specs.Merging.{AreMergesOf};
+ghost use Rattle.block_run.specs.Area.{count};
 ghost use Rattle.code_outcomes.specs.Outcomes.{HasOutcome};
+ghost use Rattle.leg_run.specs.Setting.{IsSetting};
+ghost use Rattle.rev_vm.specs.Starts.{run_under};
+ghost use Rattle.world_runs.specs.Replay.{IsIllegal};
+ghost use Rattle.code_runs.specs.Completed.{IsUnderway};
+ghost use Rattle.code_runs.specs.Schedules.{IsLegal};
 
 use crate::after::outcome_after;
 use crate::inputs::note_inputs;
@@ -11,7 +18,28 @@ use code_world::World;
 use leg_run::CodeSetting;
 use rev_num::Outcome;
 use std::alloc::{AllocError, Global};
-use world_runs::finish;
+use version_map::MergeBy;
+use world_runs::{ReplayFault, finish, replay};
+
+/// The outcome of the code, from its world after a legal schedule: each further leg is that of the
+/// least revision that has one, until none has.
+fn complete<M: MergeBy>(
+    alloc: Global,
+    setting: &CodeSetting,
+    merges: &mut M,
+    world: World,
+) -> Result<Outcome, AllocError>
+    requires setting { IsSetting setting.now }
+    requires underway { (fuel : ℕ) × IsUnderway (run_under setting.now) fuel world }
+    requires size { M.size merges.old ≡ count setting.now.code.vars }
+    requires merges { AreMergesOf (run_under setting.now) (M.merges merges.old) }
+    ensures { IfOk result (λ o. (fuel : ℕ) → IsUnderway (run_under setting.now) fuel world
+        → HasOutcome (run_under setting.now) fuel o) }
+{
+    let end = finish(alloc, setting, merges, world)?;
+    let outcome = outcome_after(alloc, setting, end)?;
+    Ok(outcome)
+}
 
 /// The outcome of verified code with these inputs, share and fuel, of which there are at most
 /// 4,000,000,000 units. It runs on one thread: each leg is that of the least revision that has one,
@@ -31,7 +59,32 @@ pub fn run_code(
     let setting = CodeSetting::new(alloc, code.into_code(), inputs, share)?;
     let mut merges = BlockMerges::of(alloc, &setting.code)?;
     let start = World::begin(alloc, &setting, fuel)?;
-    let end = finish(alloc, &setting, &mut merges, start)?;
-    let outcome = outcome_after(alloc, &setting, end)?;
+    let outcome = complete(alloc, &setting, &mut merges, start)?;
+    Ok(outcome)
+}
+
+/// The same of a run that begins with the legs of this schedule, one for each entry, and goes on
+/// with those of the least revisions. It is refused at the first entry that has no leg.
+pub fn replay_code(
+    alloc: Global,
+    code: Verified,
+    inputs: Vec<i64>,
+    share: u64,
+    fuel: u64,
+    schedule: &[u32],
+) -> Result<Outcome, ReplayFault>
+    requires { fuel ≤ 4000000000 }
+    ensures legal { IfOk result (λ o. IsLegal
+        (record { code = code.code; inputs = inputs.items; share = share }) fuel schedule.now) }
+    ensures outcome { IfOk result (λ o. HasOutcome
+        (record { code = code.code; inputs = inputs.items; share = share }) fuel o) }
+    ensures fault { IfErr result (λ f. IsIllegal
+        (record { code = code.code; inputs = inputs.items; share = share }) fuel schedule.now f) }
+{
+    note_inputs(&inputs);
+    let setting = CodeSetting::new(alloc, code.into_code(), inputs, share)?;
+    let mut merges = BlockMerges::of(alloc, &setting.code)?;
+    let world = replay(alloc, &setting, &mut merges, fuel, schedule)?;
+    let outcome = complete(alloc, &setting, &mut merges, world)?;
     Ok(outcome)
 }

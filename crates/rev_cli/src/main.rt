@@ -2,6 +2,7 @@
 //! the status of the call as exit status.
 #![tactic(auto)]
 
+use hub_workers::OpenGate;
 use rev_io::{StdSink, StdSource};
 use rev_top::{out_of_memory, rev_main};
 use std::env::Env;
@@ -29,5 +30,14 @@ fn main(rt: HostRuntime) -> ExitCode {
         // A word that is no UTF-8 is wrong usage, as no words are.
         Err(_) => Vec::new(rt.alloc()),
     };
-    ExitCode::from(rev_main(&rt, words.as_slice(), &mut source, &mut out, &mut err))
+    let mut ran = None;
+    ExitCode::from(rev_main(
+        &rt,
+        words.as_slice(),
+        &mut source,
+        &mut out,
+        &mut err,
+        &OpenGate,
+        &mut ran,
+    ))
 }

@@ -8,11 +8,13 @@
 mod code_fault;
 mod fault;
 mod modes;
+mod order;
 mod refusal;
 
 pub use code_fault::{FileFault, InstructionFault};
 pub use fault::{Place, TextFault};
 pub use modes::{accepted_report, agreed_report, done_report, summary_report, trace_report};
+pub use order::order_report;
 pub use refusal::{Refusal, no_memory_message, refusal_bytes};
 
 #[cfg(test)]
@@ -129,6 +131,17 @@ mod tests {
             let report = trace_report(rt.alloc(), held, &outcome)?;
             assert!(rt; report.out.as_slice() == out);
             assert!(rt; report.err.as_slice() == err && report.status == status);
+        }
+        let long = [0, 10, 4_294_967_295];
+        let schedules: [(&[u32], &[u8]); 3] = [
+            (&[], b"\n"),
+            (&[7], b"7\n"),
+            (&long, b"0,10,4294967295\n"),
+        ];
+        for (schedule, out) in schedules {
+            let report = order_report(rt.alloc(), schedule, &Outcome::Twice)?;
+            assert!(rt; report.out.as_slice() == out);
+            assert!(rt; report.err.as_slice() == twice && report.status == 3);
         }
         let yes = agreed_report(rt.alloc())?;
         assert!(rt; yes.out.as_slice() == b"yes\n".as_slice());

@@ -1,6 +1,6 @@
 -- What an answer to words and a source is like: its status, what it writes on `out`, and the bytes that it answers.
 use Rattle.std.proofs.Common.{◌≡◌, ◌∙◌, refl, sym, subst, List, [], ℕ, ◌≤◌, ◌⊎◌, inl, inr, arith, true, length, ap}
-use Rattle.std.specs.Prelude.{Option, Some, None, Result, Ok, Err, Bool, is_some}
+use Rattle.std.specs.Prelude.{Option, Some, None, Result, Ok, Err, Bool, false, is_some}
 use Rattle.rev_io.specs.Stream.{Stream, Rose}
 use Rattle.rev_num.specs.declared.outcome.Outcome.{Outcome}
 use Rattle.rev_num.specs.declared.outcome.Outcome.TheVariants as o
@@ -11,23 +11,26 @@ use Rattle.rev_words.specs.declared.Words.{Words}
 use Rattle.rev_syntax.specs.Trees.{ProgramTree}
 use Rattle.rev_report.specs.Report.{Output}
 use Rattle.rev_report.specs.Outcome.{report}
-use Rattle.rev_messages.specs.Modes.{summary, traced}
+use Rattle.rev_messages.specs.Modes.{ordered, summary, traced}
 use Rattle.rev_messages.specs.Refusals.{shown, status_of}
 use Rattle.rev_messages.specs.declared.refusal.Refusal.{Refusal}
 use Rattle.rev_messages.specs.declared.refusal.Refusal.TheVariants as refusals
 use Rattle.rev_top.specs.Stages.{Onward, Then}
 use Rattle.rev_top.specs.Texts.{Checks}
 use Rattle.rev_code.specs.declared.code.Code.{Code}
+use Rattle.code_generation.specs.Generated.{code_of}
 use Rattle.revision_calculus.specs.Program.{Setting}
 use Rattle.trace_diagram.specs.declared.diagram.Trace.{Trace}
 use Rattle.audit_rules.specs.declared.verdict.Verdict.{Verdict}
 use Rattle.audit_rules.specs.declared.verdict.Verdict.TheVariants as verdict
 use Rattle.rev_top.specs.Codes.{ChecksCode}
 use Rattle.rev_top.specs.Traces.{Judges, Parts, ReadsTrace, Splits, answer_of, text_of}
-use Rattle.rev_top.specs.Answer.{Accepts, Answer, Answers, AuditsParts, AuditsTrace, Emits, Fits, Given, Lists, RunsCode, RunsTo, Says, SaysAs, Traces, reads, reads_of, setting}
+use Rattle.rev_top.specs.Answer.{Accepts, Answer, Answers, AuditsParts, AuditsTrace, Emits, Fits, Given, Lists, Orders, Replays, RunsCode, RunsTo, Says, SaysAs, Traces, code_run, reads, reads_of, setting}
+use Rattle.rev_top.specs.Schedules.{ReplaysCode}
 use Rattle.rev_top.specs.Promises.{Feeds, IsRefused}
 use Rattle.rev_top.proofs.Codes.{code_refused}
 use Rattle.rev_top.proofs.Faults.{text_refused}
+use Rattle.rev_top.proofs.Replaying.{replay_refused}
 
 -- ---- the status of what a mode says
 
@@ -53,6 +56,9 @@ unfolding end_status
 traced_status trace (o.Done text values) = refl
 traced_status trace (o.Trapped text values t) = refl
 traced_status trace o.Twice = refl
+
+pub ordered_status : (schedule : List ℕ) (x : Outcome) → (ordered schedule x).status ≡ end_status x
+ordered_status schedule x = report_status false x
 
 -- a run's own status
 abbrev IsEnd : ℕ → Type 0
@@ -90,6 +96,11 @@ trace_ends : (w : Words) (p : ProgramTree) (a : Answer) → Traces w p a → IsE
 trace_ends w p a h =
     subst (λ (n : ℕ). IsEnd n)
     (sym (ap (λ (x : Answer). (shown x).status) h.writes ∙ traced_status (text_of h.trace) h.outcome)) (is_end h.outcome)
+
+order_ends : (w : Words) (p : ProgramTree) (a : Answer) → Orders w p a → IsEnd (shown a).status
+order_ends w p a h =
+    subst (λ (n : ℕ). IsEnd n)
+    (sym (ap (λ (x : Answer). (shown x).status) h.writes ∙ ordered_status h.schedule h.outcome)) (is_end h.outcome)
 
 list_ends : (c : Code) (a : Answer) → Lists c a → IsEnd (shown a).status
 list_ends c a h =
@@ -138,6 +149,13 @@ audited w p a h =
     (λ t b k. of_stages (ReadsTrace p.trace) (trace_refused p.trace) (Judges (setting w t) w.fuel) (judged (setting w t) w.fuel) b k)
     a h
 
+-- ---- of a replay
+
+replayed : (w : Words) (p : ProgramTree) (a : Answer) → Replays w p a → IsPlain a
+replayed w p a h =
+    of_stage (ReplaysCode (code_run w (code_of p)) w.fuel w.schedule) (replay_refused (code_run w (code_of p)) w.fuel w.schedule)
+    (λ v. RunsTo w (report w.values) p) (λ v b k. run_ends (report w.values) (report_status w.values) w p b k) a h
+
 -- one line for each mode
 says_plain : (m : Mode) (w : Words) (read : List ℕ) (a : Answer) → SaysAs m w read a → IsPlain a
 unfolding SaysAs
@@ -150,6 +168,8 @@ says_plain modes.Exec w read a h = of_stage (ChecksCode read) (code_refused read
 says_plain modes.Emit w read a h = of_text read Emits emit_ends a h
 says_plain modes.Trace w read a h = of_text read (Traces w) (trace_ends w) a h
 says_plain modes.Audit w read a h = of_stages (Splits read) (split_refused read) (AuditsParts w) (audited w) a h
+says_plain modes.Replay w read a h = of_stages (Checks read) (text_refused read) (Replays w) (replayed w) a h
+says_plain modes.Order w read a h = of_text read (Orders w) (order_ends w) a h
 
 at_most_3 : (a : Answer) → IsPlain a → (shown a).status ≤ 3
 at_most_3 a (ends is) = is.0

@@ -1,4 +1,4 @@
--- The outcome of a program's code is that of the program.
+-- The outcome of a program's code is that of the program, and its run by threads is one of the program's code.
 use Rattle.std.proofs.Common.{◌≡◌, subst, sym, List, ℕ, ℤ}
 use Rattle.std.specs.Prelude.{IfOk, Result, Ok, Err}
 use Rattle.rev_num.specs.declared.outcome.Outcome.{Outcome}
@@ -10,7 +10,9 @@ use Rattle.code_generation.specs.Generated.{code_of}
 use Rattle.code_outcomes.specs.Outcomes as code
 use Rattle.revision_calculus.specs.Complete.{HasOutcome}
 use Rattle.program_outcomes.proofs.Outcomes.{of_program}
-use Rattle.rev_top.specs.Answer.{setting}
+use Rattle.thread_runs.specs.declared.ran.Ran.{Ran}
+use Rattle.thread_runs.specs.Runs.{IsRunOf}
+use Rattle.rev_top.specs.Answer.{code_run, setting}
 
 module _ (w : Words) (t : Typed) where
   abbrev pub Runs : Code → List ℤ → Outcome → Type 0
@@ -22,3 +24,17 @@ module _ (w : Words) (t : Typed) where
       of_program (setting w (whole t.expanded.program)) (record { small = t.expanded.small; funs = t.expanded.keeps_rules; rules = t.well_typed }) w.fuel o
       (subst (λ (x : Code). Runs x w.numbers o) is (subst (λ (n : List ℤ). Runs c n o) same h))
   ran c inputs (Err e) is same h = tt
+
+  -- the same of the outcome of a run by threads
+  pub ran_by : {E : Type 0} (c : Code) (inputs : List ℤ) (r : Result Ran E) → c ≡ code_of (whole t.expanded.program) → inputs ≡ w.numbers
+      → IfOk r (λ x. Runs c inputs x.outcome) → IfOk r (λ x. HasOutcome (setting w (whole t.expanded.program)) w.fuel x.outcome)
+  ran_by {E = E} c inputs (Ok x) is same h = ran {E = E} c inputs (Ok x.outcome) is same h
+  ran_by c inputs (Err e) is same h = tt
+
+  pub ran_of : {E : Type 0} (c : Code) (inputs : List ℤ) (r : Result Ran E) → c ≡ code_of (whole t.expanded.program) → inputs ≡ w.numbers
+      → IfOk r (λ x. IsRunOf (record { code = c; inputs = inputs; share = w.share }) w.fuel x)
+      → IfOk r (λ x. IsRunOf (code_run w (code_of (whole t.expanded.program))) w.fuel x)
+  ran_of c inputs (Ok x) is same h =
+      subst (λ (y : Code). IsRunOf (record { code = y; inputs = w.numbers; share = w.share }) w.fuel x) is
+      (subst (λ (n : List ℤ). IsRunOf (record { code = c; inputs = n; share = w.share }) w.fuel x) same h)
+  ran_of c inputs (Err e) is same h = tt

@@ -6,7 +6,9 @@ pub mod Findings
 pub mod Kept
 pub mod Listings
 pub mod OneAnswers
+pub mod Rans
 pub mod Real
+pub mod Replaying
 pub mod Stages
 pub mod Steps
 pub mod WhyStatus

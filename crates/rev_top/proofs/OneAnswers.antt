@@ -1,5 +1,5 @@
 -- There is one answer to the same words and bytes.
-use Rattle.std.proofs.Common.{◌≡◌, ◌∙◌, refl, sym, subst, ap, List, [], ℕ, ◌≤◌, ◌<◌, Bool, true, false, nat_le, length, arith, rules}
+use Rattle.std.proofs.Common.{◌≡◌, ◌∙◌, ◌⊎◌, inl, inr, refl, sym, subst, ap, List, [], ℕ, ◌≤◌, ◌<◌, Bool, true, false, nat_le, length, arith, rules}
 use Rattle.std.specs.Prelude.{Option, Some, None, Result, Ok, Err}
 use Rattle.rev_num.specs.declared.outcome.Outcome.{Outcome}
 use Rattle.rev_words.specs.Load.{load_text}
@@ -15,7 +15,8 @@ use Rattle.rev_syntax.specs.declared.scan.LexFault.{LexFault}
 use Rattle.rev_parse.specs.Verdicts.{Verdict, tree, unexpected, too_deep}
 use Rattle.rev_report.specs.Report.{Output}
 use Rattle.rev_report.specs.Outcome.{report}
-use Rattle.rev_messages.specs.Modes.{accepted, summary, traced}
+use Rattle.rev_messages.specs.Modes.{accepted, ordered, summary, traced}
+use Rattle.rev_messages.specs.Refusals.{shown}
 use Rattle.rev_messages.specs.declared.refusal.Refusal.{Refusal}
 use Rattle.rev_messages.specs.declared.refusal.Refusal.TheVariants as refusals
 use Rattle.revision_calculus.specs.Kinded.{IsAccepted}
@@ -29,16 +30,19 @@ use Rattle.rev_top.specs.Codes.{ChecksCode}
 use Rattle.rev_top.specs.Stages.{Onward, Then}
 use Rattle.rev_top.specs.Texts.{Checks, ChecksTree, reading as read_of}
 use Rattle.rev_top.specs.Findings.{Finding, lexical, syntax, of_funs, of_rules, accepted as accepts, HasVerdict, IsFinding, IsSyntaxFault}
-use Rattle.rev_top.specs.Answer.{Accepts, Answer, AuditsParts, AuditsTrace, Emits, Fits, IsWithin, Lists, RunsCode, RunsTo, Says, SaysAs, Traces, code_run, reads_of, setting, source_limit}
+use Rattle.rev_top.specs.Answer.{Accepts, Answer, AuditsParts, AuditsTrace, Emits, Fits, IsWithin, Lists, Orders, Replays, RunsCode, RunsTo, Says, SaysAs, Traces, code_run, reads_of, setting, source_limit}
+use Rattle.rev_top.specs.Schedules.{ReplaysCode}
 use Rattle.code_verifier.specs.Verdicts.{KeepsRules}
 use Rattle.code_outcomes.proofs.Outcomes.{each_has_one}
-use Rattle.rev_top.specs.Statuses.{HasOneAnswer, OneAnswer}
+use Rattle.rev_top.specs.Statuses.{EndAlike, HasOneAnswer, IsOrder, OneAnswer}
+use Rattle.program_outcomes.proofs.Outcomes.{of_code}
 use Rattle.rev_top.specs.Traces.{Splits, text_of}
 use Rattle.rev_top.proofs.Auditing.{one_audited, one_split, some_audited, some_split}
 use Rattle.rev_top.proofs.Codes.{kept_of, one_code, some_code}
 use Rattle.rev_top.proofs.Faults.{one_check}
 use Rattle.rev_top.proofs.Findings.{front_end}
 use Rattle.rev_top.proofs.Real.{funs_told, lexical_told, types_told}
+use Rattle.rev_top.proofs.Replaying.{one_replay, program_verified, some_replay}
 use Rattle.rev_top.proofs.Stages.{One, one_after, one_then}
 use Rattle.rev_top.proofs.TraceTexts.{one_trace, some_trace}
 
@@ -65,7 +69,7 @@ one_code_run w c keeps a b h k =
 one_emit : (p : ProgramTree) → One (Emits p)
 one_emit p a b h k = h ∙ sym k
 
-accepted_of : (text : List ℕ) → length text ≤ source_limit → (p : ProgramTree) → Checks text (Ok p) → IsAccepted p
+pub accepted_of : (text : List ℕ) → length text ≤ source_limit → (p : ProgramTree) → Checks text (Ok p) → IsAccepted p
 accepted_of text short p h =
     let one = front_end text short in
     let ready = one.ready p ((one.same p).0 h) in
@@ -78,6 +82,11 @@ one_traces w p accepted a b h k =
     let text = one_trace (setting w p) w.fuel accepted h.trace k.trace h.has_trace k.has_trace in
     h.writes ∙ ap (λ (x : Outcome). Ok (traced (text_of h.trace) x)) same ∙ ap (λ (x : List ℕ). Ok (traced x k.outcome)) text ∙ sym k.writes
 
+one_replays : (w : Words) (p : ProgramTree) → IsAccepted p → One (Replays w p)
+one_replays w p accepted =
+    one_then (ReplaysCode (code_run w (code_of p)) w.fuel w.schedule) (λ v. RunsTo w (report w.values) p)
+    (one_replay (code_run w (code_of p)) w.fuel w.schedule (program_verified w p accepted)) (λ v. one_run w (report w.values) p)
+
 one_audit : (w : Words) (all : List ℕ) → One (SaysAs modes.Audit w all)
 unfolding SaysAs
 one_audit w all =
@@ -85,20 +94,23 @@ one_audit w all =
     (λ p s. one_after (Checks p.text) (AuditsTrace w p.trace) (one_check p.text)
     (λ t c. one_audited w t (accepted_of p.text s.1 t c) p.trace))
 
--- one line for each mode
-pub one_as : (m : Mode) (w : Words) (read : List ℕ) → IsWithin (reads_of m) (length read) → One (SaysAs m w read)
+-- one line for each mode but `order`
+pub one_as : (m : Mode) (w : Words) (read : List ℕ) → (m ≡ modes.Order → ⊥) → IsWithin (reads_of m) (length read) → One (SaysAs m w read)
 unfolding SaysAs
-one_as modes.Run w read short = one_then (Checks read) (RunsTo w (report w.values)) (one_check read) (one_run w (report w.values))
-one_as modes.Check w read short = one_then (Checks read) Accepts (one_check read) one_accept
-one_as modes.Load w read short =
+one_as modes.Run w read other short = one_then (Checks read) (RunsTo w (report w.values)) (one_check read) (one_run w (report w.values))
+one_as modes.Check w read other short = one_then (Checks read) Accepts (one_check read) one_accept
+one_as modes.Load w read other short =
     one_then (Checks (load_text w.seed w.size)) (RunsTo w (summary w.seed w.size)) (one_check (load_text w.seed w.size)) (one_run w (summary w.seed w.size))
-one_as modes.Dis w read short = one_then (ChecksCode read) Lists (one_code read) one_list
-one_as modes.Exec w read short =
+one_as modes.Dis w read other short = one_then (ChecksCode read) Lists (one_code read) one_list
+one_as modes.Exec w read other short =
     one_after (ChecksCode read) (RunsCode w) (one_code read) (λ c h. one_code_run w c (kept_of read c h))
-one_as modes.Emit w read short = one_then (Checks read) Emits (one_check read) one_emit
-one_as modes.Trace w read short =
+one_as modes.Emit w read other short = one_then (Checks read) Emits (one_check read) one_emit
+one_as modes.Trace w read other short =
     one_after (Checks read) (Traces w) (one_check read) (λ p h. one_traces w p (accepted_of read short p h))
-one_as modes.Audit w read short = one_audit w read
+one_as modes.Audit w read other short = one_audit w read
+one_as modes.Replay w read other short =
+    one_after (Checks read) (Replays w) (one_check read) (λ p h. one_replays w p (accepted_of read short p h))
+one_as modes.Order w read other short = absurd (other refl)
 
 pub one_fits : (r : Option ℕ) (all : List ℕ) → One (Fits r all)
 one_fits None all a b h k = h ∙ sym k
@@ -107,15 +119,75 @@ one_fits (Some limit) all (Ok x) (Err g) h k = absurd (omega (arith, h.1, k.1))
 one_fits (Some limit) all (Err f) (Ok y) h k = absurd (omega (arith, h.1, k.1))
 one_fits (Some limit) all (Err f) (Err g) h k = ap (λ (z : Refusal). Err z) (h.0 ∙ sym k.0)
 
-within : (r : Option ℕ) (all read : List ℕ) → Fits r all (Ok read) → IsWithin r (length read)
+pub within : (r : Option ℕ) (all read : List ℕ) → Fits r all (Ok read) → IsWithin r (length read)
 within None all read h = tt
 within (Some limit) all read h = subst (λ (t : List ℕ). length t ≤ limit) (sym h.0) h.1
 
-pub one_says : (w : Option Words) (all : List ℕ) → One (Says w all)
-one_says None all a b h k = h ∙ sym k
-one_says (Some w) all a b h k =
+one_says : (w : Option Words) → (IsOrder w → ⊥) → (all : List ℕ) → One (Says w all)
+one_says None other all a b h k = h ∙ sym k
+one_says (Some w) other all a b h k =
     one_after (Fits (reads_of w.mode) all) (SaysAs w.mode w) (one_fits (reads_of w.mode) all)
-    (λ read fits. one_as w.mode w read (within (reads_of w.mode) all read fits)) a b h k
+    (λ read fits. one_as w.mode w read other (within (reads_of w.mode) all read fits)) a b h k
+
+-- ---- all end alike
+
+same_end : (a b : Answer) → a ≡ b → EndAlike a b
+same_end a b same = record { err = ap (λ (x : Answer). (shown x).err) same; status = ap (λ (x : Answer). (shown x).status) same }
+
+-- one stage, and a second one of which all answers end alike
+alike_after : {X : Type 0} (Stage : Result X Refusal → Type 0) → One Stage → (Second : X → Answer → Type 0)
+    → ((x : X) → Stage (Ok x) → (a b : Answer) → Second x a → Second x b → EndAlike a b)
+    → (a b : Answer) → Then Stage Second a → Then Stage Second b → EndAlike a b
+alike_after {X = X} Stage one Second second a b h k = go h.0 k.0 (one h.0 k.0 h.1 k.1) h.1 h.2 k.2
+  where
+    go : (x y : Result X Refusal) → x ≡ y → Stage x → Onward Second x a → Onward Second y b → EndAlike a b
+    go (Ok x) (Ok y) same s on on2 = let e : x ≡ y = cc in second x s a b on (subst (λ z. Second z b) (sym e) on2)
+    go (Ok x) (Err g) same s on on2 = cc
+    go (Err f) (Ok y) same s on on2 = cc
+    go (Err f) (Err g) same s on on2 = let e : f ≡ g = cc in same_end a b (on ∙ ap (λ (z : Refusal). Err z) e ∙ sym on2)
+
+orders_alike : (w : Words) (p : ProgramTree) (a b : Answer) → Orders w p a → Orders w p b → EndAlike a b
+orders_alike w p a b h k =
+    let one = one_outcome (setting w p) w.fuel in
+    let same : h.outcome ≡ k.outcome = one.only h.outcome h.has_outcome ∙ sym (one.only k.outcome k.has_outcome) in
+    record {
+      err =
+          ap (λ (x : Answer). (shown x).err) h.writes ∙ ap (λ (x : Outcome). (report false x).err) same
+          ∙ sym (ap (λ (x : Answer). (shown x).err) k.writes);
+      status =
+          ap (λ (x : Answer). (shown x).status) h.writes ∙ ap (λ (x : Outcome). (report false x).status) same
+          ∙ sym (ap (λ (x : Answer). (shown x).status) k.writes);
+    }
+
+order_alike : (w : Words) (read : List ℕ) (a b : Answer) → SaysAs modes.Order w read a → SaysAs modes.Order w read b → EndAlike a b
+unfolding SaysAs
+order_alike w read = alike_after (Checks read) (one_check read) (Orders w) (λ p s. orders_alike w p)
+
+order_or : (m : Mode) → (m ≡ modes.Order) ⊎ (m ≡ modes.Order → ⊥)
+order_or modes.Run = inr (λ is. cc)
+order_or modes.Check = inr (λ is. cc)
+order_or modes.Load = inr (λ is. cc)
+order_or modes.Dis = inr (λ is. cc)
+order_or modes.Exec = inr (λ is. cc)
+order_or modes.Emit = inr (λ is. cc)
+order_or modes.Trace = inr (λ is. cc)
+order_or modes.Audit = inr (λ is. cc)
+order_or modes.Replay = inr (λ is. cc)
+order_or modes.Order = inl refl
+
+says_alike : (m : Mode) (w : Words) (read : List ℕ) → IsWithin (reads_of m) (length read)
+    → (a b : Answer) → SaysAs m w read a → SaysAs m w read b → EndAlike a b
+says_alike m w read short a b h k = go (order_or m)
+  where
+    go : (m ≡ modes.Order) ⊎ (m ≡ modes.Order → ⊥) → EndAlike a b
+    go (inl is) = order_alike w read a b (subst (λ (x : Mode). SaysAs x w read a) is h) (subst (λ (x : Mode). SaysAs x w read b) is k)
+    go (inr other) = same_end a b (one_as m w read other short a b h k)
+
+pub all_alike : (w : Option Words) (all : List ℕ) (a b : Answer) → Says w all a → Says w all b → EndAlike a b
+all_alike None all a b h k = same_end a b (h ∙ sym k)
+all_alike (Some w) all a b h k =
+    alike_after (Fits (reads_of w.mode) all) (one_fits (reads_of w.mode) all) (SaysAs w.mode w)
+    (λ read fits. says_alike w.mode w read (within (reads_of w.mode) all read fits)) a b h k
 
 -- ---- there is one
 
@@ -200,6 +272,20 @@ some_traces w p =
     let t = some_trace (setting w p) w.fuel in
     (Ok (traced (text_of t.0) one.is), record { outcome = one.is; has_outcome = one.has; trace = t.0; has_trace = t.1; writes = refl })
 
+some_replays : (w : Words) (p : ProgramTree) → IsAccepted p → (a : Answer) × Replays w p a
+some_replays w p accepted =
+    some_stage (ReplaysCode (code_run w (code_of p)) w.fuel w.schedule)
+    (some_replay (code_run w (code_of p)) w.fuel w.schedule (program_verified w p accepted))
+    (λ v. RunsTo w (report w.values) p) (λ v. some_run w (report w.values) p)
+
+some_orders : (w : Words) (p : ProgramTree) → IsAccepted p → (a : Answer) × Orders w p a
+some_orders w p accepted =
+    let one = one_outcome (setting w p) w.fuel in
+    let h = of_code (setting w p) accepted w.fuel one.is one.has in (
+      Ok (ordered h.schedule one.is),
+      record { schedule = h.schedule; world = h.world; complete = h.complete; outcome = one.is; has_outcome = one.has; writes = refl },
+    )
+
 some_audit : (w : Words) (all : List ℕ) → (a : Answer) × SaysAs modes.Audit w all a
 unfolding SaysAs
 some_audit w all =
@@ -225,6 +311,12 @@ some_as modes.Emit w keeps read all h =
 some_as modes.Trace w keeps read all h =
     some_then read (Traces w) (some_traces w) (subst (λ (t : List ℕ). length t ≤ source_limit) (sym h.0) h.1)
 some_as modes.Audit w keeps read all h = some_audit w read
+some_as modes.Replay w keeps read all h =
+    let short : length read ≤ source_limit = subst (λ (t : List ℕ). length t ≤ source_limit) (sym h.0) h.1 in
+    some_after (Checks read) (some_check read short) (Replays w) (λ p k. some_replays w p (accepted_of read short p k))
+some_as modes.Order w keeps read all h =
+    let short : length read ≤ source_limit = subst (λ (t : List ℕ). length t ≤ source_limit) (sym h.0) h.1 in
+    some_after (Checks read) (some_check read short) (Orders w) (λ p c. some_orders w p (accepted_of read short p c))
 
 some_says : (w : Words) → KeepsRanges w → (all : List ℕ) → (a : Answer) × Says (Some w) all a
 some_says w keeps all = let one = some_fits (reads_of w.mode) all in go one.0 one.1
@@ -239,7 +331,13 @@ pub one_answer_to : OneAnswer
 one_answer_to texts all = go (reading texts) refl
   where
     go : (o : Option Words) → reading texts ≡ o → HasOneAnswer o all
-    go None is = record { answer = Err refusals.Usage; says = refl; only = λ a h. h }
+    go None is =
+        record { answer = Err refusals.Usage; says = refl; only = λ other a h. h; alike = λ a h. same_end a (Err refusals.Usage) h }
     go (Some w) is =
         let one = some_says w (reading_keeps texts w is) all in
-        record { answer = one.0; says = one.1; only = λ a h. one_says (Some w) all a one.0 h one.1 }
+        record {
+          answer = one.0;
+          says = one.1;
+          only = λ other a h. one_says (Some w) other all a one.0 h one.1;
+          alike = λ a h. all_alike (Some w) all a one.0 h one.1;
+        }

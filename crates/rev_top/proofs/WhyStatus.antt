@@ -1,5 +1,5 @@
 -- The statuses 1, 2 and 3 have their causes, and come exactly there.
-use Rattle.std.proofs.Common.{◌≡◌, ◌∙◌, refl, sym, subst, ap, List, ℕ, ◌⊎◌, inl, inr, arith}
+use Rattle.std.proofs.Common.{◌≡◌, ◌∙◌, refl, sym, subst, ap, List, ℕ, length, ◌⊎◌, inl, inr, arith}
 use Rattle.std.specs.Prelude.{Option, Some, None, Result, Ok, Err}
 use Rattle.rev_num.specs.declared.outcome.Outcome.{Outcome}
 use Rattle.rev_num.specs.declared.outcome.Outcome.TheVariants as o
@@ -10,7 +10,7 @@ use Rattle.rev_words.specs.declared.Words.{Words}
 use Rattle.rev_syntax.specs.Trees.{ProgramTree}
 use Rattle.rev_report.specs.Report.{Output}
 use Rattle.rev_report.specs.Outcome.{report}
-use Rattle.rev_messages.specs.Modes.{summary, traced}
+use Rattle.rev_messages.specs.Modes.{ordered, summary, traced}
 use Rattle.rev_messages.specs.Refusals.{shown, status_of}
 use Rattle.rev_messages.specs.declared.refusal.Refusal.{Refusal}
 use Rattle.rev_messages.specs.declared.refusal.Refusal.TheVariants as refusals
@@ -20,17 +20,23 @@ use Rattle.audit_rules.specs.Verdicts.{Audits}
 use Rattle.audit_rules.specs.declared.verdict.Verdict.{Verdict}
 use Rattle.audit_rules.specs.declared.verdict.Verdict.TheVariants as verdict
 use Rattle.rev_code.specs.declared.code.Code.{Code}
+use Rattle.code_generation.specs.Generated.{code_of}
+use Rattle.revision_machine.specs.Numbered.{World}
+use Rattle.code_machine.specs.Local.{Local}
 use Rattle.rev_top.specs.Codes.{ChecksCode}
 use Rattle.rev_top.specs.Stages.{Onward, Then}
 use Rattle.rev_top.specs.Texts.{Checks}
 use Rattle.rev_top.specs.Traces.{Judges, Parts, ReadsTrace, Splits, answer_of, text_of}
-use Rattle.rev_top.specs.Answer.{Accepts, Answer, AuditsParts, AuditsTrace, Emits, Fits, Lists, RunsCode, RunsTo, Says, SaysAs, Traces, reads_of, setting}
-use Rattle.rev_top.specs.Statuses.{Ends, EndsAs, HasCauses, IsAtFault, IsAuditFault, IsFault, IsTrap, Ran, StatusLaw, differs, in_length, in_text, in_trace}
-use Rattle.rev_top.proofs.Answering.{end_status, report_status, split_refused, summary_status, trace_refused, traced_status}
+use Rattle.rev_top.specs.Answer.{Accepts, Answer, AuditsParts, AuditsTrace, Emits, Fits, IsWithin, Lists, Orders, Replays, RunsCode, RunsTo, Says, SaysAs, Traces, code_run, reads_of, setting}
+use Rattle.rev_top.specs.Schedules.{ReplaysCode}
+use Rattle.rev_top.specs.Statuses.{Ends, EndsAs, HasCauses, IsAtFault, IsAuditFault, IsFault, IsReplayFault, IsTrap, Ran, StatusLaw, differs, in_length, in_program, in_schedule, in_text, in_trace}
+use Rattle.rev_top.proofs.Answering.{end_status, ordered_status, report_status, split_refused, summary_status, trace_refused, traced_status}
 use Rattle.rev_top.proofs.TraceTexts.{some_trace}
 use Rattle.rev_top.proofs.Codes.{code_refused}
 use Rattle.rev_top.proofs.Faults.{text_refused}
-use Rattle.rev_top.proofs.OneAnswers.{one_says}
+use Rattle.rev_top.proofs.OneAnswers.{accepted_of, all_alike, within}
+use Rattle.program_outcomes.proofs.Outcomes.{of_code}
+use Rattle.rev_top.proofs.Replaying.{replay_refused}
 
 -- why a mode says what it says: what it was given is at fault, or what it ran has ended, or there was
 -- nothing to run
@@ -81,6 +87,15 @@ tells_exec w read a h = go h.0 h.1 h.2
         (ap (λ (x : Answer). (shown x).status) on.2 ∙ report_status w.values on.0)
     go (Err f) s on = at_fault f s on
 
+tells_order : (w : Words) (read : List ℕ) (a : Answer) → Then (Checks read) (Orders w) a → Tells modes.Order w read a
+tells_order w read a h = go h.0 h.1 h.2
+  where
+    go : (found : Result ProgramTree Refusal) → Checks read found → Onward (Orders w) found a → Tells modes.Order w read a
+    go (Ok p) s on =
+        at_end on.outcome (p, s, on.has_outcome)
+        (ap (λ (x : Answer). (shown x).status) on.writes ∙ ordered_status on.schedule on.outcome)
+    go (Err f) s on = at_fault f s on
+
 -- ---- of an audit
 
 tells_verdict : (w : Words) (read : List ℕ) (p : Parts) → Splits read (Ok p) → (t : ProgramTree) → Checks p.text (Ok t)
@@ -114,6 +129,25 @@ tells_audit w read a h = go h.0 h.1 h.2
     go (Ok p) s on = tells_parts w read p s a on
     go (Err f) s on = at_fault f (in_length s) on
 
+-- ---- of a replay
+
+tells_schedule : (w : Words) (read : List ℕ) (p : ProgramTree) → Checks read (Ok p) → (a : Answer) → Replays w p a → Tells modes.Replay w read a
+tells_schedule w read p checked a h = go h.0 h.1 h.2
+  where
+    go : (found : Result (World (Local ℕ)) Refusal) → ReplaysCode (code_run w (code_of p)) w.fuel w.schedule found
+        → Onward (λ v. RunsTo w (report w.values) p) found a → Tells modes.Replay w read a
+    go (Ok v) r on =
+        at_end on.0 (p, checked, (v, r), on.1)
+        (ap (λ (x : Answer). (shown x).status) on.2 ∙ report_status w.values on.0)
+    go (Err f) r on = at_fault f (in_schedule p checked r) on
+
+tells_replay : (w : Words) (read : List ℕ) (a : Answer) → Then (Checks read) (Replays w) a → Tells modes.Replay w read a
+tells_replay w read a h = go h.0 h.1 h.2
+  where
+    go : (found : Result ProgramTree Refusal) → Checks read found → Onward (Replays w) found a → Tells modes.Replay w read a
+    go (Ok p) s on = tells_schedule w read p s a on
+    go (Err f) s on = at_fault f (in_program s) on
+
 -- one line for each mode
 tells : (m : Mode) (w : Words) (read : List ℕ) (a : Answer) → SaysAs m w read a → Tells m w read a
 unfolding SaysAs
@@ -130,20 +164,30 @@ tells modes.Emit w read a h =
     makes_of modes.Emit w read (Checks read) (λ f k. k) Emits (λ p b k. ap (λ (x : Answer). (shown x).status) k) a h
 tells modes.Trace w read a h = tells_trace w read a h
 tells modes.Audit w read a h = tells_audit w read a h
+tells modes.Replay w read a h = tells_replay w read a h
+tells modes.Order w read a h = tells_order w read a h
 
 -- an answer of the mode, where what it runs has an outcome, with this status
-says_end : (m : Mode) (w : Words) (read : List ℕ) (x : Outcome) → Ends m w read x → (a : Answer) × SaysAs m w read a × ((shown a).status ≡ end_status x)
+says_end : (m : Mode) (w : Words) (read : List ℕ) → IsWithin (reads_of m) (length read) → (x : Outcome) → Ends m w read x → (a : Answer) × SaysAs m w read a × ((shown a).status ≡ end_status x)
 unfolding SaysAs
-says_end modes.Run w read x h = (Ok (report w.values x), (Ok h.0, h.1, (x, h.2, refl)), report_status w.values x)
-says_end modes.Check w read x h = absurd h
-says_end modes.Load w read x h = (Ok (summary w.seed w.size x), (Ok h.0, h.1, (x, h.2, refl)), summary_status w.seed w.size x)
-says_end modes.Dis w read x h = absurd h
-says_end modes.Exec w read x h = (Ok (report w.values x), (Ok h.0, h.1, (x, h.2, refl)), report_status w.values x)
-says_end modes.Emit w read x h = absurd h
-says_end modes.Trace w read x h =
+says_end modes.Run w read short x h = (Ok (report w.values x), (Ok h.0, h.1, (x, h.2, refl)), report_status w.values x)
+says_end modes.Check w read short x h = absurd h
+says_end modes.Load w read short x h = (Ok (summary w.seed w.size x), (Ok h.0, h.1, (x, h.2, refl)), summary_status w.seed w.size x)
+says_end modes.Dis w read short x h = absurd h
+says_end modes.Exec w read short x h = (Ok (report w.values x), (Ok h.0, h.1, (x, h.2, refl)), report_status w.values x)
+says_end modes.Emit w read short x h = absurd h
+says_end modes.Trace w read short x h =
     let t = some_trace (setting w h.0) w.fuel in
     (Ok (traced (text_of t.0) x), (Ok h.0, h.1, record { outcome = x; has_outcome = h.2; trace = t.0; has_trace = t.1; writes = refl }), traced_status (text_of t.0) x)
-says_end modes.Audit w read x h = absurd h
+says_end modes.Audit w read short x h = absurd h
+says_end modes.Replay w read short x h =
+    (Ok (report w.values x), (Ok h.0, h.1, (Ok h.2.0, h.2.1, (x, h.3, refl))), report_status w.values x)
+says_end modes.Order w read short x h =
+    let code = of_code (setting w h.0) (accepted_of read short h.0 h.1) w.fuel x h.2 in (
+      Ok (ordered code.schedule x),
+      (Ok h.0, h.1, record { schedule = code.schedule; world = code.world; complete = code.complete; outcome = x; has_outcome = h.2; writes = refl }),
+      ordered_status code.schedule x,
+    )
 
 trap_status : (x : Outcome) → end_status x ≡ 1 → IsTrap x
 unfolding end_status
@@ -186,6 +230,10 @@ audit_refused w all f (in_text p s t) = text_refused p.text f t
 audit_refused w all f (in_trace p s t c r) = trace_refused p.trace f r
 audit_refused w all f (differs p s t c trace r j) = judged_refused (setting w t) w.fuel trace f j
 
+replay_fault_refused : (w : Words) (text : List ℕ) (f : Refusal) → IsReplayFault w text f → status_of f ≡ 2
+replay_fault_refused w text f (in_program c) = text_refused text f c
+replay_fault_refused w text f (in_schedule p c r) = replay_refused (code_run w (code_of p)) w.fuel w.schedule f r
+
 -- one line for each mode
 fault_is_refused : (m : Mode) (w : Words) (read : List ℕ) (f : Refusal) → IsFault m w read f → status_of f ≡ 2
 fault_is_refused modes.Run w read f h = text_refused read f h
@@ -196,6 +244,8 @@ fault_is_refused modes.Exec w read f h = code_refused read f h
 fault_is_refused modes.Emit w read f h = text_refused read f h
 fault_is_refused modes.Trace w read f h = text_refused read f h
 fault_is_refused modes.Audit w read f h = audit_refused w read f h
+fault_is_refused modes.Replay w read f h = replay_fault_refused w read f h
+fault_is_refused modes.Order w read f h = text_refused read f h
 
 module _ (w : Words) (all : List ℕ) where
   -- too long
@@ -233,8 +283,8 @@ module _ (w : Words) (all : List ℕ) where
     -- the answer to a run has its status
     ran_status : (x : Outcome) → Ran w all x → (shown a).status ≡ end_status x
     ran_status x r =
-        let one = says_end w.mode w r.read x r.ends in
-        ap (λ (y : Answer). (shown y).status) (one_says (Some w) all a one.0 says (Ok r.read, r.fits, one.1)) ∙ one.2
+        let one = says_end w.mode w r.read (within (reads_of w.mode) all r.read r.fits) x r.ends in
+        (all_alike (Some w) all a one.0 says (Ok r.read, r.fits, one.1)).status ∙ one.2
 
     trapped_why : Reason → (shown a).status ≡ 1 → (x : Outcome) × Ran w all x × IsTrap x
     trapped_why (fault f at is) one = absurd (omega (arith, one, fault_status f at is))

@@ -2,9 +2,9 @@
 --
 -- `reads` is how much of the source a call reads. `SaysAs` is what each mode says of what it read,
 -- stage after stage: the text, then the run; or the code file, then its listing; or the text,
--- then the trace behind it, then its audit. `Says` is the answer
--- to words and bytes: usage, then the length, then the mode; `Answers` is the same of a source, which
--- may fail.
+-- then the trace behind it, then its audit; or the text, then the schedule, then the run. `Says` is
+-- the answer to words and bytes: usage, then the length, then the mode; `Answers` is the same of a
+-- source, which may fail. What is handed out of a run by threads stands in `Rans`.
 use Rattle.std.specs.Prelude.{ℕ, List, [], ◌≡◌, ◌≤◌, ◌<◌, ◌⊎◌, ◌+◌, length, Option, Some, None, Result, Ok, Err}
 use Rattle.rev_io.specs.Stream.{Stream, Gave, GaveAtMost, Rose}
 use Rattle.rev_num.specs.declared.outcome.Outcome.{Outcome}
@@ -14,13 +14,13 @@ use Rattle.rev_words.specs.declared.Mode.TheVariants as modes
 use Rattle.rev_words.specs.declared.Words.{Words}
 use Rattle.rev_report.specs.Report.{Output, done}
 use Rattle.rev_report.specs.Outcome.{report}
-use Rattle.rev_messages.specs.Modes.{accepted, summary, traced}
-use Rattle.rev_messages.specs.Refusals.{shown}
+use Rattle.rev_messages.specs.Modes.{accepted, ordered, summary, traced}
 use Rattle.rev_messages.specs.declared.refusal.Refusal.{Refusal}
 use Rattle.rev_messages.specs.declared.refusal.Refusal.TheVariants as refusals
 use Rattle.rev_code.specs.declared.code.Code.{Code}
-use Rattle.code_machine.specs.Local.{CodeRun}
-use Rattle.code_outcomes.specs.Outcomes.{HasOutcome as HasCodeOutcome}
+use Rattle.revision_machine.specs.Numbered.{World}
+use Rattle.code_machine.specs.Local.{CodeRun, Local}
+use Rattle.code_outcomes.specs.Outcomes.{IsCompleteRun, HasOutcome as HasCodeOutcome}
 use Rattle.code_file.specs.Files.{file_of}
 use Rattle.code_generation.specs.Generated.{code_of}
 use Rattle.code_listing.specs.Listing.{listing}
@@ -31,6 +31,7 @@ use Rattle.revision_calculus.specs.Complete.{HasOutcome}
 use Rattle.trace_diagram.specs.declared.diagram.Trace.{Trace}
 use Rattle.trace_making.specs.Traced.{HasTrace}
 use Rattle.rev_top.specs.Codes.{ChecksCode}
+use Rattle.rev_top.specs.Schedules.{ReplaysCode}
 use Rattle.rev_top.specs.Stages.{Then}
 use Rattle.rev_top.specs.Texts.{Checks}
 use Rattle.rev_top.specs.Traces.{Judges, Parts, ReadsTrace, Splits, text_of}
@@ -58,6 +59,8 @@ reads_of modes.Exec = Some file_limit
 reads_of modes.Emit = Some source_limit
 reads_of modes.Trace = Some source_limit
 reads_of modes.Audit = Some file_limit
+reads_of modes.Replay = Some source_limit
+reads_of modes.Order = Some source_limit
 
 -- words without a reading read nothing
 abbrev pub reads : Option Words → Option ℕ
@@ -107,6 +110,23 @@ code_run w c = record { code = c; inputs = w.numbers; share = w.share }
 abbrev pub RunsCode : Words → Code → Answer → Type 0
 RunsCode w c a = (o : Outcome) × HasCodeOutcome (code_run w c) w.fuel o × (a ≡ Ok (report w.values o))
 
+-- the program's code goes by the schedule; then the outcome that every complete run of the program
+-- has is written, as of a run without a schedule
+abbrev pub Replays : Words → ProgramTree → Answer → Type 0
+Replays w p =
+    Then (ReplaysCode (code_run w (code_of p)) w.fuel w.schedule)
+    (λ world. RunsTo w (report w.values) p)
+
+-- a complete schedule of the program's code is written, with the message and the status of the outcome
+-- that every complete run of the program has
+pub record Orders (w : Words) (p : ProgramTree) (a : Answer) : Type 0 where
+  pub schedule : List ℕ
+  pub world : World (Local ℕ)
+  pub complete : IsCompleteRun (code_run w (code_of p)) w.fuel schedule world
+  pub outcome : Outcome
+  pub has_outcome : HasOutcome (setting w p) w.fuel outcome
+  pub writes : a ≡ Ok (ordered schedule outcome)
+
 -- the code keeps all rules, and its listing is written
 abbrev pub Lists : Code → Answer → Type 0
 Lists c a = a ≡ Ok (done (listing c))
@@ -122,6 +142,8 @@ SaysAs modes.Exec w file = Then (ChecksCode file) (RunsCode w)
 SaysAs modes.Emit w text = Then (Checks text) Emits
 SaysAs modes.Trace w text = Then (Checks text) (Traces w)
 SaysAs modes.Audit w all = Then (Splits all) (AuditsParts w)
+SaysAs modes.Replay w text = Then (Checks text) (Replays w)
+SaysAs modes.Order w text = Then (Checks text) (Orders w)
 
 -- ---- the order of the refusals: words, read fault, length, and what the mode says
 
@@ -149,10 +171,6 @@ Given (Some limit) old new (Err f) = ((f ≡ refusals.TooLong) × (new.faults �
 abbrev pub Answers : Option Words → Stream → Stream → Answer → Type 0
 Answers None old new a = (a ≡ Err refusals.Usage) × (new ≡ old)
 Answers (Some w) old new a = Then (Given (reads_of w.mode) old new) (SaysAs w.mode w) a
-
--- the output is what is shown of an answer that belongs there
-abbrev pub IsReport : Option Words → Stream → Stream → Output → Type 0
-IsReport words old new o = (a : Answer) × Answers words old new a × (o ≡ shown a)
 
 -- what any call takes of its source: nothing where it does not read it, and never more than one byte
 -- past the limit

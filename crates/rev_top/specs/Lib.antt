@@ -3,6 +3,8 @@ pub mod Codes
 pub mod Delivery
 pub mod Findings
 pub mod Promises
+pub mod Rans
+pub mod Schedules
 pub mod Stages
 pub mod Statuses
 pub mod Stops

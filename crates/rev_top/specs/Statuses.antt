@@ -1,6 +1,7 @@
 -- One answer to the same words and bytes, and why it has its status.
 --
--- `OneAnswer`: there is one, and no other; `StatusLaw`: 1, 2 and 3 have their causes, and come exactly there;
+-- `OneAnswer`: there is one, and no other, but for the schedule that `order` writes; `StatusLaw`: 1, 2 and 3
+-- have their causes, and come exactly there;
 -- `ListingLaw`: what `dis` lists of bytes is the code of which they are the file.
 use Rattle.std.specs.Prelude.{ℕ, List, ◌≡◌, ◌≤◌, ◌↔◌, ◌⊎◌, length, Option, Some, None, Result, Ok, Err}
 use Rattle.rev_num.specs.declared.outcome.Outcome.{Outcome}
@@ -13,7 +14,9 @@ use Rattle.rev_words.specs.declared.Words.{Words}
 use Rattle.rev_code.specs.declared.code.Code.{Code}
 use Rattle.code_file.specs.Laws.{AreBytes, IsFile}
 use Rattle.code_outcomes.specs.Outcomes.{HasOutcome as HasCodeOutcome}
+use Rattle.code_generation.specs.Generated.{code_of}
 use Rattle.code_listing.specs.Listing.{listing}
+use Rattle.code_runs.specs.Schedules.{IsLegal}
 use Rattle.code_verifier.specs.Verdicts.{KeepsRules}
 use Rattle.rev_report.specs.Report.{Output, done}
 use Rattle.rev_messages.specs.Refusals.{shown}
@@ -23,16 +26,28 @@ use Rattle.rev_syntax.specs.Trees.{ProgramTree}
 use Rattle.revision_calculus.specs.Complete.{HasOutcome}
 use Rattle.trace_diagram.specs.declared.diagram.Trace.{Trace}
 use Rattle.rev_top.specs.Codes.{ChecksCode}
+use Rattle.rev_top.specs.Schedules.{ReplaysCode}
 use Rattle.rev_top.specs.Texts.{Checks}
 use Rattle.rev_top.specs.Traces.{Judges, Parts, ReadsTrace, Splits}
 use Rattle.rev_top.specs.Answer.{Answer, Fits, Says, code_run, file_limit, reads_of, setting}
 
 -- ---- one answer
 
+-- the one mode that has several answers: which schedule the threads make is left open
+abbrev pub IsOrder : Option Words → Type 0
+IsOrder None = ⊥
+IsOrder (Some w) = w.mode ≡ modes.Order
+
+-- they differ in what they write on standard output alone
+pub record EndAlike (a b : Answer) : Type 0 where
+  pub err : (shown a).err ≡ (shown b).err
+  pub status : (shown a).status ≡ (shown b).status
+
 pub record HasOneAnswer (words : Option Words) (all : List ℕ) : Type 0 where
   pub answer : Answer
   pub says : Says words all answer
-  pub only : (a : Answer) → Says words all a → a ≡ answer
+  pub only : (IsOrder words → ⊥) → (a : Answer) → Says words all a → a ≡ answer
+  pub alike : (a : Answer) → Says words all a → EndAlike a answer
 
 -- to whatever words and bytes
 abbrev pub OneAnswer : Type 0
@@ -48,6 +63,12 @@ EndsAs w text end = (p : ProgramTree) × Checks text (Ok p) × HasOutcome (setti
 abbrev pub CodeEndsAs : Words → (file : List ℕ) → Outcome → Type 0
 CodeEndsAs w file end = (c : Code) × ChecksCode file (Ok c) × HasCodeOutcome (code_run w c) w.fuel end
 
+-- a program that keeps all rules, for whose code the schedule is legal, and the program's outcome
+abbrev pub ReplayEndsAs : Words → (text : List ℕ) → Outcome → Type 0
+ReplayEndsAs w text end =
+    (p : ProgramTree) × Checks text (Ok p) × IsLegal (code_run w (code_of p)) w.fuel w.schedule
+    × HasOutcome (setting w p) w.fuel end
+
 -- the mode runs what it read, and this is the outcome
 abbrev pub Ends : Mode → Words → List ℕ → Outcome → Type 0
 Ends modes.Run w read end = EndsAs w read end
@@ -58,6 +79,8 @@ Ends modes.Exec w read end = CodeEndsAs w read end
 Ends modes.Emit w read end = ⊥
 Ends modes.Trace w read end = EndsAs w read end
 Ends modes.Audit w read end = ⊥
+Ends modes.Replay w read end = ReplayEndsAs w read end
+Ends modes.Order w read end = EndsAs w read end
 
 -- what is at fault first in the parts of a source: the text is too long or no program, or the trace
 -- is none, or it is not that of the program's runs
@@ -70,8 +93,15 @@ pub data IsAuditFault (w : Words) (all : List ℕ) (f : Refusal) : Type 0 where
       → (trace : Trace) → ReadsTrace p.trace (Ok trace)
       → Judges (setting w t) w.fuel trace (Err f) → IsAuditFault w all f
 
--- what the mode is given is at fault, first of all in this: the text of a program, a code file, or a
--- text with a trace
+-- what is at fault first of a text and a schedule: the text is no program, or an entry of the
+-- schedule has no leg in its code
+pub data IsReplayFault (w : Words) (text : List ℕ) (f : Refusal) : Type 0 where
+  in_program : Checks text (Err f) → IsReplayFault w text f
+  in_schedule : (p : ProgramTree) → Checks text (Ok p)
+      → ReplaysCode (code_run w (code_of p)) w.fuel w.schedule (Err f) → IsReplayFault w text f
+
+-- what the mode is given is at fault, first of all in this: the text of a program, a code file, a
+-- text with a trace, or a schedule
 abbrev pub IsFault : Mode → Words → List ℕ → Refusal → Type 0
 IsFault modes.Run w read f = Checks read (Err f)
 IsFault modes.Check w read f = Checks read (Err f)
@@ -81,6 +111,8 @@ IsFault modes.Exec w read f = ChecksCode read (Err f)
 IsFault modes.Emit w read f = Checks read (Err f)
 IsFault modes.Trace w read f = Checks read (Err f)
 IsFault modes.Audit w read f = IsAuditFault w read f
+IsFault modes.Replay w read f = IsReplayFault w read f
+IsFault modes.Order w read f = Checks read (Err f)
 
 -- something was run, and this is its outcome
 pub record Ran (w : Words) (all : List ℕ) (end : Outcome) : Type 0 where

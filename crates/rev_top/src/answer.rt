@@ -1,23 +1,23 @@
 //! The report that belongs to the words and to what the source gives.
-ghost use Rattle.std.specs.Prelude.{ℕ, List, ◌<◌, ◌≤◌, ◌^◌, ◌≡◌, IfOk, IfSome, length, map};
+ghost use Rattle.std.specs.Prelude.{◌<◌, ◌≤◌, ◌^◌, ◌≡◌, IfOk, IfSome, length, map};
 ghost use Rattle.std.specs.String.{string_bytes};
 ghost use Rattle.rev_syntax.specs.View.{program as whole};
 ghost use Rattle.rev_words.specs.Reading.{reading};
-ghost use Rattle.rev_words.specs.Load as spec;
 ghost use Rattle.rev_words.specs.declared.Words.{Words};
 ghost use Rattle.rev_report.specs.Report.{output};
-ghost use Rattle.rev_report.specs.Outcome.{report};
-ghost use Rattle.rev_messages.specs.Modes.{summary};
 ghost use Rattle.revision_calculus.specs.Complete.{HasOutcome};
-ghost use Rattle.rev_top.specs.Answer.{Accepts, Answers, Given, IsReport, IsWithin, Lists, RunsTo};
+ghost use Rattle.rev_top.specs.Answer.{Accepts, Answers, Given, IsWithin, Lists};
 ghost use Rattle.rev_top.specs.Answer.{SaysAs, Takes, reads, reads_of, setting, source_limit};
+ghost use Rattle.rev_top.specs.Rans.{Holds, IsMade, Leaves, said, without_run};
 ghost use Rattle.rev_top.specs.Stops.{Meets};
-ghost use Rattle.rev_top.specs.Texts.{Checks};
 
 use crate::audits::audit;
 use crate::code::checked_code;
 use crate::emits::emit;
 use crate::execs::exec;
+use crate::made::Made;
+use crate::replays::replay;
+use crate::runs::{load, order, run};
 use crate::stop::Stop;
 use crate::text::checked;
 use crate::traces::trace;
@@ -25,13 +25,16 @@ use code_listing::disassemble;
 use code_runs::run_code;
 use code_verifier::Verified;
 use codegen::generate;
+use hub_workers::Gate;
 use rev_io::{Source, read_text};
-use rev_messages::{accepted_report, done_report, refusal_bytes, summary_report};
+use rev_messages::{accepted_report, done_report, refusal_bytes};
 use rev_num::Outcome;
-use rev_report::{Report, outcome_bytes};
+use rev_report::Report;
 use rev_types::Typed;
-use rev_words::{Mode, Words, load_text, read_words};
+use rev_words::{Mode, Words, read_words};
 use std::alloc::{AllocError, Global};
+use std::sync::Wait;
+use std::thread::Threads;
 
 /// The most bytes that the text of a program may have.
 pub(crate) const SOURCE_LIMIT: usize = 1_048_576;
@@ -40,7 +43,7 @@ pub(crate) const SOURCE_LIMIT: usize = 1_048_576;
 const FILE_LIMIT: usize = 16_777_216;
 
 /// The outcome of the program with the input numbers, the share and the fuel of the words, by a run of
-/// its code.
+/// its code on one thread.
 pub(crate) fn outcome_of(alloc: Global, words: &Words, typed: &Typed) -> Result<Outcome, AllocError>
     requires { words.now.fuel ≤ 4000000000 }
     ensures { IfOk result (λ o. HasOutcome
@@ -51,40 +54,11 @@ pub(crate) fn outcome_of(alloc: Global, words: &Words, typed: &Typed) -> Result<
     run_code(alloc, code, numbers, words.share, words.fuel)
 }
 
-/// The report of a run, with the values of `main` where they are asked for.
-fn run_program(alloc: Global, words: &Words, typed: &Typed) -> Result<Report, Stop>
-    requires { words.now.fuel ≤ 4000000000 }
-    ensures { Meets output result
-        (RunsTo words.now (report words.now.values) (whole typed.now.expanded.program)) }
-{
-    let outcome = outcome_of(alloc, words, typed)?;
-    Ok(outcome_bytes(alloc, &outcome, words.values)?)
-}
-
-/// The report of a run behind the line that names seed and size.
-fn load_program(alloc: Global, words: &Words, typed: &Typed) -> Result<Report, Stop>
-    requires { words.now.fuel ≤ 4000000000 }
-    ensures { Meets output result (RunsTo words.now
-        (summary words.now.seed words.now.size) (whole typed.now.expanded.program)) }
-{
-    let outcome = outcome_of(alloc, words, typed)?;
-    Ok(summary_report(alloc, words.seed, words.size, &outcome)?)
-}
-
 /// The report of a program that keeps all rules.
 fn accept(alloc: Global, typed: &Typed) -> Result<Report, Stop>
     ensures { Meets output result (Accepts (whole typed.now.expanded.program)) }
 {
     Ok(accepted_report(alloc)?)
-}
-
-fn run(alloc: Global, words: &Words, text: &[u8]) -> Result<Report, Stop>
-    requires limit { length text.now ≤ source_limit }
-    requires fuel { words.now.fuel ≤ 4000000000 }
-    ensures { Meets output result (SaysAs Mode.Run words.now text.now) }
-{
-    let typed = checked(alloc, text)?;
-    run_program(alloc, words, &typed)
 }
 
 fn check(alloc: Global, words: &Words, text: &[u8]) -> Result<Report, Stop>
@@ -93,23 +67,6 @@ fn check(alloc: Global, words: &Words, text: &[u8]) -> Result<Report, Stop>
 {
     let typed = checked(alloc, text)?;
     accept(alloc, &typed)
-}
-
-/// The program that `load` makes.
-fn loaded(alloc: Global, words: &Words) -> Result<Typed, Stop>
-    ensures { Meets (λ t. whole t.expanded.program) result
-        (Checks (spec.load_text words.now.seed words.now.size)) }
-{
-    let text = load_text(alloc, words.seed, words.size)?;
-    checked(alloc, text.as_slice())
-}
-
-fn load(alloc: Global, words: &Words) -> Result<Report, Stop>
-    requires { words.now.fuel ≤ 4000000000 }
-    ensures { (read : List ℕ) → Meets output result (SaysAs Mode.Load words.now read) }
-{
-    let typed = loaded(alloc, words)?;
-    load_program(alloc, words, &typed)
 }
 
 /// The listing of code.
@@ -126,21 +83,42 @@ fn dis(alloc: Global, bytes: &[u8]) -> Result<Report, Stop>
     list(alloc, &code)
 }
 
+/// A report without a run.
+fn alone(report: Result<Report, Stop>) -> Result<Made, Stop>
+    ensures { result ≡ without_run report }
+{
+    match report {
+        Ok(report) => Ok(Made { report, ran: None }),
+        Err(stop) => Err(stop),
+    }
+}
+
 /// What the mode says of the bytes that it read.
-fn say(alloc: Global, words: &Words, bytes: &[u8]) -> Result<Report, Stop>
+fn say<R: Threads + Wait + Sync, G: Gate + Sync>(
+    rt: &R,
+    alloc: Global,
+    words: &Words,
+    bytes: &[u8],
+    gate: &G,
+) -> Result<Made, Stop>
     requires limit { IsWithin (reads_of words.now.mode) (length bytes.now) }
     requires fuel { words.now.fuel ≤ 4000000000 }
-    ensures { Meets output result (SaysAs words.now.mode words.now bytes.now) }
+    requires workers { 1 ≤ words.now.workers }
+    ensures says { Meets said result (SaysAs words.now.mode words.now bytes.now) }
+    ensures holds { IfOk result (λ m.
+        Holds words.now.mode words.now bytes.now m.ran (output m.report)) }
 {
     match words.mode {
-        Mode::Run => run(alloc, words, bytes),
-        Mode::Check => check(alloc, words, bytes),
-        Mode::Load => load(alloc, words),
-        Mode::Dis => dis(alloc, bytes),
-        Mode::Exec => exec(alloc, words, bytes),
-        Mode::Emit => emit(alloc, bytes),
-        Mode::Trace => trace(alloc, words, bytes),
-        Mode::Audit => audit(alloc, words, bytes),
+        Mode::Run => run(rt, alloc, words, bytes, gate),
+        Mode::Check => alone(check(alloc, words, bytes)),
+        Mode::Load => load(rt, alloc, words, gate),
+        Mode::Dis => alone(dis(alloc, bytes)),
+        Mode::Exec => alone(exec(alloc, words, bytes)),
+        Mode::Emit => alone(emit(alloc, bytes)),
+        Mode::Trace => alone(trace(alloc, words, bytes)),
+        Mode::Audit => alone(audit(alloc, words, bytes)),
+        Mode::Replay => alone(replay(alloc, words, bytes)),
+        Mode::Order => order(rt, alloc, words, bytes, gate),
     }
 }
 
@@ -158,6 +136,8 @@ fn limit_of(mode: Mode) -> Option<usize>
         Mode::Emit => Some(SOURCE_LIMIT),
         Mode::Trace => Some(SOURCE_LIMIT),
         Mode::Audit => Some(FILE_LIMIT),
+        Mode::Replay => Some(SOURCE_LIMIT),
+        Mode::Order => Some(SOURCE_LIMIT),
     }
 }
 
@@ -186,40 +166,62 @@ fn read_source<S: Source>(alloc: Global, mode: Mode, source: &mut S) -> Result<V
 }
 
 /// The answer to words that have a reading.
-fn answer_to<S: Source>(alloc: Global, words: &Words, source: &mut S) -> Result<Report, Stop>
-    requires { words.now.fuel ≤ 4000000000 }
-    ensures meets { Meets output result
+fn answer_to<R: Threads + Wait + Sync, S: Source, G: Gate + Sync>(
+    rt: &R,
+    alloc: Global,
+    words: &Words,
+    source: &mut S,
+    gate: &G,
+) -> Result<Made, Stop>
+    requires fuel { words.now.fuel ≤ 4000000000 }
+    requires workers { 1 ≤ words.now.workers }
+    ensures meets { Meets said result
         (Answers (Some words.now) (S.stream source.old) (S.stream source.new)) }
+    ensures leaves { IfOk result (λ m. Leaves
+        (Some words.now) (S.stream source.old) (S.stream source.new) m.ran (Ok (output m.report))) }
     ensures takes { Takes (reads_of words.now.mode) (S.stream source.old) (S.stream source.new) }
 {
     let bytes = read_source(alloc, words.mode, source)?;
-    say(alloc, words, bytes.as_slice())
+    say(rt, alloc, words, bytes.as_slice(), gate)
 }
 
-fn answer<S: Source>(alloc: Global, words: &[String], source: &mut S) -> Result<Report, Stop>
-    ensures meets { Meets output result (Answers (reading (map string_bytes words.now))
+fn answer<R: Threads + Wait + Sync, S: Source, G: Gate + Sync>(
+    rt: &R,
+    alloc: Global,
+    words: &[String],
+    source: &mut S,
+    gate: &G,
+) -> Result<Made, Stop>
+    ensures meets { Meets said result (Answers (reading (map string_bytes words.now))
         (S.stream source.old) (S.stream source.new)) }
+    ensures leaves { IfOk result (λ m. Leaves (reading (map string_bytes words.now))
+        (S.stream source.old) (S.stream source.new) m.ran (Ok (output m.report))) }
     ensures takes { Takes (reads (reading (map string_bytes words.now)))
         (S.stream source.old) (S.stream source.new) }
 {
     let words = read_words(alloc, words)?;
-    answer_to(alloc, &words, source)
+    answer_to(rt, alloc, &words, source, gate)
 }
 
-/// The report of the call, unless memory runs out.
-pub fn make_report<S: Source>(
+/// The report of the call and the run of which it was made, unless memory runs out.
+pub fn make_report<R: Threads + Wait + Sync, S: Source, G: Gate + Sync>(
+    rt: &R,
     alloc: Global,
     words: &[String],
     source: &mut S,
-) -> Result<Report, AllocError>
-    ensures report { IfOk result (λ r. IsReport (reading (map string_bytes words.now))
-        (S.stream source.old) (S.stream source.new) (output r)) }
+    gate: &G,
+) -> Result<Made, AllocError>
+    ensures report { IfOk result (λ m. IsMade (reading (map string_bytes words.now))
+        (S.stream source.old) (S.stream source.new) m.ran (output m.report)) }
     ensures takes { Takes (reads (reading (map string_bytes words.now)))
         (S.stream source.old) (S.stream source.new) }
 {
-    match answer(alloc, words, source) {
-        Ok(report) => Ok(report),
-        Err(Stop::Refused(refusal)) => refusal_bytes(alloc, &refusal),
+    match answer(rt, alloc, words, source, gate) {
+        Ok(made) => Ok(made),
+        Err(Stop::Refused(refusal)) => {
+            let report = refusal_bytes(alloc, &refusal)?;
+            Ok(Made { report, ran: None })
+        }
         Err(Stop::OutOfMemory) => Err(AllocError),
     }
 }

@@ -7,13 +7,18 @@ ghost use Rattle.rev_report.specs.Report.{output};
 ghost use Rattle.rev_messages.specs.Refusals.{no_memory};
 ghost use Rattle.rev_report.specs.Status.{no_memory_status};
 ghost use Rattle.rev_top.specs.Answer.{Takes, reads};
-ghost use Rattle.rev_top.specs.Delivery.{Delivered, Happened};
+ghost use Rattle.rev_top.specs.Delivery.{Delivered};
+ghost use Rattle.rev_top.specs.Rans.{Ended};
 
 use crate::answer::make_report;
+use hub_workers::Gate;
 use rev_io::{Sink, SinkFault, Source, write_all};
 use rev_messages::no_memory_message;
 use rev_report::{Report, status};
 use std::alloc::Global;
+use std::sync::Wait;
+use std::thread::Threads;
+use thread_runs::Ran;
 
 /// Writes the message for want of memory, as far as `err` takes it, and answers its status. For a
 /// caller that has no memory for the words of a call.
@@ -40,22 +45,31 @@ fn deliver<O: Sink, E: Sink>(out: &mut O, err: &mut E, report: &Report) -> u8
     }
 }
 
-/// Makes the report and writes it.
-pub fn happen<S: Source, O: Sink, E: Sink>(
+/// Makes the report and writes it. It hands out the run of which the report was made.
+pub fn happen<R: Threads + Wait + Sync, S: Source, O: Sink, E: Sink, G: Gate + Sync>(
+    rt: &R,
     alloc: Global,
     words: &[String],
     source: &mut S,
     out: &mut O,
     err: &mut E,
+    gate: &G,
+    ran: &mut Option<Ran>,
 ) -> u8
-    ensures happened { Happened (reading (map string_bytes words.now))
+    ensures ended { Ended (reading (map string_bytes words.now))
         (S.stream source.old) (S.stream source.new) (O.stream out.old) (O.stream out.new)
-        (E.stream err.old) (E.stream err.new) result }
+        (E.stream err.old) (E.stream err.new) ran.new result }
     ensures takes { Takes (reads (reading (map string_bytes words.now)))
         (S.stream source.old) (S.stream source.new) }
 {
-    match make_report(alloc, words, source) {
-        Ok(report) => deliver(out, err, &report),
-        Err(_) => out_of_memory(err),
+    match make_report(rt, alloc, words, source, gate) {
+        Ok(made) => {
+            *ran = made.ran;
+            deliver(out, err, &made.report)
+        }
+        Err(_) => {
+            *ran = None;
+            out_of_memory(err)
+        }
     }
 }

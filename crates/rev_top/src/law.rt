@@ -4,14 +4,16 @@ ghost use Rattle.rev_top.specs.Statuses.{ListingLaw, OneAnswer, StatusLaw};
 
 use code_file::file_laws;
 
-/// To the same words and bytes there is one answer, and no other.
+/// To the same words and bytes there is one answer, and no other. `order` alone has several, which
+/// differ in the schedule that they write, and agree in message and status.
 pub fn one_answer()
     ensures { OneAnswer }
 {}
 
 /// Why an answer to words with a reading has its status: 1 exactly where `main` trapped, 3 exactly
-/// where a revision was joined twice, and 2 exactly where the source is too long or its text or
-/// code file is at fault, of which the first fault is reported.
+/// where a revision was joined twice, and 2 exactly where the source is too long, its text, its code
+/// file or its trace is at fault, or an entry of the schedule has no leg, of which the first fault is
+/// reported.
 pub fn statuses()
     ensures { StatusLaw }
 {}

@@ -5,6 +5,7 @@ ghost use Rattle.std.specs.Prelude.{map};
 ghost use Rattle.std.specs.String.{string_bytes};
 ghost use Rattle.rev_words.specs.Reading.{reading};
 ghost use Rattle.rev_top.specs.Promises.{Keeps};
+ghost use Rattle.rev_top.specs.Rans.{RanSays};
 
 mod answer;
 mod audits;
@@ -13,14 +14,21 @@ mod deliver;
 mod emits;
 mod execs;
 mod law;
+mod made;
+mod replays;
+mod runs;
 mod stop;
 mod text;
 mod traces;
 
 use deliver::happen;
 pub use deliver::out_of_memory;
+use hub_workers::Gate;
 pub use law::{listing_law, one_answer, one_finding, statuses};
 use rev_io::{Sink, Source};
+use std::sync::Wait;
+use std::thread::Threads;
+use thread_runs::Ran;
 
 /// One call of the program, with the words that follow its name. It writes the bytes of the report
 /// on `out`, then those on `err`, and answers the status.
@@ -29,7 +37,7 @@ use rev_io::{Sink, Source};
 /// |---|---|
 /// | 0 | done |
 /// | 1 | `main` trapped |
-/// | 2 | the source is too long, or holds no program or no code that keeps all rules, or a trace that is none or not the program's |
+/// | 2 | the source is too long, or holds no program or no code that keeps all rules, or a trace that is none or not the program's; or the schedule has an entry that cannot step |
 /// | 3 | a revision was joined twice |
 /// | 4 | the words have no reading |
 /// | 5 | the source failed |
@@ -39,18 +47,34 @@ use rev_io::{Sink, Source};
 /// Words come before the source, a read fault before the length, and the length before the text. Of
 /// the faults of a text those of its tokens come first, then those of its syntax, of its funs, and
 /// of the other static rules, each at its least place. Of a code file those of the file come before
-/// those of its code.
+/// those of its code. Those of a text come before those of a trace or a schedule.
 /// A sink that fails, and want of memory, can come in place of each of them.
-pub fn rev_main<R: AllocGlobal, S: Source, O: Sink, E: Sink>(
+///
+/// In the modes `run`, `load` and `order` the program is run by threads, each of which enters the
+/// gate before each leg, and all of which have ended when it returns. What is written is made from
+/// their run, which is handed out in `ran`: behind each of the statuses 0, 1 and 3; behind 6 and 7
+/// where there was one. In the other modes, and behind 2, 4 and 5, `ran` is None.
+pub fn rev_main<
+    R: AllocGlobal + Threads + Wait + Sync,
+    S: Source,
+    O: Sink,
+    E: Sink,
+    G: Gate + Sync,
+>(
     rt: &R,
     words: &[String],
     source: &mut S,
     out: &mut O,
     err: &mut E,
+    gate: &G,
+    ran: &mut Option<Ran>,
 ) -> u8
-    ensures { Keeps (reading (map string_bytes words.now))
+    ensures keeps { Keeps (reading (map string_bytes words.now))
         (S.stream source.old) (S.stream source.new) (O.stream out.old) (O.stream out.new)
         (E.stream err.old) (E.stream err.new) result }
+    ensures ran { RanSays (reading (map string_bytes words.now))
+        (S.stream source.old) (O.stream out.old) (O.stream out.new)
+        (E.stream err.old) (E.stream err.new) ran.new result }
 {
-    happen(rt.alloc(), words, source, out, err)
+    happen(rt, rt.alloc(), words, source, out, err, gate, ran)
 }

@@ -27,6 +27,8 @@ mode_named text =
     else if bytes_eq text (codes "emit") then Some modes.Emit
     else if bytes_eq text (codes "trace") then Some modes.Trace
     else if bytes_eq text (codes "audit") then Some modes.Audit
+    else if bytes_eq text (codes "replay") then Some modes.Replay
+    else if bytes_eq text (codes "order") then Some modes.Order
     else None
 
 -- the numbers that the texts spell, if each is a decimal in 64 bits

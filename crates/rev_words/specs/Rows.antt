@@ -45,6 +45,26 @@ pub record RowsAreRead : Type 0 where
       ≡ Some (record run_alone { mode = modes.Trace; share = 10 })
   pub audit : reading (words_in (codes "audit --fuel 100"))
       ≡ Some (record run_alone { mode = modes.Audit; fuel = 100 })
+  pub replay : reading (words_in (codes "replay --schedule 0,0,2,1 --values 5"))
+      ≡ Some (record run_alone {
+        mode = modes.Replay;
+        numbers = pos 5 ∷ [];
+        values = true;
+        schedule = 0 ∷ 0 ∷ 2 ∷ 1 ∷ [];
+      })
+  pub replay_of_nothing : reading (words_in (codes "replay --schedule="))
+      ≡ Some (record run_alone { mode = modes.Replay })
+  pub replay_by_default : reading (words_in (codes "replay"))
+      ≡ Some (record run_alone { mode = modes.Replay })
+  pub greatest_entry : reading (words_in (codes "replay --schedule=4294967295"))
+      ≡ Some (record run_alone { mode = modes.Replay; schedule = 4294967295 ∷ [] })
+  pub order : reading (words_in (codes "order --workers 2 --segments=0 7"))
+      ≡ Some (record run_alone {
+        mode = modes.Order;
+        numbers = pos 7 ∷ [];
+        workers = 2;
+        segments = 0;
+      })
 
 pub record RowsAreUsage : Type 0 where
   pub no_words : reading [] ≡ None
@@ -52,6 +72,8 @@ pub record RowsAreUsage : Type 0 where
   pub capital : reading (words_in (codes "Check")) ≡ None
   pub no_size : reading (words_in (codes "load --size 501")) ≡ None
   pub no_workers : reading (words_in (codes "run --workers 0")) ≡ None
+  pub many_workers : reading (words_in (codes "order --workers 65")) ≡ None
+  pub many_segments : reading (words_in (codes "order --segments 65537")) ≡ None
   pub no_number : reading (words_in (codes "run x")) ≡ None
   pub no_value : reading (words_in (codes "run --fuel")) ≡ None
   pub flag_twice : reading (words_in (codes "run --values --values")) ≡ None
@@ -59,3 +81,6 @@ pub record RowsAreUsage : Type 0 where
   pub minus : reading (words_in (codes "run -5")) ≡ None
   pub plus_number : reading (words_in (codes "run +5")) ≡ None
   pub empty_entry : reading (words_in (codes "run --schedule 1,")) ≡ None
+  pub signed_entry : reading (words_in (codes "replay --schedule=+1")) ≡ None
+  pub large_entry : reading (words_in (codes "replay --schedule=4294967296")) ≡ None
+  pub two_schedules : reading (words_in (codes "replay --schedule=0 --schedule=1")) ≡ None

@@ -47,6 +47,10 @@ pub enum Mode {
     /// Reads the text of a program and a trace behind it, and says whether the trace is that of the
     /// program's run.
     Audit,
+    /// Reads the text of a program, runs it by a schedule and reports its outcome.
+    Replay,
+    /// Reads the text of a program, runs it on threads and writes the schedule that they made.
+    Order,
 }
 
 /// What words say.

@@ -72,6 +72,8 @@ fn mode_named(text: &str) -> Option<Mode>
         "emit" => Some(Mode::Emit),
         "trace" => Some(Mode::Trace),
         "audit" => Some(Mode::Audit),
+        "replay" => Some(Mode::Replay),
+        "order" => Some(Mode::Order),
         _ => None,
     }
 }

@@ -17,8 +17,8 @@ block 0 main params 0 result none locals
 ";
 
 /// Whether `dis` of the bytes, with so many zeros behind them, writes this.
-fn lists(
-    rt: &HostRuntime,
+fn lists<R: AllocGlobal + Threads + Wait + Sync>(
+    rt: &R,
     bytes: &[u8],
     zeros: usize,
     want: (&str, &str, u8),

@@ -3,21 +3,27 @@
 
 mod codes;
 mod merges;
+mod replays;
 mod runs;
 mod texts;
+mod threads;
 mod traces;
 
-use rev_io::{CalmSink, CalmSource, MemSink, MemSource, Source};
+use hub_workers::{Gate, OpenGate};
+use rev_io::{CalmSink, CalmSource, MemSink, MemSource, Sink, Source};
 use rev_top::rev_main;
 use std::alloc::AllocError;
+use std::sync::Wait;
 use std::test::Fail;
+use std::thread::Threads;
+use thread_runs::Ran;
 
 const SEVEN: &str = "main { print 7; }";
 
 const USAGE: &str = "usage: revise MODE [options] [numbers]\n";
 
 /// The words of a line.
-fn words_of(rt: &HostRuntime, line: &str) -> Result<Vec<String>, AllocError> {
+fn words_of<R: AllocGlobal>(rt: &R, line: &str) -> Result<Vec<String>, AllocError> {
     let mut words = Vec::new(rt.alloc());
     for word in line.split_whitespace() {
         words.push(String::from_str(rt.alloc(), word)?)?;
@@ -26,7 +32,7 @@ fn words_of(rt: &HostRuntime, line: &str) -> Result<Vec<String>, AllocError> {
 }
 
 /// So many of these pieces.
-fn many(rt: &HostRuntime, piece: &str, count: usize) -> Result<String, AllocError> {
+fn many<R: AllocGlobal>(rt: &R, piece: &str, count: usize) -> Result<String, AllocError> {
     let mut text = String::new(rt.alloc());
     for _ in 0..count {
         text.push_str(piece)?;
@@ -34,9 +40,21 @@ fn many(rt: &HostRuntime, piece: &str, count: usize) -> Result<String, AllocErro
     Ok(text)
 }
 
+/// The status of a call with an open gate, whose run is let go.
+fn status_of<R: AllocGlobal + Threads + Wait + Sync, S: Source, O: Sink, E: Sink>(
+    rt: &R,
+    words: &[String],
+    source: &mut S,
+    out: &mut O,
+    err: &mut E,
+) -> u8 {
+    let mut ran = None;
+    rev_main(rt, words, source, out, err, &OpenGate, &mut ran)
+}
+
 /// Whether the call answers this: bytes of both outputs and the status.
-fn answers<S: Source>(
-    rt: &HostRuntime,
+fn answers<R: AllocGlobal + Threads + Wait + Sync, S: Source>(
+    rt: &R,
     line: &str,
     source: &mut S,
     want: (&str, &str, u8),
@@ -44,13 +62,17 @@ fn answers<S: Source>(
     let words = words_of(rt, line)?;
     let mut out = CalmSink::new(rt.alloc());
     let mut err = CalmSink::new(rt.alloc());
-    let status = rev_main(rt, words.as_slice(), source, &mut out, &mut err);
+    let status = status_of(rt, words.as_slice(), source, &mut out, &mut err);
     let written = out.bytes() == want.0.as_bytes() && err.bytes() == want.1.as_bytes();
     Ok(written && status == want.2)
 }
 
 /// A source over the text with so many spaces behind it.
-fn source_over(rt: &HostRuntime, text: &str, spaces: usize) -> Result<CalmSource, AllocError> {
+fn source_over<R: AllocGlobal>(
+    rt: &R,
+    text: &str,
+    spaces: usize,
+) -> Result<CalmSource, AllocError> {
     let mut bytes = Vec::from_slice(rt.alloc(), text.as_bytes())?;
     for _ in 0..spaces {
         bytes.push(b' ')?;
@@ -86,6 +108,9 @@ fn usage_reads_nothing(rt: HostRuntime) -> Result<(), Fail> {
         "",
         "walk",
         "run --workers 0",
+        "order --workers 0",
+        "order --workers 65",
+        "order --segments 65537",
         "run x",
         "run --fuel",
         "run --values --values",
@@ -136,7 +161,7 @@ fn write_faults(rt: HostRuntime) -> Result<(), Fail> {
         let step: usize = step;
         let mut out = MemSink::new(rt.alloc(), step.max(1), vec![in rt.alloc(); call]?);
         let mut err = MemSink::new(rt.alloc(), step.max(1), vec![in rt.alloc(); call]?);
-        let status = rev_main(&rt, words.as_slice(), &mut source, &mut out, &mut err);
+        let status = status_of(&rt, words.as_slice(), &mut source, &mut out, &mut err);
         assert!(rt; status == want, "{text}: step {step}, call {call}");
         assert!(rt;
             out.bytes() == held_out.as_bytes(),

@@ -26,7 +26,11 @@ fn typed_of(alloc: Global, text: &[u8]) -> Option<Typed> {
 }
 
 /// What the last merge of the text gives for the joiner's value, the joinee's and the root's.
-fn merged(rt: &HostRuntime, text: &str, numbers: (i64, i64, i64)) -> Option<Result<i64, NumFault>> {
+fn merged<R: AllocGlobal>(
+    rt: &R,
+    text: &str,
+    numbers: (i64, i64, i64),
+) -> Option<Result<i64, NumFault>> {
     let typed = typed_of(rt.alloc(), text.as_bytes())?;
     let count = typed.expanded.merges.as_slice().len();
     if count == 0 || count > 1000 {
@@ -38,8 +42,8 @@ fn merged(rt: &HostRuntime, text: &str, numbers: (i64, i64, i64)) -> Option<Resu
 }
 
 /// Whether the last merge of the text gives this.
-fn gives(
-    rt: &HostRuntime,
+fn gives<R: AllocGlobal>(
+    rt: &R,
     text: &str,
     numbers: (i64, i64, i64),
     want: Result<i64, NumFault>,
@@ -110,8 +114,8 @@ fn from_left_to_right(rt: HostRuntime) -> Result<(), Fail> {
 
 /// So many funs, each of which applies the one before it inside so many of these brackets, and a
 /// merge that applies the last.
-fn nested(
-    rt: &HostRuntime,
+fn nested<R: AllocGlobal>(
+    rt: &R,
     brackets: (&str, &str),
     levels: usize,
     funs: usize,

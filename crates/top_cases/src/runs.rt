@@ -2,8 +2,8 @@
 use super::*;
 
 /// Whether the call on the text answers this: bytes of both outputs and the status.
-fn writes(
-    rt: &HostRuntime,
+pub fn writes<R: AllocGlobal + Threads + Wait + Sync>(
+    rt: &R,
     line: &str,
     text: &str,
     want: (&str, &str, u8),
@@ -11,7 +11,7 @@ fn writes(
     answers(rt, line, &mut source_over(rt, text, 0)?, want)
 }
 
-const TWICE: &str = "error: a revision was joined twice\n";
+pub const TWICE: &str = "error: a revision was joined twice\n";
 
 #[test]
 fn joins(rt: HostRuntime) -> Result<(), Fail> {
@@ -208,7 +208,7 @@ fn loads_read_nothing(rt: HostRuntime) -> Result<(), Fail> {
         let words = words_of(&rt, line)?;
         let mut out = CalmSink::new(rt.alloc());
         let mut err = CalmSink::new(rt.alloc());
-        let status = rev_main(&rt, words.as_slice(), &mut source, &mut out, &mut err);
+        let status = status_of(&rt, words.as_slice(), &mut source, &mut out, &mut err);
         assert!(rt; status == 0, "{line}");
         assert!(rt; err.bytes().is_empty(), "{line}");
         assert!(rt; out.bytes() == want.as_bytes(), "{line}");

@@ -2,17 +2,28 @@
 use super::*;
 
 /// Whether a run of the text answers this: bytes of both outputs and the status.
-fn gives(rt: &HostRuntime, text: &str, want: (&str, &str, u8)) -> Result<bool, AllocError> {
+fn gives<R: AllocGlobal + Threads + Wait + Sync>(
+    rt: &R,
+    text: &str,
+    want: (&str, &str, u8),
+) -> Result<bool, AllocError> {
     answers(rt, "run", &mut source_over(rt, text, 0)?, want)
 }
 
 /// Whether the text is a program that keeps all rules.
-fn is_sound(rt: &HostRuntime, text: &str) -> Result<bool, AllocError> {
+fn is_sound<R: AllocGlobal + Threads + Wait + Sync>(
+    rt: &R,
+    text: &str,
+) -> Result<bool, AllocError> {
     answers(rt, "check", &mut source_over(rt, text, 0)?, ("ok\n", "", 0))
 }
 
 /// Whether the text is refused at the mark, which stands in its first line, with this fault.
-fn is_refused(rt: &HostRuntime, marked: &str, fault: &str) -> Result<bool, AllocError> {
+fn is_refused<R: AllocGlobal + Threads + Wait + Sync>(
+    rt: &R,
+    marked: &str,
+    fault: &str,
+) -> Result<bool, AllocError> {
     let (before, behind) = marked.split_once('@').unwrap_or((marked, ""));
     let text = format!(in rt.alloc(); "{before}{behind}")?;
     let column = before.len().saturating_add(1);
@@ -295,8 +306,8 @@ fn faults_of_declarations(rt: HostRuntime) -> Result<(), Fail> {
 }
 
 /// So many numbered pieces.
-fn numbered(
-    rt: &HostRuntime,
+fn numbered<R: AllocGlobal + Threads + Wait + Sync>(
+    rt: &R,
     before: &str,
     behind: &str,
     count: usize,

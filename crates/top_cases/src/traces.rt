@@ -53,7 +53,11 @@ fn traces(rt: HostRuntime) -> Result<(), Fail> {
 }
 
 /// What an audit of the trace of `SUM` writes.
-fn audits(rt: &HostRuntime, trace: &str, want: (&str, &str, u8)) -> Result<bool, AllocError> {
+fn audits<R: AllocGlobal + Threads + Wait + Sync>(
+    rt: &R,
+    trace: &str,
+    want: (&str, &str, u8),
+) -> Result<bool, AllocError> {
     let source = format!(in rt.alloc(); "{SUM}{trace}")?;
     let words = "audit --fuel 100 --share 10";
     answers(rt, words, &mut source_over(rt, source.as_str(), 0)?, want)

@@ -19,6 +19,11 @@ returns-clause-read c = record {
   emit = refl;
   trace = refl;
   audit = refl;
+  replay = refl;
+  replay_of_nothing = refl;
+  replay_by_default = refl;
+  greatest_entry = refl;
+  order = refl;
 }
 
 pub returns-clause-usage : goal.returns-clause-usage
@@ -29,6 +34,8 @@ returns-clause-usage c = record {
   capital = refl;
   no_size = refl;
   no_workers = refl;
+  many_workers = refl;
+  many_segments = refl;
   no_number = refl;
   no_value = refl;
   flag_twice = refl;
@@ -36,4 +43,7 @@ returns-clause-usage c = record {
   minus = refl;
   plus_number = refl;
   empty_entry = refl;
+  signed_entry = refl;
+  large_entry = refl;
+  two_schedules = refl;
 }

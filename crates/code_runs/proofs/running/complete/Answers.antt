@@ -1,0 +1,33 @@
+use Rattle.rev_vm.specs.Starts.{run_under}
+use Rattle.code_runs.proofs.Underway.{is_after, reached}
+use Rattle.code_runs.proofs.running.complete.Goals as goal
+
+pub finish-requires-clause-setting : goal.finish-requires-clause-setting
+finish-requires-clause-setting g c = c.requires.setting
+
+pub finish-requires-clause-reached : goal.finish-requires-clause-reached
+finish-requires-clause-reached g c =
+    let s = run_under c.args.setting.now in
+    let u = c.requires.underway in
+    (u.1.world, reached s u.0 c.args.world u.1, u.1.stands)
+
+pub finish-requires-clause-size : goal.finish-requires-clause-size
+finish-requires-clause-size g c = c.requires.size
+
+pub finish-requires-clause-merges : goal.finish-requires-clause-merges
+finish-requires-clause-merges g c = c.requires.merges
+
+pub outcome_after-requires-clause-setting : goal.outcome_after-requires-clause-setting
+outcome_after-requires-clause-setting g c = c.requires.setting
+
+pub outcome_after-requires-clause-over : goal.outcome_after-requires-clause-over
+outcome_after-requires-clause-over g c =
+    let s = run_under c.args.setting.now in
+    let u = c.requires.underway in
+    (u.0, is_after s u.0 c.args.world u.1 c.in_ok-end.end (c.in_ok-end.ensures.finished u.1.world (reached s u.0 c.args.world u.1) u.1.stands))
+
+pub returns : goal.returns
+returns g c = λ fuel u.
+    let s = run_under c.args.setting.now in
+    c.in_ok-outcome.ensures fuel
+    (is_after s fuel c.args.world u c.in_ok-end.end (c.in_ok-end.ensures.finished u.world (reached s fuel c.args.world u) u.stands))

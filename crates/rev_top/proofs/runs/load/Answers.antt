@@ -1,0 +1,17 @@
+use Rattle.rev_syntax.specs.View.{program as whole}
+use Rattle.rev_types.specs.declared.typed.Typed.{Typed}
+use Rattle.rev_words.specs.Load.{load_text}
+use Rattle.rev_top.specs.Rans.{RunsBy, of_load, told}
+use Rattle.rev_top.specs.Texts.{Checks}
+use Rattle.rev_top.proofs.Stages.{goes_on, leaves}
+use Rattle.rev_top.proofs.runs.load.Goals as goal
+
+pub returns-in_err-typed : goal.returns-in_err-typed
+returns-in_err-typed g c =
+    leaves (Checks (load_text c.args.words.now.seed c.args.words.now.size)) (RunsBy c.args.words.now (of_load c.args.words.now)) (λ (t : Typed). whole t.expanded.program) told
+    _ c.in_err-typed.field-0.0 c.from_residual.ensures.1 c.in_err-typed.ensures
+
+pub returns : goal.returns
+returns g c =
+    goes_on (Checks (load_text c.args.words.now.seed c.args.words.now.size)) (RunsBy c.args.words.now (of_load c.args.words.now)) told
+    (whole c.in_ok-typed.typed.expanded.program) c.load_program.result c.in_ok-typed.ensures c.load_program.ensures

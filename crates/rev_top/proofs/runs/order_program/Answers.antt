@@ -1,0 +1,12 @@
+use Rattle.std.proofs.Common.{◌∙◌, ap₂}
+use Rattle.rev_syntax.specs.View.{program as whole}
+use Rattle.rev_report.specs.Report.{output}
+use Rattle.rev_messages.specs.Modes.{ordered}
+use Rattle.rev_top.specs.Rans.{of_order}
+use Rattle.rev_top.proofs.Rans.{made_of}
+use Rattle.rev_top.proofs.runs.order_program.Goals as goal
+
+pub returns : goal.returns
+returns g c =
+    made_of c.args.words.now of_order (whole c.args.typed.now.expanded.program) c.in_ok-ran.ran (output c.in_ok-report.report)
+    c.in_ok-ran.ensures.run c.in_ok-ran.ensures.outcome (c.in_ok-report.ensures ∙ ap₂ ordered c.schedule.ensures c.outcome.ensures)

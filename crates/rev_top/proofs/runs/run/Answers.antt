@@ -1,0 +1,16 @@
+use Rattle.rev_syntax.specs.View.{program as whole}
+use Rattle.rev_types.specs.declared.typed.Typed.{Typed}
+use Rattle.rev_top.specs.Rans.{RunsBy, of_run, told}
+use Rattle.rev_top.specs.Texts.{Checks}
+use Rattle.rev_top.proofs.Stages.{goes_on, leaves}
+use Rattle.rev_top.proofs.runs.run.Goals as goal
+
+pub returns-in_err-typed : goal.returns-in_err-typed
+returns-in_err-typed g c =
+    leaves (Checks c.args.text.now) (RunsBy c.args.words.now (of_run c.args.words.now)) (λ (t : Typed). whole t.expanded.program) told
+    _ c.in_err-typed.field-0.0 c.from_residual.ensures.1 c.in_err-typed.ensures
+
+pub returns : goal.returns
+returns g c =
+    goes_on (Checks c.args.text.now) (RunsBy c.args.words.now (of_run c.args.words.now)) told
+    (whole c.in_ok-typed.typed.expanded.program) c.run_program.result c.in_ok-typed.ensures c.run_program.ensures

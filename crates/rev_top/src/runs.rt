@@ -1,0 +1,174 @@
+//! The modes whose runs go by threads.
+ghost use Rattle.std.specs.Prelude.{◌≡◌, ◌≤◌, IfOk, length};
+ghost use Rattle.rev_syntax.specs.View.{program as whole};
+ghost use Rattle.rev_words.specs.Load as spec;
+ghost use Rattle.code_generation.specs.Generated.{code_of};
+ghost use Rattle.revision_calculus.specs.Complete.{HasOutcome};
+ghost use Rattle.thread_runs.specs.Runs.{IsRunOf};
+ghost use Rattle.rev_top.specs.Answer.{code_run, setting, source_limit};
+ghost use Rattle.rev_top.specs.Rans.{RunsBy, RunsText, of_load, of_order, of_run, told};
+ghost use Rattle.rev_top.specs.Stops.{Meets};
+ghost use Rattle.rev_top.specs.Texts.{Checks};
+
+use crate::made::Made;
+use crate::stop::Stop;
+use crate::text::checked;
+use codegen::generate;
+use hub_workers::Gate;
+use rev_messages::{order_report, summary_report};
+use rev_report::outcome_bytes;
+use rev_types::Typed;
+use rev_words::{Words, load_text};
+use std::alloc::{AllocError, Global};
+use std::sync::Wait;
+use std::thread::Threads;
+use thread_runs::{Ran, run_threads};
+
+/// A run of the program by threads, with the input numbers, the share and the fuel of the words.
+fn run_of<R: Threads + Wait + Sync, G: Gate + Sync>(
+    rt: &R,
+    alloc: Global,
+    words: &Words,
+    typed: &Typed,
+    gate: &G,
+) -> Result<Ran, AllocError>
+    requires fuel { words.now.fuel ≤ 4000000000 }
+    requires workers { 1 ≤ words.now.workers }
+    ensures run { IfOk result (λ r. IsRunOf
+        (code_run words.now (code_of (whole typed.now.expanded.program))) words.now.fuel r) }
+    ensures outcome { IfOk result (λ r. HasOutcome
+        (setting words.now (whole typed.now.expanded.program)) words.now.fuel r.outcome) }
+{
+    let code = generate(alloc, typed)?;
+    let numbers = Vec::from_slice(alloc, words.numbers.as_slice())?;
+    run_threads(
+        rt,
+        alloc,
+        code,
+        numbers,
+        words.share,
+        words.fuel,
+        words.workers,
+        words.segments,
+        gate,
+    )
+}
+
+/// The report of a run, with the values of `main` where they are asked for.
+fn run_program<R: Threads + Wait + Sync, G: Gate + Sync>(
+    rt: &R,
+    alloc: Global,
+    words: &Words,
+    typed: &Typed,
+    gate: &G,
+) -> Result<Made, Stop>
+    requires fuel { words.now.fuel ≤ 4000000000 }
+    requires workers { 1 ≤ words.now.workers }
+    ensures { Meets told result
+        (RunsBy words.now (of_run words.now) (whole typed.now.expanded.program)) }
+{
+    let ran = run_of(rt, alloc, words, typed, gate)?;
+    let report = outcome_bytes(alloc, ran.outcome(), words.values)?;
+    Ok(Made {
+        report,
+        ran: Some(ran),
+    })
+}
+
+/// The report of a run behind the line that names seed and size.
+fn load_program<R: Threads + Wait + Sync, G: Gate + Sync>(
+    rt: &R,
+    alloc: Global,
+    words: &Words,
+    typed: &Typed,
+    gate: &G,
+) -> Result<Made, Stop>
+    requires fuel { words.now.fuel ≤ 4000000000 }
+    requires workers { 1 ≤ words.now.workers }
+    ensures { Meets told result
+        (RunsBy words.now (of_load words.now) (whole typed.now.expanded.program)) }
+{
+    let ran = run_of(rt, alloc, words, typed, gate)?;
+    let report = summary_report(alloc, words.seed, words.size, ran.outcome())?;
+    Ok(Made {
+        report,
+        ran: Some(ran),
+    })
+}
+
+/// The schedule of a run, with the message and the status of its outcome.
+fn order_program<R: Threads + Wait + Sync, G: Gate + Sync>(
+    rt: &R,
+    alloc: Global,
+    words: &Words,
+    typed: &Typed,
+    gate: &G,
+) -> Result<Made, Stop>
+    requires fuel { words.now.fuel ≤ 4000000000 }
+    requires workers { 1 ≤ words.now.workers }
+    ensures { Meets told result
+        (RunsBy words.now of_order (whole typed.now.expanded.program)) }
+{
+    let ran = run_of(rt, alloc, words, typed, gate)?;
+    let report = order_report(alloc, ran.schedule(), ran.outcome())?;
+    Ok(Made {
+        report,
+        ran: Some(ran),
+    })
+}
+
+pub fn run<R: Threads + Wait + Sync, G: Gate + Sync>(
+    rt: &R,
+    alloc: Global,
+    words: &Words,
+    text: &[u8],
+    gate: &G,
+) -> Result<Made, Stop>
+    requires limit { length text.now ≤ source_limit }
+    requires fuel { words.now.fuel ≤ 4000000000 }
+    requires workers { 1 ≤ words.now.workers }
+    ensures { Meets told result (RunsText words.now (of_run words.now) text.now) }
+{
+    let typed = checked(alloc, text)?;
+    run_program(rt, alloc, words, &typed, gate)
+}
+
+/// The program that `load` makes.
+fn loaded(alloc: Global, words: &Words) -> Result<Typed, Stop>
+    ensures { Meets (λ t. whole t.expanded.program) result
+        (Checks (spec.load_text words.now.seed words.now.size)) }
+{
+    let text = load_text(alloc, words.seed, words.size)?;
+    checked(alloc, text.as_slice())
+}
+
+pub fn load<R: Threads + Wait + Sync, G: Gate + Sync>(
+    rt: &R,
+    alloc: Global,
+    words: &Words,
+    gate: &G,
+) -> Result<Made, Stop>
+    requires fuel { words.now.fuel ≤ 4000000000 }
+    requires workers { 1 ≤ words.now.workers }
+    ensures { Meets told result (RunsText words.now
+        (of_load words.now) (spec.load_text words.now.seed words.now.size)) }
+{
+    let typed = loaded(alloc, words)?;
+    load_program(rt, alloc, words, &typed, gate)
+}
+
+pub fn order<R: Threads + Wait + Sync, G: Gate + Sync>(
+    rt: &R,
+    alloc: Global,
+    words: &Words,
+    text: &[u8],
+    gate: &G,
+) -> Result<Made, Stop>
+    requires limit { length text.now ≤ source_limit }
+    requires fuel { words.now.fuel ≤ 4000000000 }
+    requires workers { 1 ≤ words.now.workers }
+    ensures { Meets told result (RunsText words.now of_order text.now) }
+{
+    let typed = checked(alloc, text)?;
+    order_program(rt, alloc, words, &typed, gate)
+}
