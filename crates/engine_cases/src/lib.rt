@@ -1,0 +1,90 @@
+//! Whole programs by both engines: the plain interpreter, which goes by the statements of the
+//! program, and its verified code.
+#![tactic(auto)]
+
+mod programs;
+
+use code_runs::run_code;
+use codegen::generate;
+use merge_decl::expand_funs;
+use plain_runner::run_plain;
+use rev_num::Outcome;
+use rev_parse::parse;
+use rev_syntax::tokens;
+use rev_types::{Typed, check};
+use std::alloc::{AllocError, Global};
+use std::test::Fail;
+
+const LIMIT: usize = 1_048_576;
+
+/// The most fuel that a fork gives.
+const SHARE: u64 = 1_000_000;
+
+/// The program of a text, if that is well typed.
+fn typed_of(alloc: Global, text: &[u8]) -> Option<Typed> {
+    if text.len() > LIMIT {
+        return None;
+    }
+    let tokens = tokens(alloc, text).ok()?;
+    let program = parse(alloc, text, tokens.as_slice()).ok()?;
+    let expanded = expand_funs(alloc, program).ok()?;
+    check(alloc, expanded).ok()
+}
+
+/// The outcome of the program by its statements.
+fn by_statements(
+    alloc: Global,
+    typed: &Typed,
+    inputs: &[i64],
+    fuel: u16,
+) -> Result<Outcome, AllocError> {
+    run_plain(alloc, typed, inputs, SHARE, fuel as u64)
+}
+
+/// The outcome of the program by its code.
+fn by_code(alloc: Global, typed: &Typed, inputs: &[i64], fuel: u16) -> Result<Outcome, AllocError> {
+    let code = generate(alloc, typed)?;
+    let inputs = Vec::from_slice(alloc, inputs)?;
+    run_code(alloc, code, inputs, SHARE, fuel as u64)
+}
+
+/// Whether both outcomes are equal: the text, the values of all shared variables, and how it ended.
+fn is_one_outcome(
+    alloc: Global,
+    text: &str,
+    inputs: &[i64],
+    fuel: u16,
+) -> Result<bool, AllocError> {
+    match typed_of(alloc, text.as_bytes()) {
+        Some(typed) => {
+            let plain = by_statements(alloc, &typed, inputs, fuel)?;
+            Ok(plain == by_code(alloc, &typed, inputs, fuel)?)
+        },
+        None => Ok(false),
+    }
+}
+
+#[test]
+fn the_examples(rt: HostRuntime) -> Result<(), Fail> {
+    let texts = [
+        programs::SEVEN,
+        programs::TWO_TASKS,
+        programs::RUNNING_SUM,
+        programs::GAME_LOOP,
+        programs::BANK,
+        programs::SHARED_DOCUMENT,
+        programs::BEST_RESULT,
+        programs::RECOVERY,
+        programs::HANDLE_PIPELINE,
+        programs::STOCK,
+    ];
+    for text in texts {
+        for fuel in [60_000, 20, 7] {
+            assert!(rt;
+                is_one_outcome(rt.alloc(), text, &[3, 4], fuel)?,
+                "{fuel}: {text}"
+            );
+        }
+    }
+    Ok(())
+}
