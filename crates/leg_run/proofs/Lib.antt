@@ -1,4 +1,5 @@
 pub mod Decoding
+pub mod Depths
 pub mod Frames
 pub mod Calling
 pub mod Returning

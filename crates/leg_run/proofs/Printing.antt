@@ -51,7 +51,7 @@ widths_are (item.Int ∷ items) = let r = widths_are items in omega (arith, r)
 widths_are (item.Bool ∷ items) = let r = widths_are items in omega (arith, r)
 
 -- one item further
-pub drop_at : (items : List LayoutItem) (n : ℕ) (x : LayoutItem) → slice_get items n ≡ Some x → drop n items ≡ x ∷ drop (n + 1) items
+pub drop_at : {A : Type 0} (items : List A) (n : ℕ) (x : A) → slice_get items n ≡ Some x → drop n items ≡ x ∷ drop (n + 1) items
 drop_at [] n x e = absurd (let clash : None ≡ Some x = e in cc)
 drop_at (y ∷ items) zero x e = let z : y ≡ x = some_eq e in ap (λ v. v ∷ items) z
 drop_at (y ∷ items) (suc n) x e = drop_at items n x e ∙ ap (λ m. x ∷ drop m (y ∷ items)) (let z : suc (n + 1) ≡ suc n + 1 = omega arith in z)

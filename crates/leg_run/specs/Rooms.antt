@@ -2,13 +2,14 @@
 --   IsRoom      so many words serve a block: its locals and its stack at each place, and, where it is a fun or merge,
 --               all that it needs with the funs that it applies
 --   AreRooms    a table of them
-use Rattle.std.specs.Prelude.{ℕ, ◌≡◌, ◌<◌, ◌≤◌, ◌+◌, ◌^◌, true, List, length, Some, slice_get}
+--   room_of     as many words as serve a block of verified code, by the rooms of the blocks before it
+use Rattle.std.specs.Prelude.{ℕ, ◌≡◌, ◌<◌, ◌≤◌, ◌+◌, ◌^◌, max, min, true, if◌then◌else◌, List, [], ◌∷◌, length, Some, slice_get, slice_index_or}
 use Rattle.rev_code.specs.declared.code.Code.{Code}
 use Rattle.rev_code.specs.declared.code.CodeBlock.{CodeBlock}
-use Rattle.rev_code.specs.declared.code.BlockClass.{BlockClass}
-use Rattle.rev_code.specs.declared.code.BlockClass.TheVariants as class
+use Rattle.rev_code.specs.declared.code.Instr.{Instr}
+use Rattle.rev_code.specs.declared.code.Instr.TheVariants as i
 use Rattle.code_rules.specs.declared.Cost.{Cost}
-use Rattle.code_rules.specs.Pass.{is_value_class}
+use Rattle.code_rules.specs.Pass.{is_value_class, most_need, most_words}
 use Rattle.code_soundness.specs.Whole.{notes_of, AreCosts}
 
 pub record IsRoom (code : Code) (n : ℕ) (b : CodeBlock) (room : ℕ) : Type 0 where
@@ -26,9 +27,21 @@ pub record HasRoomFor (code : Code) (rooms : List ℕ) (n : ℕ) (b : CodeBlock)
 abbrev pub AreRooms : Code → (rooms : List ℕ) → Type 0
 AreRooms code rooms = (n : ℕ) (b : CodeBlock) → slice_get code.blocks n ≡ Some b → HasRoomFor code rooms n b
 
--- as many words as the limits of verified code leave to a block of that class
-abbrev pub room_of_class : BlockClass → ℕ
-room_of_class class.Fun = 65536
-room_of_class class.Merge = 65536
-room_of_class class.Proc = 4160
-room_of_class class.Main = 4160
+-- ---- rooms that serve, where those of the blocks before are in the table
+
+-- the room of the fun that an instruction applies
+abbrev pub room_applied : (rooms : List ℕ) → Instr → ℕ
+room_applied rooms (i.Apply f) = slice_index_or rooms f 0
+room_applied rooms _ = 0
+
+abbrev pub greatest_room : (rooms : List ℕ) → List Instr → ℕ
+greatest_room rooms [] = 0
+greatest_room rooms (x ∷ xs) = max (room_applied rooms x) (greatest_room rooms xs)
+
+-- the locals and a word for each instruction, as far as the limit of a stack; for a fun or merge also what those need
+-- that it applies, as far as the limit of such a need
+abbrev pub room_of : (rooms : List ℕ) → CodeBlock → ℕ
+room_of rooms b =
+    if is_value_class b.class
+    then min (length b.locals + min (length b.instrs) most_need + greatest_room rooms b.instrs) most_need
+    else length b.locals + min (length b.instrs) most_words

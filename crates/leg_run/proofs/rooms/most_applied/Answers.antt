@@ -1,0 +1,14 @@
+use Rattle.std.proofs.Common.{◌+◌, ap, arith}
+use Rattle.std.specs.Prelude.{drop}
+use Rattle.leg_run.specs.Rooms.{greatest_room}
+use Rattle.leg_run.proofs.Printing.{drop_at}
+use Rattle.leg_run.proofs.rooms.most_applied.Goals as goal
+
+pub loop-n-preserved : goal.loop-n-preserved
+loop-n-preserved c =
+    let rest = greatest_room c.args.rooms.now (drop (c.loop-n.n + 1) c.args.instrs.now) in
+    let d = ap (greatest_room c.args.rooms.now) (drop_at c.args.instrs.now c.loop-n.n c.instr_in.result c.instr_in.ensures) in
+    let m = c.max-most.ensures in
+    let a = c.applied_in.ensures in
+    let inv = c.loop-n.invariant.most in
+    record { most = omega (arith, d, m, a, inv) }
