@@ -3,6 +3,7 @@ pub mod Blocks
 pub mod Callees
 pub mod Compositions
 pub mod Lists
+pub mod LocalPlaces
 pub mod Merges
 pub mod Readings
 pub mod Rows

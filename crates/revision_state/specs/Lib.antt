@@ -1,5 +1,6 @@
 pub mod TreeCodes
 pub mod LocalCodes
+pub mod LocalPlaces
 pub mod Reading
 pub mod Remaining
 pub mod Phases

@@ -1,74 +1,18 @@
 //! Frames: the main block or a call that goes on, with its locals and what it still has to do.
 
 ghost use Rattle.std.specs.Prelude.{◌≡◌, IfOk, OnOk, MatchOption, None, Some, [], ◌∷◌};
-ghost use Rattle.std.specs.Prelude.{option_copied, option_map, position, length};
+ghost use Rattle.std.specs.Prelude.{option_copied, option_map};
 ghost use Rattle.rev_syntax.specs.View.{stmt, stmts};
-ghost use Rattle.merge_decl.specs.Names.{same};
 ghost use Rattle.merge_decl.specs.Table.{find};
 ghost use Rattle.revision_calculus.specs.Step.{append};
 ghost use Rattle.revision_calculus.specs.Evaluation as calculus;
 ghost use Rattle.revision_state.specs.Remaining.{before, remaining};
 
+use crate::locals::Locals;
 use rev_num::Value;
 use rev_syntax::Stmt;
 use std::alloc::{AllocError, Global};
 use std::marker::Model;
-
-/// A local, with its value.
-#[derive(Drop)]
-pub struct Binding<'a> {
-    name: &'a [u8],
-    value: Value,
-}
-
-impl<'a> Model for Binding<'a> {
-    ghost use Rattle.revision_state.specs.LocalCodes.{Bound, coded_binding};
-
-    ghost Value = { Bound };
-
-    ghost coded = { coded_binding };
-
-    ghost view = { λ b. (b.name.now, b.value) };
-}
-
-impl<'a> Binding<'a> {
-    /// A local of this name.
-    pub fn new(name: &'a [u8], value: Value) -> Binding<'a>
-        ensures { result ≡ (name.now, value) }
-    {
-        Binding { name, value }
-    }
-
-    /// Whether it is the local of this name.
-    fn is(&self, name: &[u8]) -> bool
-        ensures { result ≡ same name.now self.now.0 }
-    {
-        name == self.name
-    }
-
-    fn value(&self) -> &Value
-        ensures { result.now ≡ self.now.1 }
-    {
-        &self.value
-    }
-
-    /// It has this value from now on.
-    fn change(&mut self, value: Value)
-        ensures { self.new ≡ (self.old.0, value) }
-    {
-        self.value = value;
-    }
-
-    /// An equal local.
-    fn copy(&self, alloc: Global) -> Result<Binding<'a>, AllocError>
-        ensures { IfOk result (λ b. b ≡ self.now) }
-    {
-        Ok(Binding {
-            name: self.name,
-            value: self.value.copy(alloc)?,
-        })
-    }
-}
 
 /// What is left of a block comes before the others. Nothing is kept of a block that ended.
 #[tactic(auto, using(crate::proofs::Blocks::remaining_push, crate::proofs::Blocks::append_ended))]
@@ -160,7 +104,7 @@ impl<'a> Rest<'a> {
 /// The main block or a call that goes on.
 #[derive(Drop)]
 pub struct Frame<'a> {
-    locals: Vec<Binding<'a>>,
+    locals: Locals<'a>,
     rest: Rest<'a>,
     left: Option<&'a [u8]>,
 }
@@ -175,29 +119,10 @@ impl<'a> Model for Frame<'a> {
     ghost coded = { coded_frame };
 
     ghost view = { λ f. record {
-      locals = f.locals.items;
+      locals = f.locals;
       rest = f.rest;
       left = option_copied f.left;
     } };
-}
-
-/// The place of the local of this name among these.
-fn place_of(locals: &[Binding], name: &[u8]) -> Option<usize>
-    ensures { result ≡ position (λ e. same name.now e.0) locals.now }
-{
-    locals.iter().position(|local| local.is(name))
-}
-
-/// The value goes to the local of this name, which is new if there was none.
-fn bind<'a>(locals: &mut Vec<Binding<'a>>, name: &'a [u8], value: Value) -> Result<(), AllocError>
-    ensures { OnOk result
-        (locals.new.items ≡ calculus.with_local locals.old.items name.now value) }
-{
-    match place_of(locals, name) {
-        Some(at) => locals[at].change(value),
-        None => locals.push(Binding::new(name, value))?,
-    }
-    Ok(())
 }
 
 impl<'a> Frame<'a> {
@@ -205,14 +130,14 @@ impl<'a> Frame<'a> {
     /// side waits.
     pub fn new(
         alloc: Global,
-        locals: Vec<Binding<'a>>,
+        locals: Locals<'a>,
         block: &'a [Stmt],
         left: Option<&'a [u8]>,
     ) -> Result<Frame<'a>, AllocError>
         ensures { IfOk result
             (λ f. f
             ≡ record {
-              locals = locals.entry.items;
+              locals = locals.entry;
               rest = stmts block.now;
               left = option_copied left.entry;
             }) }
@@ -235,19 +160,14 @@ impl<'a> Frame<'a> {
     pub fn local(&self, name: &[u8]) -> Option<&Value>
         ensures { option_copied result ≡ find name.now self.now.locals }
     {
-        for local in &self.locals {
-            if local.is(name) {
-                return Some(local.value());
-            }
-        }
-        None
+        self.locals.get(name)
     }
 
     /// The value goes to the local of this name, which is new if there was none.
     pub fn set_local(&mut self, name: &'a [u8], value: Value) -> Result<(), AllocError>
         ensures { OnOk result (self.new ≡ calculus.set_local self.old name.now value) }
     {
-        bind(&mut self.locals, name, value)
+        self.locals.set(name, value)
     }
 
     /// The statements of this block come before the others.
@@ -273,12 +193,8 @@ impl<'a> Frame<'a> {
     pub fn copy(&self, alloc: Global) -> Result<Frame<'a>, AllocError>
         ensures { IfOk result (λ f. f ≡ self.now) }
     {
-        let mut locals = Vec::with_capacity(alloc, self.locals.len())?;
-        for local in &self.locals {
-            locals.push(local.copy(alloc)?)?;
-        }
         Ok(Frame {
-            locals,
+            locals: self.locals.copy(alloc)?,
             rest: self.rest.copy(alloc)?,
             left: self.left,
         })

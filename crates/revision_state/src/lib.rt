@@ -5,6 +5,7 @@
 mod changes;
 mod frame;
 mod frames;
+mod locals;
 mod location;
 mod lookup;
 mod phase;
@@ -14,8 +15,9 @@ mod tables;
 mod values;
 
 pub use changes::{Fault, compose, write_all};
-pub use frame::{Binding, Frame};
+pub use frame::Frame;
 pub use frames::Frames;
+pub use locals::Locals;
 pub use location::{Location, copy_locations, snapshot, value_at, write_at};
 pub use phase::{Noted, Phase, copy_noted};
 pub use setting::Setting;

@@ -12,7 +12,8 @@ ghost use Rattle.revision_state.specs.Reading.{location_at};
 ghost use Rattle.revision_state.specs.Tables.{body_of, info_of, params_of, with_next};
 ghost use Rattle.revision_state.specs.Views.{given};
 
-use crate::frame::{Binding, Frame};
+use crate::frame::Frame;
+use crate::locals::Locals;
 use crate::setting::Setting;
 use crate::values::place;
 use rev_num::{Cause, Value};
@@ -115,12 +116,12 @@ fn locals_of<'a>(
     alloc: Global,
     params: &'a [Param],
     values: Vec<Value>,
-) -> Result<Vec<Binding<'a>>, AllocError>
+) -> Result<Locals<'a>, AllocError>
     ensures { IfOk result
-        (λ locals. locals.items
+        (λ locals. locals
         ≡ step.locals_of (names_of (map parameter params.now)) values.items) }
 {
-    let mut locals = Vec::with_capacity(alloc, values.len())?;
+    let mut locals = Locals::new(alloc);
     for value in values {
         bind_next(&mut locals, params, value)?;
     }
@@ -129,18 +130,17 @@ fn locals_of<'a>(
 
 /// The next of these parameters gets this value, if there is one.
 fn bind_next<'a>(
-    locals: &mut Vec<Binding<'a>>,
+    locals: &mut Locals<'a>,
     params: &'a [Param],
     value: Value,
 ) -> Result<(), AllocError>
     ensures { OnOk result
-        (locals.new.items
-        ≡ with_next (names_of (map parameter params.now)) locals.old.items value) }
+        (locals.new ≡ with_next (names_of (map parameter params.now)) locals.old value) }
 {
     let next = locals.len();
     if next < params.len() {
         let name = params[next].name.text.as_slice();
-        locals.push(Binding::new(name, value))?;
+        locals.push(name, value)?;
     }
     Ok(())
 }

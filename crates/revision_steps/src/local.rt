@@ -17,8 +17,8 @@ ghost use Rattle.revision_state.specs.Views.{given};
 use crate::own::Own;
 use rev_num::{Cause, Path, Trap, Value};
 use revision_state::{
-    Frame, Frames, Location, Noted, Phase, Setting, copy_locations, copy_noted, start_locations,
-    write_at,
+    Frame, Frames, Locals, Location, Noted, Phase, Setting, copy_locations, copy_noted,
+    start_locations, write_at,
 };
 use std::alloc::{AllocError, Global};
 use std::marker::Model;
@@ -74,7 +74,7 @@ impl<'a> Local<'a> {
         ensures { IfOk result (λ l. l ≡ calculus.main (given setting.now) fuel) }
     {
         let body = &setting.typed.expanded.program.main.stmts;
-        let frame = Frame::new(alloc, Vec::new(alloc), body, None)?;
+        let frame = Frame::new(alloc, Locals::new(alloc), body, None)?;
         Ok(Local {
             locations: start_locations(alloc, setting.typed)?,
             frames: Frames::of(alloc, frame)?,

@@ -1,20 +1,18 @@
 use Rattle.std.proofs.Common.{◌≡◌, ◌∙◌, ◌++◌, ◌∷◌, [], length, get_or, sym, ap, arith}
-use Rattle.rev_num.specs.declared.value.Value.{Value}
 use Rattle.merge_decl.specs.Names.{Name}
 use Rattle.revision_state.proofs.Callees.{next_bound, none_next}
 use Rattle.revision_state.proofs.lookup.bind_next.Goals as goal
 
 pub returns-in_ok-push : goal.returns-in_ok-push
 returns-in_ok-push c =
-    let es = c.args.locals.now.items in
+    let es = c.args.locals.now in
     let ps = c.args.params.now in
-    let n : c.len-next.result ≡ length es = c.len-next.ensures ∙ c.args.locals.now.ok.0 in
+    let n : c.len-next.result ≡ length es = c.len-next.ensures in
     let q = c.index-params-next.result in
     let bound = next_bound ps es c.args.value q (omega (arith, c.if-next-params.true)) in
-    c.in_ok-push.ensures.items
-    ∙ ap (λ (t : Name × Value). es ++ t ∷ [])
-    (c.new.ensures ∙ ap (λ (w : Name). (w, c.args.value)) (c.as_slice-name.ensures.value ∙ ap (λ i. (get_or ps i q).name.text.items) n))
+    c.in_ok-push.ensures
+    ∙ ap (λ (w : Name). es ++ (w, c.args.value) ∷ []) (c.as_slice-name.ensures.value ∙ ap (λ i. (get_or ps i q).name.text.items) n)
     ∙ sym bound
 
 pub returns-else-next-params : goal.returns-else-next-params
-returns-else-next-params c = sym (none_next c.args.params.now c.args.locals.now.items c.args.value (omega (arith, c.len-next.ensures, c.args.locals.now.ok.0)))
+returns-else-next-params c = sym (none_next c.args.params.now c.args.locals.now c.args.value (omega (arith, c.len-next.ensures)))

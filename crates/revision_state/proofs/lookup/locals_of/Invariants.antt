@@ -5,4 +5,4 @@ use Rattle.revision_calculus.specs.Step.{locals_of}
 use Rattle.revision_state.proofs.lookup.locals_of.Given as goal
 
 abbrev pub invariant-loop-value : goal.invariant-loop-value
-invariant-loop-value l = l.locals.items ≡ locals_of (names_of (map parameter l.params)) l.yielded
+invariant-loop-value l = l.locals ≡ locals_of (names_of (map parameter l.params)) l.yielded
