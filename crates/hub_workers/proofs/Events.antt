@@ -1,5 +1,5 @@
 -- What a revision hands in is the event of its state, and a hand stays that of its seat's run.
-use Rattle.std.proofs.Common.{◌≡◌, ℕ, Bool, true, false, List, Some, MatchBool, sym, ap, ◌∙◌, subst}
+use Rattle.std.proofs.Common.{◌≡◌, ℕ, Bool, true, List, MatchBool, sym, ap, ◌∙◌, subst}
 use Rattle.revision_machine.specs.Numbered.{Bears}
 use Rattle.revision_machine.proofs.Paths.{some_inj}
 use Rattle.hub_algebra.specs.Hub.{Stands}

@@ -1,5 +1,5 @@
 -- Lists of seats of one hub.
-use Rattle.std.proofs.Common.{◌≡◌, ◌<◌, ℕ, true, Bool, cond, List, [], ◌∷◌, ◌++◌, take, length, All, Option, sym, ap, ◌∙◌, arith, eq-eqb}
+use Rattle.std.proofs.Common.{◌≡◌, ◌<◌, ℕ, Bool, cond, List, [], ◌∷◌, ◌++◌, take, length, All, Option, sym, ap, ◌∙◌, arith, eq-eqb}
 use Rattle.std.specs.List.{AllByRecursion}
 use Rattle.std.proofs.Math.Seq.{take-append_seam}
 use Rattle.std.proofs.lemmas.List.Elements.{All-from_recursion, All-head, All-tail}
@@ -9,7 +9,6 @@ use Rattle.turn_hub.specs.declared.seat.HubSeat.{HubSeat}
 use Rattle.turn_hub.specs.Closing.{saw_of}
 use Rattle.turn_hub.specs.Names.{IsSeatOf, AreSeatsOf, view_of, began, places}
 use Rattle.turn_hub.specs.Seats.{AreNew}
-use Rattle.turn_hub.specs.Views.{either_saw}
 use Rattle.hub_workers.specs.Running.{IsNewSeat}
 
 module _ {M S R A E C P : Type 0} {g : Ghosts M S R A E C P} where

@@ -1,13 +1,38 @@
 //! What threads sleep on that have nothing to do.
 
 use std::sync::Wait;
-use std::sync::atomic::{AtomicU64, Ordering};
+use std::sync::atomic::{AtomicBool, AtomicU64, Ordering};
+use std::time::Duration;
+
+// How many microseconds a scout sleeps between two looks.
+const NAP: u64 = 100;
 
 /// A count of what happened at a hub, and of the threads that sleep until more happens.
+///
+/// At most one thread is the scout: it was woken, or is being woken, and has found nothing yet.
+/// While there is one, nobody is woken. Who finds something is the scout no more, and wakes the
+/// next where more is ready. So a wake travels on while there is work, and who makes revisions
+/// ready does not pay for it.
+///
+/// No revision that is ready is lost:
+/// - A thread reads the count of rings, then looks for work, then counts itself as a sleeper, and
+///   then sleeps only if the count of rings is the same. Who rings made its revision ready, then
+///   counts the ring, and then looks for sleepers. So one of the two sees the other.
+/// - Who rings and sees a scout leaves its revision to that: a scout that stops being one does so
+///   first, and then looks whether something is ready, or takes from the hub.
+/// - Who makes a thread the scout has a sleeper: it looks for one again after it has said that
+///   there is a scout, and only then counts its wake as a ring, and wakes. A sleeper that it saw
+///   either sleeps by then, so that the wake reaches one, or finds another count of rings. So
+///   there is no scout that nobody is.
+/// - Two threads can be the scout where one returned from its sleep for no reason. The first that
+///   finds something then says that there is none, and somebody is woken too early.
 #[derive(Drop)]
 pub struct Bell {
     rings: AtomicU64,
     sleepers: AtomicU64,
+    scouted: AtomicBool,
+    // 1 where all is over. Scouts sleep on it.
+    over: AtomicU64,
 }
 
 impl Bell {
@@ -15,6 +40,8 @@ impl Bell {
         Bell {
             rings: AtomicU64::new(0),
             sleepers: AtomicU64::new(0),
+            scouted: AtomicBool::new(false),
+            over: AtomicU64::new(0),
         }
     }
 
@@ -23,32 +50,63 @@ impl Bell {
         self.rings.load(Ordering::SeqCst)
     }
 
-    /// One revision more is ready.
-    pub fn ring_one(&self) {
-        if self.count() {
-            self.rings.wake_one();
-        }
-    }
-
-    /// All that sleep have to look again.
-    pub fn ring_all(&self) {
-        if self.count() {
-            self.rings.wake_all();
-        }
-    }
-
-    // Counts a ring, and tells whether a thread sleeps or is about to.
-    fn count(&self) -> bool {
+    /// Something is ready that the caller does not take at once.
+    pub fn ring(&self) {
         self.rings.fetch_add(1, Ordering::SeqCst);
+        if self.has_sleepers() && self.has_no_scout() {
+            self.wake_scout();
+        }
+    }
+
+    fn has_sleepers(&self) -> bool {
         self.sleepers.load(Ordering::SeqCst) > 0
     }
 
-    /// Sleeps, unless it rang since `heard`. It may return for no reason. A thread counts itself
-    /// before it compares the count of rings, and who rings counts that before it looks for
-    /// sleepers, so that one of the two sees the other.
-    pub fn wait<W: Wait>(&self, rt: &W, heard: u64) {
+    fn has_no_scout(&self) -> bool {
+        !self.scouted.load(Ordering::SeqCst)
+    }
+
+    // Wakes one thread, unless another does.
+    fn wake_scout(&self) {
+        if self.scouted.swap(true, Ordering::SeqCst) {
+            return;
+        }
+        if self.has_sleepers() {
+            self.rings.fetch_add(1, Ordering::SeqCst);
+            self.rings.wake_one();
+        } else {
+            self.stop_scouting();
+        }
+    }
+
+    /// The caller is the scout no more.
+    pub fn stop_scouting(&self) {
+        self.scouted.store(false, Ordering::SeqCst);
+    }
+
+    /// All is over: whoever sleeps has to look again.
+    pub fn ring_all(&self) {
+        self.over.store(1, Ordering::SeqCst);
+        self.rings.fetch_add(1, Ordering::SeqCst);
+        self.over.wake_all();
+        self.rings.wake_all();
+    }
+
+    /// Whether all is over.
+    pub fn is_over(&self) -> bool {
+        self.over.load(Ordering::SeqCst) == 1
+    }
+
+    /// Sleeps, unless it rang since `heard`, and is the scout then. It may return for no reason.
+    pub fn sleep<W: Wait>(&self, rt: &W, heard: u64) {
         self.sleepers.fetch_add(1, Ordering::SeqCst);
         self.rings.park(rt, (heard & 0xffff_ffff) as u32);
         self.sleepers.fetch_sub(1, Ordering::SeqCst);
+        self.scouted.store(true, Ordering::SeqCst);
+    }
+
+    /// A scout sleeps for a while, unless all is over.
+    pub fn nap<W: Wait>(&self, rt: &W) {
+        self.over.park_timeout(rt, 0, Duration::from_micros(NAP));
     }
 }

@@ -8,23 +8,28 @@ use crate::bell::Bell;
 use crate::gate::Gate;
 use crate::legs::{Event, Legs, Settled};
 use std::sync::Wait;
+use std::thread::yield_now;
 use turn_hub::{HubSeat, JoinAnswer, Taken, TurnHub};
 
+// How often a scout lets others run between two looks at what is ready: some microseconds.
+const YIELDS: u32 = 8;
+
+// So many rings during a nap are many.
+const MANY: u64 = 8;
+
 // Enters want of memory.
-fn halt<L: Legs, W: Wait>(rt: &W, hub: &TurnHub<L>, bell: &Bell, seat: &mut HubSeat<L>)
+fn halt<L: Legs, W: Wait>(rt: &W, hub: &TurnHub<L>, seat: &mut HubSeat<L>)
     requires { IsSeatOf hub.now seat.old }
     ensures own { IsSeatOf hub.now seat.new }
     ensures same { IsSameSeat (view_of seat.old) (view_of seat.new) }
 {
     hub.halt(rt, seat);
-    bell.ring_all();
 }
 
-// Hands in an end. What waits for it is ready then, and all may be over.
+// Hands in an end. What waits for it is ready then, and the thread takes one of them next.
 fn hand_in<L: Legs, W: Wait>(
     rt: &W,
     hub: &TurnHub<L>,
-    bell: &Bell,
     seat: &mut HubSeat<L>,
     number: u32,
     end: L::End,
@@ -37,14 +42,12 @@ fn hand_in<L: Legs, W: Wait>(
     ensures same { IsSameSeat (view_of seat.old) (view_of seat.new) }
 {
     let _ = hub.end(rt, seat, number, end);
-    bell.ring_all();
 }
 
 // What becomes of a joiner that has taken an end in.
 fn settle<L: Legs, W: Wait>(
     rt: &W,
     hub: &TurnHub<L>,
-    bell: &Bell,
     seat: &mut HubSeat<L>,
     hand: &mut L::Hand,
     number: u32,
@@ -66,11 +69,11 @@ fn settle<L: Legs, W: Wait>(
     match L::settle(hand, claimed) {
         Ok(Settled::Run(runner)) => Some(runner),
         Ok(Settled::Trap(end)) => {
-            hand_in(rt, hub, bell, seat, number, end);
+            hand_in(rt, hub, seat, number, end);
             None
         },
         Err(_) => {
-            halt(rt, hub, bell, seat);
+            halt(rt, hub, seat);
             None
         },
     }
@@ -80,7 +83,6 @@ fn settle<L: Legs, W: Wait>(
 fn join<L: Legs, W: Wait>(
     rt: &W,
     hub: &TurnHub<L>,
-    bell: &Bell,
     seat: &mut HubSeat<L>,
     hand: &mut L::Hand,
     number: u32,
@@ -99,17 +101,16 @@ fn join<L: Legs, W: Wait>(
         (λ r. L.machine.runner_group r ≡ (view_of seat.new).group) }
 {
     match hub.join(rt, seat, number, at) {
-        JoinAnswer::Claimed(claimed) => settle(rt, hub, bell, seat, hand, number, claimed),
+        JoinAnswer::Claimed(claimed) => settle(rt, hub, seat, hand, number, claimed),
         JoinAnswer::Trapped(stopped) => {
             let end = L::retire(hand, stopped);
-            hand_in(rt, hub, bell, seat, number, end);
+            hand_in(rt, hub, seat, number, end);
             None
         },
         JoinAnswer::Dropped(at) => Some(L::dropped(at)),
         JoinAnswer::Waits => None,
         JoinAnswer::Twice(at) | JoinAnswer::OutOfMemory(at) => {
             L::give_up_joiner(hand, at);
-            bell.ring_all();
             None
         },
     }
@@ -139,18 +140,17 @@ fn fork<L: Legs, W: Wait>(
         (λ r. L.machine.runner_group r ≡ (view_of seat.new).group) }
 {
     let Ok((parent, child)) = L::split(hand, at) else {
-        halt(rt, hub, bell, seat);
+        halt(rt, hub, seat);
         return None;
     };
     match hub.fork(rt, seat, number, child) {
         Ok(child) => {
-            bell.ring_one();
+            bell.ring();
             Some(L::told(parent, child))
         },
         Err(child) => {
             L::give_up_runner(hand, child);
             L::give_up_parent(hand, parent);
-            bell.ring_all();
             None
         },
     }
@@ -183,13 +183,13 @@ fn step<L: Legs, G: Gate, W: Wait>(
     gate.enter(number);
     match L::run_leg(hand, runner) {
         Ok(Event::Fork(at)) => fork(rt, hub, bell, seat, hand, number, at),
-        Ok(Event::Join(at)) => join(rt, hub, bell, seat, hand, number, at),
+        Ok(Event::Join(at)) => join(rt, hub, seat, hand, number, at),
         Ok(Event::End(end)) => {
-            hand_in(rt, hub, bell, seat, number, end);
+            hand_in(rt, hub, seat, number, end);
             None
         },
         Err(_) => {
-            halt(rt, hub, bell, seat);
+            halt(rt, hub, seat);
             None
         },
     }
@@ -225,6 +225,59 @@ fn drive<L: Legs, G: Gate, W: Wait>(
     unreachable!()
 }
 
+// Whether something is ready that has been so for some microseconds: the threads that run do not
+// come to it soon. One of those may be kept from its processor by this thread, as where it has
+// just woken it, so this lets others run.
+fn has_waited<L: Legs>(hub: &TurnHub<L>) -> bool {
+    let mark = hub.ready_mark();
+    if mark == 0 {
+        return false;
+    }
+    for _ in 0..YIELDS {
+        yield_now();
+    }
+    hub.ready_mark() == mark
+}
+
+// A scout waits until it should look for work, or until little happens: then others had better
+// wake it. Where revisions are forked and joined within microseconds, moving one to another thread
+// takes longer than its leg.
+fn watch<L: Legs, W: Wait>(rt: &W, hub: &TurnHub<L>, bell: &Bell) -> bool {
+    for _ in rt.forever() {
+        if bell.is_over() || has_waited(hub) {
+            return true;
+        }
+        let heard = bell.heard();
+        bell.nap(rt);
+        if bell.heard().wrapping_sub(heard) < MANY {
+            return false;
+        }
+    }
+    unreachable!()
+}
+
+// What a thread does that has found nothing, and whether it is the scout then.
+fn rest<L: Legs, W: Wait>(rt: &W, hub: &TurnHub<L>, bell: &Bell, heard: u64, scouts: bool) -> bool {
+    if !scouts {
+        bell.sleep(rt, heard);
+    }
+    let watches = watch(rt, hub, bell);
+    if !watches {
+        bell.stop_scouting();
+    }
+    watches
+}
+
+// A thread has taken what was ready. Another may take the next.
+fn pass_on<L: Legs>(hub: &TurnHub<L>, bell: &Bell, scouts: bool) {
+    if scouts {
+        bell.stop_scouting();
+    }
+    if hub.ready_mark() != 0 {
+        bell.ring();
+    }
+}
+
 /// Takes revisions and runs them until all is over or a halt was entered, which the seat knows
 /// then. A thread that finds nothing ready sleeps until the bell rings.
 pub fn work<L: Legs, G: Gate, W: Wait>(
@@ -242,19 +295,27 @@ pub fn work<L: Legs, G: Gate, W: Wait>(
     ensures hand { IsHandOf L.begins L.hand_group (view_of seat.new) hand.new }
     ensures over { (view_of seat.new).saw ≡ 1 }
 {
+    let mut scouts = false;
     for _ in rt.forever() {
         let heard = bell.heard();
         match hub.take(rt, seat) {
             Taken::Run { number, runner } => {
+                pass_on(hub, bell, scouts);
+                scouts = false;
                 drive(rt, hub, bell, gate, seat, hand, number, runner);
             },
             Taken::Retry { number, at } => {
-                if let Some(runner) = join(rt, hub, bell, seat, hand, number, at) {
+                pass_on(hub, bell, scouts);
+                scouts = false;
+                if let Some(runner) = join(rt, hub, seat, hand, number, at) {
                     drive(rt, hub, bell, gate, seat, hand, number, runner);
                 }
             },
-            Taken::Idle => bell.wait(rt, heard),
-            Taken::Finished | Taken::Halted { .. } => return,
+            Taken::Idle => scouts = rest(rt, hub, bell, heard, scouts),
+            Taken::Finished | Taken::Halted { .. } => {
+                bell.ring_all();
+                return;
+            },
         }
     }
     unreachable!()

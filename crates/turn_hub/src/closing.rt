@@ -123,7 +123,11 @@ impl<L: Revision> TurnHub<L> {
         requires over { place.me.0.saw ≡ 1 }
         ensures { ClosedTurn L.machine L.ends (first_of self.turn.shared.key.views) place.me.0 result }
     {
-        let TurnHub { turn } = self;
+        let TurnHub {
+            turn,
+            sleepers: _,
+            mark: _,
+        } = self;
         let mut closed = turn.close_with(place);
         let value = closed.take(0);
         closed.free();

@@ -10,7 +10,13 @@ use crate::vectors::empty;
 use crate::view::View;
 use atomic_table::{Badge, Table};
 use std::alloc::Global;
+use std::hint::spin_loop;
 use std::sync::Wait;
+use std::sync::atomic::{AtomicU64, Ordering};
+
+// How often a thread looks for the turn before it sleeps, each time after twice the pause. That is
+// some microseconds in all: about as long as a sleep and its end take.
+const LOOKS: u32 = 8;
 
 /// A hub, whose revisions the threads take, run and hand back.
 pub struct TurnHub<L: Revision> {
@@ -21,7 +27,17 @@ pub struct TurnHub<L: Revision> {
         OneHolder<L>,
         Global,
     >,
+    // How many threads sleep until the turn is given back, or are about to.
+    pub(crate) sleepers: AtomicU64,
+    // The mark of the run queue when the turn was last given back.
+    pub(crate) mark: AtomicU64,
     ghost sized: { (turn.shared.table_id.words ≡ 1) × (turn.shared.table_id.slots ≡ 1) },
+}
+
+fn pause(times: u32) {
+    for _ in 0..times {
+        spin_loop();
+    }
 }
 
 impl<L: Revision> TurnHub<L> {
@@ -41,6 +57,34 @@ impl<L: Revision> TurnHub<L> {
         self.turn.shared.compare_exchange::<Take<L>>(place, 0, 0, 1) == 0
     }
 
+    // Some tries for the turn. A thread that finds it taken does not write, and looks more and more
+    // seldom, so that it does not delay who has it: a thread that takes the turn again soon finds
+    // what lies in the slot in its cache.
+    fn try_turn(&self, place: &mut Place<L>) -> bool
+        requires { (place.old.table_id ≡ self.now.turn.shared.table_id) × IsIdle place.old.me }
+        ensures own { place.new.table_id ≡ place.old.table_id }
+        ensures took { result ≡ true → Took L.machine L.ends place.old.me place.new.me }
+        ensures missed { result ≡ false → place.new.me ≡ place.old.me }
+    {
+        for look in 0..LOOKS {
+            if self.turn.shared.peek(0) == 0 && self.take_turn(place) {
+                return true;
+            }
+            pause(1 << look);
+        }
+        false
+    }
+
+    // Sleeps while another seat has the turn. It may return for no reason. No wake is lost: who
+    // sleeps counts itself and then sleeps only if the turn is still taken, and who gives it back
+    // stores that before it looks at the count. Who was woken and finds the turn taken again
+    // counts itself again, and is seen by the seat that has it.
+    fn sleep<W: Wait>(&self, rt: &W) {
+        self.sleepers.fetch_add(1, Ordering::SeqCst);
+        self.turn.shared.park(rt, 0, 1);
+        self.sleepers.fetch_sub(1, Ordering::SeqCst);
+    }
+
     // Waits for the turn, whose value is still in the slot.
     fn wait_turn<W: Wait>(&self, rt: &W, place: &mut Place<L>)
         requires { (place.old.table_id ≡ self.now.turn.shared.table_id) × IsIdle place.old.me }
@@ -48,10 +92,10 @@ impl<L: Revision> TurnHub<L> {
         ensures took { Took L.machine L.ends place.old.me place.new.me }
     {
         for _ in rt.forever() {
-            if self.take_turn(place) {
+            if self.try_turn(place) {
                 return;
             }
-            self.turn.shared.park(rt, 0, 1);
+            self.sleep(rt);
         }
         unreachable!()
     }
@@ -71,6 +115,19 @@ impl<L: Revision> TurnHub<L> {
         self.turn.shared.exchange(place, 0, None).unwrap()
     }
 
+    /// 0 where no revision was ready when the turn was last given back, and else a mark of that
+    /// which came first. It is for a thread that asks whether to look: `take` alone tells.
+    pub fn ready_mark(&self) -> u64 {
+        self.mark.load(Ordering::SeqCst)
+    }
+
+    // Only a seat with the turn calls this, so nothing is written in between.
+    fn put_mark(&self, mark: u64) {
+        if self.mark.load(Ordering::SeqCst) != mark {
+            self.mark.store(mark, Ordering::SeqCst);
+        }
+    }
+
     pub(crate) fn put_home(&self, place: &mut Place<L>, turn: Turn<L::Runner, L::AtJoin, L::End>)
         requires own { (place.old.table_id ≡ self.now.turn.shared.table_id)
             × IsOpen L.machine L.ends place.old.me }
@@ -78,9 +135,12 @@ impl<L: Revision> TurnHub<L> {
         ensures own { place.new.table_id ≡ place.old.table_id }
         ensures rests { place.new.me ≡ (rests place.old.me.0, []) }
     {
+        self.put_mark(turn.revisions.queue.mark());
         empty(self.turn.shared.exchange(place, 0, Some(turn)));
         self.give(place);
-        self.turn.shared.wake_one(0);
+        if self.sleepers.load(Ordering::SeqCst) > 0 {
+            self.turn.shared.wake_one(0);
+        }
     }
 
     fn give(&self, place: &mut Place<L>)

@@ -19,6 +19,10 @@ use crate::view::View;
 use atomic_table::{Badge, Refused, Table, TableRule};
 use std::alloc::Global;
 use std::marker::PhantomData;
+use std::sync::atomic::AtomicU64;
+
+// The mark of the run queue of a hub that was opened: revision 0 is ready.
+const FIRST_MARK: u64 = 1;
 
 /// What a run begins with.
 pub struct Opening<L: Revision> {
@@ -101,7 +105,14 @@ impl<L: Revision> TurnHub<L> {
             return Err(take_back(failed.value.unwrap()));
         }
         match Table::new(alloc, &[0], homes, &badge) {
-            Ok((turn, place)) => Ok((TurnHub { turn }, place)),
+            Ok((turn, place)) => {
+                let hub = TurnHub {
+                    turn,
+                    sleepers: AtomicU64::new(0),
+                    mark: AtomicU64::new(FIRST_MARK),
+                };
+                Ok((hub, place))
+            },
             Err(Refused { mut slots }) => {
                 let turn = slots.pop().unwrap();
                 slots.destroy_empty();

@@ -90,6 +90,16 @@ impl RunQueue {
         Some(chain.first)
     }
 
+    /// The first number that is ready, and 1; or 0.
+    pub fn mark(&self) -> u64
+        ensures { MatchOption self.now.ready (result ≡ 0) (λ chain. result ≡ chain.first + 1) }
+    {
+        match self.ready {
+            None => 0,
+            Some(chain) => chain.first as u64 + 1,
+        }
+    }
+
     /// A list of what waits for this number, also where there is no such number yet.
     pub fn reach(&mut self, on: u32) -> bool
         ensures reach { result ≡ true → on < length self.new.waiters.items }
