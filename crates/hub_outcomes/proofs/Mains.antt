@@ -35,7 +35,7 @@ use Rattle.rev_vm.specs.Meaning.{IsEnd}
 use Rattle.world_outcomes.specs.Ends.{StartsAsDeclared, IsEndOfMain}
 use Rattle.hub_outcomes.specs.Births.{AreBirths, AreEarlier}
 use Rattle.hub_outcomes.specs.Runs.{IsRunOf}
-use Rattle.hub_outcomes.proofs.CodeRuns.{Leads, leads, leads_both, over_there}
+use Rattle.run_revision.proofs.CodeRuns.{Leads, leads, leads_both, over_there}
 use Rattle.hub_outcomes.proofs.Naming.{names_theirs}
 
 paths_shown : (g : CodeRun) (w : Entries (Local ℕ)) → paths_of (shown_all g w) ≡ paths_of w

@@ -1,4 +1,3 @@
 pub mod Births
-pub mod CodeRuns
 pub mod Runs
 pub mod Laws

@@ -9,5 +9,5 @@ mod outcomes;
 mod tests;
 
 pub use births::births_of;
-pub use laws::{birth_law, run_law};
+pub use laws::birth_law;
 pub use outcomes::outcome_of_run;

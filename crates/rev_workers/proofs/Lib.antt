@@ -1,3 +1,2 @@
-pub mod CodeRuns
 pub mod Limits
 pub mod Opened

@@ -1,4 +1,3 @@
-pub mod CodeRuns
 pub mod Hands
 pub mod Runs
 pub mod Stores

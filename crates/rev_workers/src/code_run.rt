@@ -7,7 +7,7 @@ ghost use Rattle.rev_vm.specs.Starts.{run_under};
 ghost use Rattle.segment_store.specs.Group.{hold_group, spent_group};
 ghost use Rattle.segment_store.specs.Names.{base};
 ghost use Rattle.turn_hub.specs.Names.{run_state, run_schedule};
-ghost use Rattle.rev_workers.specs.CodeRuns.{IsOfCode};
+ghost use Rattle.run_revision.specs.CodeRuns.{IsOfCode};
 ghost use Rattle.rev_workers.specs.Runs.{IsRunOfCode};
 
 use crate::hands::{StoreHand, StoreRevisions};

@@ -6,7 +6,7 @@ ghost use Rattle.segment_store.specs.Group.{closed_group};
 ghost use Rattle.segment_store.specs.Names.{IsSeatOf};
 ghost use Rattle.turn_hub.specs.declared.state.HubState.TheVariants.{NoMemory};
 ghost use Rattle.turn_hub.specs.Names.{run_state, run_schedule};
-ghost use Rattle.rev_workers.specs.CodeRuns.{IsOfCode};
+ghost use Rattle.run_revision.specs.CodeRuns.{IsOfCode};
 ghost use Rattle.rev_workers.specs.Hands.{IsHandAt, store_group};
 ghost use Rattle.rev_workers.specs.Ran.{IsNotRan};
 ghost use Rattle.rev_workers.specs.Runs.{IsRunOfCode, IsSameRun};

@@ -1,3 +1,4 @@
 pub mod Standing
 pub mod Events
 pub mod Taking
+pub mod CodeRuns

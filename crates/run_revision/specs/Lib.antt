@@ -1,3 +1,4 @@
 pub mod Values
 pub mod Forking
 pub mod Hands
+pub mod CodeRuns

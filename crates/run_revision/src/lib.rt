@@ -4,6 +4,7 @@
 mod forking;
 mod hand;
 mod joiner;
+mod laws;
 mod left;
 mod legs;
 mod machine;
@@ -13,6 +14,7 @@ mod state;
 pub use forking::{CodeFork, CodeParent};
 pub use hand::{CodeHand, Keeper};
 pub use joiner::{CodeJoiner, Ended, JoinedBy};
+pub use laws::run_law;
 pub use left::CodeEnd;
 pub use machine::CodeRevisions;
 pub use runner::CodeRunner;

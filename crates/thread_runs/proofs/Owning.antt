@@ -16,7 +16,7 @@ use Rattle.code_hub.specs.CodeState.{CodeState}
 use Rattle.code_hub.specs.Values.{RunnerValue, JoinerValue, LeftValue}
 use Rattle.code_outcomes.specs.Outcomes.{HasOutcome, IsCompleteRun}
 use Rattle.hub_outcomes.specs.Runs as kept
-use Rattle.rev_workers.specs.CodeRuns.{IsOfCode}
+use Rattle.run_revision.specs.CodeRuns.{IsOfCode}
 use Rattle.rev_workers.specs.Runs.{IsRunOfCode}
 use Rattle.segment_store.specs.Group.{closed_group}
 use Rattle.turn_hub.specs.Names.{run_group, schedule_group}

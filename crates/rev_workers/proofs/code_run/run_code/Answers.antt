@@ -1,7 +1,7 @@
 use Rattle.std.proofs.Common.{rules, ◌<◌, ◌^◌, slice_index_or, sym, ◌∙◌, subst, arith}
 use Rattle.code_hub.specs.Laws.{IsStart}
 use Rattle.rev_vm.specs.Starts.{run_under}
-use Rattle.rev_workers.proofs.CodeRuns.{of_code}
+use Rattle.run_revision.proofs.CodeRuns.{of_code}
 use Rattle.rev_workers.proofs.code_run.run_code.Goals as goal
 
 pub run-requires-clause-begins : goal.run-requires-clause-begins

@@ -1,13 +1,20 @@
 -- The schedule of a run of verified code.
---   IsLegalOf   it leads from this first state to a world, or in Twice to a join of what was joined; where no halt was
---               entered it is complete
+--   IsLegalOf   it leads from this first state to a world, or in Twice to a join of what was joined;
+--               where no halt was entered it is complete
 --   IsOfCode    the same from `main` with this fuel
-use Rattle.std.specs.Prelude.{ℕ, List}
+--   RunsAreOfCode
+--               what a hub leaves of a run from `main` is a run of the code
+use Rattle.std.specs.Prelude.{ℕ, List, Option}
 use Rattle.revision_machine.specs.Numbered.{Entries, Both, Listing, begin, Replays, CompleteSchedule}
+use Rattle.turn_hub.specs.declared.answers.Kept.{Kept}
 use Rattle.turn_hub.specs.declared.state.HubState.{HubState}
 use Rattle.turn_hub.specs.declared.state.HubState.TheVariants.{All, Twice, NoMemory}
 use Rattle.code_machine.specs.Local.{CodeRun, IsVerified, Local}
 use Rattle.code_machine.specs.Machines.{numbered, IsMain, start_in}
+use Rattle.turn_hub.specs.Closing.{ClosedHub}
+use Rattle.code_hub.specs.CodeState.{CodeState}
+use Rattle.code_hub.specs.Values.{RunnerValue, JoinerValue, LeftValue, is_end, code_hub}
+use Rattle.code_hub.specs.Laws.{IsStart}
 
 module _ (g : CodeRun) (main : Local ℕ) where
   abbrev pub IsLegalOf : HubState → List ℕ → Type 0
@@ -22,3 +29,10 @@ pub record IsOfCode (g : CodeRun) (fuel : ℕ) (state : HubState) (ns : List ℕ
   pub block : ℕ
   pub main : IsMain g block
   pub legal : IsLegalOf g (start_in g block main.body fuel) state ns
+
+abbrev pub RunsAreOfCode : Type 0
+RunsAreOfCode =
+    (g : CodeRun) (fuel : ℕ) (start : CodeState) → IsStart g fuel start
+    → (group : List ℕ) (state : HubState) (ns forkers : List ℕ) (ended : List (Option LeftValue))
+    → (kept : List (Kept RunnerValue JoinerValue)) (taken : ℕ → ℕ)
+    → ClosedHub code_hub is_end start group state ns forkers ended kept taken → IsOfCode g fuel state ns

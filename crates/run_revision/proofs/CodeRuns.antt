@@ -14,8 +14,7 @@ use Rattle.code_hub.specs.CodeState.{CodeState, state_of, states, shown_all, sho
 use Rattle.code_hub.specs.Values.{is_end, code_hub}
 use Rattle.code_hub.proofs.Shown.{replays}
 use Rattle.code_hub.proofs.Meeting.{over_is}
-use Rattle.hub_outcomes.specs.CodeRuns.{IsLegalOf}
-use Rattle.hub_outcomes.specs.Laws.{RunsAreOfCode}
+use Rattle.run_revision.specs.CodeRuns.{IsLegalOf, RunsAreOfCode}
 
 module _ (g : CodeRun) where
   -- the world of code that this one shows
