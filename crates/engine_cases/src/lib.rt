@@ -5,6 +5,7 @@
 mod programs;
 
 use code_runs::run_code;
+use code_traces::trace_code;
 use codegen::generate;
 use merge_decl::expand_funs;
 use plain_runner::run_plain;
@@ -14,6 +15,8 @@ use rev_syntax::tokens;
 use rev_types::{Typed, check};
 use std::alloc::{AllocError, Global};
 use std::test::Fail;
+use trace_diagram::{Trace, print_trace};
+use trace_making::trace_of;
 
 const LIMIT: usize = 1_048_576;
 
@@ -64,24 +67,62 @@ fn is_one_outcome(
     }
 }
 
+/// The text of a trace, if there is one.
+fn text_of(alloc: Global, trace: &Option<Trace>) -> Result<Option<Vec<u8>>, AllocError> {
+    match trace {
+        Some(trace) => Ok(Some(print_trace(alloc, trace)?)),
+        None => Ok(None),
+    }
+}
+
+/// Whether both traces have one text, and whether the run that leaves the trace of the code has the
+/// outcome of the program.
+fn is_one_trace(alloc: Global, text: &str, inputs: &[i64], fuel: u16) -> Result<bool, AllocError> {
+    let Some(typed) = typed_of(alloc, text.as_bytes()) else {
+        return Ok(false);
+    };
+    let plain = trace_of(alloc, &typed, inputs, SHARE, fuel as u64)?;
+    let outcome = by_statements(alloc, &typed, inputs, fuel)?;
+    let code = generate(alloc, &typed)?;
+    let numbers = Vec::from_slice(alloc, inputs)?;
+    let run = trace_code(alloc, code, numbers, SHARE, fuel as u64)?;
+    let are_equal = text_of(alloc, &plain)? == text_of(alloc, &run.trace)?;
+    Ok(are_equal && outcome == run.outcome)
+}
+
+const TEXTS: [&str; 11] = [
+    programs::SEVEN,
+    programs::TWO_TASKS,
+    programs::RUNNING_SUM,
+    programs::GAME_LOOP,
+    programs::BANK,
+    programs::SHARED_DOCUMENT,
+    programs::BEST_RESULT,
+    programs::RECOVERY,
+    programs::HANDLE_PIPELINE,
+    programs::STOCK,
+    programs::SECOND_JOINER,
+];
+
 #[test]
-fn the_examples(rt: HostRuntime) -> Result<(), Fail> {
-    let texts = [
-        programs::SEVEN,
-        programs::TWO_TASKS,
-        programs::RUNNING_SUM,
-        programs::GAME_LOOP,
-        programs::BANK,
-        programs::SHARED_DOCUMENT,
-        programs::BEST_RESULT,
-        programs::RECOVERY,
-        programs::HANDLE_PIPELINE,
-        programs::STOCK,
-    ];
-    for text in texts {
+fn outcomes(rt: HostRuntime) -> Result<(), Fail> {
+    for text in TEXTS {
         for fuel in [60_000, 20, 7] {
             assert!(rt;
                 is_one_outcome(rt.alloc(), text, &[3, 4], fuel)?,
+                "{fuel}: {text}"
+            );
+        }
+    }
+    Ok(())
+}
+
+#[test]
+fn traces(rt: HostRuntime) -> Result<(), Fail> {
+    for text in TEXTS {
+        for fuel in [3_000, 20] {
+            assert!(rt;
+                is_one_trace(rt.alloc(), text, &[3, 4], fuel)?,
                 "{fuel}: {text}"
             );
         }

@@ -218,3 +218,8 @@ main {
   print \"left\", stock;
 }
 ";
+
+/// Two revisions join the first one.
+pub const SECOND_JOINER: &str = "proc b() { }
+proc c(h: rev) { rjoin h; }
+main { let h = rfork b(); let c1 = rfork c(h); let d1 = rfork c(h); rjoin c1; rjoin d1; }";

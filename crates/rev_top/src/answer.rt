@@ -5,9 +5,8 @@ ghost use Rattle.rev_syntax.specs.View.{program as whole};
 ghost use Rattle.rev_words.specs.Reading.{reading};
 ghost use Rattle.rev_words.specs.declared.Words.{Words};
 ghost use Rattle.rev_report.specs.Report.{output};
-ghost use Rattle.revision_calculus.specs.Complete.{HasOutcome};
 ghost use Rattle.rev_top.specs.Answer.{Accepts, Answers, Given, IsWithin, Lists};
-ghost use Rattle.rev_top.specs.Answer.{SaysAs, Takes, reads, reads_of, setting, source_limit};
+ghost use Rattle.rev_top.specs.Answer.{SaysAs, Takes, reads, reads_of, source_limit};
 ghost use Rattle.rev_top.specs.Rans.{Holds, IsMade, Leaves, said, without_run};
 ghost use Rattle.rev_top.specs.Stops.{Meets};
 
@@ -22,13 +21,10 @@ use crate::stop::Stop;
 use crate::text::checked;
 use crate::traces::trace;
 use code_listing::disassemble;
-use code_runs::run_code;
 use code_verifier::Verified;
-use codegen::generate;
 use hub_workers::Gate;
 use rev_io::{Source, read_text};
 use rev_messages::{accepted_report, done_report, refusal_bytes};
-use rev_num::Outcome;
 use rev_report::Report;
 use rev_types::Typed;
 use rev_words::{Mode, Words, read_words};
@@ -41,18 +37,6 @@ pub(crate) const SOURCE_LIMIT: usize = 1_048_576;
 
 /// The most bytes that a code file may have, and a text with a trace behind it.
 const FILE_LIMIT: usize = 16_777_216;
-
-/// The outcome of the program with the input numbers, the share and the fuel of the words, by a run of
-/// its code on one thread.
-pub(crate) fn outcome_of(alloc: Global, words: &Words, typed: &Typed) -> Result<Outcome, AllocError>
-    requires { words.now.fuel ≤ 4000000000 }
-    ensures { IfOk result (λ o. HasOutcome
-        (setting words.now (whole typed.now.expanded.program)) words.now.fuel o) }
-{
-    let code = generate(alloc, typed)?;
-    let numbers = Vec::from_slice(alloc, words.numbers.as_slice())?;
-    run_code(alloc, code, numbers, words.share, words.fuel)
-}
 
 /// The report of a program that keeps all rules.
 fn accept(alloc: Global, typed: &Typed) -> Result<Report, Stop>

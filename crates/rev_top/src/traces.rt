@@ -2,20 +2,36 @@
 ghost use Rattle.std.specs.Prelude.{◌≤◌, IfOk, ◌≡◌, length};
 ghost use Rattle.rev_syntax.specs.View.{program as whole};
 ghost use Rattle.rev_report.specs.Report.{output};
-ghost use Rattle.rev_top.specs.Answer.{SaysAs, Traces, source_limit};
+ghost use Rattle.revision_calculus.specs.Complete.{HasOutcome};
+ghost use Rattle.trace_making.specs.Traced.{HasTrace};
+ghost use Rattle.rev_top.specs.Answer.{SaysAs, Traces, setting, source_limit};
 ghost use Rattle.rev_top.specs.Stops.{Meets};
 ghost use Rattle.rev_top.specs.Traces.{text_of};
 
-use crate::answer::outcome_of;
 use crate::stop::Stop;
 use crate::text::checked;
+use code_traces::{TracedRun, trace_code};
+use codegen::generate;
 use rev_messages::trace_report;
 use rev_report::Report;
 use rev_types::Typed;
 use rev_words::{Mode, Words};
 use std::alloc::{AllocError, Global};
 use trace_diagram::{Trace, print_trace};
-use trace_making::trace_of;
+
+/// The outcome and the trace of the program with the input numbers, the share and the fuel of the
+/// words, both from one run of its code on one thread.
+fn traced(alloc: Global, words: &Words, typed: &Typed) -> Result<TracedRun, AllocError>
+    requires { words.now.fuel ≤ 4000000000 }
+    ensures outcome { IfOk result (λ t. HasOutcome
+        (setting words.now (whole typed.now.expanded.program)) words.now.fuel t.outcome) }
+    ensures trace { IfOk result (λ t. HasTrace
+        (setting words.now (whole typed.now.expanded.program)) words.now.fuel t.trace) }
+{
+    let code = generate(alloc, typed)?;
+    let numbers = Vec::from_slice(alloc, words.numbers.as_slice())?;
+    trace_code(alloc, code, numbers, words.share, words.fuel)
+}
 
 /// The text of a trace, and nothing where there is none.
 fn text_of(alloc: Global, trace: &Option<Trace>) -> Result<Vec<u8>, AllocError>
@@ -32,11 +48,9 @@ fn trace_program(alloc: Global, words: &Words, typed: &Typed) -> Result<Report, 
     requires { words.now.fuel ≤ 4000000000 }
     ensures { Meets output result (Traces words.now (whole typed.now.expanded.program)) }
 {
-    let numbers = words.numbers.as_slice();
-    let outcome = outcome_of(alloc, words, typed)?;
-    let trace = trace_of(alloc, typed, numbers, words.share, words.fuel)?;
-    let text = text_of(alloc, &trace)?;
-    Ok(trace_report(alloc, text, &outcome)?)
+    let run = traced(alloc, words, typed)?;
+    let text = text_of(alloc, &run.trace)?;
+    Ok(trace_report(alloc, text, &run.outcome)?)
 }
 
 pub fn trace(alloc: Global, words: &Words, text: &[u8]) -> Result<Report, Stop>

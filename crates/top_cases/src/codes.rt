@@ -7,6 +7,19 @@ const PRINTS_SEVEN: [u8; 48] = [
     0, 0, 1, 0, 0, 0, 0, 0, 0, 0, 0, 7, 33, 0, 0, 0, 0, 35,
 ];
 
+/// `main` joins `none` by `tryjoin`.
+const TRIES_NONE: [u8; 39] = [
+    82, 69, 86, 67, 0, 2, 0, 0, 0, 0, 0, 0, 0, 0, 0, 0, 0, 1, 3, 0, 3, 0, 0, 0, 0, 5, 29, 0, 0, 0,
+    1, 2, 37, 36, 35, 0, 0, 0, 1,
+];
+
+/// `main` forks a revision that divides by 0, joins it by `tryjoin` and prints what that gives.
+const TRIES_A_TRAP: [u8; 81] = [
+    82, 69, 86, 67, 0, 2, 0, 0, 0, 0, 0, 0, 0, 0, 0, 1, 1, 1, 0, 2, 2, 0, 3, 0, 0, 0, 0, 6, 29, 0,
+    0, 0, 1, 0, 0, 0, 0, 0, 0, 0, 0, 1, 0, 0, 0, 0, 0, 0, 0, 0, 0, 15, 36, 35, 3, 0, 3, 0, 0, 0, 0,
+    5, 29, 0, 0, 0, 2, 31, 0, 0, 37, 33, 0, 0, 0, 0, 35, 0, 0, 0, 1,
+];
+
 const LISTING: &str = "REVC 1
 layout 0 int
 block 0 main params 0 result none locals
@@ -129,6 +142,75 @@ fn emitted(rt: HostRuntime) -> Result<(), Fail> {
             answers(&rt, line, &mut source_over(&rt, text, 0)?, want)?,
             "{text}"
         );
+    }
+    Ok(())
+}
+
+/// The bytes with another one at this place.
+fn with_byte<R: AllocGlobal>(
+    rt: &R,
+    bytes: &[u8],
+    at: usize,
+    byte: u8,
+) -> Result<CalmSource, AllocError> {
+    let mut file = Vec::from_slice(rt.alloc(), bytes)?;
+    if let Some(place) = file.get_mut(at) {
+        *place = byte;
+    }
+    Ok(CalmSource::new(file))
+}
+
+#[test]
+fn joins_that_outlive_a_trap(rt: HostRuntime) -> Result<(), Fail> {
+    let none = "trap: join of none at line 1 in revision main\n";
+    let wants: [(&[u8], usize, u8, (&str, &str, u8)); 4] = [
+        (&TRIES_A_TRAP, 80, 1, ("false\n", "", 0)),
+        (&TRIES_NONE, 38, 1, ("", none, 1)),
+        // there is one such join, and not two
+        (
+            &TRIES_NONE,
+            38,
+            2,
+            ("", "error: code byte 35: bad field\n", 2),
+        ),
+        // version 1 has none
+        (
+            &TRIES_NONE,
+            5,
+            1,
+            ("", "error: code byte 32: bad field\n", 2),
+        ),
+    ];
+    for (bytes, at, byte, want) in wants {
+        let mut source = with_byte(&rt, bytes, at, byte)?;
+        assert!(rt;
+            answers(&rt, "exec", &mut source, want)?,
+            "byte {at}: {byte}"
+        );
+    }
+    Ok(())
+}
+
+/// The status of `exec` of the code that prints 7, with another byte at this place.
+fn status_with<R: AllocGlobal + Threads + Wait + Sync>(
+    rt: &R,
+    at: usize,
+    byte: u8,
+) -> Result<u8, AllocError> {
+    let words = words_of(rt, "exec")?;
+    let mut source = with_byte(rt, PRINTS_SEVEN.as_slice(), at, byte)?;
+    let mut out = CalmSink::new(rt.alloc());
+    let mut err = CalmSink::new(rt.alloc());
+    Ok(status_of(rt, words.as_slice(), &mut source, &mut out, &mut err))
+}
+
+#[test]
+fn damaged_bytes(rt: HostRuntime) -> Result<(), Fail> {
+    for at in 0..48 {
+        for byte in [0, 0x7f, 0xff] {
+            let status = status_with(&rt, at, byte)?;
+            assert!(rt; status <= 2, "byte {at}: {byte}");
+        }
     }
     Ok(())
 }
