@@ -11,6 +11,3 @@ mod trail;
 
 pub use checker::affine;
 pub use fault::AffineFault;
-
-#[cfg(test)]
-mod tests;

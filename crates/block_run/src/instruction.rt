@@ -215,7 +215,8 @@ fn act_check_cell(
     requires variable { IsVariable (array code.now.vars v) t (count code.now.vars) }
     requires few { t.first + t.cells < 2 ^ 32 }
     ensures { IsAct (p.over_cell (run_of b.now words.now r.old) (array code.now.vars v)
-        (run_of b.now words.now r.old).stack) b.now words.now words.now r.old r.new (stop_of result) }
+        (run_of b.now words.now r.old).stack) b.now words.now words.now r.old r.new
+        (stop_of result) }
 {
     match cell(t, values::top(b, words, r)) {
         None => Act::Traps(Fault::Index),

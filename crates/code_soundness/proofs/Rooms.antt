@@ -54,7 +54,7 @@ module _ (code : Code) (b : CodeBlock) where
       by true = h
       by false = omega arith
 
-  arrival_low : (done : List Passed) → length (known (arrival code b done)).shape ≤ greatest_depth code b done
+  pub arrival_low : (done : List Passed) → length (known (arrival code b done)).shape ≤ greatest_depth code b done
   arrival_low done = meet_low (greatest_depth code b done) (fallen code b done) (jumped code b (length done) done) (fallen_low done) (jumped_low (length done) done)
 
   -- ---- more instructions

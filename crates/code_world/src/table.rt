@@ -131,7 +131,8 @@ impl Table {
         ensures slots { OnOk result (self.new.slots.items
             ≡ put_number self.old.slots.items number (slot.Running forker)
             ++ slot.Running kid ∷ []) }
-        ensures births { OnOk result ((b : Birth) × (at_number self.old.births.items number ≡ Some b)
+        ensures births { OnOk result ((b : Birth)
+            × (at_number self.old.births.items number ≡ Some b)
             × (self.new.births.items ≡ born self.old.births.items number b)) }
     {
         self.put(number as usize, Slot::Running(forker));

@@ -48,7 +48,8 @@ impl Table {
     fn join_line(&self, number: usize) -> u32
         requires { (a : WholeJoin) × (at_number self.now.slots.items number
             ≡ Some (slot.Standing a)) }
-        ensures { (g : CodeRun) (a : WholeJoin) (c : State ℕ) → at_number self.now.slots.items number
+        ensures { (g : CodeRun) (a : WholeJoin) (c : State ℕ)
+            → at_number self.now.slots.items number
             ≡ Some (slot.Standing a) → StandsAtJoin g a c → result ≡ c.line }
     {
         match self.slots.get(number) {

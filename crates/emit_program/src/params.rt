@@ -34,7 +34,8 @@ pub fn merge_scope(
     root: &Name,
 ) -> Result<NameTable<u8>, AllocError>
     ensures { IfOk result
-        (λ s. s ≡ merge_scope (placed_name main.now) (placed_name join.now) (placed_name root.now)) }
+        (λ s. s ≡ merge_scope (placed_name main.now) (placed_name join.now)
+        (placed_name root.now)) }
 {
     let mut scope = NameTable::new(alloc);
     scope.add(alloc, &main.text, 0)?;

@@ -27,7 +27,8 @@ fn value_code(
     requires { ValueFits (expression body.now) }
     ensures { IfOk result
         (λ code. code
-        ≡ expression_code (numbers_of numbers.now) scope.now (expression body.now) 0 ++ i.Return ∷ []) }
+        ≡ expression_code (numbers_of numbers.now) scope.now (expression body.now) 0
+        ++ i.Return ∷ []) }
 {
     let mut code = Vec::new(alloc);
     emit_expression(alloc, &Known { numbers, scope }, &mut code, body)?;

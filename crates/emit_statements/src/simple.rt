@@ -62,11 +62,13 @@ pub fn emit_assign_cell(
     value: &Expr,
 ) -> Result<(), AllocError>
     requires { HasRoom (numbers_of known.now.numbers.now)
-        (tree.assign_cell (placed_name name.now) (expression index.now) (expression value.now)) code.old.items }
+        (tree.assign_cell (placed_name name.now) (expression index.now) (expression value.now))
+        code.old.items }
     ensures { OnOk result
         (code.new.items
         ≡ with_form (numbers_of known.now.numbers.now) known.now.scope.now
-        (tree.assign_cell (placed_name name.now) (expression index.now) (expression value.now)) 0 0 code.old.items) }
+        (tree.assign_cell (placed_name name.now) (expression index.now) (expression value.now)) 0 0
+        code.old.items) }
 {
     let var = known.numbers.var(name);
     emit_expression(alloc, known, code, index)?;

@@ -28,16 +28,23 @@ fn list_let(
     name: &Name,
     rhs: &Rhs,
 ) -> Result<(), AllocError>
-    requires { length listed.old.texts.items + length (statement_form_texts (tree.bind (placed_name name.now) (right_side rhs.now))) < 2 ^ 32 }
-    ensures locals { OnOk result (listed.new.locals ≡ bound (names_of checker.now) listed.old.locals (placed_name name.now) (right_side rhs.now)) }
+    requires { length listed.old.texts.items
+        + length (statement_form_texts
+        (tree.bind (placed_name name.now) (right_side rhs.now))) < 2 ^ 32 }
+    ensures locals { OnOk result (listed.new.locals
+        ≡ bound (names_of checker.now) listed.old.locals (placed_name name.now)
+        (right_side rhs.now)) }
     ensures kinds { OnOk result
         (listed.new.kinds.items
-        ≡ listed.old.kinds.items ++ statement_form_kinds (names_of checker.now) listed.old.locals (tree.bind (placed_name name.now) (right_side rhs.now))) }
+        ≡ listed.old.kinds.items ++ statement_form_kinds (names_of checker.now) listed.old.locals
+        (tree.bind (placed_name name.now) (right_side rhs.now))) }
     ensures texts { OnOk result
-        (listed.new.texts.items ≡ listed.old.texts.items ++ statement_form_texts (tree.bind (placed_name name.now) (right_side rhs.now))) }
+        (listed.new.texts.items ≡ listed.old.texts.items
+        ++ statement_form_texts (tree.bind (placed_name name.now) (right_side rhs.now))) }
     ensures layouts { OnOk result
         (listed.new.layouts.items
-        ≡ listed.old.layouts.items ++ statement_form_layouts (names_of checker.now) listed.old.locals
+        ≡ listed.old.layouts.items
+        ++ statement_form_layouts (names_of checker.now) listed.old.locals
         (length listed.old.texts.items) (tree.bind (placed_name name.now) (right_side rhs.now))) }
 {
     let kind = checker.right_side(&listed.locals, rhs).kind;
@@ -53,16 +60,20 @@ fn list_print(
     listed: &mut Listed,
     items: &[Item],
 ) -> Result<(), AllocError>
-    requires { length listed.old.texts.items + length (statement_form_texts (tree.print (map print_item items.now))) < 2 ^ 32 }
+    requires { length listed.old.texts.items
+        + length (statement_form_texts (tree.print (map print_item items.now))) < 2 ^ 32 }
     ensures locals { OnOk result (listed.new.locals ≡ listed.old.locals) }
     ensures kinds { OnOk result
         (listed.new.kinds.items
-        ≡ listed.old.kinds.items ++ statement_form_kinds (names_of checker.now) listed.old.locals (tree.print (map print_item items.now))) }
+        ≡ listed.old.kinds.items ++ statement_form_kinds (names_of checker.now) listed.old.locals
+        (tree.print (map print_item items.now))) }
     ensures texts { OnOk result
-        (listed.new.texts.items ≡ listed.old.texts.items ++ statement_form_texts (tree.print (map print_item items.now))) }
+        (listed.new.texts.items ≡ listed.old.texts.items
+        ++ statement_form_texts (tree.print (map print_item items.now))) }
     ensures layouts { OnOk result
         (listed.new.layouts.items
-        ≡ listed.old.layouts.items ++ statement_form_layouts (names_of checker.now) listed.old.locals
+        ≡ listed.old.layouts.items
+        ++ statement_form_layouts (names_of checker.now) listed.old.locals
         (length listed.old.texts.items) (tree.print (map print_item items.now))) }
 {
     let layout = list_items(alloc, checker, &listed.locals, &mut listed.texts, items)?;
@@ -80,10 +91,12 @@ fn list_statement(
     s: &Stmt,
 ) -> Result<(), AllocError>
     requires { length listed.old.texts.items + length (statement_texts (stmt s.now)) < 2 ^ 32 }
-    ensures locals { OnOk result (listed.new.locals ≡ locals_after (names_of checker.now) listed.old.locals (stmt s.now)) }
+    ensures locals { OnOk result (listed.new.locals
+        ≡ locals_after (names_of checker.now) listed.old.locals (stmt s.now)) }
     ensures kinds { OnOk result
         (listed.new.kinds.items
-        ≡ listed.old.kinds.items ++ statement_kinds (names_of checker.now) listed.old.locals (stmt s.now)) }
+        ≡ listed.old.kinds.items ++ statement_kinds (names_of checker.now) listed.old.locals
+        (stmt s.now)) }
     ensures texts { OnOk result
         (listed.new.texts.items ≡ listed.old.texts.items ++ statement_texts (stmt s.now)) }
     ensures layouts { OnOk result
@@ -102,16 +115,22 @@ fn list_form(
     listed: &mut Listed,
     form: &Form,
 ) -> Result<(), AllocError>
-    requires { length listed.old.texts.items + length (statement_form_texts (statement_form form.now)) < 2 ^ 32 }
-    ensures locals { OnOk result (listed.new.locals ≡ statement_form_locals (names_of checker.now) listed.old.locals (statement_form form.now)) }
+    requires { length listed.old.texts.items
+        + length (statement_form_texts (statement_form form.now)) < 2 ^ 32 }
+    ensures locals { OnOk result (listed.new.locals
+        ≡ statement_form_locals (names_of checker.now) listed.old.locals
+        (statement_form form.now)) }
     ensures kinds { OnOk result
         (listed.new.kinds.items
-        ≡ listed.old.kinds.items ++ statement_form_kinds (names_of checker.now) listed.old.locals (statement_form form.now)) }
+        ≡ listed.old.kinds.items ++ statement_form_kinds (names_of checker.now) listed.old.locals
+        (statement_form form.now)) }
     ensures texts { OnOk result
-        (listed.new.texts.items ≡ listed.old.texts.items ++ statement_form_texts (statement_form form.now)) }
+        (listed.new.texts.items ≡ listed.old.texts.items
+        ++ statement_form_texts (statement_form form.now)) }
     ensures layouts { OnOk result
         (listed.new.layouts.items
-        ≡ listed.old.layouts.items ++ statement_form_layouts (names_of checker.now) listed.old.locals
+        ≡ listed.old.layouts.items
+        ++ statement_form_layouts (names_of checker.now) listed.old.locals
         (length listed.old.texts.items) (statement_form form.now)) }
 {
     match form {
@@ -152,7 +171,8 @@ fn list_arms(
     ensures locals { OnOk result (listed.new.locals ≡ listed.old.locals) }
     ensures kinds { OnOk result
         (listed.new.kinds.items
-        ≡ listed.old.kinds.items ++ arms_kinds (names_of checker.now) listed.old.locals (arms all.now)) }
+        ≡ listed.old.kinds.items ++ arms_kinds (names_of checker.now) listed.old.locals
+        (arms all.now)) }
     ensures texts { OnOk result
         (listed.new.texts.items ≡ listed.old.texts.items ++ arms_texts (arms all.now)) }
     ensures layouts { OnOk result
@@ -179,7 +199,8 @@ pub fn list_block(
     ensures locals { OnOk result (listed.new.locals ≡ listed.old.locals) }
     ensures kinds { OnOk result
         (listed.new.kinds.items
-        ≡ listed.old.kinds.items ++ statements_kinds (names_of checker.now) listed.old.locals (block b.now)) }
+        ≡ listed.old.kinds.items ++ statements_kinds (names_of checker.now) listed.old.locals
+        (block b.now)) }
     ensures texts { OnOk result
         (listed.new.texts.items ≡ listed.old.texts.items ++ statements_texts (block b.now)) }
     ensures layouts { OnOk result

@@ -18,7 +18,8 @@ pub struct Room {
 
 // The next event of a revision.
 fn next_event(runner: Going) -> Event<Forking, Node, Node>
-    ensures { Comes tree is_end (λ e. e.by_join) (λ f. after_fork f.node) (λ f. child_of f.node) runner.node result }
+    ensures { Comes tree is_end (λ e. e.by_join) (λ f. after_fork f.node)
+        (λ f. child_of f.node) runner.node result }
 {
     let node = runner.node;
     match node.stage {

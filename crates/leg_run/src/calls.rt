@@ -119,7 +119,8 @@ pub fn call(setting: &CodeSetting, run: &mut Run, b: &CodeBlock, n: u16) -> Resu
         × Stands setting.now.code setting.now.inputs.items setting.now.share run.old seen root c }
     ensures { IfOk result (λ t. (seen : ℕ → ℕ) (root : ℕ → Option ℕ) (c : State ℕ)
         → Stands setting.now.code setting.now.inputs.items setting.now.share run.old seen root c
-        → TurnsTo setting.now.code setting.now.inputs.items setting.now.share c t run.new seen root) }
+        → TurnsTo setting.now.code setting.now.inputs.items setting.now.share c t run.new seen
+        root) }
 {
     if run.below.len() + 1 >= MOST_FRAMES {
         return Ok(Turn::Ends(LegEnd::Trap(Cause::CallDepth)));
@@ -159,7 +160,8 @@ fn go_back(run: &mut Run, b: &CodeBlock, w: Waiting)
       line = run.old.registers.line;
     } }
     ensures below { run.new.below.items ≡ run.old.below.items }
-    ensures words { run.new.words.items ≡ returned b.now.result run.old.registers run.old.words.items }
+    ensures words { run.new.words.items
+        ≡ returned b.now.result run.old.registers run.old.words.items }
     ensures rest { SameRest run.old run.new }
 {
     let top = move_result(run.words.as_mut_slice(), &run.registers, b);
@@ -178,7 +180,8 @@ pub fn leave(setting: &CodeSetting, run: &mut Run, b: &CodeBlock) -> Turn
         × Stands setting.now.code setting.now.inputs.items setting.now.share run.old seen root c }
     ensures { (seen : ℕ → ℕ) (root : ℕ → Option ℕ) (c : State ℕ)
         → Stands setting.now.code setting.now.inputs.items setting.now.share run.old seen root c
-        → TurnsTo setting.now.code setting.now.inputs.items setting.now.share c result run.new seen root }
+        → TurnsTo setting.now.code setting.now.inputs.items setting.now.share c result run.new seen
+        root }
 {
     match run.below.pop() {
         None => Turn::Ends(LegEnd::End),

@@ -1,6 +1,7 @@
 //! Numbers that are ready, and numbers that wait for others.
 
-ghost use Rattle.std.specs.Prelude.{◌≡◌, ◌≢◌, ◌≤◌, ◌<◌, ◌+◌, ◌⊎◌, ◌^◌, ℕ, IfSome, IfNone, OnOk, length, true};
+ghost use Rattle.std.specs.Prelude.{◌≡◌, ◌≢◌, ◌≤◌, ◌<◌, ◌+◌, ◌⊎◌, ◌^◌, ℕ, IfSome, IfNone, OnOk};
+ghost use Rattle.std.specs.Prelude.{length, true};
 ghost use Rattle.ready_queue.specs.Heap.{Has, has};
 ghost use Rattle.ready_queue.specs.Queue.{HasReady, HasWaiter, KeepsAll, entered};
 

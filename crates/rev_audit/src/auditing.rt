@@ -27,9 +27,11 @@ fn of_parts<'a>(
     found: Option<Difference>,
 ) -> Result<Verdict, AllocError>
     requires order { InPostOrder stated.now.parts.now }
-    requires swept { IsSwept (given stated.now.setting) stated.now.fuel stated.now.parts.now unstated
+    requires swept { IsSwept (given stated.now.setting) stated.now.fuel stated.now.parts.now
+        unstated
         found }
-    requires ahead { IsAhead (given stated.now.setting) stated.now.fuel stated.now.parts.now unstated
+    requires ahead { IsAhead (given stated.now.setting) stated.now.fuel stated.now.parts.now
+        unstated
         found }
     ensures { IfOk result (Audits (given stated.now.setting) stated.now.fuel
         (record { parts = stated.now.parts.now })) }
@@ -98,7 +100,8 @@ fn verdict<'a>(
     found: Option<Difference>,
 ) -> Result<Verdict, AllocError>
     requires order { InPostOrder stated.now.parts.now }
-    requires swept { IsSwept (given stated.now.setting) stated.now.fuel stated.now.parts.now unstated
+    requires swept { IsSwept (given stated.now.setting) stated.now.fuel stated.now.parts.now
+        unstated
         found }
     ensures { IfOk result (Audits (given stated.now.setting) stated.now.fuel
         (record { parts = stated.now.parts.now })) }

@@ -71,8 +71,10 @@ fn taken_end(
     on: &Path,
 ) -> Result<Option<AloneEnd>, AllocError>
     requires order { InPostOrder stated.now.parts.now }
-    requires fits { OwnFits (given stated.now.setting) stated.now.fuel state.now.path state.now.local }
-    ensures { IfOk result (TakesOrNot (given stated.now.setting) stated.now.fuel stated.now.parts.now
+    requires fits { OwnFits (given stated.now.setting) stated.now.fuel state.now.path
+        state.now.local }
+    ensures { IfOk result (TakesOrNot
+        (given stated.now.setting) stated.now.fuel stated.now.parts.now
         state.now.path state.now.local on.now) }
 {
     let Some(part) = stated.part(on) else {
@@ -94,7 +96,8 @@ pub(crate) fn joinee_of(
     on: &Path,
 ) -> Result<Joinee, AllocError>
     requires order { InPostOrder stated.now.parts.now }
-    requires fits { OwnFits (given stated.now.setting) stated.now.fuel state.now.path state.now.local }
+    requires fits { OwnFits (given stated.now.setting) stated.now.fuel state.now.path
+        state.now.local }
     requires joined { IsSetOf joined.now.map (joined_by state.now.local.noted) }
     ensures { IfOk result (IsJoinee (given stated.now.setting) stated.now.fuel stated.now.parts.now
         state.now.path state.now.local on.now) }

@@ -56,7 +56,11 @@ impl<'a> Stated<'a> {
     ) -> Result<Stated<'a>, AllocError>
         requires { fuel ≤ 4000000000 }
         ensures setting { IfOk result (λ t. given t.setting
-            ≡ record { program = whole typed.now.expanded.program; inputs = input.now; share = share }) }
+            ≡ record {
+              program = whole typed.now.expanded.program;
+              inputs = input.now;
+              share = share;
+            }) }
         ensures fuel { IfOk result (λ t. t.fuel ≡ fuel) }
         ensures parts { IfOk result (λ t. t.parts.now ≡ parts.now) }
     {

@@ -1,6 +1,7 @@
 //! What a stated part tells of the end of its revision.
 
-ghost use Rattle.std.specs.Prelude.{◌≡◌, ◌+◌, ◌<◌, ◌&&◌, ◌++◌, [], None, IfOk, OnOk, drop, length, option_map};
+ghost use Rattle.std.specs.Prelude.{◌≡◌, ◌+◌, ◌<◌, ◌&&◌, ◌++◌, [], None, IfOk, OnOk, drop, length};
+ghost use Rattle.std.specs.Prelude.{option_map};
 ghost use Rattle.std.specs.Prelude.{replicate};
 ghost use Rattle.rev_num.specs.Value.{kind_of};
 ghost use Rattle.rev_kinds.specs.Kinds.{same_kind};
@@ -8,7 +9,8 @@ ghost use Rattle.revision_calculus.specs.Kinded.{LocationsAre, location_kinds};
 ghost use Rattle.revision_steps.specs.Ends.{phase_of};
 ghost use Rattle.revision_state.specs.Views.{given};
 ghost use Rattle.audit_rules.specs.Parts as spec;
-ghost use Rattle.rev_audit.specs.Told.{AreSlots, Enters, ToldBy, slots_from, with_written, write_to};
+ghost use Rattle.rev_audit.specs.Told.{AreSlots, Enters, ToldBy, slots_from, with_written};
+ghost use Rattle.rev_audit.specs.Told.{write_to};
 ghost use Rattle.rev_audit.specs.Told.{written_in};
 
 use crate::stated::Stated;
@@ -22,7 +24,8 @@ use trace_diagram::{Change, Part, PartEnd};
 /// The cause, with the location that the place names, if it is a merge's.
 fn told_cause(stated: &Stated, cause: Cause, place: &[u8]) -> Option<Cause>
     ensures { result
-        ≡ spec.cause_from cause (spec.number_of (spec.places (given stated.now.setting)) place.now) }
+        ≡ spec.cause_from cause (spec.number_of
+        (spec.places (given stated.now.setting)) place.now) }
 {
     match cause {
         Cause::Merge { location: _, fault } => match stated.number(place) {
@@ -102,7 +105,8 @@ fn enter_change(
     requires kinds { LocationsAre (location_kinds (given stated.now.setting)) locations.now }
     requires slots { slots.old.items
         ≡ slots_from 0 (spec.places (given stated.now.setting)) (drop (j + 1) changes.now) }
-    ensures { IfOk result (λ fits. Enters (given stated.now.setting) changes.now j slots.new.items fits) }
+    ensures { IfOk result (λ fits. Enters
+        (given stated.now.setting) changes.now j slots.new.items fits) }
 {
     let change = &changes[j];
     let Some(number) = stated.number(change.place.as_slice()) else {
@@ -129,7 +133,8 @@ fn slots_of(
 ) -> Result<Option<Vec<Option<AloneWrite>>>, AllocError>
     requires { LocationsAre (location_kinds (given stated.now.setting)) locations.now }
     ensures { IfOk result
-        (λ slots. AreSlots (given stated.now.setting) changes.now (option_map (λ v. v.items) slots)) }
+        (λ slots. AreSlots (given stated.now.setting) changes.now
+        (option_map (λ v. v.items) slots)) }
 {
     let mut slots = no_slots(alloc, locations.len())?;
     let mut j = changes.len();

@@ -16,6 +16,3 @@ mod whole;
 pub use language::Language;
 pub use laws::{language_is_exact, one_verdict, some_verdict};
 pub use whole::{MOST_LEVELS, SyntaxFault, parse};
-
-#[cfg(test)]
-mod tests;

@@ -41,7 +41,8 @@ impl<P: Snapshot> Parent<P> {
     /// The forker, which holds its child's number.
     pub fn told(self, number: u32) -> Runner<P>
         ensures state { (g : CodeRun) (c : State _) (args : List (Word _))
-            → IsAt g self.revision.run self.revision.memory.delta (P.base self.revision.memory.snapshot)
+            → IsAt g self.revision.run self.revision.memory.delta
+            (P.base self.revision.memory.snapshot)
             self.revision.memory.first.roots (events.parent g.share c args 0)
             → IsAt g result.revision.run result.revision.memory.delta
             (P.base result.revision.memory.snapshot) result.revision.memory.first.roots

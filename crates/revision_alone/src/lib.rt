@@ -3,8 +3,6 @@
 
 mod alone;
 mod ends;
-#[cfg(test)]
-mod tests;
 
 pub use alone::{Alone, LocalState, first_alone, join_alone, step_alone};
 pub use ends::{AloneEnd, AloneWrite};

@@ -29,7 +29,8 @@ impl<'a, P: Snapshot> Model for CodeFork<'a, P> {
     } };
 
     ghost invariant = { λ f. IsSetting f.setting.now
-        × StandsAtFork (run_under f.setting.now) f.at (fork_state (run_under f.setting.now) f.at) (arguments_at (run_under f.setting.now) (fork_state (run_under f.setting.now) f.at)) };
+        × StandsAtFork (run_under f.setting.now) f.at (fork_state (run_under f.setting.now) f.at)
+        (arguments_at (run_under f.setting.now) (fork_state (run_under f.setting.now) f.at)) };
 }
 
 /// A forker that does not know its child's number, with what it runs under. Contracts see its
@@ -53,10 +54,13 @@ impl<'a, P: Snapshot> Model for CodeParent<'a, P> {
 
     ghost view = { λ p. record {
       run = run_under p.setting.now;
-      state = state_at (run_under p.setting.now) p.parent.revision.run p.parent.revision.memory.delta (P.base p.parent.revision.memory.snapshot) p.parent.revision.memory.first.roots;
+      state = state_at (run_under p.setting.now) p.parent.revision.run
+      p.parent.revision.memory.delta (P.base p.parent.revision.memory.snapshot)
+      p.parent.revision.memory.first.roots;
       group = parent_group p.parent;
     } };
 
     ghost invariant = { λ p. IsSetting p.setting.now
-        × ((c : State ℕ) × (args : List (Word ℕ)) × Awaits (run_under p.setting.now) p.parent c args) };
+        × ((c : State ℕ) × (args : List (Word ℕ))
+        × Awaits (run_under p.setting.now) p.parent c args) };
 }

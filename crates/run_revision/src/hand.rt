@@ -61,7 +61,8 @@ impl<'a, P: Snapshot, M: MergeBy, K: Keeper<P>> Model for CodeHand<'a, P, M, K> 
       kept = K.kept h.keeper;
     } };
 
-    ghost invariant = { λ h. IsSetting h.setting.now × (M.size h.merges ≡ count h.setting.now.code.vars)
+    ghost invariant = { λ h. IsSetting h.setting.now
+        × (M.size h.merges ≡ count h.setting.now.code.vars)
         × AreMergesOf (run_under h.setting.now) (M.merges h.merges) };
 }
 

@@ -31,7 +31,8 @@ impl<'a, P: Snapshot> Model for CodeJoiner<'a, P> {
     } };
 
     ghost invariant = { λ a. IsSetting a.setting.now
-        × StandsAtJoin (run_under a.setting.now) a.at (joiner_state (run_under a.setting.now) a.at) };
+        × StandsAtJoin (run_under a.setting.now) a.at
+        (joiner_state (run_under a.setting.now) a.at) };
 }
 
 impl<'a, P: Snapshot> CodeJoiner<'a, P> {

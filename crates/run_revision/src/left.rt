@@ -29,7 +29,8 @@ impl<'a> Model for CodeEnd<'a> {
       left = end_for (run_under e.setting.now) e.value;
     } };
 
-    ghost invariant = { λ e. IsEnd (run_under e.setting.now) (end_for (run_under e.setting.now) e.value) e.value };
+    ghost invariant = { λ e. IsEnd (run_under e.setting.now)
+        (end_for (run_under e.setting.now) e.value) e.value };
 }
 
 impl<'a> CodeEnd<'a> {

@@ -37,7 +37,8 @@ fn leave<'a, P: Snapshot, M: MergeBy, K: Keeper<P>>(
     setting: &'a CodeSetting,
     stopped: Stopped<P>,
 ) -> CodeEnd<'a>
-    requires end { IsEnd (run_under setting.now) (end_for (run_under setting.now) stopped.end) stopped.end }
+    requires end { IsEnd (run_under setting.now)
+        (end_for (run_under setting.now) stopped.end) stopped.end }
     requires group { P.group stopped.snapshot ≡ hand.old.group }
     ensures run { result.run ≡ run_under setting.entry.now }
     ensures left { result.left ≡ end_for (run_under setting.entry.now) stopped.end }

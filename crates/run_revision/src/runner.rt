@@ -30,12 +30,14 @@ impl<'a, P: Snapshot> Model for CodeRunner<'a, P> {
     ghost Value = { RunnerValue };
 
     ghost view = { λ r. record {
-      state = state_of (run_under r.setting.now) (at_work (runner_state (run_under r.setting.now) r.runner));
+      state = state_of (run_under r.setting.now)
+      (at_work (runner_state (run_under r.setting.now) r.runner));
       group = runner_group r.runner;
     } };
 
     ghost invariant = { λ r. IsSetting r.setting.now
-        × StandsFor (run_under r.setting.now) r.runner (runner_state (run_under r.setting.now) r.runner) };
+        × StandsFor (run_under r.setting.now) r.runner
+        (runner_state (run_under r.setting.now) r.runner) };
 }
 
 impl<'a, P: Snapshot> CodeRunner<'a, P> {

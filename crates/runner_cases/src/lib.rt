@@ -1,6 +1,9 @@
 //! Two revisions that join a third one: what their steps in both orders come to.
 #![tactic(auto)]
 
+#[cfg(test)]
+mod alone;
+
 ghost use Rattle.std.specs.Prelude.{IfOk};
 ghost use Rattle.revision_machine.specs.Rules.{IsWithin};
 ghost use Rattle.revision_machine.specs.States.{global_of};

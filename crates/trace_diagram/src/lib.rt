@@ -18,6 +18,3 @@ pub use fault::TraceFault;
 pub use laws::{fault_laws, text_laws};
 pub use printer::print_trace;
 pub use reader::read_trace;
-
-#[cfg(test)]
-mod tests;

@@ -121,7 +121,8 @@ impl<L: Revision> TurnHub<L> {
         requires own { (place.table_id ≡ self.turn.shared.table_id) × IsIdle place.me }
         requires every { place.me.0.parts ≡ (first_of self.turn.shared.key.views).parts }
         requires over { place.me.0.saw ≡ 1 }
-        ensures { ClosedTurn L.machine L.ends (first_of self.turn.shared.key.views) place.me.0 result }
+        ensures { ClosedTurn L.machine L.ends
+            (first_of self.turn.shared.key.views) place.me.0 result }
     {
         let TurnHub {
             turn,
@@ -143,10 +144,13 @@ impl<L: Revision> TurnHub<L> {
         requires over { saw_of (map (λ s. s.place) seats.items) ≡ 1 }
         ensures state { result.run.state ≡ halt_known (map (λ s. s.place) seats.items) }
         ensures run { IsClosed L.machine L.ends (first_of self.turn.shared.key.views)
-            result.run.state result.run.schedule.items result.run.forkers.items result.run.ends.items
+            result.run.state result.run.schedule.items result.run.forkers.items
+            result.run.ends.items
             result.kept.items (λ n. held_by n (map (λ s. s.place) seats.items)) }
-        ensures start { (first_of result.run.witness.views).start ≡ (first_of self.turn.shared.key.views).start }
-        ensures group { (first_of result.run.witness.views).group ≡ (first_of self.turn.shared.key.views).group }
+        ensures start { (first_of result.run.witness.views).start
+            ≡ (first_of self.turn.shared.key.views).start }
+        ensures group { (first_of result.run.witness.views).group
+            ≡ (first_of self.turn.shared.key.views).group }
     {
         let mut all = self.gather_all(seats);
         let witness = self.tell(&mut all);

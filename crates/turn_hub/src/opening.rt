@@ -38,13 +38,15 @@ pub struct Anchored<L: Revision> {
 impl<L: Revision> TableRule<(), View<L::State>, Opening<L>> for Anchored<L> {
     ghost holds = { λ _ _. Unit {0} };
 
-    ghost first = { λ key. opens key.seats (Some (L.machine.runs key.first)) (L.machine.runner_group key.first) };
+    ghost first = { λ key. opens key.seats (Some (L.machine.runs key.first))
+        (L.machine.runner_group key.first) };
 }
 
 // The start of a run, told by a badge.
 fn anchor<L: Revision>(alloc: Global, opening: &Opening<L>) -> Option<Badge<View<L::State>>>
     ensures { IfSome result
-        (λ b. first_of b.views ≡ opens opening.now.seats (Some (L.machine.runs opening.now.first)) (L.machine.runner_group opening.now.first)) }
+        (λ b. first_of b.views ≡ opens opening.now.seats (Some (L.machine.runs opening.now.first))
+        (L.machine.runner_group opening.now.first)) }
 {
     let opened = Table::<(), View<L::State>, Opening<L>, Anchored<L>, Global>::of_words(
         alloc,

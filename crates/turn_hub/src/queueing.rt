@@ -1,6 +1,7 @@
 //! How the lists of what is ready and of what waits change. No call goes along a list, and only
 //! `reach` has a loop, which has no round where there is a revision of the number.
-ghost use Rattle.std.specs.Prelude.{◌≡◌, ◌<◌, ◌≤◌, ◌+◌, ◌^◌, ℕ, [], length, true, None, MatchOption};
+ghost use Rattle.std.specs.Prelude.{◌≡◌, ◌<◌, ◌≤◌, ◌+◌, ◌^◌, ℕ, [], length, true, None};
+ghost use Rattle.std.specs.Prelude.{MatchOption};
 ghost use Rattle.std.specs.Prelude.{vec_len, vec_capacity};
 ghost use Rattle.turn_hub.specs.Chains.{IsAsLong, KeepsLists, Adds, Takes, Waits, Wakes, EndsOne};
 ghost use Rattle.turn_hub.specs.Chains.{IsWithin, chain_at};

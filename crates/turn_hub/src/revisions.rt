@@ -1,8 +1,10 @@
 //! What the hub keeps of the revisions, by number.
 ghost use Rattle.std.specs.Prelude.{◌≡◌, ◌<◌, ◌≤◌, ◌+◌, ◌^◌, ◌++◌, [], ◌∷◌, length, map};
-ghost use Rattle.std.specs.Prelude.{true, Some, None, OnOk, option_to_list, MatchOption, IfOk, IfErr, vec_len, vec_capacity};
+ghost use Rattle.std.specs.Prelude.{true, Some, None, OnOk, option_to_list, MatchOption, IfOk};
+ghost use Rattle.std.specs.Prelude.{IfErr, vec_len, vec_capacity};
 ghost use Rattle.revision_machine.specs.Numbered.{at_number, put_number};
-ghost use Rattle.hub_algebra.specs.declared.status.Status.TheVariants.{Ready, Out, Waiting, Over, Gone};
+ghost use Rattle.hub_algebra.specs.declared.status.Status.TheVariants.{Ready, Out, Waiting, Over};
+ghost use Rattle.hub_algebra.specs.declared.status.Status.TheVariants.{Gone};
 ghost use Rattle.hub_algebra.specs.Hub.{end_of};
 ghost use Rattle.turn_hub.specs.Chains.{KeepsLists, AddsOne, DelaysOne, EndsOne, HasOne};
 ghost use Rattle.turn_hub.specs.Chains.{IsWithin, chain_at};

@@ -1,5 +1,6 @@
 //! What lies in the slot while nobody has the turn.
-ghost use Rattle.std.specs.Prelude.{◌≡◌, ◌≤◌, ◌++◌, [], ◌∷◌, length, Some, None, MatchOption, MatchBool, IfOk, IfErr};
+ghost use Rattle.std.specs.Prelude.{◌≡◌, ◌≤◌, ◌++◌, [], ◌∷◌, length, Some, None, MatchOption};
+ghost use Rattle.std.specs.Prelude.{MatchBool, IfOk, IfErr};
 ghost use Rattle.hub_algebra.specs.declared.status.Status.TheVariants.{Ready};
 ghost use Rattle.turn_hub.specs.declared.state.HubState.TheVariants.{All};
 ghost use Rattle.turn_hub.specs.Chains.{AddsOne, KeepsLists};

@@ -1,6 +1,6 @@
 //! Texts that parse, texts with their first fault, and texts of a megabyte, with ample memory.
 
-use crate::whole::{SyntaxFault, parse};
+use rev_parse::{SyntaxFault, parse};
 use rev_syntax::{Form, Item, Node, Program, tokens};
 use std::alloc::Global;
 use std::test::Fail;

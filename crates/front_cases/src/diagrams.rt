@@ -1,8 +1,8 @@
 //! Traces that are read from texts and printed again.
 
-use crate::{TraceFault, print_trace, read_trace};
 use std::alloc::Global;
 use std::test::Fail;
+use trace_diagram::{TraceFault, print_trace, read_trace};
 
 const TWO_PARTS: &[u8] = b"revisions trace 1\n\
     revision 0\n\

@@ -1,32 +1,18 @@
-// One revision after another, each by itself: `main` forks a child, and joins it by what is told of
-// it.
-use super::*;
-use merge_decl::expand_funs;
-use rev_num::Value;
-use rev_parse::parse;
-use rev_syntax::tokens;
-use rev_types::{Typed, check};
+//! One revision after another, each by itself: `main` forks a child, and joins it by what is told of
+//! it.
+
+use crate::typed_of;
+use revision_alone::{Alone, AloneEnd, AloneWrite, LocalState};
+use revision_alone::{first_alone, join_alone, step_alone};
 use revision_state::Setting;
+use rev_num::Value;
 use std::alloc::{AllocError, Global};
 use std::test::Fail;
-
-const LIMIT: usize = 1_048_576;
 
 const FEW: u64 = 1000;
 
 const TEXT: &str = "versioned x: int = 5; proc child() { x = x + 1; print x; } \
     main { let h = rfork child(); rjoin h; print x; }";
-
-/// The program of a text, if that is well typed.
-fn typed_of(alloc: Global, text: &[u8]) -> Option<Typed> {
-    if text.len() > LIMIT {
-        return None;
-    }
-    let tokens = tokens(alloc, text).ok()?;
-    let program = parse(alloc, text, tokens.as_slice()).ok()?;
-    let expanded = expand_funs(alloc, program).ok()?;
-    check(alloc, expanded).ok()
-}
 
 /// The state after a step and what that came to, with little fuel.
 fn stepped<'a>(

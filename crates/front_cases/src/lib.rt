@@ -1,0 +1,10 @@
+//! Tables of texts: what the parser, the checker of the affine rule and the reader of traces find in
+//! them.
+#![tactic(auto)]
+
+#[cfg(test)]
+mod affine;
+#[cfg(test)]
+mod diagrams;
+#[cfg(test)]
+mod parsing;
