@@ -156,12 +156,12 @@ fn broken_form(
             scope.reached = reached;
             Ok(first(test, found))
         }
-        Form::Call { name: _, args } => Ok(copied_args(&scope.locals, false, args)),
+        Form::Call { args, .. } => Ok(copied_args(&scope.locals, false, args)),
         Form::Return { value } => {
             scope.reached = false;
             Ok(copied_value(&scope.locals, value))
         }
-        Form::Fork { name: _, args } => Ok(copied_args(&scope.locals, false, args)),
+        Form::Fork { args, .. } => Ok(copied_args(&scope.locals, false, args)),
         Form::Join { handle } => Ok(copied(&scope.locals, false, handle)),
         Form::Print { items } => Ok(copied_items(&scope.locals, items)),
         Form::Assert { test } => Ok(copied(&scope.locals, false, test)),
@@ -273,33 +273,10 @@ fn broken_decl(
         (λ f. f ≡ rule.broken_declaration (names_of checker.now) (declaration d.now)) }
 {
     match d {
-        Decl::Proc {
-            name: _,
-            params,
-            result: _,
-            body,
-        } => broken_body(alloc, checker, params, body),
-        Decl::Fun {
-            name: _,
-            params: _,
-            result: _,
-            body: _,
-        } => Ok(None),
-        Decl::Merge {
-            name: _,
-            main: _,
-            join: _,
-            root: _,
-            body: _,
-        } => Ok(None),
-        Decl::Shared {
-            name: _,
-            by: _,
-            kind_at: _,
-            holds: _,
-            size: _,
-            first: _,
-        } => Ok(None),
+        Decl::Proc { params, body, .. } => broken_body(alloc, checker, params, body),
+        Decl::Fun { .. } => Ok(None),
+        Decl::Merge { .. } => Ok(None),
+        Decl::Shared { .. } => Ok(None),
     }
 }
 

@@ -50,15 +50,15 @@ fn copied_node(locals: &Locals, copies: bool, node: &Node) -> Option<AffineFault
         Node::Bool(_) => None,
         Node::NoRev => None,
         Node::Var(w) => name(locals, copies, w),
-        Node::Cell { name: _, index } => copied(locals, copies, index),
-        Node::Apply { name: _, args } => copied_args(locals, copies, args),
-        Node::Input { word_at: _, index } => copied(locals, copies, index),
-        Node::Inputs { word_at: _ } => None,
+        Node::Cell { index, .. } => copied(locals, copies, index),
+        Node::Apply { args, .. } => copied_args(locals, copies, args),
+        Node::Input { index, .. } => copied(locals, copies, index),
+        Node::Inputs { .. } => None,
         Node::Pick { test, yes, no } => first(
             copied(locals, true, test),
             first(copied(locals, true, yes), copied(locals, true, no)),
         ),
-        Node::Unary { op: _, part } => copied(locals, copies, part),
+        Node::Unary { part, .. } => copied(locals, copies, part),
         Node::Chain { first: head, rest } => {
             copied_links(locals, copies, copied(locals, copies, head), rest)
         }
@@ -99,17 +99,9 @@ pub fn copied_right(locals: &Locals, rhs: &Rhs) -> Option<AffineFault>
 {
     match rhs {
         Rhs::Plain(e) => copied(locals, true, e),
-        Rhs::Call {
-            at: _,
-            name: _,
-            args,
-        } => copied_args(locals, false, args),
-        Rhs::Fork {
-            at: _,
-            name: _,
-            args,
-        } => copied_args(locals, false, args),
-        Rhs::Try { at: _, handle } => copied(locals, false, handle),
+        Rhs::Call { args, .. } => copied_args(locals, false, args),
+        Rhs::Fork { args, .. } => copied_args(locals, false, args),
+        Rhs::Try { handle, .. } => copied(locals, false, handle),
     }
 }
 
@@ -127,7 +119,7 @@ fn copied_item(locals: &Locals, item: &Item) -> Option<AffineFault>
     ensures { result ≡ rule.copied_item locals.now (print_item item.now) }
 {
     match item {
-        Item::Text { at: _, bytes: _ } => None,
+        Item::Text { .. } => None,
         Item::Value(e) => copied(locals, false, e),
     }
 }

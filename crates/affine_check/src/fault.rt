@@ -46,10 +46,10 @@ fn rank(fault: AffineFault) -> u8
     ensures { result ≡ rule.rank fault }
 {
     match fault {
-        AffineFault::Copied { at: _ } => 1,
-        AffineFault::Stored { at: _ } => 2,
-        AffineFault::UsedTwice { at: _ } => 3,
-        AffineFault::InLoop { at: _ } => 4,
+        AffineFault::Copied { .. } => 1,
+        AffineFault::Stored { .. } => 2,
+        AffineFault::UsedTwice { .. } => 3,
+        AffineFault::InLoop { .. } => 4,
         AffineFault::OutOfMemory => 5,
     }
 }

@@ -150,20 +150,13 @@ fn named(name: &[u8], e: &Expr) -> Option<u32>
         Node::Int(_) => None,
         Node::Bool(_) => None,
         Node::NoRev => None,
-        Node::Cell { name: _, index: _ } => None,
-        Node::Apply { name: _, args: _ } => None,
-        Node::Input {
-            word_at: _,
-            index: _,
-        } => None,
-        Node::Inputs { word_at: _ } => None,
-        Node::Pick {
-            test: _,
-            yes: _,
-            no: _,
-        } => None,
-        Node::Unary { op: _, part: _ } => None,
-        Node::Chain { first: _, rest: _ } => None,
+        Node::Cell { .. } => None,
+        Node::Apply { .. } => None,
+        Node::Input { .. } => None,
+        Node::Inputs { .. } => None,
+        Node::Pick { .. } => None,
+        Node::Unary { .. } => None,
+        Node::Chain { .. } => None,
     }
 }
 
@@ -184,17 +177,9 @@ fn right(name: &[u8], inside: bool, trail: Trail, rhs: &Rhs) -> Trail
 {
     match rhs {
         Rhs::Plain(_) => trail,
-        Rhs::Call {
-            at: _,
-            name: _,
-            args: all,
-        } => args(name, inside, trail, all),
-        Rhs::Fork {
-            at: _,
-            name: _,
-            args: all,
-        } => args(name, inside, trail, all),
-        Rhs::Try { at: _, handle } => trail.used_at(inside, named(name, handle)),
+        Rhs::Call { args: all, .. } => args(name, inside, trail, all),
+        Rhs::Fork { args: all, .. } => args(name, inside, trail, all),
+        Rhs::Try { handle, .. } => trail.used_at(inside, named(name, handle)),
     }
 }
 
@@ -235,11 +220,7 @@ fn form(name: &[u8], inside: bool, trail: Trail, form: &Form) -> Trail
     match form {
         Form::Let { name: other, rhs } => gets(name, other, right(name, inside, trail, rhs)),
         Form::Assign { name: other, rhs } => gets(name, other, right(name, inside, trail, rhs)),
-        Form::AssignCell {
-            name: _,
-            index: _,
-            value: _,
-        } => trail,
+        Form::AssignCell { .. } => trail,
         Form::If { arms: all, last } => {
             let taken = blocks(name, inside, trail, all);
             match last {
@@ -247,15 +228,15 @@ fn form(name: &[u8], inside: bool, trail: Trail, form: &Form) -> Trail
                 Some(last) => taken.met(statements(name, inside, trail, &last.stmts)),
             }
         }
-        Form::While { test: _, body } => {
+        Form::While { body, .. } => {
             trail.turned(statements(name, true, trail.turning(), &body.stmts))
         }
-        Form::Call { name: _, args: all } => args(name, inside, trail, all),
+        Form::Call { args: all, .. } => args(name, inside, trail, all),
         Form::Return { value: returned } => value(name, inside, trail, returned).ended(),
-        Form::Fork { name: _, args: all } => args(name, inside, trail, all),
+        Form::Fork { args: all, .. } => args(name, inside, trail, all),
         Form::Join { handle } => trail.used_at(inside, named(name, handle)),
-        Form::Print { items: _ } => trail,
-        Form::Assert { test: _ } => trail,
+        Form::Print { .. } => trail,
+        Form::Assert { .. } => trail,
     }
 }
 

@@ -30,12 +30,12 @@ fn begin<'a>(known: &Known, e: &'a Expr) -> Steps<'a>
         Node::Bool(b) => Steps::One(Task::Put(Instr::PushBool(*b))),
         Node::NoRev => Steps::One(Task::Put(Instr::PushNone)),
         Node::Var(name) => Steps::One(Task::Put(known.load(name))),
-        Node::Inputs { word_at: _ } => Steps::One(Task::Put(Instr::CountInput)),
+        Node::Inputs { .. } => Steps::One(Task::Put(Instr::CountInput)),
         Node::Cell { name, index } => Steps::Two {
             first: Task::Whole(index),
             then: Task::Put(Instr::LoadCell(known.numbers.var(name))),
         },
-        Node::Input { word_at: _, index } => Steps::Two {
+        Node::Input { index, .. } => Steps::Two {
             first: Task::Whole(index),
             then: Task::Put(Instr::LoadInput),
         },

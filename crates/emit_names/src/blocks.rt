@@ -26,40 +26,17 @@ impl ValueBlocks {
             (self.new.next ≡ self.old.next + value_count (declaration d.now)) }
     {
         match d {
-            Decl::Fun {
-                name: _,
-                params: _,
-                result: _,
-                body: _,
-            } => {
+            Decl::Fun { .. } => {
                 self.next += 1;
                 Ok(())
             }
-            Decl::Merge {
-                name: _,
-                main: _,
-                join: _,
-                root: _,
-                body: _,
-            } => {
+            Decl::Merge { .. } => {
                 self.merges.push(self.next)?;
                 self.next += 1;
                 Ok(())
             }
-            Decl::Shared {
-                name: _,
-                by: _,
-                kind_at: _,
-                holds: _,
-                size: _,
-                first: _,
-            } => Ok(()),
-            Decl::Proc {
-                name: _,
-                params: _,
-                result: _,
-                body: _,
-            } => Ok(()),
+            Decl::Shared { .. } => Ok(()),
+            Decl::Proc { .. } => Ok(()),
         }
     }
 }

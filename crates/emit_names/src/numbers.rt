@@ -42,36 +42,13 @@ fn enter_declaration(alloc: Global, numbers: &mut NameNumbers, d: &Decl) -> Resu
     ensures { OnOk result (numbers.new ≡ with_declaration numbers.old (declaration d.now)) }
 {
     match d {
-        Decl::Shared {
-            name,
-            by: _,
-            kind_at: _,
-            holds: _,
-            size: _,
-            first: _,
-        } => enter(alloc, &mut numbers.vars, &name.text),
-        Decl::Fun {
-            name,
-            params: _,
-            result: _,
-            body: _,
-        } => enter(alloc, &mut numbers.funs, &name.text),
-        Decl::Merge {
-            name: _,
-            main: _,
-            join: _,
-            root: _,
-            body: _,
-        } => {
+        Decl::Shared { name, .. } => enter(alloc, &mut numbers.vars, &name.text),
+        Decl::Fun { name, .. } => enter(alloc, &mut numbers.funs, &name.text),
+        Decl::Merge { .. } => {
             numbers.funs.next += 1;
             Ok(())
         }
-        Decl::Proc {
-            name,
-            params: _,
-            result,
-            body: _,
-        } => {
+        Decl::Proc { name, result, .. } => {
             enter(alloc, &mut numbers.procs, &name.text)?;
             numbers.gives.add(alloc, &name.text, result.is_some())
         }

@@ -72,10 +72,9 @@ fn enter_var(
             Decl::Shared {
                 name,
                 by,
-                kind_at: _,
                 holds,
-                size: _,
                 first,
+                ..
             },
         ) => {
             vars.push(CodeVar {

@@ -33,21 +33,17 @@ fn is_return(form: &Form) -> bool
     ensures { result ≡ is_return (statement_form form.now) }
 {
     match form {
-        Form::Return { value: _ } => true,
-        Form::Let { name: _, rhs: _ } => false,
-        Form::Assign { name: _, rhs: _ } => false,
-        Form::AssignCell {
-            name: _,
-            index: _,
-            value: _,
-        } => false,
-        Form::If { arms: _, last: _ } => false,
-        Form::While { test: _, body: _ } => false,
-        Form::Call { name: _, args: _ } => false,
-        Form::Fork { name: _, args: _ } => false,
-        Form::Join { handle: _ } => false,
-        Form::Print { items: _ } => false,
-        Form::Assert { test: _ } => false,
+        Form::Return { .. } => true,
+        Form::Let { .. } => false,
+        Form::Assign { .. } => false,
+        Form::AssignCell { .. } => false,
+        Form::If { .. } => false,
+        Form::While { .. } => false,
+        Form::Call { .. } => false,
+        Form::Fork { .. } => false,
+        Form::Join { .. } => false,
+        Form::Print { .. } => false,
+        Form::Assert { .. } => false,
     }
 }
 
@@ -110,12 +106,7 @@ fn body_code(
     };
     emit_block(alloc, numbers, &mut body, b)?;
     end(&mut body.code, gives, b)?;
-    let Body {
-        code,
-        scope: _,
-        local: _,
-        layout: _,
-    } = body;
+    let Body { code, .. } = body;
     Ok(Items::from_vec(code))
 }
 
@@ -241,35 +232,17 @@ fn enter_body(
 {
     match d {
         Decl::Proc {
-            name: _,
             params,
             result,
             body,
+            ..
         } => {
             blocks.push(proc_block(alloc, numbers, checker, listed, params, *result, body)?)?;
             Ok(())
         }
-        Decl::Fun {
-            name: _,
-            params: _,
-            result: _,
-            body: _,
-        } => Ok(()),
-        Decl::Merge {
-            name: _,
-            main: _,
-            join: _,
-            root: _,
-            body: _,
-        } => Ok(()),
-        Decl::Shared {
-            name: _,
-            by: _,
-            kind_at: _,
-            holds: _,
-            size: _,
-            first: _,
-        } => Ok(()),
+        Decl::Fun { .. } => Ok(()),
+        Decl::Merge { .. } => Ok(()),
+        Decl::Shared { .. } => Ok(()),
     }
 }
 

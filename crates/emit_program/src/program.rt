@@ -31,12 +31,7 @@ pub fn emit(alloc: Global, typed: &Typed) -> Result<Code, AllocError>
     };
     let mut blocks = emit_values(alloc, &numbers, &program.decls)?;
     let listed = emit_bodies(alloc, &numbers, &checker, &mut blocks, program)?;
-    let Listed {
-        locals: _,
-        kinds: _,
-        texts,
-        layouts,
-    } = listed;
+    let Listed { texts, layouts, .. } = listed;
     Ok(Code {
         vars,
         texts: Items::from_vec(texts),

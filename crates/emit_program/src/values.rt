@@ -102,38 +102,26 @@ fn enter_value(
 {
     match d {
         Decl::Fun {
-            name: _,
             params,
             result,
             body,
+            ..
         } => {
             blocks.push(fun_block(alloc, numbers, params, *result, body)?)?;
             Ok(())
         }
         Decl::Merge {
-            name: _,
             main,
             join,
             root,
             body,
+            ..
         } => {
             blocks.push(merge_block(alloc, numbers, main, join, root, body)?)?;
             Ok(())
         }
-        Decl::Shared {
-            name: _,
-            by: _,
-            kind_at: _,
-            holds: _,
-            size: _,
-            first: _,
-        } => Ok(()),
-        Decl::Proc {
-            name: _,
-            params: _,
-            result: _,
-            body: _,
-        } => Ok(()),
+        Decl::Shared { .. } => Ok(()),
+        Decl::Proc { .. } => Ok(()),
     }
 }
 

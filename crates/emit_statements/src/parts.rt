@@ -27,15 +27,15 @@ pub fn emit_right_side(
 {
     match rhs {
         Rhs::Plain(e) => emit_expression(alloc, known, code, e),
-        Rhs::Call { at: _, name, args } => {
+        Rhs::Call { name, args, .. } => {
             emit_arguments(alloc, known, code, args)?;
             put(code, Instr::Call(known.numbers.proc(name)))
         }
-        Rhs::Fork { at: _, name, args } => {
+        Rhs::Fork { name, args, .. } => {
             emit_arguments(alloc, known, code, args)?;
             put(code, Instr::Fork(known.numbers.proc(name)))
         }
-        Rhs::Try { at: _, handle } => {
+        Rhs::Try { handle, .. } => {
             emit_expression(alloc, known, code, handle)?;
             put(code, Instr::TryJoin)
         }
@@ -56,7 +56,7 @@ fn emit_item(
         (print_item item.now) (length code.old.items)) }
 {
     match item {
-        Item::Text { at: _, bytes: _ } => Ok(()),
+        Item::Text { .. } => Ok(()),
         Item::Value(e) => emit_expression(alloc, known, code, e),
     }
 }

@@ -51,7 +51,7 @@ fn list_item(
         (length texts.old.items) (print_item item.now ∷ [])) }
 {
     match item {
-        Item::Text { at: _, bytes } => {
+        Item::Text { bytes, .. } => {
             layout.push(LayoutItem::Text(texts.len() as u32))?;
             texts.push(Items::from_vec(Vec::from_slice(alloc, bytes)?))?;
             Ok(())

@@ -143,18 +143,14 @@ fn list_form(
                 Some(last) => list_block(alloc, checker, listed, last),
             }
         }
-        Form::While { test: _, body } => list_block(alloc, checker, listed, body),
-        Form::Assign { name: _, rhs: _ } => Ok(()),
-        Form::AssignCell {
-            name: _,
-            index: _,
-            value: _,
-        } => Ok(()),
-        Form::Call { name: _, args: _ } => Ok(()),
-        Form::Return { value: _ } => Ok(()),
-        Form::Fork { name: _, args: _ } => Ok(()),
-        Form::Join { handle: _ } => Ok(()),
-        Form::Assert { test: _ } => Ok(()),
+        Form::While { body, .. } => list_block(alloc, checker, listed, body),
+        Form::Assign { .. } => Ok(()),
+        Form::AssignCell { .. } => Ok(()),
+        Form::Call { .. } => Ok(()),
+        Form::Return { .. } => Ok(()),
+        Form::Fork { .. } => Ok(()),
+        Form::Join { .. } => Ok(()),
+        Form::Assert { .. } => Ok(()),
     }
 }
 

@@ -95,9 +95,9 @@ fn rank(fault: MergeFault) -> u8
     ensures { result ≡ rule.rank fault }
 {
     match fault {
-        MergeFault::UnknownFun { at: _ } => 1,
-        MergeFault::LaterFun { at: _ } => 2,
-        MergeFault::Arity { at: _ } => 3,
+        MergeFault::UnknownFun { .. } => 1,
+        MergeFault::LaterFun { .. } => 2,
+        MergeFault::Arity { .. } => 3,
         MergeFault::OutOfMemory => 4,
     }
 }
@@ -167,13 +167,7 @@ fn fun_table(alloc: Global, decls: &[Decl]) -> Result<NameTable<FunHead>, AllocE
     let mut table = NameTable::new(alloc);
     let mut number = 0u32;
     for (decl, d) in decls.iter().enumerate() {
-        if let Decl::Fun {
-            name,
-            params,
-            result: _,
-            body: _,
-        } = d
-        {
+        if let Decl::Fun { name, params, .. } = d {
             let head = FunHead {
                 decl: decl as u32,
                 number,
@@ -193,13 +187,7 @@ fn fun_list(alloc: Global, decls: &[Decl]) -> Result<Vec<FunDef>, AllocError>
 {
     let mut funs = Vec::new(alloc);
     for (decl, d) in decls.iter().enumerate() {
-        if let Decl::Fun {
-            name: _,
-            params: _,
-            result: _,
-            body: _,
-        } = d
-        {
+        if let Decl::Fun { .. } = d {
             funs.push(FunDef { decl: decl as u32 })?;
         }
     }
@@ -213,14 +201,7 @@ fn merge_list(alloc: Global, decls: &[Decl]) -> Result<Vec<MergeRef>, AllocError
 {
     let mut merges = Vec::new(alloc);
     for (decl, d) in decls.iter().enumerate() {
-        if let Decl::Merge {
-            name: _,
-            main: _,
-            join: _,
-            root: _,
-            body: _,
-        } = d
-        {
+        if let Decl::Merge { .. } = d {
             merges.push(MergeRef { decl: decl as u32 })?;
         }
     }

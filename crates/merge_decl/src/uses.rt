@@ -44,7 +44,7 @@ fn add_node<'a>(
         ≡ uses_of uses.old.items ++ rule.expression_form_uses within (expression_form node.now)) }
 {
     match node {
-        Node::Cell { name: _, index } => add_expression(uses, within, index),
+        Node::Cell { index, .. } => add_expression(uses, within, index),
         Node::Apply { name, args } => {
             uses.push(Use {
                 name,
@@ -54,14 +54,14 @@ fn add_node<'a>(
             add_expressions(uses, within, args)?;
             Ok(())
         }
-        Node::Input { word_at: _, index } => add_expression(uses, within, index),
+        Node::Input { index, .. } => add_expression(uses, within, index),
         Node::Pick { test, yes, no } => {
             add_expression(uses, within, test)?;
             add_expression(uses, within, yes)?;
             add_expression(uses, within, no)?;
             Ok(())
         }
-        Node::Unary { op: _, part } => add_expression(uses, within, part),
+        Node::Unary { part, .. } => add_expression(uses, within, part),
         Node::Chain { first, rest } => {
             add_expression(uses, within, first)?;
             add_links(uses, within, rest)?;
@@ -71,7 +71,7 @@ fn add_node<'a>(
         Node::Bool(_) => Ok(()),
         Node::NoRev => Ok(()),
         Node::Var(_) => Ok(()),
-        Node::Inputs { word_at: _ } => Ok(()),
+        Node::Inputs { .. } => Ok(()),
     }
 }
 
@@ -119,17 +119,9 @@ fn add_right<'a>(
 {
     match rhs {
         Rhs::Plain(e) => add_expression(uses, within, e),
-        Rhs::Call {
-            at: _,
-            name: _,
-            args,
-        } => add_expressions(uses, within, args),
-        Rhs::Fork {
-            at: _,
-            name: _,
-            args,
-        } => add_expressions(uses, within, args),
-        Rhs::Try { at: _, handle } => add_expression(uses, within, handle),
+        Rhs::Call { args, .. } => add_expressions(uses, within, args),
+        Rhs::Fork { args, .. } => add_expressions(uses, within, args),
+        Rhs::Try { handle, .. } => add_expression(uses, within, handle),
     }
 }
 
@@ -164,13 +156,9 @@ fn add_form<'a>(
         ≡ uses_of uses.old.items ++ rule.statement_form_uses within (statement_form form.now)) }
 {
     match form {
-        Form::Let { name: _, rhs } => add_right(uses, within, rhs),
-        Form::Assign { name: _, rhs } => add_right(uses, within, rhs),
-        Form::AssignCell {
-            name: _,
-            index,
-            value,
-        } => {
+        Form::Let { rhs, .. } => add_right(uses, within, rhs),
+        Form::Assign { rhs, .. } => add_right(uses, within, rhs),
+        Form::AssignCell { index, value, .. } => {
             add_expression(uses, within, index)?;
             add_expression(uses, within, value)
         }
@@ -185,12 +173,12 @@ fn add_form<'a>(
             add_expression(uses, within, test)?;
             add_block(uses, within, body)
         }
-        Form::Call { name: _, args } => add_expressions(uses, within, args),
+        Form::Call { args, .. } => add_expressions(uses, within, args),
         Form::Return { value } => match value {
             Some(e) => add_expression(uses, within, e),
             None => Ok(()),
         },
-        Form::Fork { name: _, args } => add_expressions(uses, within, args),
+        Form::Fork { args, .. } => add_expressions(uses, within, args),
         Form::Join { handle } => add_expression(uses, within, handle),
         Form::Print { items } => add_items(uses, within, items),
         Form::Assert { test } => add_expression(uses, within, test),
@@ -243,33 +231,10 @@ fn add_decl<'a>(
         ≡ uses_of uses.old.items ++ rule.declaration_uses all number (declaration decl.now)) }
 {
     match decl {
-        Decl::Fun {
-            name: _,
-            params: _,
-            result: _,
-            body,
-        } => add_expression(uses, number, body),
-        Decl::Merge {
-            name: _,
-            main: _,
-            join: _,
-            root: _,
-            body,
-        } => add_expression(uses, number, body),
-        Decl::Shared {
-            name: _,
-            by: _,
-            kind_at: _,
-            holds: _,
-            size: _,
-            first: _,
-        } => Ok(()),
-        Decl::Proc {
-            name: _,
-            params: _,
-            result: _,
-            body,
-        } => add_block(uses, all, body),
+        Decl::Fun { body, .. } => add_expression(uses, number, body),
+        Decl::Merge { body, .. } => add_expression(uses, number, body),
+        Decl::Shared { .. } => Ok(()),
+        Decl::Proc { body, .. } => add_block(uses, all, body),
     }
 }
 

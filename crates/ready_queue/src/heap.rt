@@ -9,6 +9,5 @@ use std::collections::BinaryHeap;
 #[derive(Drop)]
 pub struct LeastHeap {
     pub(crate) above: BinaryHeap<u32>,
-    ghost order: { IsHeap nat_cmp (heap_items above) }
-        by { IsHeap-prop nat_cmp (heap_items above) },
+    ghost order: { IsHeap nat_cmp (heap_items above) } by { IsHeap-prop nat_cmp (heap_items above) },
 }

@@ -93,7 +93,7 @@ fn shown_cause(cause: Cause) -> Cause
     ensures { result ≡ cause_shown cause }
 {
     match cause {
-        Cause::Merge { location: _, fault } => Cause::Merge { location: 0, fault },
+        Cause::Merge { fault, .. } => Cause::Merge { location: 0, fault },
         _ => cause,
     }
 }

@@ -53,8 +53,8 @@ fn enter_join(
         ≡ (if lists (event.now ∷ []) q then Some number else place_by table.old.map q)) }
 {
     match event {
-        TraceEvent::Forked { child: _, line: _ } => Ok(()),
-        TraceEvent::Joined { on, line: _ } => table.enter(alloc, on, number),
+        TraceEvent::Forked { .. } => Ok(()),
+        TraceEvent::Joined { on, .. } => table.enter(alloc, on, number),
     }
 }
 

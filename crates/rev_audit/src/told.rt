@@ -28,7 +28,7 @@ fn told_cause(stated: &Stated, cause: Cause, place: &[u8]) -> Option<Cause>
         (spec.places (given stated.now.setting)) place.now) }
 {
     match cause {
-        Cause::Merge { location: _, fault } => match stated.number(place) {
+        Cause::Merge { fault, .. } => match stated.number(place) {
             Some(location) => Some(Cause::Merge { location, fault }),
             None => None,
         },

@@ -37,12 +37,7 @@ pub fn fun_params(decl: &Decl) -> &[Param]
     ensures { names_of (map parameter result.now) ≡ meant.fun_params (declaration decl.now) }
 {
     match decl {
-        Decl::Fun {
-            name: _,
-            params,
-            result: _,
-            body: _,
-        } => params,
+        Decl::Fun { params, .. } => params,
         _ => &[],
     }
 }
@@ -52,12 +47,7 @@ pub fn fun_body(decl: &Decl) -> Option<&Expr>
     ensures { option_map expression (option_copied result) ≡ meant.fun_body (declaration decl.now) }
 {
     match decl {
-        Decl::Fun {
-            name: _,
-            params: _,
-            result: _,
-            body,
-        } => Some(body),
+        Decl::Fun { body, .. } => Some(body),
         _ => None,
     }
 }

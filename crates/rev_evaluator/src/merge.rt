@@ -115,11 +115,11 @@ fn merged<'a>(
 {
     match decl {
         Decl::Merge {
-            name: _,
             main: of_main,
             join: of_join,
             root: of_root,
             body,
+            ..
         } => {
             let empty = Locals::Empty;
             let locals = bound(of_main, Seen::Int(main), &empty);

@@ -127,24 +127,17 @@ fn part_cost(node: &Node) -> u32
     ensures { result ≡ part_cost (expression_form node.now) }
 {
     match node {
-        Node::Chain { first: _, rest: _ } => 0,
+        Node::Chain { .. } => 0,
         Node::Int(_) => 1,
         Node::Bool(_) => 1,
         Node::NoRev => 1,
         Node::Var(_) => 1,
-        Node::Cell { name: _, index: _ } => 1,
-        Node::Apply { name: _, args: _ } => 1,
-        Node::Input {
-            word_at: _,
-            index: _,
-        } => 1,
-        Node::Inputs { word_at: _ } => 1,
-        Node::Pick {
-            test: _,
-            yes: _,
-            no: _,
-        } => 1,
-        Node::Unary { op: _, part: _ } => 1,
+        Node::Cell { .. } => 1,
+        Node::Apply { .. } => 1,
+        Node::Input { .. } => 1,
+        Node::Inputs { .. } => 1,
+        Node::Pick { .. } => 1,
+        Node::Unary { .. } => 1,
     }
 }
 
@@ -181,9 +174,9 @@ pub fn begin<'l, 'a, E: Environment>(
         Node::Bool(b) => Turn::value(Seen::Bool(*b)),
         Node::NoRev => Turn::value(Seen::Rev(None)),
         Node::Var(name) => Turn::value(reads.variable(name)),
-        Node::Inputs { word_at: _ } => Turn::value(Seen::Int(reads.inputs())),
+        Node::Inputs { .. } => Turn::value(Seen::Int(reads.inputs())),
         Node::Cell { name, index } => Turn::part(Pending::Cell(name), index),
-        Node::Input { word_at: _, index } => Turn::part(Pending::Input, index),
+        Node::Input { index, .. } => Turn::part(Pending::Input, index),
         Node::Pick { test, yes, no } => Turn::part(Pending::Pick { yes, no }, test),
         Node::Unary { op, part } => Turn::part(Pending::Unary(*op), part),
         Node::Chain { first, rest } => Turn::part(Pending::Left(rest), first),

@@ -222,15 +222,15 @@ impl<'a> Checker<'_, 'a> {
     {
         match rhs {
             Rhs::Plain(e) => self.expression(locals, e),
-            Rhs::Call { at: _, name, args } => {
+            Rhs::Call { name, args, .. } => {
                 let proc = self.proc(name);
                 let fault = first(result_use(name.at, proc), self.call(locals, name, args));
                 Seen::new(result_of(proc), fault)
             }
-            Rhs::Fork { at: _, name, args } => {
+            Rhs::Fork { name, args, .. } => {
                 Seen::new(Some(ValueKind::Rev), self.call(locals, name, args))
             }
-            Rhs::Try { at: _, handle } => {
+            Rhs::Try { handle, .. } => {
                 Seen::new(
                     Some(ValueKind::Bool),
                     self.part(locals, handle, ValueKind::Rev),
@@ -246,16 +246,8 @@ pub fn right_side_place(rhs: &Rhs) -> u32
 {
     match rhs {
         Rhs::Plain(e) => e.at,
-        Rhs::Call {
-            at,
-            name: _,
-            args: _,
-        } => *at,
-        Rhs::Fork {
-            at,
-            name: _,
-            args: _,
-        } => *at,
-        Rhs::Try { at, handle: _ } => *at,
+        Rhs::Call { at, .. } => *at,
+        Rhs::Fork { at, .. } => *at,
+        Rhs::Try { at, .. } => *at,
     }
 }

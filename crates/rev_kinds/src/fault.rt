@@ -50,11 +50,7 @@ fn place(fault: TypeFault) -> u32
         TypeFault::WrongType { at } => at,
         TypeFault::WrongCount { at } => at,
         TypeFault::NoReturn { at } => at,
-        TypeFault::LimitOf {
-            at,
-            which: _,
-            limit: _,
-        } => at,
+        TypeFault::LimitOf { at, .. } => at,
         TypeFault::OutOfMemory => 0,
     }
 }
@@ -77,16 +73,12 @@ fn rank(fault: TypeFault) -> u8
     ensures { result ≡ rule.rank fault }
 {
     match fault {
-        TypeFault::UnknownName { at: _ } => 1,
-        TypeFault::Redeclared { at: _ } => 2,
-        TypeFault::WrongType { at: _ } => 3,
-        TypeFault::WrongCount { at: _ } => 4,
-        TypeFault::NoReturn { at: _ } => 5,
-        TypeFault::LimitOf {
-            at: _,
-            which,
-            limit: _,
-        } => order(which),
+        TypeFault::UnknownName { .. } => 1,
+        TypeFault::Redeclared { .. } => 2,
+        TypeFault::WrongType { .. } => 3,
+        TypeFault::WrongCount { .. } => 4,
+        TypeFault::NoReturn { .. } => 5,
+        TypeFault::LimitOf { which, .. } => order(which),
         TypeFault::OutOfMemory => 13,
     }
 }

@@ -66,12 +66,8 @@ pub fn summary_report(
 {
     let report = outcome_bytes(alloc, outcome, false)?;
     match outcome {
-        Outcome::Done { text: _, values: _ } => behind(first_line(alloc, seed, size)?, report),
-        Outcome::Trapped {
-            text: _,
-            values: _,
-            trap: _,
-        } => behind(first_line(alloc, seed, size)?, report),
+        Outcome::Done { .. } => behind(first_line(alloc, seed, size)?, report),
+        Outcome::Trapped { .. } => behind(first_line(alloc, seed, size)?, report),
         Outcome::Twice => Ok(report),
     }
 }
@@ -83,12 +79,8 @@ pub fn trace_report(alloc: Global, trace: Vec<u8>, outcome: &Outcome) -> Result<
 {
     let report = outcome_bytes(alloc, outcome, false)?;
     match outcome {
-        Outcome::Done { text: _, values: _ } => Ok(done_report(alloc, trace)),
-        Outcome::Trapped {
-            text: _,
-            values: _,
-            trap: _,
-        } => Ok(Report {
+        Outcome::Done { .. } => Ok(done_report(alloc, trace)),
+        Outcome::Trapped { .. } => Ok(Report {
             out: trace,
             err: report.err,
             status: report.status,

@@ -151,26 +151,15 @@ fn status_of(refusal: &Refusal) -> u8
         Refusal::Usage => status::USAGE,
         Refusal::ReadFault => status::READ_FAULT,
         Refusal::TooLong => status::REFUSED,
-        Refusal::Text { place: _, fault: _ } => status::REFUSED,
-        Refusal::OverLimit {
-            place: _,
-            limit: _,
-            which: _,
-        } => status::REFUSED,
+        Refusal::Text { .. } => status::REFUSED,
+        Refusal::OverLimit { .. } => status::REFUSED,
         Refusal::BadMagic => status::REFUSED,
         Refusal::BadVersion => status::REFUSED,
-        Refusal::File { at: _, fault: _ } => status::REFUSED,
-        Refusal::Code {
-            block: _,
-            at: _,
-            fault: _,
-        } => status::REFUSED,
-        Refusal::Trace { at: _ } => status::REFUSED,
-        Refusal::Schedule {
-            entry: _,
-            revision: _,
-        } => status::REFUSED,
-        Refusal::Differs { revision: _ } => status::REFUSED,
+        Refusal::File { .. } => status::REFUSED,
+        Refusal::Code { .. } => status::REFUSED,
+        Refusal::Trace { .. } => status::REFUSED,
+        Refusal::Schedule { .. } => status::REFUSED,
+        Refusal::Differs { .. } => status::REFUSED,
     }
 }
 

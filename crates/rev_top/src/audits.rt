@@ -57,11 +57,7 @@ fn judge(alloc: Global, words: &Words, typed: &Typed, trace: &Trace) -> Result<R
     let numbers = words.numbers.as_slice();
     match audit_trace(alloc, typed, numbers, words.share, words.fuel, trace)? {
         Verdict::Yes => Ok(agreed_report(alloc)?),
-        Verdict::No {
-            revision,
-            stated: _,
-            computed: _,
-        } => Err(Stop::Refused(Refusal::Differs { revision })),
+        Verdict::No { revision, .. } => Err(Stop::Refused(Refusal::Differs { revision })),
     }
 }
 

@@ -47,14 +47,7 @@ fn list(
         ≡ procs.old.items ++ program.proc_of passed.now.number (declaration d.now)) }
 {
     match d {
-        Decl::Shared {
-            name: _,
-            by,
-            kind_at: _,
-            holds: _,
-            size,
-            first: _,
-        } => {
+        Decl::Shared { by, size, .. } => {
             shared.push(SharedInfo {
                 decl: passed.number,
                 base: passed.located,
@@ -64,28 +57,12 @@ fn list(
             })?;
             Ok(())
         }
-        Decl::Proc {
-            name: _,
-            params: _,
-            result: _,
-            body: _,
-        } => {
+        Decl::Proc { .. } => {
             procs.push(passed.number)?;
             Ok(())
         }
-        Decl::Fun {
-            name: _,
-            params: _,
-            result: _,
-            body: _,
-        } => Ok(()),
-        Decl::Merge {
-            name: _,
-            main: _,
-            join: _,
-            root: _,
-            body: _,
-        } => Ok(()),
+        Decl::Fun { .. } => Ok(()),
+        Decl::Merge { .. } => Ok(()),
     }
 }
 

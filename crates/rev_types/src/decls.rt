@@ -39,24 +39,20 @@ fn form_returns(form: &Form) -> bool
     ensures { result ≡ statements.statement_form_returns (statement_form form.now) }
 {
     match form {
-        Form::Return { value: _ } => true,
+        Form::Return { .. } => true,
         Form::If { arms, last } => match last {
             None => false,
             Some(last) => arms_return(arms) && returns(last),
         },
-        Form::Let { name: _, rhs: _ } => false,
-        Form::Assign { name: _, rhs: _ } => false,
-        Form::AssignCell {
-            name: _,
-            index: _,
-            value: _,
-        } => false,
-        Form::While { test: _, body: _ } => false,
-        Form::Call { name: _, args: _ } => false,
-        Form::Fork { name: _, args: _ } => false,
-        Form::Join { handle: _ } => false,
-        Form::Print { items: _ } => false,
-        Form::Assert { test: _ } => false,
+        Form::Let { .. } => false,
+        Form::Assign { .. } => false,
+        Form::AssignCell { .. } => false,
+        Form::While { .. } => false,
+        Form::Call { .. } => false,
+        Form::Fork { .. } => false,
+        Form::Join { .. } => false,
+        Form::Print { .. } => false,
+        Form::Assert { .. } => false,
     }
 }
 

@@ -46,11 +46,9 @@ impl<'a> NameTables<'a> {
         match d {
             Decl::Shared {
                 name,
-                by: _,
-                kind_at: _,
                 holds,
                 size,
-                first: _,
+                ..
             } => {
                 let holder = Holder {
                     kind: *holds,
@@ -62,7 +60,7 @@ impl<'a> NameTables<'a> {
                 name,
                 params,
                 result,
-                body: _,
+                ..
             } => {
                 let callee = Callee {
                     params,
@@ -74,7 +72,7 @@ impl<'a> NameTables<'a> {
                 name,
                 params,
                 result,
-                body: _,
+                ..
             } => {
                 let callee = Callee {
                     params,
@@ -82,13 +80,7 @@ impl<'a> NameTables<'a> {
                 };
                 self.funs.add(alloc, &name.text, callee)
             }
-            Decl::Merge {
-                name: _,
-                main: _,
-                join: _,
-                root: _,
-                body: _,
-            } => Ok(()),
+            Decl::Merge { .. } => Ok(()),
         }
     }
 }

@@ -63,9 +63,9 @@ fn node_weight(weights: &NameTable<u32>, node: &Node) -> u32
         Node::Bool(_) => 1,
         Node::NoRev => 1,
         Node::Var(_) => 1,
-        Node::Inputs { word_at: _ } => 1,
-        Node::Cell { name: _, index } => plus(1, weight(weights, index)),
-        Node::Input { word_at: _, index } => plus(1, weight(weights, index)),
+        Node::Inputs { .. } => 1,
+        Node::Cell { index, .. } => plus(1, weight(weights, index)),
+        Node::Input { index, .. } => plus(1, weight(weights, index)),
         Node::Apply { name, args } => {
             args_weight(weights, plus(1, known_weight(weights, name)), args)
         }
@@ -74,7 +74,7 @@ fn node_weight(weights: &NameTable<u32>, node: &Node) -> u32
             let yes = weight(weights, yes);
             plus(plus(plus(1, test), yes), weight(weights, no))
         }
-        Node::Unary { op: _, part } => plus(1, weight(weights, part)),
+        Node::Unary { part, .. } => plus(1, weight(weights, part)),
         Node::Chain { first, rest } => links_weight(weights, weight(weights, first), rest),
     }
 }
@@ -157,33 +157,10 @@ impl Passed {
         ensures { result ≡ program.body_weight (passed_of self.now) (declaration decl.now) }
     {
         match decl {
-            Decl::Fun {
-                name: _,
-                params: _,
-                result: _,
-                body,
-            } => weight(&self.weights, body),
-            Decl::Merge {
-                name: _,
-                main: _,
-                join: _,
-                root: _,
-                body,
-            } => weight(&self.weights, body),
-            Decl::Shared {
-                name: _,
-                by: _,
-                kind_at: _,
-                holds: _,
-                size: _,
-                first: _,
-            } => 0,
-            Decl::Proc {
-                name: _,
-                params: _,
-                result: _,
-                body: _,
-            } => 0,
+            Decl::Fun { body, .. } => weight(&self.weights, body),
+            Decl::Merge { body, .. } => weight(&self.weights, body),
+            Decl::Shared { .. } => 0,
+            Decl::Proc { .. } => 0,
         }
     }
 
@@ -199,23 +176,12 @@ impl Passed {
         ensures counts { OnOk result (self.new.merge_count ≤ self.new.number) }
     {
         match decl {
-            Decl::Fun {
-                name,
-                params: _,
-                result: _,
-                body: _,
-            } => {
+            Decl::Fun { name, .. } => {
                 self.names.add(alloc, &name.text, self.number)?;
                 self.weights.add(alloc, &name.text, weight)?;
                 self.funs_left = self.funs_left.saturating_sub(1);
             }
-            Decl::Merge {
-                name,
-                main: _,
-                join: _,
-                root: _,
-                body: _,
-            } => {
+            Decl::Merge { name, .. } => {
                 self.names.add(alloc, &name.text, self.number)?;
                 self.merges.add(alloc, &name.text, self.merge_count)?;
                 self.funs_left = self.funs_left.saturating_sub(1);
@@ -223,23 +189,11 @@ impl Passed {
                 self.merge_count += 1;
                 return Ok(());
             }
-            Decl::Shared {
-                name,
-                by: _,
-                kind_at: _,
-                holds: _,
-                size,
-                first: _,
-            } => {
+            Decl::Shared { name, size, .. } => {
                 self.names.add(alloc, &name.text, self.number)?;
                 self.located = located_after(self.located, cells_in(*size));
             }
-            Decl::Proc {
-                name,
-                params: _,
-                result: _,
-                body: _,
-            } => {
+            Decl::Proc { name, .. } => {
                 self.names.add(alloc, &name.text, self.number)?;
                 self.procs_left = self.procs_left.saturating_sub(1);
             }

@@ -88,7 +88,7 @@ fn item(checker: &Checker, locals: &Locals, left: usize, item: &Item) -> Option<
         (print_item item.now) }
 {
     match item {
-        Item::Text { at, bytes: _ } => one_more_item(*at, left),
+        Item::Text { at, .. } => one_more_item(*at, left),
         Item::Value(e) => {
             let seen = checker.expression(locals, e);
             first(

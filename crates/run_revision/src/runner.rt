@@ -31,7 +31,7 @@ impl<'a, P: Snapshot> Model for CodeRunner<'a, P> {
 
     ghost view = { λ r. record {
       state = state_of (run_under r.setting.now)
-      (at_work (runner_state (run_under r.setting.now) r.runner));
+          (at_work (runner_state (run_under r.setting.now) r.runner));
       group = runner_group r.runner;
     } };
 

@@ -2,10 +2,11 @@
 //! it.
 
 use crate::typed_of;
-use revision_alone::{Alone, AloneEnd, AloneWrite, LocalState};
-use revision_alone::{first_alone, join_alone, step_alone};
-use revision_state::Setting;
 use rev_num::Value;
+use revision_alone::{
+    Alone, AloneEnd, AloneWrite, LocalState, first_alone, join_alone, step_alone,
+};
+use revision_state::Setting;
 use std::alloc::{AllocError, Global};
 use std::test::Fail;
 

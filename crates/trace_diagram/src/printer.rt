@@ -89,7 +89,7 @@ fn append_cause(text: &mut Vec<u8>, cause: Cause, place: &[u8]) -> Result<(), Al
         Cause::JoinNone => text.extend_from_slice(b"join of none"),
         Cause::CallDepth => text.extend_from_slice(b"call depth"),
         Cause::Spent => text.extend_from_slice(b"fuel spent"),
-        Cause::Merge { location: _, fault } => {
+        Cause::Merge { fault, .. } => {
             text.extend_from_slice(b"merge of ")?;
             text.extend_from_slice(place)?;
             text.extend_from_slice(b": ")?;
