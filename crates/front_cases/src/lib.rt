@@ -1,5 +1,5 @@
-//! Tables of texts: what the parser, the checker of the affine rule and the reader of traces find in
-//! them.
+//! Tables of texts: what the lexer, the parser, the checker of the affine rule and the reader of traces
+//! find in them.
 #![tactic(auto)]
 
 #[cfg(test)]
@@ -8,3 +8,5 @@ mod affine;
 mod diagrams;
 #[cfg(test)]
 mod parsing;
+#[cfg(test)]
+mod tokens;

@@ -21,6 +21,3 @@ pub use tree::{
     Arm, BinaryOp, Block, Const, Decl, Expr, Form, Item, Link, Name, Node, Param, Program, Rhs,
     Size, Stmt, UnaryOp,
 };
-
-#[cfg(test)]
-mod tests;

@@ -1,11 +1,67 @@
 //! Worked cases, each with its tokens or its first fault.
 
-use crate::lex::tokens;
-use crate::place::line_column;
-use crate::scan::LexFault;
-use crate::token::{Fixed, SIGNS, Token, TokenKind, WORDS};
+use rev_syntax::{Fixed, LexFault, Token, TokenKind, line_column, tokens};
 use std::alloc::Global;
 use std::test::Fail;
+
+/// The reserved words, as the text below has them.
+const WORDS: [Fixed; 27] = [
+    Fixed::Fun,
+    Fixed::Merge,
+    Fixed::Versioned,
+    Fixed::Cumulative,
+    Fixed::By,
+    Fixed::Proc,
+    Fixed::Main,
+    Fixed::KindInt,
+    Fixed::KindBool,
+    Fixed::KindRev,
+    Fixed::Let,
+    Fixed::If,
+    Fixed::Else,
+    Fixed::While,
+    Fixed::Call,
+    Fixed::Return,
+    Fixed::Fork,
+    Fixed::Join,
+    Fixed::TryJoin,
+    Fixed::Print,
+    Fixed::Assert,
+    Fixed::True,
+    Fixed::False,
+    Fixed::NoRev,
+    Fixed::Input,
+    Fixed::Inputs,
+    Fixed::Pick,
+];
+
+/// The signs, as the text below has them.
+const SIGNS: [Fixed; 24] = [
+    Fixed::Equal,
+    Fixed::NotEqual,
+    Fixed::LessEqual,
+    Fixed::GreaterEqual,
+    Fixed::And,
+    Fixed::Or,
+    Fixed::OpenParen,
+    Fixed::CloseParen,
+    Fixed::OpenBrace,
+    Fixed::CloseBrace,
+    Fixed::OpenBracket,
+    Fixed::CloseBracket,
+    Fixed::Comma,
+    Fixed::Semicolon,
+    Fixed::Colon,
+    Fixed::Assign,
+    Fixed::Plus,
+    Fixed::Minus,
+    Fixed::Star,
+    Fixed::Slash,
+    Fixed::Percent,
+    Fixed::Bang,
+    Fixed::Less,
+    Fixed::Greater,
+];
 
 fn read(alloc: Global, source: &[u8]) -> Result<Vec<Token>, LexFault> {
     if source.len() < 1000 {
