@@ -22,11 +22,11 @@ use Rattle.audit_rules.specs.Traces.{part_at, InPostOrder, IsPartOf, IsTrace, En
 -- ---- parts in post-order
 
 -- a part at its place among parts in post-order
-abbrev put : Part → List Part → List Part
+abbrev pub put : Part → List Part → List Part
 put p [] = p ∷ []
 put p (q ∷ ps) = cond (before q.path p.path) (q ∷ put p ps) (p ∷ q ∷ ps)
 
-put_among : (p : Part) (ps : List Part) (x : Part) → Among (put p ps) x → (p ≡ x) ⊎ Among ps x
+pub put_among : (p : Part) (ps : List Part) (x : Part) → Among (put p ps) x → (p ≡ x) ⊎ Among ps x
 put_among p [] x (inl e) = inl e
 put_among p [] x (inr i) = absurd i
 put_among p (q ∷ ps) x i = go (before q.path p.path) i (put_among p ps x)
@@ -41,10 +41,10 @@ put_among p (q ∷ ps) x i = go (before q.path p.path) i (put_among p ps x)
     go false (inl e) later = inl e
     go false (inr j) later = inr j
 
-abbrev IsNew : Part → List Part → Type 0
+abbrev pub IsNew : Part → List Part → Type 0
 IsNew p ps = (x : Part) → Among ps x → x.path ≢ p.path
 
-put_order : (p : Part) (ps : List Part) → IsNew p ps → InPostOrder ps → InPostOrder (put p ps)
+pub put_order : (p : Part) (ps : List Part) → IsNew p ps → InPostOrder ps → InPostOrder (put p ps)
 put_order p [] new order = (λ x i. absurd i, tt)
 put_order p (q ∷ ps) new order = go (before q.path p.path) refl (put_order p ps (λ x i. new x (inr i)) order.1)
   where

@@ -10,17 +10,15 @@ use Rattle.rev_num.specs.declared.value.ValueKind.TheVariants as kind
 use Rattle.rev_num.specs.declared.outcome.Cause.{Cause}
 use Rattle.rev_num.specs.declared.outcome.Cause.TheVariants as cause
 use Rattle.rev_num.specs.declared.outcome.Trap.{Trap}
-use Rattle.rev_syntax.specs.Trees.{ProgramTree}
 use Rattle.merge_decl.specs.Names.{Name, same}
 use Rattle.merge_decl.specs.Least.{Among}
 use Rattle.rev_kinds.specs.Kinds.{same_kind}
 use Rattle.rev_num.proofs.PostOrder.{same_refl, same-eq}
-use Rattle.rev_types.specs.Layout.{variables}
 use Rattle.revision_calculus.specs.Program.{zero_value, Setting}
 use Rattle.revision_calculus.specs.State.{Location, Phase, running, joining, done, trapped, Local}
-use Rattle.revision_calculus.specs.Join.{merges_of, new_value, overwrite, join_location, Composition, merged, faults, and_later, compose, absorb, join_in, left_side, note, join}
 use Rattle.revision_calculus.specs.Kinded.{IsOf, IsOfIfAny, location_kinds, LocationsAre, LocationIs}
 use Rattle.revision_calculus.specs.Kept.{IsFaultBelow, IsTrapBelow}
+use Rattle.joined_ends.specs.Ends.{SameWrite, AllSame}
 use Rattle.trace_diagram.specs.declared.diagram.Part.{Part}
 use Rattle.trace_diagram.specs.declared.diagram.Change.{Change}
 use Rattle.trace_diagram.specs.declared.diagram.PartEnd.{PartEnd}
@@ -46,17 +44,6 @@ unknown_split x xs p e = go (same x p) refl e
     go false f e = (f, sym (ap (λ b. cond b (true) (is_known xs p)) f) ∙ e)
 
 -- ---- writes
-
--- the second was written where the first was, from the same root
-pub record SameWrite (m j : Location) : Type 0 where
-  pub written : j.written ≡ m.written
-  pub base : (x : Value) → m.written ≡ Some x → j.base ≡ m.base
-
-abbrev pub AllSame : List Location → List Location → Type 0
-AllSame [] [] = Unit {0}
-AllSame [] (j ∷ js) = ⊥
-AllSame (m ∷ ms) [] = ⊥
-AllSame (m ∷ ms) (j ∷ js) = SameWrite m j × AllSame ms js
 
 told_skip : (c : Change) (cs : List Change) (ps : List (List ℕ)) (ts : List ValueKind) → is_known ps c.place ≡ false → told_locations ps ts (c ∷ cs) ≡ told_locations ps ts cs
 told_skip c cs [] ts e = refl
@@ -102,46 +89,6 @@ told_same (p ∷ ps) (t ∷ ts) (m ∷ ms) apart size are = go (told_same ps ts 
         let on : change_at (c ∷ changes ps ms) p ≡ Some c = ap (λ b. cond b (Some c) (change_at (changes ps ms) p)) (same_refl p) in
         let first : SameWrite m (location_of t (Some c)) = record { written = sym is; base = λ y e. refl } in
         (subst (λ d. SameWrite m (location_of t d)) (sym on) first, subst (AllSame ms) (sym (told_skip c (changes ps ms) ps ts apart.0)) rest)
-
--- ---- compose
-
-merged_same : (p : ProgramTree) (k : Option ℕ) (m j i : Location) → SameWrite j i → join_location p k m i i.written ≡ join_location p k m j j.written
-merged_same p k m j i h = go j.written refl
-  where
-    new_same : (k : Option ℕ) (x : Value) → i.base ≡ j.base → new_value p k m i x ≡ new_value p k m j x
-    new_same None x e = refl
-    new_same (Some n) x e = ap (λ b. new_value p (Some n) m (record { base = b; written = None }) x) e
-
-    go : (w : Option Value) → j.written ≡ w → join_location p k m i i.written ≡ join_location p k m j w
-    go None e = ap (join_location p k m i) (h.written ∙ e)
-    go (Some x) e = ap (join_location p k m i) (h.written ∙ e) ∙ ap (λ a. overwrite m a) (new_same k x (h.base x e))
-
-pub compose_same : (p : ProgramTree) (n : ℕ) (ks : List (Option ℕ)) (ms js is : List Location) → AllSame js is → compose p n ks ms is ≡ compose p n ks ms js
-compose_same p n [] ms js is h = refl
-compose_same p n (k ∷ ks) [] js is h = refl
-compose_same p n (k ∷ ks) (m ∷ ms) [] [] h = refl
-compose_same p n (k ∷ ks) (m ∷ ms) [] (i ∷ is) h = absurd h
-compose_same p n (k ∷ ks) (m ∷ ms) (j ∷ js) [] h = absurd h
-compose_same p n (k ∷ ks) (m ∷ ms) (j ∷ js) (i ∷ is) h =
-    let one : join_location p k m i i.written ≡ join_location p k m j j.written = merged_same p k m j i h.0 in
-    let rest : compose p (suc n) ks ms is ≡ compose p (suc n) ks ms js = compose_same p (suc n) ks ms js is h.1 in
-    λ x. and_later n (one x) (rest x)
-
--- a join sees of the joinee its writes, its text, its fuel and its phase
-pub join_same : (s : Setting) (r q : Path) (l j i : Local) → AllSame j.locations i.locations → i.text ≡ j.text → i.fuel ≡ j.fuel → i.phase ≡ j.phase → join s r l q i ≡ join s r l q j
-join_same s r q l j i locations text fuel phase = ap (λ p. join_in s r (note q l) (left_side l.phase) i p) phase ∙ go j.phase
-  where
-    by_compose : (c : Composition) → absorb s r (note q l) (left_side l.phase) i c ≡ absorb s r (note q l) (left_side l.phase) j c
-    by_compose (faults n f) = refl
-    by_compose (merged ms) = λ x. absorb s r (note q l) (left_side l.phase) (record j { text = text x; fuel = fuel x }) (merged ms)
-
-    go : (p : Phase) → join_in s r (note q l) (left_side l.phase) i p ≡ join_in s r (note q l) (left_side l.phase) j p
-    go done =
-        ap (absorb s r (note q l) (left_side l.phase) i) (compose_same s.program 0 (merges_of (variables s.program)) l.locations j.locations i.locations locations)
-        ∙ by_compose (compose s.program 0 (merges_of (variables s.program)) l.locations j.locations)
-    go (trapped t) = refl
-    go running = refl
-    go (joining p left) = refl
 
 -- ---- ends
 

@@ -4,3 +4,4 @@ pub mod Jumps
 pub mod Inside
 pub mod Naming
 pub mod BlockRules
+pub mod Merges

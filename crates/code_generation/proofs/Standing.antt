@@ -1,5 +1,5 @@
 -- Code that stands in a block is taken apart, and its jumps are put together.
-use Rattle.std.proofs.Common.{◌≡◌, ℕ, zero, suc, ◌+◌, List, [], ◌∷◌, ◌++◌, length, Some, None, refl, sym, ap, subst, arith}
+use Rattle.std.proofs.Common.{◌≡◌, ℕ, zero, suc, ◌+◌, List, [], ◌∷◌, ◌++◌, length, Some, None, refl, sym, ap, subst, append_assoc, arith}
 use Rattle.std.specs.Prelude.{slice_get}
 use Rattle.rev_code.specs.declared.code.Instr.{Instr}
 use Rattle.code_rules.specs.Pass.{target}
@@ -24,22 +24,26 @@ module _ (whole : List Instr) where
       let r = parts_stand xs (y ∷ ys) at m e h in
       (r.0, (r.1.0, subst (λ p. HasAt whole p ys) (let w : suc (at + m) ≡ to = omega (arith, z) in w) r.1.1))
 
--- all of a list stands in it
+-- ---- all of a list stands in it
+
+-- in whatever way lists stand in others, item by item
+module _ {A : Type 0} (There : List A → ℕ → List A → Type 0) (none : (whole : List A) (at : ℕ) → There whole at []) (one_more : (whole : List A) (at : ℕ) (x : A) (xs : List A) → slice_get whole at ≡ Some x → There whole (suc at) xs → There whole at (x ∷ xs)) where
+  pub all_there : (before xs : List A) → There (before ++ xs) (length before) xs
+  all_there before [] = none (before ++ []) (length before)
+  all_there before (x ∷ xs) =
+      one_more (before ++ x ∷ xs) (length before) x xs (here before)
+      (subst (λ w. There w (suc (length before)) xs) (append_assoc before (x ∷ []) xs) (subst (λ p. There ((before ++ x ∷ []) ++ xs) p xs) (longer before) (all_there (before ++ x ∷ []) xs)))
+    where
+      here : (bs : List A) → slice_get (bs ++ x ∷ xs) (length bs) ≡ Some x
+      here [] = refl
+      here (b ∷ bs) = here bs
+
+      longer : (bs : List A) → length (bs ++ x ∷ []) ≡ suc (length bs)
+      longer [] = refl
+      longer (b ∷ bs) = ap suc (longer bs)
+
 pub all_stands : (before xs : List Instr) → HasAt (before ++ xs) (length before) xs
-all_stands before [] = nothing
-all_stands before (x ∷ xs) = (here before, subst (λ w. HasAt w (suc (length before)) xs) (again before) (subst (λ p. HasAt ((before ++ x ∷ []) ++ xs) p xs) (longer before) (all_stands (before ++ x ∷ []) xs)))
-  where
-    here : (bs : List Instr) → slice_get (bs ++ x ∷ xs) (length bs) ≡ Some x
-    here [] = refl
-    here (b ∷ bs) = here bs
-
-    again : (bs : List Instr) → (bs ++ x ∷ []) ++ xs ≡ bs ++ x ∷ xs
-    again [] = refl
-    again (b ∷ bs) = ap (λ z. b ∷ z) (again bs)
-
-    longer : (bs : List Instr) → length (bs ++ x ∷ []) ≡ suc (length bs)
-    longer [] = refl
-    longer (b ∷ bs) = ap suc (longer bs)
+all_stands = all_there HasAt (λ whole at. nothing) (λ whole at x xs here rest. (here, rest))
 
 pub whole_stands : (xs : List Instr) → HasAt xs 0 xs
 whole_stands xs = all_stands [] xs

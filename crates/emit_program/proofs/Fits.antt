@@ -1,24 +1,21 @@
 -- A small, well-typed program fits.
-use Rattle.std.proofs.Common.{◌≤◌, ◌<◌, ℕ, ◌+◌, List, [], ◌∷◌, length, arith, length-append}
+use Rattle.std.proofs.Common.{◌≤◌, ℕ, List, [], ◌∷◌, arith}
 use Rattle.std.proofs.lemmas.List.{length-map}
-use Rattle.rev_syntax.specs.Trees.{Statements, Declaration, fun, merge, shared, proc, ProgramTree}
-use Rattle.rev_syntax.specs.Small.{declarations_count, statements_count, count, IsSmall}
+use Rattle.rev_syntax.specs.Trees.{Declaration, fun, merge, shared, proc, ProgramTree}
+use Rattle.rev_syntax.specs.Small.{declarations_count, IsSmall}
 use Rattle.merge_decl.specs.Table.{Table}
 use Rattle.merge_decl.specs.Weights.{weights_with}
-use Rattle.rev_kinds.specs.Kinds.{Names}
 use Rattle.rev_syntax.specs.View.{program as whole}
 use Rattle.rev_types.specs.declared.typed.Typed.{Typed}
 use Rattle.rev_types.specs.Accepted.{IsWellTyped}
 use Rattle.rev_types.proofs.Accepting.{kept_typed}
 use Rattle.rev_types.specs.Layout.{variables}
 use Rattle.rev_types.specs.Limits.{DeclarationsWithin}
-use Rattle.rev_types.specs.Scopes as scopes
 use Rattle.rev_types.specs.Scopes.{outside, within}
 use Rattle.code_generation.specs.Numbers.{Numbers, numbers}
-use Rattle.code_generation.specs.Prints.{statements_texts, statements_layouts}
-use Rattle.code_generation.specs.Generated.{var_of, texts_of, layouts_of}
-use Rattle.code_generation.proofs.Lengths.{statements_prints_length}
-use Rattle.generated_tables.proofs.Counts.{size_few, statements_few, prints_few, texts_few}
+use Rattle.code_generation.specs.Generated.{var_of}
+use Rattle.generated_tables.proofs.Counts.{size_few, statements_few}
+use Rattle.generated_tables.proofs.Small.{texts_count, layouts_count, parts_few}
 use Rattle.generated_tables.proofs.Variables.{vars_few}
 use Rattle.emit_program.specs.Fitting.{DeclarationsFit, ProgramFits}
 
@@ -37,37 +34,11 @@ declarations_fit n ws (proc w ps r body ∷ es) lim few =
     let size = statements_few n body in
     ((omega (arith, locals), omega (arith, size, few)), declarations_fit n ws es lim.1 (omega (arith, few)))
 
-texts_fit : (es : List Declaration) (main : Statements) → length (texts_of es main) ≤ declarations_count es + statements_count main
-texts_fit [] main = let r = texts_few main in omega (arith, r)
-texts_fit (proc w ps r body ∷ es) main =
-    let a = length-append (statements_texts body) (texts_of es main) in
-    let x = texts_few body in
-    let s = texts_fit es main in
-    omega (arith, a, x, s)
-texts_fit (fun w ps r body ∷ es) main = let s = texts_fit es main in omega (arith, s)
-texts_fit (merge w m j r body ∷ es) main = let s = texts_fit es main in omega (arith, s)
-texts_fit (shared x ∷ es) main = let s = texts_fit es main in omega (arith, s)
-
-layouts_fit : (c : Names) (texts : ℕ) (es : List Declaration) (main : Statements) → length (layouts_of c texts es main) ≤ declarations_count es + statements_count main
-layouts_fit c texts [] main = let z = statements_prints_length c [] texts main in let r = prints_few main in omega (arith, z, r)
-layouts_fit c texts (proc w ps r body ∷ es) main =
-    let a = length-append (statements_layouts c (scopes.with_params [] ps) texts body) (layouts_of c (texts + length (statements_texts body)) es main) in
-    let z = statements_prints_length c (scopes.with_params [] ps) texts body in
-    let x = prints_few body in
-    let s = layouts_fit c (texts + length (statements_texts body)) es main in
-    omega (arith, a, z, x, s)
-layouts_fit c texts (fun w ps r body ∷ es) main = let s = layouts_fit c texts es main in omega (arith, s)
-layouts_fit c texts (merge w m j r body ∷ es) main = let s = layouts_fit c texts es main in omega (arith, s)
-layouts_fit c texts (shared x ∷ es) main = let s = layouts_fit c texts es main in omega (arith, s)
-
 module _ (p : ProgramTree) (small : IsSmall p) (well : IsWellTyped p) where
-  parts_few : declarations_count p.declarations + statements_count p.main ≤ 16777216
-  parts_few = let q : count p < 16777216 = small.few in omega (arith, q)
-
   pub program_fits : ProgramFits p
   program_fits =
       let es : List Declaration = p.declarations in
-      let few = parts_few in
+      let few = parts_few p small well in
       let main = well.within.main.0 in
       let size = statements_few (numbers p) p.main in
       let vs = vars_few (outside es) (within es) es [] es [] well.typed.declarations in
@@ -75,8 +46,8 @@ module _ (p : ProgramTree) (small : IsSmall p) (well : IsWellTyped p) where
       let located = well.within.locations in
       let fs = well.within.declared_funs in
       let procs = well.within.procedures in
-      let ts = texts_fit es p.main in
-      let ls = layouts_fit (outside es) 0 es p.main in
+      let ts = texts_count es p.main in
+      let ls = layouts_count (outside es) 0 es p.main in
       record {
         declarations = declarations_fit (numbers p) [] es well.within.declarations (omega (arith, few));
         main = (omega (arith, main), omega (arith, size, few));

@@ -1,3 +1,4 @@
+pub mod Applying
 pub mod Typed
 pub mod Typing
 pub mod Words

@@ -1,10 +1,10 @@
 -- Which applications a body has by its list of them, and the parameters of a merge.
-use Rattle.std.proofs.Common.{◌≡◌, ◌≢◌, ◌≤◌, ℕ, ◌+◌, Bool, true, false, cond, List, [], ◌∷◌, ◌++◌, length, Option, Some, None, refl, sym, ap, arith}
+use Rattle.std.proofs.Common.{◌≡◌, ◌≢◌, ◌≤◌, ℕ, ◌+◌, Bool, true, false, cond, List, [], ◌∷◌, ◌++◌, length, Some, None, refl, sym, ap, arith}
 use Rattle.rev_num.specs.declared.value.ValueKind.TheVariants as k
 use Rattle.rev_syntax.specs.Trees.{PlacedName, Expression, placed, ExpressionForm, Expressions, Links, int, bool, no_rev, var, cell, apply, input, inputs, pick, unary, chain, no_expressions, expression, no_links, link, Declaration, fun, merge, shared, proc}
 use Rattle.merge_decl.specs.Names.{Name, same}
 use Rattle.merge_decl.specs.Table.{find, added}
-use Rattle.merge_decl.specs.FunRules.{Use, count, expression_uses, expression_form_uses, expressions_uses, links_uses, first_fun, head}
+use Rattle.merge_decl.specs.FunRules.{Use, expression_uses, expression_form_uses, expressions_uses, links_uses, first_fun, head}
 use Rattle.merge_decl.specs.declared.expand.FunHead.{FunHead}
 use Rattle.rev_kinds.specs.Kinds.{Callee, Names, Locals}
 use Rattle.rev_kinds.proofs.Lists.{added_unknown}

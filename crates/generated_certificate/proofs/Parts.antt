@@ -6,6 +6,7 @@ use Rattle.rev_code.specs.declared.code.CodeBlock.{CodeBlock}
 use Rattle.rev_code.specs.declared.code.Instr.{Instr}
 use Rattle.code_rules.specs.Pass.{Note}
 use Rattle.code_certificate.specs.Certificate.{Fits}
+use Rattle.code_generation.proofs.Standing.{all_there}
 use Rattle.generated_certificate.specs.Items.{HasItems, note_or_entry, noted}
 use Rattle.generated_certificate.specs.Kept.{IsKept, AllKept}
 
@@ -30,20 +31,7 @@ module _ {A : Type 0} (whole : List A) where
 
 -- all of a list stands in it
 pub all_have : {A : Type 0} (before xs : List A) → HasItems (before ++ xs) (length before) xs
-all_have before [] = nothing
-all_have {A} before (x ∷ xs) = (here before, subst (λ w. HasItems w (suc (length before)) xs) (again before) (subst (λ p. HasItems ((before ++ x ∷ []) ++ xs) p xs) (longer before) (all_have (before ++ x ∷ []) xs)))
-  where
-    here : (bs : List A) → slice_get (bs ++ x ∷ xs) (length bs) ≡ Some x
-    here [] = refl
-    here (b ∷ bs) = here bs
-
-    again : (bs : List A) → (bs ++ x ∷ []) ++ xs ≡ bs ++ x ∷ xs
-    again [] = refl
-    again (b ∷ bs) = ap (λ z. b ∷ z) (again bs)
-
-    longer : (bs : List A) → length (bs ++ x ∷ []) ≡ suc (length bs)
-    longer [] = refl
-    longer (b ∷ bs) = ap suc (longer bs)
+all_have {A = A} = all_there {A = A} HasItems (λ whole at. nothing) (λ whole at x xs here rest. (here, rest))
 
 pub note_here : (ns : List Note) (at : ℕ) (n : Note) → slice_get ns at ≡ Some n → noted ns at ≡ n
 note_here ns at n h = ap note_or_entry h

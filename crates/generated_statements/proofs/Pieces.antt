@@ -38,6 +38,7 @@ use Rattle.code_generation.proofs.Standing.{parts_stand}
 use Rattle.code_generation.proofs.Lengths.{expression_length, expressions_length}
 use Rattle.expression_run.proofs.Typed.{Typed, ArgsTyped}
 use Rattle.rev_kinds.proofs.Lists.{and_parts}
+use Rattle.expression_run.proofs.Applying.{all_apply, args_apply}
 use Rattle.expression_run.proofs.Typing.{typed, args_typed}
 use Rattle.generated_certificate.specs.Items.{HasItems, noted, push, charged}
 use Rattle.generated_certificate.specs.Expressions.{word_kind, behind_args, expression_notes, expressions_notes, expression_depth, expressions_depth}
@@ -51,7 +52,6 @@ use Rattle.generated_certificate.proofs.WordKinds.{kind_is}
 use Rattle.generated_certificate.proofs.Places.{no, turned, begins_one, begins_two, finds_all, outside_fine, passes_on, gives_back}
 use Rattle.generated_certificate.proofs.Expressions.{expression_kept, args_kept, args_behind}
 use Rattle.generated_certificate.proofs.Depths.{small_depth, small_args_depth}
-use Rattle.generated_statements.proofs.Scopes.{all_apply, all_args}
 
 pub small_formed : (e : Expression) → expression_small e ≡ true → expression_formed e ≡ true
 small_formed e s =
@@ -105,8 +105,8 @@ module _ (code : Code) (at_block : ℕ) (bl : CodeBlock) (n : Numbers) (c : Name
   call_args : (l : Locals) (x : PlacedName) (args : Expressions) (p : Callee) → CallTyped c l x args p → expressions_small args ≡ true → ArgsTyped c l Can p.params args × (expressions_depth args ≤ 2414)
   call_args l x args p h s =
       let zero_more : (j : ℕ) → slice_get p.params (0 + j) ≡ slice_get p.params j = λ j. ap (slice_get p.params) (let z : 0 + j ≡ j = omega arith in z) in
-      let one = args_typed c l Can p.params p.params 0 args zero_more h.1 h.2 (args_formed args s) (all_args c Can can args) in
-      let two = args_typed c l (FunApplies code at_block n) p.params p.params 0 args zero_more h.1 h.2 (args_formed args s) (all_args c (FunApplies code at_block n) can_few args) in
+      let one = args_typed c l Can p.params p.params 0 args zero_more h.1 h.2 (args_formed args s) (args_apply c Can can args) in
+      let two = args_typed c l (FunApplies code at_block n) p.params p.params 0 args zero_more h.1 h.2 (args_formed args s) (args_apply c (FunApplies code at_block n) can_few args) in
       let deep = small_args_depth c l (FunApplies code at_block n) few p.params args two s in
       let many = (bm.procs x.text p h.0).few in
       (one, omega (arith, deep, many))

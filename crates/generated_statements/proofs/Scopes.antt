@@ -1,50 +1,19 @@
--- What is in scope behind a statement, and what all applications of a body have.
+-- What is in scope behind a statement.
 use Rattle.std.proofs.Common.{◌≡◌, ◌∙◌, ℕ, Bool, true, false, Option, Some, None, refl, sym, ap}
 use Rattle.std.specs.Prelude.{slice_get, if◌then◌else◌}
 use Rattle.rev_num.specs.declared.value.ValueKind.{ValueKind}
-use Rattle.rev_syntax.specs.Trees.{Expression, placed, ExpressionForm, Expressions, Links, int, bool, no_rev, var, cell, apply, input, inputs, pick, unary, chain, no_expressions, expression, no_links, link, RightSide, plain, called, forked, tried, Statement, statement, StatementForm, bind, assign, assign_cell, choose, choose_or, repeat, call, return, fork, join, print, assert}
+use Rattle.rev_syntax.specs.Trees.{RightSide, plain, called, forked, tried, Statement, statement, StatementForm, bind, assign, assign_cell, choose, choose_or, repeat, call, return, fork, join, print, assert}
 use Rattle.merge_decl.specs.Names.{Name, same}
 use Rattle.merge_decl.specs.Table.{find, added}
 use Rattle.merge_decl.proofs.Tables.{same_equal, find-added, or_else, or_else-none}
-use Rattle.rev_kinds.specs.Kinds.{Callee, Names, Locals, result_of, right_side_kind}
+use Rattle.rev_kinds.specs.Kinds.{Names, Locals, result_of, right_side_kind}
 use Rattle.rev_kinds.proofs.Typings.{complete}
 use Rattle.rev_types.specs.Judgement.{RightSideHas, StatementTyped, StatementFormTyped}
 use Rattle.rev_types.specs.Scopes.{locals_after, statement_form_locals}
 use Rattle.rev_code.specs.declared.code.Code.{Code}
 use Rattle.rev_code.specs.declared.code.CodeBlock.{CodeBlock}
 use Rattle.code_generation.specs.Numbers.{Numbers, Scope}
-use Rattle.expression_run.specs.Applying.{AllApply, FormApplies, ArgsApply, LinksApply}
 use Rattle.generated_certificate.specs.Means.{NamesMean}
-
--- ---- applications
-
-module _ (c : Names) (Can : Name → Callee → Type 0) (all : (name : Name) (f : Callee) → c.funs name ≡ Some f → Can name f) where
-  mutual
-    pub all_apply : (e : Expression) → AllApply c Can e
-    all_apply (placed p form) = all_form form
-
-    all_form : (form : ExpressionForm) → FormApplies c Can form
-    all_form (int z) = tt
-    all_form (bool z) = tt
-    all_form no_rev = tt
-    all_form (var w) = tt
-    all_form (inputs p) = tt
-    all_form (cell w index) = all_apply index
-    all_form (apply w args) = (λ f e. all w.text f e, all_args args)
-    all_form (input p index) = all_apply index
-    all_form (pick test x y) = (all_apply test, all_apply x, all_apply y)
-    all_form (unary op e) = all_apply e
-    all_form (chain first rest) = (all_apply first, all_links rest)
-
-    pub all_args : (args : Expressions) → ArgsApply c Can args
-    all_args no_expressions = tt
-    all_args (expression e rest) = (all_apply e, all_args rest)
-
-    all_links : (rest : Links) → LinksApply c Can rest
-    all_links no_links = tt
-    all_links (link op e rest) = (all_apply e, all_links rest)
-
--- ---- locals
 
 pub right_kind : (c : Names) (l : Locals) (r : RightSide) (t : ValueKind) → RightSideHas c l r t → right_side_kind c l r ≡ Some t
 right_kind c l (plain e) t h = (complete c l e t h).1

@@ -153,7 +153,7 @@ texts_well (fun w ps r body ∷ es) main small main_small few = texts_well es ma
 texts_well (merge w m j r body ∷ es) main small main_small few = texts_well es main (and_parts (declaration_small (merge w m j r body)) (list_all declaration_small es) small).1 main_small (omega (arith, few))
 texts_well (shared x ∷ es) main small main_small few = texts_well es main (and_parts (declaration_small (shared x)) (list_all declaration_small es) small).1 main_small (omega (arith, few))
 
-texts_count : (es : List Declaration) (main : Statements) → length (texts_of es main) ≤ declarations_count es + statements_count main
+pub texts_count : (es : List Declaration) (main : Statements) → length (texts_of es main) ≤ declarations_count es + statements_count main
 texts_count [] main = let r = texts_few main in omega (arith, r)
 texts_count (proc w ps r body ∷ es) main =
     let a = length-append (statements_texts body) (texts_of es main) in
@@ -175,7 +175,7 @@ layouts_well all c texts ws (fun w ps r body ∷ es) main lim last h = layouts_w
 layouts_well all c texts ws (merge w m j r body ∷ es) main lim last h = layouts_well all c texts ws es main lim.1 last h
 layouts_well all c texts ws (shared x ∷ es) main lim last h = layouts_well all c texts ws es main lim.1 last h
 
-layouts_count : (c : Names) (texts : ℕ) (es : List Declaration) (main : Statements) → length (layouts_of c texts es main) ≤ declarations_count es + statements_count main
+pub layouts_count : (c : Names) (texts : ℕ) (es : List Declaration) (main : Statements) → length (layouts_of c texts es main) ≤ declarations_count es + statements_count main
 layouts_count c texts [] main = let z = statements_prints_length c [] texts main in let r = prints_few main in omega (arith, z, r)
 layouts_count c texts (proc w ps r body ∷ es) main =
     let a = length-append (statements_layouts c (scopes.with_params [] ps) texts body) (layouts_of c (texts + length (statements_texts body)) es main) in
@@ -193,7 +193,7 @@ module _ (p : ProgramTree) (small : IsSmall p) (well : IsWellTyped p) where
   abbrev outer : Names
   outer = outside p.declarations
 
-  parts_few : declarations_count p.declarations + statements_count p.main ≤ 16777216
+  pub parts_few : declarations_count p.declarations + statements_count p.main ≤ 16777216
   parts_few = let q : count p < 16777216 = small.few in omega (arith, q)
 
   texts_ok : list_all text_fits (texts_of p.declarations p.main) ≡ true

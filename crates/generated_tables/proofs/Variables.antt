@@ -1,5 +1,5 @@
 -- Each variable of the code is one.
-use Rattle.std.proofs.Common.{◌≡◌, ◌∙◌, ◌≢◌, ◌⊎◌, inl, inr, ◌<◌, ◌≤◌, ℕ, zero, suc, ◌+◌, Bool, true, false, not, ◌&&◌, IsTrue, List, [], ◌∷◌, ◌++◌, length, append_assoc, map, Option, Some, None, refl, sym, ap, subst, arith, true≢false}
+use Rattle.std.proofs.Common.{◌≡◌, ◌∙◌, ◌≢◌, inl, inr, ◌<◌, ◌≤◌, ℕ, zero, suc, ◌+◌, Bool, true, false, not, ◌&&◌, IsTrue, List, [], ◌∷◌, ◌++◌, length, append_assoc, map, Option, Some, None, refl, sym, ap, subst, arith}
 use Rattle.std.specs.Prelude.{slice_get, nat_eq, is_some, option_map, if◌then◌else◌}
 use Rattle.std.specs.List.{list_all, sum_by}
 use Rattle.std.proofs.lemmas.List.Sums.{sum-map, sum_by-cons}
@@ -11,7 +11,6 @@ use Rattle.rev_num.specs.declared.value.ValueKind.TheVariants as k
 use Rattle.rev_num.specs.Value.{kind_of}
 use Rattle.rev_syntax.specs.Trees.{PlacedName, Constant, ArraySize, SharedDeclaration, Expression, Declaration, fun, merge, shared, proc}
 use Rattle.rev_syntax.specs.Small.{name_formed, by_formed, size_formed, first_formed, declaration_small}
-use Rattle.rev_syntax.proofs.Lists.{same-self}
 use Rattle.merge_decl.specs.Least.{Among}
 use Rattle.merge_decl.specs.Names.{Name, same}
 use Rattle.rev_kinds.specs.Kinds.{Names}
@@ -19,7 +18,7 @@ use Rattle.rev_kinds.proofs.Lists.{and_parts}
 use Rattle.rev_types.specs.Limits.{cells, funs}
 use Rattle.rev_types.specs.Layout.{merge_at, merge_of, variable_behind, variables_behind}
 use Rattle.rev_types.specs.Scopes.{size_cells, cells_of}
-use Rattle.rev_types.specs.Judgement.{IsMergeOf, ByTyped, SizeTyped, FirstTyped, SharedTyped, DeclarationsTyped}
+use Rattle.rev_types.specs.Judgement.{ByTyped, SizeTyped, FirstTyped, SharedTyped, DeclarationsTyped}
 use Rattle.revision_calculus.specs.Program.{constant_value, first_value}
 use Rattle.rev_code.specs.Words.{same_kind}
 use Rattle.rev_code.specs.declared.code.Code.{Code}
@@ -28,6 +27,7 @@ use Rattle.rev_code.specs.declared.code.CodeVar.{CodeVar}
 use Rattle.code_rules.specs.Tables.{has_cells, is_start, is_int_merge, merges_well, is_var, locations}
 use Rattle.code_generation.specs.Numbers.{Numbers, merge_number}
 use Rattle.code_generation.specs.Generated.{value_word, merge_entry, var_of, merge_block, value_blocks}
+use Rattle.code_generation.proofs.Merges.{among_front, among_last, counted, merge_known}
 use Rattle.generated_tables.proofs.Names.{both, name_well}
 
 -- ---- cells and start values
@@ -61,40 +61,6 @@ start_well k.Rev None h = refl
 start_well t (Some c) h = subst (λ u. is_start u (value_word (constant_value c.value)) ≡ true) h (constant_starts c.value)
 
 -- ---- merges
-
-among_front : {A : Type 0} (xs : List A) (y x : A) → Among xs x → Among (xs ++ y ∷ []) x
-among_front [] y x h = absurd h
-among_front (z ∷ xs) y x (inl e) = inl e
-among_front (z ∷ xs) y x (inr h) = inr (among_front xs y x h)
-
-among_last : {A : Type 0} (xs : List A) (y x : A) → y ≡ x → Among (xs ++ y ∷ []) x
-among_last [] y x e = inl e
-among_last (z ∷ xs) y x e = inr (among_last xs y x e)
-
-counted : (o : Option ℕ) (m : ℕ) → option_map (λ n. 1 + n) o ≡ Some m → (j : ℕ) × (o ≡ Some j) × (m ≡ suc j)
-counted None m h = absurd (let z : None ≡ Some m = h in cc)
-counted (Some j) m h = (j, refl, (let z : Some (1 + j) ≡ Some m = h in let q : 1 + j ≡ m = cc in omega (arith, q)))
-
--- a merge that is declared is found
-merge_known : (before : List Declaration) (name : Name) (e : Declaration) → Among before e → IsMergeOf name e → (m : ℕ) × (merge_at name before ≡ Some m)
-merge_known [] name e h is = absurd h
-merge_known (merge w m j r body ∷ es) name e h is = by (same name w.text) refl h (λ g. merge_known es name e g is)
-  where
-    some : (o : Option ℕ) → ((q : ℕ) × (o ≡ Some q)) → (q : ℕ) × (option_map (λ n. 1 + n) o ≡ Some q)
-    some o f = (1 + f.0, ap (option_map (λ n. 1 + n)) f.1)
-
-    by : (d : Bool) → same name w.text ≡ d → (merge w m j r body ≡ e) ⊎ Among es e → (Among es e → (q : ℕ) × (merge_at name es ≡ Some q)) → (q : ℕ) × ((if d then Some 0 else option_map (λ n. 1 + n) (merge_at name es)) ≡ Some q)
-    by true q g rec = (0, refl)
-    by false q (inl g) rec =
-        let z : IsMergeOf name (merge w m j r body) = subst (IsMergeOf name) (sym g) is in
-        absurd (true≢false (sym (ap (λ y. same y w.text) (sym z) ∙ same-self w.text) ∙ q))
-    by false q (inr g) rec = some (merge_at name es) (rec g)
-merge_known (fun w ps r body ∷ es) name e (inl g) is = absurd (subst (IsMergeOf name) (sym g) is)
-merge_known (fun w ps r body ∷ es) name e (inr g) is = merge_known es name e g is
-merge_known (shared x ∷ es) name e (inl g) is = absurd (subst (IsMergeOf name) (sym g) is)
-merge_known (shared x ∷ es) name e (inr g) is = merge_known es name e g is
-merge_known (proc w ps r body ∷ es) name e (inl g) is = absurd (subst (IsMergeOf name) (sym g) is)
-merge_known (proc w ps r body ∷ es) name e (inr g) is = merge_known es name e g is
 
 -- the block of a merge, among those of funs and merges
 record MergeAt (n : Numbers) (all : List Declaration) (before : List Declaration) (m : ℕ) : Type 0 where

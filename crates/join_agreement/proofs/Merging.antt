@@ -3,7 +3,7 @@
 --   merge_alike        the merge of the words of three values is the word of that of the values
 --   merges_laid        the code has the merges of the program, by location, each declared
 --   merges_alike       wherever the joinee wrote
-use Rattle.std.proofs.Common.{◌≡◌, ◌∙◌, ◌⊎◌, inl, inr, ℕ, zero, suc, ◌+◌, Bool, true, false, List, [], ◌∷◌, ◌++◌, length, map, replicate, Option, Some, None, option_map, refl, sym, ap, subst, true≢false, append_assoc, length-append, arith}
+use Rattle.std.proofs.Common.{◌≡◌, ◌∙◌, inl, inr, ℕ, zero, suc, ◌+◌, Bool, true, false, List, [], ◌∷◌, ◌++◌, length, map, replicate, Option, Some, None, option_map, refl, sym, ap, subst, append_assoc, length-append, arith}
 use Rattle.std.specs.Prelude.{slice_get, if◌then◌else◌, is_some, Result, Ok, Err}
 use Rattle.std.proofs.lemmas.List.{length-replicate}
 use Rattle.rev_num.specs.Path.{Path}
@@ -19,9 +19,8 @@ use Rattle.merge_decl.specs.Names.{Name, same}
 use Rattle.merge_decl.specs.Value.{Answer, FunDef}
 use Rattle.merge_decl.specs.Definitions.{fun_def, MergeDef, merge_def, merges_after, merges_in, merged, merge_value_of}
 use Rattle.merge_decl.specs.Evaluation.{merge_answer}
-use Rattle.rev_syntax.proofs.Lists.{same-self}
 use Rattle.rev_kinds.specs.Kinds.{Names}
-use Rattle.rev_types.specs.Judgement.{IsMergeOf, ByTyped, DeclarationsTyped}
+use Rattle.rev_types.specs.Judgement.{ByTyped, DeclarationsTyped}
 use Rattle.rev_types.specs.Layout.{merge_at, merge_of, variable_behind, variables_behind}
 use Rattle.rev_types.specs.Scopes.{cells_of}
 use Rattle.revision_calculus.specs.State.{Location, view}
@@ -32,6 +31,7 @@ use Rattle.rev_code.specs.Funs.{values}
 use Rattle.version_map.specs.Composing.{Merges}
 use Rattle.code_generation.specs.Numbers.{merge_number}
 use Rattle.code_generation.specs.Generated.{merge_entry, var_of, code_of}
+use Rattle.code_generation.proofs.Merges.{among_front, among_last, counted, merge_known}
 use Rattle.expression_run.specs.Agrees.{word, coded}
 use Rattle.program_funs.proofs.Funs.{program_merges}
 use Rattle.join_rule.specs.Composes.{merge_value, merge_there}
@@ -95,35 +95,10 @@ module _ (p : ProgramTree) (well : IsAccepted p) where
 
 -- ---- declared merges
 
-counted : (o : Option ℕ) (n : ℕ) → option_map (λ i. 1 + i) o ≡ Some n → (i : ℕ) × (o ≡ Some i) × (n ≡ suc i)
-counted None n h = absurd (let z : None ≡ Some n = h in cc)
-counted (Some i) n h = (i, refl, (let z : Some (1 + i) ≡ Some n = h in let q : 1 + i ≡ n = cc in omega (arith, q)))
-
--- a merge that is declared is found
-merge_known : (before : List Declaration) (name : Name) (e : Declaration) → Among before e → IsMergeOf name e → (n : ℕ) × (merge_at name before ≡ Some n)
-merge_known [] name e h is = absurd h
-merge_known (merge w m j r body ∷ es) name e h is = by (same name w.text) refl h (λ g. merge_known es name e g is)
-  where
-    some : (o : Option ℕ) → ((q : ℕ) × (o ≡ Some q)) → (q : ℕ) × (option_map (λ n. 1 + n) o ≡ Some q)
-    some o f = (1 + f.0, ap (option_map (λ n. 1 + n)) f.1)
-
-    by : (d : Bool) → same name w.text ≡ d → (merge w m j r body ≡ e) ⊎ Among es e → (Among es e → (q : ℕ) × (merge_at name es ≡ Some q)) → (q : ℕ) × ((if d then Some 0 else option_map (λ n. 1 + n) (merge_at name es)) ≡ Some q)
-    by true q g rec = (0, refl)
-    by false q (inl g) rec =
-        let z : IsMergeOf name (merge w m j r body) = subst (IsMergeOf name) (sym g) is in
-        absurd (true≢false (sym (ap (λ y. same y w.text) (sym z) ∙ same-self w.text) ∙ q))
-    by false q (inr g) rec = some (merge_at name es) (rec g)
-merge_known (fun w ps r body ∷ es) name e (inl g) is = absurd (subst (IsMergeOf name) (sym g) is)
-merge_known (fun w ps r body ∷ es) name e (inr g) is = merge_known es name e g is
-merge_known (shared x ∷ es) name e (inl g) is = absurd (subst (IsMergeOf name) (sym g) is)
-merge_known (shared x ∷ es) name e (inr g) is = merge_known es name e g is
-merge_known (proc w ps r body ∷ es) name e (inl g) is = absurd (subst (IsMergeOf name) (sym g) is)
-merge_known (proc w ps r body ∷ es) name e (inr g) is = merge_known es name e g is
-
 abbrev Found : List FunDef → List Declaration → ℕ → Type 0
 Found fs es n = (d : MergeDef) × (slice_get (merges_after fs es) n ≡ Some d)
 
--- and stands among all of the program
+-- a merge that is found stands among all of the program
 merge_there_is : (fs : List FunDef) (before rest : List Declaration) (name : Name) (n : ℕ) → merge_at name before ≡ Some n → Found fs (before ++ rest) n
 merge_there_is fs [] rest name n h = absurd (let z : None ≡ Some n = h in cc)
 merge_there_is fs (fun w ps r body ∷ es) rest name n h = merge_there_is (fun_def w ps body ∷ fs) es rest name n h
@@ -134,15 +109,6 @@ merge_there_is fs (merge w m j r body ∷ es) rest name n h = by (same name w.te
     by : (d : Bool) (q : ℕ) → (if d then Some 0 else option_map (λ i. 1 + i) (merge_at name es)) ≡ Some q → ((i : ℕ) → merge_at name es ≡ Some i → Found fs (es ++ rest) i) → Found fs (merge w m j r body ∷ es ++ rest) q
     by true q e rec = let z : 0 ≡ q = (let y : Some 0 ≡ Some q = e in cc) in subst (Found fs (merge w m j r body ∷ es ++ rest)) z (merge_def fs w m j r body, refl)
     by false q e rec = let c = counted (merge_at name es) q e in subst (Found fs (merge w m j r body ∷ es ++ rest)) (sym c.2) (rec c.0 c.1)
-
-among_front : {A : Type 0} (xs : List A) (y x : A) → Among xs x → Among (xs ++ y ∷ []) x
-among_front [] y x h = absurd h
-among_front (z ∷ xs) y x (inl h) = inl h
-among_front (z ∷ xs) y x (inr h) = inr (among_front xs y x h)
-
-among_last : {A : Type 0} (xs : List A) (y x : A) → y ≡ x → Among (xs ++ y ∷ []) x
-among_last [] y x e = inl e
-among_last (z ∷ xs) y x e = inr (among_last xs y x e)
 
 -- ---- by location
 

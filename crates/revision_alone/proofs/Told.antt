@@ -1,30 +1,19 @@
 -- What is told of the end of a revision suffices for its join.
-use Rattle.std.proofs.Common.{◌≡◌, ◌≢◌, ℕ, zero, suc, ◌+◌, ◌-◌, ◌<◌, ◌≤◌, Bool, true, false, cond, List, [], ◌∷◌, length, Option, Some, None, refl, sym, ap, ◌∙◌, subst, arith}
+use Rattle.std.proofs.Common.{◌≡◌, ℕ, suc, ◌+◌, ◌-◌, ◌<◌, ◌≤◌, true, false, cond, List, [], ◌∷◌, length, Option, Some, None, refl, sym, ap, ◌∙◌, subst, arith}
 use Rattle.std.specs.Prelude.{nat_eq}
 use Rattle.std.proofs.lemmas.Bool.Decides.{nat_tests}
 use Rattle.rev_num.specs.Path.{Path}
 use Rattle.rev_num.specs.declared.value.Value.{Value}
-use Rattle.rev_syntax.specs.Trees.{ProgramTree}
-use Rattle.rev_types.specs.Layout.{variables}
 use Rattle.revision_calculus.specs.Program.{Setting}
-use Rattle.revision_calculus.specs.State.{Location, Phase, running, joining, done, trapped, Local}
-use Rattle.revision_calculus.specs.Join.{merges_of, new_value, overwrite, join_location, Composition, merged, faults, and_later, compose, absorb, join_in, left_side, note, join}
+use Rattle.revision_calculus.specs.State.{Location, Local}
+use Rattle.revision_calculus.specs.Join.{join}
+use Rattle.joined_ends.specs.Ends.{SameWrite, AllSame}
+use Rattle.joined_ends.proofs.Joining.{join_same}
 use Rattle.revision_alone.specs.declared.ends.AloneWrite.{AloneWrite}
 use Rattle.revision_alone.specs.declared.ends.AloneEnd.{AloneEnd}
-use Rattle.revision_alone.specs.Alone.{write_of, writes_from, IsEndOf, untold, told, told_at, behind, told_from, told_state, JoinsEnd}
+use Rattle.revision_alone.specs.Alone.{write_of, writes_from, untold, told, told_at, behind, told_from, told_state, JoinsEnd}
 
 -- ---- writes
-
--- the second was written where the first was, from the same root
-pub record SameWrite (j i : Location) : Type 0 where
-  pub written : i.written ≡ j.written
-  pub base : (x : Value) → j.written ≡ Some x → i.base ≡ j.base
-
-abbrev pub AllSame : List Location → List Location → Type 0
-AllSame [] [] = Unit {0}
-AllSame [] (i ∷ is) = ⊥
-AllSame (j ∷ js) [] = ⊥
-AllSame (j ∷ js) (i ∷ is) = SameWrite j i × AllSame js is
 
 -- the first of these writes, if there is one, is at this number or behind it
 abbrev pub IsFrom : ℕ → List AloneWrite → Type 0
@@ -84,47 +73,7 @@ told_more n count ws less =
 pub told_all : (n count : ℕ) (ws : List AloneWrite) → count ≤ n → told_from n (count - n) ws ≡ []
 told_all n count ws most = let e : count - n ≡ 0 = omega arith in ap (λ k. told_from n k ws) e
 
--- ---- compose
-
-join_location_same : (p : ProgramTree) (k : Option ℕ) (m j i : Location) → SameWrite j i → join_location p k m i i.written ≡ join_location p k m j j.written
-join_location_same p k m j i h = go j.written refl
-  where
-    new_same : (k : Option ℕ) (x : Value) → i.base ≡ j.base → new_value p k m i x ≡ new_value p k m j x
-    new_same None x e = refl
-    new_same (Some n) x e = ap (λ b. new_value p (Some n) m (record { base = b; written = None }) x) e
-
-    go : (w : Option Value) → j.written ≡ w → join_location p k m i i.written ≡ join_location p k m j w
-    go None e = ap (join_location p k m i) (h.written ∙ e)
-    go (Some x) e = ap (join_location p k m i) (h.written ∙ e) ∙ ap (λ a. overwrite m a) (new_same k x (h.base x e))
-
-compose_same : (p : ProgramTree) (n : ℕ) (ks : List (Option ℕ)) (ms js is : List Location) → AllSame js is → compose p n ks ms is ≡ compose p n ks ms js
-compose_same p n [] ms js is h = refl
-compose_same p n (k ∷ ks) [] js is h = refl
-compose_same p n (k ∷ ks) (m ∷ ms) [] [] h = refl
-compose_same p n (k ∷ ks) (m ∷ ms) [] (i ∷ is) h = absurd h
-compose_same p n (k ∷ ks) (m ∷ ms) (j ∷ js) [] h = absurd h
-compose_same p n (k ∷ ks) (m ∷ ms) (j ∷ js) (i ∷ is) h =
-    let one : join_location p k m i i.written ≡ join_location p k m j j.written = join_location_same p k m j i h.0 in
-    let rest : compose p (suc n) ks ms is ≡ compose p (suc n) ks ms js = compose_same p (suc n) ks ms js is h.1 in
-    λ x. and_later n (one x) (rest x)
-
 -- ---- the join
-
--- a join sees of the joinee its writes, its text, its fuel and its phase
-join_same : (s : Setting) (r q : Path) (l j i : Local) → AllSame j.locations i.locations → i.text ≡ j.text → i.fuel ≡ j.fuel → i.phase ≡ j.phase → join s r l q i ≡ join s r l q j
-join_same s r q l j i locations text fuel phase = ap (λ p. join_in s r (note q l) (left_side l.phase) i p) phase ∙ go j.phase
-  where
-    by_compose : (c : Composition) → absorb s r (note q l) (left_side l.phase) i c ≡ absorb s r (note q l) (left_side l.phase) j c
-    by_compose (faults n f) = refl
-    by_compose (merged ms) = λ x. absorb s r (note q l) (left_side l.phase) (record j { text = text x; fuel = fuel x }) (merged ms)
-
-    go : (p : Phase) → join_in s r (note q l) (left_side l.phase) i p ≡ join_in s r (note q l) (left_side l.phase) j p
-    go done =
-        ap (absorb s r (note q l) (left_side l.phase) i) (compose_same s.program 0 (merges_of (variables s.program)) l.locations j.locations i.locations locations)
-        ∙ by_compose (compose s.program 0 (merges_of (variables s.program)) l.locations j.locations)
-    go (trapped t) = refl
-    go running = refl
-    go (joining p left) = refl
 
 -- the join of a state that is made of what is told is that of each state with this end
 pub joins_told : (s : Setting) (r q : Path) (l : Local) (e : AloneEnd) (new : Local) → new ≡ join s r l q (told_state (length l.locations) e) → JoinsEnd s r l q e new

@@ -31,7 +31,7 @@ use Rattle.code_generation.specs.Statements.{Spot, statements_code}
 use Rattle.code_generation.specs.Prints.{statements_kinds, statements_layouts, statements_texts}
 use Rattle.code_generation.specs.Generated.{end_code, kinds_of, body_code, body_locals, fun_block, merge_block, proc_block, main_block, value_blocks, body_blocks, texts_of, layouts_of}
 use Rattle.code_generation.specs.Stands.{HasAt}
-use Rattle.code_generation.proofs.Standing.{parts_stand, whole_stands}
+use Rattle.code_generation.proofs.Standing.{all_there, parts_stand, whole_stands}
 use Rattle.code_generation.proofs.Lengths.{statements_length, statements_prints_length}
 use Rattle.expression_run.specs.Agrees.{word, ArgsAre}
 use Rattle.expression_run.proofs.Blocks.{kinds_length}
@@ -47,25 +47,8 @@ nothing = tt
 -- ---- lists
 
 module _ {A : Type 0} where
-  -- all of a list stands in it
-  has_all : (before xs : List A) → Has (before ++ xs) (length before) xs
-  has_all before [] = nothing
-  has_all before (x ∷ xs) = (here before, subst (λ w. Has w (suc (length before)) xs) (again before) (subst (λ p. Has ((before ++ x ∷ []) ++ xs) p xs) (longer before) (has_all (before ++ x ∷ []) xs)))
-    where
-      here : (bs : List A) → slice_get (bs ++ x ∷ xs) (length bs) ≡ Some x
-      here [] = refl
-      here (b ∷ bs) = here bs
-
-      again : (bs : List A) → (bs ++ x ∷ []) ++ xs ≡ bs ++ x ∷ xs
-      again [] = refl
-      again (b ∷ bs) = ap (λ z. b ∷ z) (again bs)
-
-      longer : (bs : List A) → length (bs ++ x ∷ []) ≡ suc (length bs)
-      longer [] = refl
-      longer (b ∷ bs) = ap suc (longer bs)
-
   pub has_whole : (xs : List A) → Has xs 0 xs
-  has_whole xs = has_all [] xs
+  has_whole xs = all_there Has (λ whole at. nothing) (λ whole at x ys here rest. (here, rest)) [] xs
 
   pub take_front : (xs ys : List A) → take (length xs) (xs ++ ys) ≡ xs
   take_front [] ys = refl

@@ -5,7 +5,7 @@ use Rattle.rev_num.specs.Path.{Path}
 use Rattle.rev_num.specs.declared.value.Value.{Value}
 use Rattle.rev_num.specs.declared.value.ValueKind.{ValueKind}
 use Rattle.rev_num.specs.Value.{kind_of}
-use Rattle.rev_syntax.specs.Trees.{Expression, placed, ExpressionForm, Expressions, Links, int, bool, no_rev, var, cell, apply, input, inputs, pick, unary, chain, no_expressions, expression, no_links, link, Declaration, fun, merge, shared, proc}
+use Rattle.rev_syntax.specs.Trees.{Expression, Expressions, Declaration, fun, merge, shared, proc}
 use Rattle.rev_syntax.specs.Small.{expression_formed, expressions_formed}
 use Rattle.merge_decl.specs.Names.{Name, same}
 use Rattle.merge_decl.specs.Table.{find}
@@ -14,7 +14,7 @@ use Rattle.merge_decl.specs.Value as value
 use Rattle.merge_decl.specs.Value.{funs_of}
 use Rattle.merge_decl.specs.Definitions.{funs_in}
 use Rattle.rev_kinds.specs.declared.names.Holder.{Holder}
-use Rattle.rev_kinds.specs.Kinds.{Callee, Names, Locals}
+use Rattle.rev_kinds.specs.Kinds.{Callee, Locals}
 use Rattle.rev_kinds.specs.Typing.{HasKind, ArgsHave}
 use Rattle.rev_types.specs.Scopes.{shared_named, holder}
 use Rattle.rev_types.specs.Layout.{SharedVariable, variable_behind, variables_behind, variables}
@@ -31,8 +31,8 @@ use Rattle.code_generation.specs.Numbers.{Scope}
 use Rattle.code_generation.specs.Expressions.{expression_size, expression_code, expressions_size, expressions_code}
 use Rattle.code_generation.specs.Generated.{var_of}
 use Rattle.code_generation.specs.Stands.{HasAt}
-use Rattle.expression_run.specs.Applying.{AllApply, FormApplies, ArgsApply, LinksApply}
 use Rattle.expression_run.specs.Agrees.{word, FunReads, LocalReads, ScalarReads, ArrayReads, Reads, Gives, GiveAll}
+use Rattle.expression_run.proofs.Applying.{all_apply, args_apply}
 use Rattle.expression_run.proofs.Typing.{typed, args_typed}
 use Rattle.expression_run.proofs.Runs.{expression_runs, args_run}
 use Rattle.expression_run.proofs.Words.{word_kind}
@@ -41,34 +41,6 @@ use Rattle.statement_places.specs.States.{IsShared, IsSame, AreLocals, Below}
 use Rattle.statement_places.proofs.Locals.{kind-there, seen_there}
 use Rattle.statement_places.proofs.Parts.{names_none}
 use Rattle.statement_run.proofs.Linked.{IsLinked}
-
--- ---- applications
-
-module _ (c : Names) (Can : Name → Callee → Type 0) (all : (name : Name) (f : Callee) → c.funs name ≡ Some f → Can name f) where
-  mutual
-    pub all_apply : (e : Expression) → AllApply c Can e
-    all_apply (placed p form) = form_applies form
-
-    form_applies : (form : ExpressionForm) → FormApplies c Can form
-    form_applies (int z) = tt
-    form_applies (bool z) = tt
-    form_applies no_rev = tt
-    form_applies (var w) = tt
-    form_applies (inputs p) = tt
-    form_applies (cell w index) = all_apply index
-    form_applies (apply w args) = (λ f e. all w.text f e, args_apply args)
-    form_applies (input p index) = all_apply index
-    form_applies (pick test x y) = (all_apply test, all_apply x, all_apply y)
-    form_applies (unary op e) = all_apply e
-    form_applies (chain first rest) = (all_apply first, links_apply rest)
-
-    pub args_apply : (xs : Expressions) → ArgsApply c Can xs
-    args_apply no_expressions = tt
-    args_apply (expression x xs) = (all_apply x, args_apply xs)
-
-    links_apply : (ls : Links) → LinksApply c Can ls
-    links_apply no_links = tt
-    links_apply (link op x rest) = (all_apply x, links_apply rest)
 
 -- ---- shared variables
 

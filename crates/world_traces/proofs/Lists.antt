@@ -1,9 +1,8 @@
 -- Lists of parts in post-order: those that have the same parts are equal, and the parts of revisions with different
 -- paths can be put into post-order.
-use Rattle.std.proofs.Common.{◌≡◌, ◌≢◌, ◌⊎◌, inl, inr, ℕ, zero, suc, Bool, true, false, cond, List, [], ◌∷◌, Some, refl, sym, ap, ◌∙◌, subst}
-use Rattle.std.proofs.lemmas.Bool.{true≢false}
+use Rattle.std.proofs.Common.{◌≡◌, ◌⊎◌, inl, inr, ℕ, zero, suc, Bool, true, false, cond, List, [], ◌∷◌, Some, refl, sym, ap, ◌∙◌, subst}
 use Rattle.rev_num.specs.Path.{Path, before}
-use Rattle.rev_num.proofs.PostOrder.{before_trans, before_irrefl, before_total}
+use Rattle.rev_num.proofs.PostOrder.{before_trans, before_irrefl}
 use Rattle.merge_decl.specs.Least.{Among}
 use Rattle.revision_machine.specs.Laws.{IsIn, IsDistinct}
 use Rattle.revision_machine.specs.Numbered.{at_number, paths_of}
@@ -11,6 +10,7 @@ use Rattle.revision_machine.proofs.Paths.{some_inj}
 use Rattle.revision_machine.proofs.Numbers.{none_some}
 use Rattle.trace_diagram.specs.declared.diagram.Part.{Part}
 use Rattle.audit_rules.specs.Traces.{InPostOrder}
+use Rattle.audit_rules.proofs.Listed.{put, put_among, put_order}
 
 -- ---- equal lists
 
@@ -42,26 +42,6 @@ same_list (p ∷ ps) (q ∷ qs) a b f g =
 
 -- ---- parts in post-order
 
--- a part at its place among parts in post-order
-abbrev put : Part → List Part → List Part
-put p [] = p ∷ []
-put p (q ∷ ps) = cond (before q.path p.path) (q ∷ put p ps) (p ∷ q ∷ ps)
-
-put_among : (p : Part) (ps : List Part) (x : Part) → Among (put p ps) x → (p ≡ x) ⊎ Among ps x
-put_among p [] x (inl e) = inl e
-put_among p [] x (inr i) = absurd i
-put_among p (q ∷ ps) x i = go (before q.path p.path) i (put_among p ps x)
-  where
-    or_first : (p ≡ x) ⊎ Among ps x → (p ≡ x) ⊎ Among (q ∷ ps) x
-    or_first (inl e) = inl e
-    or_first (inr k) = inr (inr k)
-
-    go : (b : Bool) → Among (cond b (q ∷ put p ps) (p ∷ q ∷ ps)) x → (Among (put p ps) x → (p ≡ x) ⊎ Among ps x) → (p ≡ x) ⊎ Among (q ∷ ps) x
-    go true (inl e) later = inr (inl e)
-    go true (inr j) later = or_first (later j)
-    go false (inl e) later = inl e
-    go false (inr j) later = inr j
-
 put_in : (p : Part) (ps : List Part) → Among (put p ps) p
 put_in p [] = inl refl
 put_in p (q ∷ ps) = go (before q.path p.path) (put_in p ps)
@@ -78,32 +58,6 @@ put_keeps p (q ∷ ps) x i = go (before q.path p.path) i (put_keeps p ps x)
     go true (inl e) later = inl e
     go true (inr j) later = inr (later j)
     go false j later = inr j
-
-put_order : (p : Part) (ps : List Part) → ((x : Part) → Among ps x → x.path ≢ p.path) → InPostOrder ps → InPostOrder (put p ps)
-put_order p [] new order = (λ x i. absurd i, tt)
-put_order p (q ∷ ps) new order = go (before q.path p.path) refl (put_order p ps (λ x i. new x (inr i)) order.1)
-  where
-    go : (b : Bool) → before q.path p.path ≡ b → InPostOrder (put p ps) → InPostOrder (cond b (q ∷ put p ps) (p ∷ q ∷ ps))
-    go true first later = (behind, later)
-      where
-        behind : (x : Part) → Among (put p ps) x → before q.path x.path ≡ true
-        behind x i = by (put_among p ps x i)
-          where
-            by : (p ≡ x) ⊎ Among ps x → before q.path x.path ≡ true
-            by (inl e) = subst (λ v. before q.path v.path ≡ true) e first
-            by (inr j) = order.0 x j
-    go false later_one rest = (behind, order)
-      where
-        sooner : before p.path q.path ≡ true
-        sooner = by (before_total p.path q.path (λ e. new q (inl refl) (sym e)))
-          where
-            by : (before p.path q.path ≡ true) ⊎ (before q.path p.path ≡ true) → before p.path q.path ≡ true
-            by (inl h) = h
-            by (inr h) = absurd (true≢false (sym h ∙ later_one))
-
-        behind : (x : Part) → Among (q ∷ ps) x → before p.path x.path ≡ true
-        behind x (inl e) = subst (λ v. before p.path v.path ≡ true) e sooner
-        behind x (inr j) = before_trans p.path q.path x.path sooner (order.0 x j)
 
 -- ---- the parts of numbered revisions
 

@@ -1,14 +1,17 @@
-use Rattle.std.proofs.Common.{refl}
+use Rattle.std.proofs.Common.{refl, subst}
 use Rattle.leg_meaning.specs.Legs as leg
 use Rattle.leg_meaning.specs.Legs.{IsJoinTrap}
-use Rattle.leg_meaning.proofs.Quiet.{trap_quiet}
+use Rattle.code_machine.specs.Local.{CodeRun}
+use Rattle.code_machine.proofs.Events.{IsAt, stands}
 use Rattle.leg_meaning.proofs.trap_laws.Goals as goal
 
 pub returns-clause-own : goal.returns-clause-own
 returns-clause-own c = λ code inputs share from to e l. own code inputs share from to e l
   where
     own : leg.OwnTrapsAreNotOfJoin
-    own code inputs share c c' e l = trap_quiet code inputs share l.last c' e l.comes
+    own code inputs share c c' e l =
+        let g : CodeRun = record { code = code; inputs = inputs; share = share } in
+        (subst (IsAt l.last) l.comes (stands g l.last)).1
 
 pub returns-clause-join : goal.returns-clause-join
 returns-clause-join c = of_joins

@@ -1,0 +1,5 @@
+use Rattle.joined_ends.proofs.Joining.{join_same}
+use Rattle.joined_ends.proofs.end_law.Goals as goal
+
+pub returns : goal.returns
+returns c = join_same

@@ -1,0 +1,5 @@
+use Rattle.step_forms.proofs.Forms.{step_form}
+use Rattle.step_forms.proofs.step_law.Goals as goal
+
+pub returns : goal.returns
+returns g c = λ s x. step_form s x
