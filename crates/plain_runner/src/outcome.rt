@@ -15,8 +15,7 @@ use std::alloc::{AllocError, Global};
 
 impl<'a> PlainLanguage<'a> {
     /// The outcome of a state: Twice, or what `main` printed, the values of its view and how it
-    /// ended; none where `main` has not ended. The text is moved and not copied. Want of memory is
-    /// the one error.
+    /// ended; none where `main` has not ended. Want of memory is the one error.
     pub fn outcome_of(
         &self,
         alloc: Global,
@@ -50,7 +49,7 @@ impl<'a> PlainLanguage<'a> {
             Some(trap) => Some(trap.copy(alloc)?),
             None => None,
         };
-        let text = Items::from_vec(main.into_text());
+        let text = Items::from_vec(main.text(alloc)?);
         Ok(Some(match trap {
             Some(trap) => Outcome::Trapped { text, values, trap },
             None => Outcome::Done { text, values },

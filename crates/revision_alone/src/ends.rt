@@ -48,7 +48,7 @@ impl AloneEnd {
             None => None,
             Some(trap) => Some(trap.copy(alloc)?),
         };
-        Ok(Local::ended(alloc, locations, text, self.fuel, trap))
+        Local::ended(alloc, locations, text, self.fuel, trap)
     }
 }
 

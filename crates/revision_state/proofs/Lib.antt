@@ -8,3 +8,4 @@ pub mod Merges
 pub mod Readings
 pub mod Rows
 pub mod Starts
+pub mod Texts

@@ -4,6 +4,7 @@ pub mod LocalPlaces
 pub mod Reading
 pub mod Remaining
 pub mod Phases
+pub mod Pieces
 pub mod Tables
 pub mod Views
 pub mod Changes

@@ -1,17 +1,29 @@
--- Where the locals of a frame stand, by their names.
-use Rattle.std.specs.Prelude.{◌≡◌, ℕ, List, position}
-use Rattle.std.specs.BTreeMap.{BTreeMap, get_by}
-use Rattle.std.specs.Cmp.Lexicographic.{slice_cmp}
-use Rattle.std.specs.declared.cmp.Ordering.{Ordering}
-use Rattle.std.specs.Ordering.{nat_cmp}
-use denote.Ref.{Bor}
+-- Where the locals of a frame stand, by the numbers that the names of its body have.
+use Rattle.std.specs.Prelude.{◌≡◌, ◌<◌, ℕ, Bool, true, false, if◌then◌else◌, Option, Some, None, List, length, get_or, is_some, position, set, slice_get}
 use Rattle.merge_decl.specs.Names.{Name, same}
-use Rattle.merge_decl.specs.Table.{Table}
+use Rattle.merge_decl.specs.Table.{Table, find}
 
--- a name against a key, byte by byte
-abbrev pub against : Name → Bor (List ℕ) → Ordering
-against name key = slice_cmp nat_cmp name key.now
+-- each name's number is below how many names there are
+abbrev pub AreBelow : Table ℕ → Type 0
+AreBelow numbers = (name : Name) (k : ℕ) → find name numbers ≡ Some k → k < length numbers
 
--- the map finds where the first local of each name stands
-abbrev pub IsPlaced : {V : Type 0} → BTreeMap (Bor (List ℕ)) ℕ → Table V → Type 0
-IsPlaced places locals = (name : Name) → get_by (against name) places ≡ position (λ e. same name e.0) locals
+-- no two names have one number
+abbrev pub AreApart : Table ℕ → Type 0
+AreApart numbers =
+    (name other : Name) (k : ℕ) → find name numbers ≡ Some k → find other numbers ≡ Some k → same name other ≡ true
+
+-- at the number of each name stands where the first local of the name is, if there is one
+abbrev pub IsPlaced : {V : Type 0} → Table ℕ → List (Option ℕ) → Table V → Type 0
+IsPlaced numbers places locals =
+    (name : Name) (k : ℕ) → find name numbers ≡ Some k
+    → slice_get places k ≡ Some (position (λ e. same name e.0) locals)
+
+-- where each local has a name with a number, no local has a name without one
+abbrev pub AreKnown : {V : Type 0} → Table ℕ → Bool → Table V → Type 0
+AreKnown numbers others locals =
+    others ≡ false → (name : Name) → find name numbers ≡ None → position (λ e. same name e.0) locals ≡ None
+
+-- these places, where the local at this place has a name with this number, if its name has one
+abbrev pub noted : List (Option ℕ) → Option ℕ → ℕ → List (Option ℕ)
+noted places None at = places
+noted places (Some k) at = if is_some (get_or places k None) then places else set places k (Some at)

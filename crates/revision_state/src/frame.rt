@@ -128,7 +128,7 @@ impl<'a> Model for Frame<'a> {
 impl<'a> Frame<'a> {
     /// A frame with these locals, in which this block is to be done, and for whose value this left
     /// side waits.
-    pub fn new(
+    pub(crate) fn new(
         alloc: Global,
         locals: Locals<'a>,
         block: &'a [Stmt],

@@ -1,16 +1,17 @@
-//! The locals of a frame, found by their names through a table.
+//! The locals of a frame, found by the numbers of their names.
 
-ghost use Rattle.std.specs.Prelude.{◌≡◌, ◌∷◌, ◌++◌, [], None, IfOk, OnOk, length, position};
-ghost use Rattle.std.specs.Prelude.{option_copied};
+ghost use Rattle.std.specs.Prelude.{◌≡◌, ◌<◌, ◌∷◌, ◌++◌, ◌||◌, [], IfOk, IfSome, None, OnOk};
+ghost use Rattle.std.specs.Prelude.{is_none, length, option_copied, position, replicate};
 ghost use Rattle.merge_decl.specs.Names.{same};
 ghost use Rattle.merge_decl.specs.Table.{find};
 ghost use Rattle.revision_calculus.specs.Evaluation as calculus;
-ghost use Rattle.revision_state.specs.LocalPlaces.{IsPlaced};
+ghost use Rattle.revision_state.specs.LocalPlaces.{noted};
 
+use crate::body_names::BodyNames;
 use rev_num::Value;
 use std::alloc::{AllocError, Global};
-use std::collections::BTreeMap;
 use std::marker::Model;
+use std::rc::Rc;
 
 /// A local, with its value.
 #[derive(Drop)]
@@ -49,6 +50,13 @@ impl<'a> Binding<'a> {
         &self.value
     }
 
+    /// Whether it has this name.
+    fn has(&self, name: &[u8]) -> bool
+        ensures { result ≡ same name.now self.now.0 }
+    {
+        name == self.name
+    }
+
     /// It has this value from now on.
     fn change(&mut self, value: Value)
         ensures { self.new ≡ (self.old.0, value) }
@@ -60,20 +68,24 @@ impl<'a> Binding<'a> {
 /// The locals of a frame. Contracts see the list of their names and values, in the order in which
 /// they came.
 ///
-/// Of locals of one name the first counts. It is found through an ordered map, whose keys are the
-/// names in the program's tree.
+/// Of locals of one name the first counts. It is found by the number that the table of the frame's
+/// body has for the name.
 #[derive(Drop)]
 pub struct Locals<'a> {
     bindings: Vec<Binding<'a>>,
-    /// Where the first local of each name stands.
-    places: BTreeMap<&'a [u8], usize>,
+    /// The names of the frame's body.
+    names: Rc<BodyNames>,
+    /// At the number of each of these names: where the first local of the name stands.
+    places: Vec<Option<usize>>,
+    /// Whether there is a local whose name is none of these. In a typed program there is not.
+    others: bool,
 }
 
 impl<'a> Model for Locals<'a> {
     ghost use Rattle.std.specs.Prelude.{List};
     ghost use Rattle.std.specs.Coded.{coded_list};
     ghost use Rattle.revision_state.specs.LocalCodes.{Bound, coded_binding};
-    ghost use Rattle.revision_state.specs.LocalPlaces.{IsPlaced};
+    ghost use Rattle.revision_state.specs.LocalPlaces.{AreKnown, IsPlaced};
 
     ghost Value = { List Bound };
 
@@ -81,37 +93,58 @@ impl<'a> Model for Locals<'a> {
 
     ghost view = { λ l. l.bindings.items };
 
-    ghost invariant = { λ l. IsPlaced l.places l.bindings.items };
+    ghost invariant = { λ l. IsPlaced l.names.value.numbers l.places.items l.bindings.items
+        × AreKnown l.names.value.numbers l.others l.bindings.items };
 }
 
-/// Appends a local of a name that is new.
-fn add<'a>(
-    bindings: &mut Vec<Binding<'a>>,
-    places: &mut BTreeMap<&'a [u8], usize>,
-    name: &'a [u8],
-    value: Value,
-) -> Result<(), AllocError>
-    requires placed { IsPlaced places.old bindings.old.items }
-    requires absent { position (λ e. same name.now e.0) bindings.old.items ≡ None }
-    ensures placed { IsPlaced places.new bindings.new.items }
-    ensures items { OnOk result
-        (bindings.new.items ≡ bindings.old.items ++ (name.now, value) ∷ []) }
+/// So many places at which nothing stands yet.
+fn no_places(alloc: Global, count: usize) -> Result<Vec<Option<usize>>, AllocError>
+    ensures { IfOk result (λ places. places.items ≡ replicate count None) }
 {
-    bindings.reserve(1)?;
-    places.insert(name, bindings.len())?;
-    bindings.push(Binding::new(name, value))?;
-    Ok(())
+    let mut places = Vec::with_capacity(alloc, count)?;
+    places.resize(count, None)?;
+    Ok(places)
+}
+
+/// The place of the first of these locals that has this name, which is looked for one by one.
+fn scanned(bindings: &[Binding], name: &[u8]) -> Option<usize>
+    ensures { result ≡ position (λ e. same name.now e.0) bindings.now }
+{
+    bindings.iter().position(|binding| binding.has(name))
+}
+
+/// A local stands at this place whose name has this number, if it has one. The first of a name
+/// stays.
+fn note(places: &mut Vec<Option<usize>>, number: Option<usize>, at: usize)
+    requires { IfSome number (λ k. k < length places.old.items) }
+    ensures { places.new.items ≡ noted places.old.items number at }
+{
+    if let Some(number) = number {
+        if places[number].is_none() {
+            places[number] = Some(at);
+        }
+    }
+}
+
+/// Whether there is a local whose name has no number, after one more, whose name has this one.
+fn has_others(others: bool, number: Option<usize>) -> bool
+    ensures { result ≡ (others || is_none number) }
+{
+    others || number.is_none()
 }
 
 impl<'a> Locals<'a> {
-    /// No locals.
-    pub fn new(alloc: Global) -> Locals<'a>
-        ensures { result ≡ [] }
+    /// No locals, with room for one of each of these names.
+    pub(crate) fn new(alloc: Global, names: Rc<BodyNames>) -> Result<Locals<'a>, AllocError>
+        ensures { IfOk result (λ l. l ≡ []) }
     {
-        Locals {
-            bindings: Vec::new(alloc),
-            places: BTreeMap::new(alloc),
-        }
+        let places = no_places(alloc, names.len())?;
+        Ok(Locals {
+            bindings: Vec::with_capacity(alloc, names.len())?,
+            names,
+            places,
+            others: false,
+        })
     }
 
     /// How many there are.
@@ -121,11 +154,20 @@ impl<'a> Locals<'a> {
         self.bindings.len()
     }
 
-    /// The place of the first local of this name.
+    /// The place of the first local of this name. The name of a shared variable has no number, and
+    /// no local has it in a typed program; where some local has such a name all are gone over.
     fn place(&self, name: &[u8]) -> Option<usize>
         ensures { result ≡ position (λ e. same name.now e.0) self.now }
     {
-        self.places.get(name).copied()
+        match self.names.number(name) {
+            Some(number) => self.places[number],
+            None => {
+                if self.others {
+                    return scanned(&self.bindings, name);
+                }
+                None
+            }
+        }
     }
 
     /// The value of the local of this name, if there is one.
@@ -142,10 +184,11 @@ impl<'a> Locals<'a> {
     pub fn push(&mut self, name: &'a [u8], value: Value) -> Result<(), AllocError>
         ensures { OnOk result (self.new ≡ self.old ++ (name.now, value) ∷ []) }
     {
-        match self.place(name) {
-            Some(_) => self.bindings.push(Binding::new(name, value))?,
-            None => add(&mut self.bindings, &mut self.places, name, value)?,
-        }
+        let number = self.names.number(name);
+        let at = self.bindings.len();
+        self.bindings.push(Binding::new(name, value))?;
+        note(&mut self.places, number, at);
+        self.others = has_others(self.others, number);
         Ok(())
     }
 
@@ -155,7 +198,7 @@ impl<'a> Locals<'a> {
     {
         match self.place(name) {
             Some(at) => self.bindings[at].change(value),
-            None => add(&mut self.bindings, &mut self.places, name, value)?,
+            None => self.push(name, value)?,
         }
         Ok(())
     }
@@ -164,7 +207,7 @@ impl<'a> Locals<'a> {
     pub fn copy(&self, alloc: Global) -> Result<Locals<'a>, AllocError>
         ensures { IfOk result (λ l. l ≡ self.now) }
     {
-        let mut copy = Locals::new(alloc);
+        let mut copy = Locals::new(alloc, self.names.clone()?)?;
         for binding in &self.bindings {
             copy.push(binding.name(), binding.value().copy(alloc)?)?;
         }

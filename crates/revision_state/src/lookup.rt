@@ -1,6 +1,7 @@
 //! Shared variables and procedures by their names.
 
-ghost use Rattle.std.specs.Prelude.{◌≡◌, IfOk, OnOk, [], map, option_copied, option_map, slice_get};
+ghost use Rattle.std.specs.Prelude.{◌≡◌, IfOk, None, OnOk, [], map, option_copied, option_map};
+ghost use Rattle.std.specs.Prelude.{slice_get};
 ghost use Rattle.rev_types.specs.Layout.{procedures};
 ghost use Rattle.rev_syntax.specs.Trees.{no_statements};
 ghost use Rattle.rev_syntax.specs.View.{declaration, parameter, stmts};
@@ -12,6 +13,7 @@ ghost use Rattle.revision_state.specs.Reading.{location_at};
 ghost use Rattle.revision_state.specs.Tables.{body_of, info_of, params_of, with_next};
 ghost use Rattle.revision_state.specs.Views.{given};
 
+use crate::body_names::BodyNames;
 use crate::frame::Frame;
 use crate::locals::Locals;
 use crate::setting::Setting;
@@ -20,12 +22,14 @@ use rev_num::{Cause, Value};
 use rev_syntax::{Decl, Param, Stmt};
 use rev_types::SharedInfo;
 use std::alloc::{AllocError, Global};
+use std::rc::Rc;
 
-/// A procedure: its parameters, and its body.
+/// A procedure: its parameters and its body, with the table of the names of its locals.
 #[derive(Clone, Copy, Drop)]
-pub struct Callee<'a> {
+pub struct Callee<'s, 'a> {
     params: &'a [Param],
     body: &'a [Stmt],
+    names: &'s Rc<BodyNames>,
 }
 
 impl<'a> Setting<'a> {
@@ -46,15 +50,15 @@ impl<'a> Setting<'a> {
     }
 
     /// The first procedure of this name; where there is none, one that does nothing stands for it.
-    fn callee(&self, name: &[u8]) -> Callee<'a>
+    fn callee(&self, name: &[u8]) -> Callee<'_, 'a>
         ensures params { names_of (map parameter result.params.now)
             ≡ (procedure_named (procedures (given self.now).program) name.now).params }
         ensures body { stmts result.body.now
             ≡ (procedure_named (procedures (given self.now).program) name.now).body }
     {
         match self.procedures.find(name) {
-            Some(number) => callee_of(self.declared(number)),
-            None => nothing(),
+            Some(number) => callee_of(self.declared(number), self.bodies.declared(number)),
+            None => nothing(self.bodies.none()),
         }
     }
 
@@ -71,13 +75,23 @@ impl<'a> Setting<'a> {
             values.items (option_copied left.entry)) }
     {
         let callee = self.callee(name);
-        let locals = locals_of(alloc, callee.params, values)?;
+        let locals = locals_of(alloc, callee.names, callee.params, values)?;
         Frame::new(alloc, locals, callee.body, left)
+    }
+
+    /// The frame of `main`, before its first statement.
+    pub fn main_frame(&self, alloc: Global) -> Result<Frame<'a>, AllocError>
+        ensures { IfOk result
+            (λ f. f
+            ≡ record { locals = []; rest = (given self.now).program.main; left = None }) }
+    {
+        let locals = Locals::new(alloc, self.bodies.main().clone()?)?;
+        Frame::new(alloc, locals, &self.typed.expanded.program.main.stmts, None)
     }
 }
 
 /// The parameters and the body of a declared procedure.
-fn callee_of<'a>(decl: Option<&'a Decl>) -> Callee<'a>
+fn callee_of<'s, 'a>(decl: Option<&'a Decl>, names: &'s Rc<BodyNames>) -> Callee<'s, 'a>
     ensures params { names_of (map parameter result.params.now)
         ≡ params_of (option_map declaration (option_copied decl.entry)) }
     ensures body { stmts result.body.now
@@ -94,19 +108,21 @@ fn callee_of<'a>(decl: Option<&'a Decl>) -> Callee<'a>
         ) => Callee {
             params,
             body: &body.stmts,
+            names,
         },
-        _ => nothing(),
+        _ => nothing(names),
     }
 }
 
 /// A procedure that does nothing.
-fn nothing<'a>() -> Callee<'a>
+fn nothing<'s, 'a>(names: &'s Rc<BodyNames>) -> Callee<'s, 'a>
     ensures params { names_of (map parameter result.params.now) ≡ [] }
     ensures body { stmts result.body.now ≡ no_statements }
 {
     Callee {
         params: &[],
         body: &[],
+        names,
     }
 }
 
@@ -114,6 +130,7 @@ fn nothing<'a>() -> Callee<'a>
 #[tactic(auto, using(crate::proofs::Callees::locals_none, crate::proofs::Callees::locals_more))]
 fn locals_of<'a>(
     alloc: Global,
+    names: &Rc<BodyNames>,
     params: &'a [Param],
     values: Vec<Value>,
 ) -> Result<Locals<'a>, AllocError>
@@ -121,7 +138,7 @@ fn locals_of<'a>(
         (λ locals. locals
         ≡ step.locals_of (names_of (map parameter params.now)) values.items) }
 {
-    let mut locals = Locals::new(alloc);
+    let mut locals = Locals::new(alloc, names.clone()?)?;
     for value in values {
         bind_next(&mut locals, params, value)?;
     }

@@ -8,6 +8,7 @@ ghost use Rattle.rev_types.specs.Layout as layout;
 ghost use Rattle.revision_calculus.specs.Join.{merges_of};
 ghost use Rattle.revision_state.specs.Tables.{info_of, number_of};
 
+use crate::bodies::Bodies;
 use merge_decl::NameTable;
 use rev_types::{SharedInfo, Typed};
 
@@ -21,6 +22,8 @@ pub struct Setting<'a> {
     pub(crate) variables: NameTable<SharedInfo>,
     /// The number of the declaration of the first procedure of each name.
     pub(crate) procedures: NameTable<u32>,
+    /// The names of the locals of `main` and of each procedure.
+    pub(crate) bodies: Bodies,
     /// The number of the merge of each location that has one.
     pub merges: Vec<Option<u32>>,
     ghost variables_found: { (name : names.Name) → find name variables

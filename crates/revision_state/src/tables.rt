@@ -11,6 +11,7 @@ ghost use Rattle.revision_state.specs.Tables.{entered, info_of, merges_in, numbe
 ghost use Rattle.revision_state.specs.Tables.{proc_name, shared_at, shared_name, with_row};
 ghost use Rattle.revision_state.specs.Views.{given};
 
+use crate::bodies::Bodies;
 use crate::setting::Setting;
 use merge_decl::NameTable;
 use rev_syntax::Decl;
@@ -178,6 +179,7 @@ fn make<'a>(
     share: u64,
     variables: NameTable<SharedInfo>,
     procedures: NameTable<u32>,
+    bodies: Bodies,
     merges: Vec<Option<u32>>,
 ) -> Setting<'a>
     requires variables { (name : names.Name) → find name variables
@@ -195,6 +197,7 @@ fn make<'a>(
         share,
         variables,
         procedures,
+        bodies,
         merges,
     }
 }
@@ -218,7 +221,8 @@ impl<'a> Setting<'a> {
     {
         let variables = variable_table(alloc, typed)?;
         let procedures = procedure_table(alloc, typed)?;
+        let bodies = Bodies::of(alloc, &typed.expanded.program)?;
         let merges = merge_list(alloc, typed)?;
-        Ok(make(typed, input, share, variables, procedures, merges))
+        Ok(make(typed, input, share, variables, procedures, bodies, merges))
     }
 }

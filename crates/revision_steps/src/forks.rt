@@ -13,7 +13,7 @@ use crate::local::Local;
 use crate::own::Own;
 use rev_num::{Path, Value};
 use rev_syntax::{Expr, Name};
-use revision_state::{Frames, Noted, Phase, Setting, snapshot};
+use revision_state::{Frames, Noted, Phase, Setting, Text, snapshot};
 use std::alloc::{AllocError, Global};
 
 impl<'a> Local<'a> {
@@ -45,7 +45,7 @@ impl<'a> Local<'a> {
             fuel: self.part(setting),
             forks: 0,
             noted: Vec::new(alloc),
-            text: Vec::new(alloc),
+            text: Text::new(alloc),
             line: 0,
             phase: Phase::Running,
         })

@@ -53,6 +53,7 @@ impl<'a> Local<'a> {
     /// The joiner takes over what the joinee wrote, its text and its fuel.
     fn take_over(
         &mut self,
+        alloc: Global,
         setting: &Setting<'a>,
         path: &Path,
         left: Option<&'a [u8]>,
@@ -66,7 +67,7 @@ impl<'a> Local<'a> {
             (join.merged (put self.old.locations changes.items))) }
     {
         write_all(&mut self.locations, changes);
-        self.text.extend_from_slice(&ended.text)?;
+        self.text.append_text(alloc, &ended.text)?;
         self.fuel += ended.fuel;
         self.phase = Phase::Running;
         self.give(setting, left, Some(Value::Bool(true)))
@@ -98,7 +99,7 @@ impl<'a> Local<'a> {
             ended.locations(),
         )?;
         match found {
-            Ok(changes) => self.take_over(setting, path, left, ended, changes),
+            Ok(changes) => self.take_over(alloc, setting, path, left, ended, changes),
             Err(fault) => self.fail_merge(alloc, path, fault),
         }
     }

@@ -17,8 +17,8 @@ ghost use Rattle.revision_state.specs.Views.{given};
 use crate::own::Own;
 use rev_num::{Cause, Path, Trap, Value};
 use revision_state::{
-    Frame, Frames, Locals, Location, Noted, Phase, Setting, copy_locations, copy_noted,
-    start_locations, write_at,
+    Frames, Location, Noted, Phase, Setting, Text, copy_locations, copy_noted, start_locations,
+    write_at,
 };
 use std::alloc::{AllocError, Global};
 use std::marker::Model;
@@ -31,7 +31,7 @@ pub struct Local<'a> {
     pub(crate) fuel: u64,
     pub(crate) forks: u32,
     pub(crate) noted: Vec<Noted>,
-    pub(crate) text: Vec<u8>,
+    pub(crate) text: Text,
     pub(crate) line: u32,
     pub(crate) phase: Phase<'a>,
 }
@@ -52,7 +52,7 @@ impl<'a> Model for Local<'a> {
       fuel = l.fuel;
       forks = l.forks;
       noted = map phases.noted l.noted.items;
-      text = l.text.items;
+      text = l.text;
       line = l.line;
       phase = phases.phase l.phase;
     } };
@@ -73,15 +73,14 @@ impl<'a> Local<'a> {
     pub fn first(alloc: Global, setting: &Setting<'a>, fuel: u64) -> Result<Local<'a>, AllocError>
         ensures { IfOk result (λ l. l ≡ calculus.main (given setting.now) fuel) }
     {
-        let body = &setting.typed.expanded.program.main.stmts;
-        let frame = Frame::new(alloc, Locals::new(alloc), body, None)?;
+        let frame = setting.main_frame(alloc)?;
         Ok(Local {
             locations: start_locations(alloc, setting.typed)?,
             frames: Frames::of(alloc, frame)?,
             fuel,
             forks: 0,
             noted: Vec::new(alloc),
-            text: Vec::new(alloc),
+            text: Text::new(alloc),
             line: 0,
             phase: Phase::Running,
         })
@@ -95,19 +94,19 @@ impl<'a> Local<'a> {
         text: Vec<u8>,
         fuel: u64,
         trap: Option<Trap>,
-    ) -> Local<'a>
-        ensures { result ≡ ended_with locations.items text.items fuel trap }
+    ) -> Result<Local<'a>, AllocError>
+        ensures { IfOk result (λ l. l ≡ ended_with locations.items text.items fuel trap) }
     {
-        Local {
+        Ok(Local {
             locations,
             frames: Frames::none(alloc),
             fuel,
             forks: 0,
             noted: Vec::new(alloc),
-            text,
+            text: Text::of(alloc, text)?,
             line: 0,
             phase: phase_by(trap),
-        }
+        })
     }
 
     /// The fuel that the revision has left.
@@ -124,18 +123,11 @@ impl<'a> Local<'a> {
         self.forks
     }
 
-    /// What the revision printed.
-    pub fn text(&self) -> &[u8]
-        ensures { result.now ≡ self.now.text }
+    /// What the revision printed, copied into one piece.
+    pub fn text(&self, alloc: Global) -> Result<Vec<u8>, AllocError>
+        ensures { IfOk result (λ text. text.items ≡ self.now.text) }
     {
-        self.text.as_slice()
-    }
-
-    /// What the revision printed, moved and not copied.
-    pub fn into_text(self) -> Vec<u8>
-        ensures { result.items ≡ self.entry.text }
-    {
-        self.text
+        self.text.to_vec(alloc)
     }
 
     /// The forks and joins of the revision, in their order.
@@ -228,6 +220,16 @@ impl<'a> Local<'a> {
         }
     }
 
+    /// What a revision printed that is done stands in pieces that its joiner can share.
+    pub(crate) fn close_text(&mut self, alloc: Global) -> Result<(), AllocError>
+        ensures { OnOk result (self.new ≡ self.old) }
+    {
+        match &self.phase {
+            Phase::Done => self.text.close(alloc),
+            Phase::Running | Phase::Joining { .. } | Phase::Trapped(_) => Ok(()),
+        }
+    }
+
     /// The revision is done.
     pub(crate) fn finish(&mut self)
         ensures { self.new ≡ step.finish self.old }
@@ -270,7 +272,7 @@ impl<'a> Local<'a> {
             fuel: self.fuel,
             forks: self.forks,
             noted: copy_noted(alloc, &self.noted)?,
-            text: Vec::from_slice(alloc, &self.text)?,
+            text: self.text.copy(alloc)?,
             line: self.line,
             phase: self.phase.copy(alloc)?,
         })

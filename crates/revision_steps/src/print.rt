@@ -16,7 +16,7 @@ use crate::own::Own;
 use rev_num::{Cause, Path, Value};
 use rev_report::append_value;
 use rev_syntax::Item;
-use revision_state::Setting;
+use revision_state::{Setting, Text};
 use std::alloc::{AllocError, Global};
 
 /// The text of a value.
@@ -29,27 +29,27 @@ fn text_of_value(alloc: Global, value: &Value) -> Result<Vec<u8>, AllocError>
 }
 
 /// Appends texts with one space between two of them.
-fn append_texts(line: &mut Vec<u8>, texts: &[Vec<u8>]) -> Result<(), AllocError>
+fn append_texts(line: &mut Text, texts: &[Vec<u8>]) -> Result<(), AllocError>
     ensures { OnOk result
-        (line.new.items ≡ line.old.items ++ join_with_byte space (map (λ t. t.items) texts.now)) }
+        (line.new ≡ line.old ++ join_with_byte space (map (λ t. t.items) texts.now)) }
 {
     match texts {
         [] => Ok(()),
         [first, rest @ ..] => {
-            line.extend_from_slice(first)?;
+            line.append(first)?;
             append_behind_spaces(line, rest)
         }
     }
 }
 
 /// Appends each text with a space in front of it.
-fn append_behind_spaces(line: &mut Vec<u8>, texts: &[Vec<u8>]) -> Result<(), AllocError>
+fn append_behind_spaces(line: &mut Text, texts: &[Vec<u8>]) -> Result<(), AllocError>
     ensures { OnOk result
-        (line.new.items ≡ line.old.items ++ flat_map behind_space (map (λ t. t.items) texts.now)) }
+        (line.new ≡ line.old ++ flat_map behind_space (map (λ t. t.items) texts.now)) }
 {
     for text in texts {
         line.push(b' ')?;
-        line.extend_from_slice(text)?;
+        line.append(text)?;
     }
     Ok(())
 }

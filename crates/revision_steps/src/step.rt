@@ -206,7 +206,9 @@ impl<'a> Local<'a> {
             Phase::Joining { on, left: _ } => return Ok(Next::Joins(on.copy(alloc)?)),
             Phase::Running => {}
         }
-        match self.run(alloc, setting, path)? {
+        let own = self.run(alloc, setting, path)?;
+        self.close_text(alloc)?;
+        match own {
             Own::Moved => Ok(Next::Moved),
             Own::Forked(child) => Ok(Next::Forked(child)),
         }

@@ -48,7 +48,7 @@ fn told(alloc: Global, child: &LocalState) -> Result<AloneEnd, AllocError> {
         value: Value::Int(6),
         root: Value::Int(5),
     })?;
-    let text = Vec::from_slice(alloc, child.local.text())?;
+    let text = child.local.text(alloc)?;
     let fuel = child.local.fuel();
     Ok(AloneEnd {
         written,
@@ -108,7 +108,8 @@ fn a_child_and_its_join(rt: HostRuntime) -> Result<(), Fail> {
     };
     assert!(rt; child.path.numbers() == [0].as_slice());
     let main = finished(rt.alloc(), &setting, main, child)?;
-    assert!(rt; main.local.text() == b"6\n6\n".as_slice());
+    let text = main.local.text(rt.alloc())?;
+    assert!(rt; text.as_slice() == b"6\n6\n".as_slice());
     assert!(rt; main.local.has_ended());
     Ok(())
 }

@@ -108,8 +108,8 @@ fn changes_of(
     Ok(changes)
 }
 
-/// The part of the revision at this path, whose locations have these places. Its path and its text
-/// are moved and not copied.
+/// The part of the revision at this path, whose locations have these places. Its path is moved and
+/// not copied.
 pub fn part_of<'a>(
     alloc: Global,
     places: &[Bytes],
@@ -122,7 +122,7 @@ pub fn part_of<'a>(
     let end = end_of(alloc, places, local.trap())?;
     let fuel = local.fuel();
     let written = Items::from_vec(changes_of(alloc, places, local.locations())?);
-    let text = Items::from_vec(local.into_text());
+    let text = Items::from_vec(local.text(alloc)?);
     Ok(Part {
         path,
         events,

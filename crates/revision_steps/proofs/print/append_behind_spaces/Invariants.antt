@@ -4,4 +4,4 @@ use Rattle.revision_steps.specs.Texts.{behind_space}
 use Rattle.revision_steps.proofs.print.append_behind_spaces.Given as goal
 
 abbrev pub invariant-loop-text : goal.invariant-loop-text
-invariant-loop-text l = l.line.items ≡ l.initial.line.items ++ flat_map behind_space (map (λ t. t.items) (take l.text-index l.texts))
+invariant-loop-text l = l.line ≡ l.initial.line ++ flat_map behind_space (map (λ t. t.items) (take l.text-index l.texts))

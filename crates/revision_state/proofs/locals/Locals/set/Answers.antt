@@ -1,4 +1,4 @@
-use Rattle.std.proofs.Common.{◌∙◌, ◌++◌, ◌∷◌, [], sym, ap, set, position}
+use Rattle.std.proofs.Common.{◌∙◌, sym, ap, set, position}
 use Rattle.merge_decl.specs.Names.{same}
 use Rattle.revision_calculus.specs.Evaluation.{with_local}
 use Rattle.revision_state.specs.LocalCodes.{Bound}
@@ -13,7 +13,6 @@ returns-in-Some c =
     ∙ changed c.args.name.now c.args.value es c.in-Some.at c.index_mut.result.now at
     ∙ ap (λ t. with_local t c.args.name.now c.args.value) c.self.view_is
 
-pub returns-in_ok-add-in-None : goal.returns-in_ok-add-in-None
-returns-in_ok-add-in-None c =
-    c.in_ok-add-in-None.ensures.items ∙ ap (λ t. t ++ (c.args.name.now, c.args.value) ∷ []) c.self.view_is
-    ∙ sym (added c.args.name.now c.args.value c.args.self.now (sym c.in-None.ensures))
+pub returns-in_ok-push-in-None : goal.returns-in_ok-push-in-None
+returns-in_ok-push-in-None c =
+    c.in_ok-push-in-None.ensures ∙ sym (added c.args.name.now c.args.value c.args.self.now (sym c.in-None.ensures))
