@@ -59,13 +59,13 @@ is_trapped j v g e u f = by j.phase (subst (IsPhase j.phase) f e.phase)
 
 abbrev pub IsClaimedBy : CodeRun → WholeJoin → EndValue → State ℕ → End ℕ → Type 0
 IsClaimedBy g a v c j =
-    IsClaimed g a.revision.run a.revision.memory.delta (words a.revision.memory.snapshot) a.revision.memory.first.roots a.written a.is_try a.on v c j
+    IsClaimed g a.revision.value.run a.revision.value.memory.delta (words a.revision.value.memory.snapshot) a.revision.value.memory.first.roots a.written a.is_try a.on v c j
 
 pub is_claimed : (g : CodeRun) (a a' : WholeJoin) (v v' : EndValue) (c : State ℕ) (j : End ℕ) → a' ≡ a → v' ≡ v → IsMeeting g a v c j → v.finish ≡ finish.Done → IsClaimedBy g a' v' c j
 is_claimed g a a' v v' c j e f m d =
     subst (λ z. IsClaimedBy g z v' c j) (sym e) (subst (λ y. IsClaimedBy g a y c j) (sym f) (record { joiner = m.joiner; joinee = m.joinee; done = d }))
 
-pub fuels_fit : (g : CodeRun) (a : WholeJoin) (v : EndValue) (c : State ℕ) (j : End ℕ) → IsMeeting g a v c j → a.revision.run.registers.fuel + v.fuel < 2 ^ 64
+pub fuels_fit : (g : CodeRun) (a : WholeJoin) (v : EndValue) (c : State ℕ) (j : End ℕ) → IsMeeting g a v c j → a.revision.value.run.registers.fuel + v.fuel < 2 ^ 64
 fuels_fit g a v c j m =
     let x = m.joiner.stands.stands.here.run.fuel in
     let y = m.joinee.fuel in

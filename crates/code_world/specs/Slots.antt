@@ -38,18 +38,21 @@ words w = slice_index w.words.items
 
 abbrev pub Runs : CodeRun → WholeRunner → State ℕ → Type 0
 Runs g r c =
-    IsAt g r.revision.run r.revision.memory.delta (words r.revision.memory.snapshot)
-    r.revision.memory.first.roots c
+    IsAt g r.revision.value.run r.revision.value.memory.delta
+    (words r.revision.value.memory.snapshot)
+    r.revision.value.memory.first.roots c
 
 abbrev pub StandsAtFork : CodeRun → WholeFork → State ℕ → List (Word ℕ) → Type 0
 StandsAtFork g a c args =
-    IsAtFork g a.revision.run a.revision.memory.delta (words a.revision.memory.snapshot)
-    a.revision.memory.first.roots a.block c args
+    IsAtFork g a.revision.value.run a.revision.value.memory.delta
+    (words a.revision.value.memory.snapshot)
+    a.revision.value.memory.first.roots a.block c args
 
 abbrev pub StandsAtJoin : CodeRun → WholeJoin → State ℕ → Type 0
 StandsAtJoin g a c =
-    IsAtJoin g a.revision.run a.revision.memory.delta (words a.revision.memory.snapshot)
-    a.revision.memory.first.roots a.written a.is_try a.on c
+    IsAtJoin g a.revision.value.run a.revision.value.memory.delta
+    (words a.revision.value.memory.snapshot)
+    a.revision.value.memory.first.roots a.written a.is_try a.on c
 
 -- one that stands at its join is behind the instructions of its leg, which begins in the local state
 abbrev pub IsSlot : CodeRun → Slot → Local ℕ → Type 0

@@ -32,9 +32,9 @@ module _ {P S : Type 0} {m : Ghosts P S} (g : CodeRun) where
     abbrev Comes : Event P S m → Type 0
     Comes e = elim e [
       | event.Fork a ↦ (d : State ℕ) × (args : List (Word ℕ)) × (leg g c ≡ forks d a.block args)
-          × IsAtFork g a.revision.run a.revision.memory.delta (m.base a.revision.memory.snapshot) a.revision.memory.first.roots a.block d args
+          × IsAtFork g a.revision.value.run a.revision.value.memory.delta (m.base a.revision.value.memory.snapshot) a.revision.value.memory.first.roots a.block d args
       | event.Join a ↦ (d : State ℕ) × (leg g c ≡ joins d a.is_try a.on)
-          × IsAtJoin g a.revision.run a.revision.memory.delta (m.base a.revision.memory.snapshot) a.revision.memory.first.roots a.written a.is_try a.on d
+          × IsAtJoin g a.revision.value.run a.revision.value.memory.delta (m.base a.revision.value.memory.snapshot) a.revision.value.memory.first.roots a.written a.is_try a.on d
       | event.End s ↦ (d : State ℕ) × (w : Option (Word ℕ)) × (leg g c ≡ ends d w) × IsEnd g (end_of (has_ended d done)) s.end
       | event.Trap s ↦ (d : State ℕ) × (e : Cause) × (leg g c ≡ traps d e) × IsEnd g (end_of (has_ended d (trap_of d e))) s.end
     ]
@@ -65,7 +65,7 @@ module _ {P S : Type 0} {m : Ghosts P S} (g : CodeRun) where
     abbrev Settles : Settled P S m → Type 0
     Settles s = elim s [
       | settled.Run r ↦ (c' : State ℕ) × (join_in g c try on j j.phase ≡ at_work c')
-          × IsAt g r.revision.run r.revision.memory.delta (m.base r.revision.memory.snapshot) r.revision.memory.first.roots c'
+          × IsAt g r.revision.value.run r.revision.value.memory.delta (m.base r.revision.value.memory.snapshot) r.revision.value.memory.first.roots c'
       | settled.Trap t ↦ IsEnd g (end_of (join_in g c try on j j.phase)) t.end
     ]
 

@@ -82,7 +82,10 @@ where
     ensures { IfOk result (λ t. Goes (run_under setting.now) t) }
 {
     match at.fork(alloc, setting) {
-        Err(broken) => Err(let_go(broken)),
+        Err(broken) => {
+            broken.give_up();
+            Err(AllocError)
+        },
         Ok((parent, child, _)) => match leaf_end(alloc, setting, child) {
             Ok(left) => Ok(Turn::Goes(parent.told(number), left)),
             Err(_) => {

@@ -10,3 +10,4 @@ pub mod Leaving
 pub mod Legs
 pub mod Values
 pub mod Mains
+pub mod Boxes

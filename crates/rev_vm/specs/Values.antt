@@ -28,55 +28,62 @@ module _ {P S : Type 0} {m : Ghosts P S} where
   -- ---- a runner
   abbrev pub StandsFor : CodeRun → Runner P S m → State ℕ → Type 0
   StandsFor g r c =
-      IsAt g r.revision.run r.revision.memory.delta (m.base r.revision.memory.snapshot)
-      r.revision.memory.first.roots c
+      IsAt g r.revision.value.run r.revision.value.memory.delta
+      (m.base r.revision.value.memory.snapshot)
+      r.revision.value.memory.first.roots c
 
   abbrev pub runner_state : CodeRun → Runner P S m → State ℕ
   runner_state g r =
-      state_at g r.revision.run r.revision.memory.delta (m.base r.revision.memory.snapshot)
-      r.revision.memory.first.roots
+      state_at g r.revision.value.run r.revision.value.memory.delta
+      (m.base r.revision.value.memory.snapshot)
+      r.revision.value.memory.first.roots
 
   abbrev pub runner_group : Runner P S m → List ℕ
-  runner_group r = m.group r.revision.memory.snapshot
+  runner_group r = m.group r.revision.value.memory.snapshot
 
   -- ---- a revision at a Fork, and behind it
   abbrev pub StandsAtFork : CodeRun → AtFork P S m → State ℕ → List (Word ℕ) → Type 0
   StandsAtFork g a c args =
-      IsAtFork g a.revision.run a.revision.memory.delta (m.base a.revision.memory.snapshot)
-      a.revision.memory.first.roots a.block c args
+      IsAtFork g a.revision.value.run a.revision.value.memory.delta
+      (m.base a.revision.value.memory.snapshot)
+      a.revision.value.memory.first.roots a.block c args
 
   abbrev pub fork_state : CodeRun → AtFork P S m → State ℕ
   fork_state g a =
-      state_at g a.revision.run a.revision.memory.delta (m.base a.revision.memory.snapshot)
-      a.revision.memory.first.roots
+      state_at g a.revision.value.run a.revision.value.memory.delta
+      (m.base a.revision.value.memory.snapshot)
+      a.revision.value.memory.first.roots
 
   abbrev pub fork_group : AtFork P S m → List ℕ
-  fork_group a = m.group a.revision.memory.snapshot
+  fork_group a = m.group a.revision.value.memory.snapshot
 
   abbrev pub Awaits : CodeRun → Parent P S m → State ℕ → List (Word ℕ) → Type 0
   Awaits g a c args =
-      IsAt g a.revision.run a.revision.memory.delta (m.base a.revision.memory.snapshot)
-      a.revision.memory.first.roots (events.parent g.share c args 0)
+      IsAt g a.revision.value.run a.revision.value.memory.delta
+      (m.base a.revision.value.memory.snapshot)
+      a.revision.value.memory.first.roots (events.parent g.share c args 0)
 
   abbrev pub parent_group : Parent P S m → List ℕ
-  parent_group a = m.group a.revision.memory.snapshot
+  parent_group a = m.group a.revision.value.memory.snapshot
 
   -- ---- a joiner
   abbrev pub StandsAtJoin : CodeRun → AtJoin P S m → State ℕ → Type 0
   StandsAtJoin g a c =
-      IsAtJoin g a.revision.run a.revision.memory.delta (m.base a.revision.memory.snapshot)
-      a.revision.memory.first.roots a.written a.is_try a.on c
+      IsAtJoin g a.revision.value.run a.revision.value.memory.delta
+      (m.base a.revision.value.memory.snapshot)
+      a.revision.value.memory.first.roots a.written a.is_try a.on c
 
   abbrev pub joiner_state : CodeRun → AtJoin P S m → State ℕ
   joiner_state g a =
-      before_join g a.revision.run a.revision.memory.delta (m.base a.revision.memory.snapshot)
-      a.revision.memory.first.roots
+      before_join g a.revision.value.run a.revision.value.memory.delta
+      (m.base a.revision.value.memory.snapshot)
+      a.revision.value.memory.first.roots
 
   abbrev pub joiner_fuel : AtJoin P S m → ℕ
-  joiner_fuel a = a.revision.run.registers.fuel
+  joiner_fuel a = a.revision.value.run.registers.fuel
 
   abbrev pub joiner_group : AtJoin P S m → List ℕ
-  joiner_group a = m.group a.revision.memory.snapshot
+  joiner_group a = m.group a.revision.value.memory.snapshot
 
   -- the joiner of a revision that left this end value
   abbrev pub joiner_with : CodeRun → AtJoin P S m → EndValue → Local ℕ
@@ -84,8 +91,9 @@ module _ {P S : Type 0} {m : Ghosts P S} where
 
   abbrev pub HasClaimed : CodeRun → Claimed P S m → State ℕ → End ℕ → Type 0
   HasClaimed g k c j =
-      IsClaimed g k.at.revision.run k.at.revision.memory.delta
-      (m.base k.at.revision.memory.snapshot) k.at.revision.memory.first.roots k.at.written
+      IsClaimed g k.at.revision.value.run k.at.revision.value.memory.delta
+      (m.base k.at.revision.value.memory.snapshot) k.at.revision.value.memory.first.roots
+      k.at.written
       k.at.is_try k.at.on k.end c j
 
   abbrev pub claimed_state : CodeRun → Claimed P S m → Local ℕ

@@ -1,10 +1,11 @@
 //! Revisions that have ended, or for which memory was wanting.
 
-ghost use Rattle.std.specs.Prelude.{◌≡◌};
+ghost use Rattle.std.specs.Prelude.{◌≡◌, IfErr, IfOk};
 
 use block_run::Memory;
 use leg_run::Revision;
 use rev_num::Items;
+use std::alloc::Global;
 use version_map::{EndValue, Finish, Snapshot, Written};
 
 /// A revision that is done or has trapped, with what it leaves.
@@ -37,19 +38,34 @@ impl<P: Snapshot> Broken<P> {
     }
 }
 
+/// The revision in a block of its own, where it stays for its whole life. The error is want of
+/// memory.
+pub(crate) fn in_box<P: Snapshot>(
+    alloc: Global,
+    revision: Revision<P>,
+) -> Result<Box<Revision<P>>, Broken<P>>
+    ensures ok { IfOk result (λ b. b.value ≡ revision) }
+    ensures broken { IfErr result (λ b. b.snapshot ≡ revision.memory.snapshot) }
+{
+    match Box::new(alloc, revision) {
+        Ok(boxed) => Ok(boxed),
+        Err(failed) => Err(let_go(failed.value)),
+    }
+}
+
 /// The revision as one that has ended.
 pub(crate) fn stop<P: Snapshot>(
-    revision: Revision<P>,
+    revision: Box<Revision<P>>,
     written: Items<Written>,
     finish: Finish,
 ) -> Stopped<P>
     ensures written { result.end.written ≡ written }
-    ensures text { result.end.text ≡ revision.run.text.items }
-    ensures fuel { result.end.fuel ≡ revision.run.registers.fuel }
+    ensures text { result.end.text ≡ revision.value.run.text.items }
+    ensures fuel { result.end.fuel ≡ revision.value.run.registers.fuel }
     ensures finish { result.end.finish ≡ finish }
-    ensures snapshot { result.snapshot ≡ revision.memory.snapshot }
+    ensures snapshot { result.snapshot ≡ revision.value.memory.snapshot }
 {
-    let Revision { memory, run } = revision;
+    let Revision { memory, run } = Box::into_inner(revision);
     let Memory {
         delta,
         first,
@@ -67,7 +83,14 @@ pub(crate) fn stop<P: Snapshot>(
 }
 
 /// The revision without all but its snapshot.
-pub(crate) fn break_off<P: Snapshot>(revision: Revision<P>) -> Broken<P>
+pub(crate) fn break_off<P: Snapshot>(revision: Box<Revision<P>>) -> Broken<P>
+    ensures { result.snapshot ≡ revision.value.memory.snapshot }
+{
+    let_go(Box::into_inner(revision))
+}
+
+/// The same of a revision that has no block.
+fn let_go<P: Snapshot>(revision: Revision<P>) -> Broken<P>
     ensures { result.snapshot ≡ revision.memory.snapshot }
 {
     let Revision { memory, run } = revision;

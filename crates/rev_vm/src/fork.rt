@@ -1,7 +1,8 @@
 //! Revisions at a Fork, and forkers behind it.
 
-ghost use Rattle.std.specs.Prelude.{◌≡◌, ◌≤◌, ◌<◌, ◌+◌, ◌-◌, ◌^◌, List, Some, IfOk, IfErr};
+ghost use Rattle.std.specs.Prelude.{◌≡◌, ◌≤◌, ◌<◌, ◌+◌, ◌-◌, ◌^◌, List, Some, IfOk, IfErr, IfSome};
 ghost use Rattle.std.specs.Prelude.{drop, length, slice_get, take};
+ghost use Rattle.std.specs.Option.{ForSome};
 ghost use Rattle.rev_code.specs.declared.code.CodeBlock.{CodeBlock};
 ghost use Rattle.rev_code.specs.State.{State};
 ghost use Rattle.rev_code.specs.Step.{params};
@@ -14,7 +15,7 @@ ghost use Rattle.leg_run.specs.Setting.{IsSetting};
 ghost use Rattle.rev_vm.specs.Meaning.{IsAt, IsAtFork};
 ghost use Rattle.rev_vm.specs.Starts.{IsBorn, IsForker, IsNamed, IsWaiting, run_under};
 
-use crate::end::{Broken, break_off};
+use crate::end::{Broken, break_off, in_box};
 use crate::frame::first_frame;
 use crate::runner::Runner;
 use crate::starting::room_at;
@@ -26,29 +27,51 @@ use version_map::{How, Snapshot};
 
 /// A revision at a Fork, and the block that its child runs.
 pub struct AtFork<P: Snapshot> {
-    pub(crate) revision: Revision<P>,
+    pub(crate) revision: Box<Revision<P>>,
     pub(crate) block: u16,
+}
+
+/// A forker that memory was wanting for, and its child, where that had its snapshot already.
+pub struct BrokenFork<P: Snapshot> {
+    pub(crate) forker: Broken<P>,
+    pub(crate) child: Option<Broken<P>>,
+    ghost together: { ForSome child (λ k. P.group k.snapshot ≡ P.group forker.snapshot) },
+}
+
+impl<P: Snapshot> BrokenFork<P> {
+    /// Their snapshots, given back.
+    pub fn give_up(self) -> (P::Spent, Option<P::Spent>)
+        ensures forker { P.spent_group result.0 ≡ P.group self.forker.snapshot }
+        ensures child { IfSome result.1
+            (λ s. P.spent_group s ≡ P.group self.forker.snapshot) }
+    {
+        let BrokenFork { forker, child } = self;
+        match child {
+            Some(child) => (forker.give_up(), Some(child.give_up())),
+            None => (forker.give_up(), None),
+        }
+    }
 }
 
 /// A forker behind its Fork, which has yet to be told its child's number. Until then the number 0
 /// stands where that number comes, so that no more memory is taken.
 pub struct Parent<P: Snapshot> {
-    pub(crate) revision: Revision<P>,
-    ghost waits: { IsWaiting revision.run },
+    pub(crate) revision: Box<Revision<P>>,
+    ghost waits: { IsWaiting revision.value.run },
 }
 
 impl<P: Snapshot> Parent<P> {
     /// The forker, which holds its child's number.
     pub fn told(self, number: u32) -> Runner<P>
         ensures state { (g : CodeRun) (c : State _) (args : List (Word _))
-            → IsAt g self.revision.run self.revision.memory.delta
-            (P.base self.revision.memory.snapshot)
-            self.revision.memory.first.roots (events.parent g.share c args 0)
-            → IsAt g result.revision.run result.revision.memory.delta
-            (P.base result.revision.memory.snapshot) result.revision.memory.first.roots
+            → IsAt g self.revision.value.run self.revision.value.memory.delta
+            (P.base self.revision.value.memory.snapshot)
+            self.revision.value.memory.first.roots (events.parent g.share c args 0)
+            → IsAt g result.revision.value.run result.revision.value.memory.delta
+            (P.base result.revision.value.memory.snapshot) result.revision.value.memory.first.roots
             (events.parent g.share c args number) }
-        ensures group { P.group result.revision.memory.snapshot
-            ≡ P.group self.revision.memory.snapshot }
+        ensures group { P.group result.revision.value.memory.snapshot
+            ≡ P.group self.revision.value.memory.snapshot }
     {
         let Parent { mut revision } = self;
         name_child(&mut revision.run, number);
@@ -57,7 +80,7 @@ impl<P: Snapshot> Parent<P> {
 
     /// Its snapshot, given back.
     pub fn give_up(self) -> P::Spent
-        ensures { P.spent_group result ≡ P.group self.revision.memory.snapshot }
+        ensures { P.spent_group result ≡ P.group self.revision.value.memory.snapshot }
     {
         let Parent { revision } = self;
         break_off(revision).give_up()
@@ -190,51 +213,66 @@ impl<P: Snapshot> AtFork<P> {
         self,
         alloc: Global,
         setting: &CodeSetting,
-    ) -> Result<(Parent<P>, Runner<P>, How), Broken<P>>
+    ) -> Result<(Parent<P>, Runner<P>, How), BrokenFork<P>>
         requires setting { IsSetting setting.now }
         requires at { (c : State _) × (args : List (Word _)) × IsAtFork (run_under setting.now)
-            self.revision.run self.revision.memory.delta (P.base self.revision.memory.snapshot)
-            self.revision.memory.first.roots self.block c args }
+            self.revision.value.run self.revision.value.memory.delta
+            (P.base self.revision.value.memory.snapshot)
+            self.revision.value.memory.first.roots self.block c args }
         ensures parent { IfOk result (λ r. (c : State _) (args : List (Word _))
             → IsAtFork (run_under setting.now)
-            self.revision.run self.revision.memory.delta (P.base self.revision.memory.snapshot)
-            self.revision.memory.first.roots self.block c args
-            → IsAt (run_under setting.now) r.0.revision.run
-            r.0.revision.memory.delta (P.base r.0.revision.memory.snapshot)
-            r.0.revision.memory.first.roots (events.parent setting.now.share c args 0)) }
+            self.revision.value.run self.revision.value.memory.delta
+            (P.base self.revision.value.memory.snapshot)
+            self.revision.value.memory.first.roots self.block c args
+            → IsAt (run_under setting.now) r.0.revision.value.run
+            r.0.revision.value.memory.delta (P.base r.0.revision.value.memory.snapshot)
+            r.0.revision.value.memory.first.roots (events.parent setting.now.share c args 0)) }
         ensures child { IfOk result (λ r. (c : State _) (args : List (Word _))
             → IsAtFork (run_under setting.now)
-            self.revision.run self.revision.memory.delta (P.base self.revision.memory.snapshot)
-            self.revision.memory.first.roots self.block c args
+            self.revision.value.run self.revision.value.memory.delta
+            (P.base self.revision.value.memory.snapshot)
+            self.revision.value.memory.first.roots self.block c args
             → (b : CodeBlock) × (slice_get setting.now.code.blocks self.block ≡ Some b)
-            × IsAt (run_under setting.now) r.1.revision.run
-            r.1.revision.memory.delta (P.base r.1.revision.memory.snapshot)
-            r.1.revision.memory.first.roots (events.child setting.now.share c self.block b args)) }
-        ensures shared { IfOk result (λ r. r.2 ≡ how.Shared → IsEmpty r.0.revision.memory.delta) }
+            × IsAt (run_under setting.now) r.1.revision.value.run
+            r.1.revision.value.memory.delta (P.base r.1.revision.value.memory.snapshot)
+            r.1.revision.value.memory.first.roots (events.child setting.now.share c self.block b
+            args)) }
+        ensures shared { IfOk result (λ r. r.2 ≡ how.Shared
+            → IsEmpty r.0.revision.value.memory.delta) }
         ensures copied { IfOk result (λ r. r.2 ≡ how.Copied
-            → r.0.revision.memory.delta ≡ self.revision.memory.delta) }
-        ensures group { IfOk result (λ r. P.group r.0.revision.memory.snapshot
-            ≡ P.group self.revision.memory.snapshot) }
-        ensures child_group { IfOk result (λ r. P.group r.1.revision.memory.snapshot
-            ≡ P.group self.revision.memory.snapshot) }
+            → r.0.revision.value.memory.delta ≡ self.revision.value.memory.delta) }
+        ensures group { IfOk result (λ r. P.group r.0.revision.value.memory.snapshot
+            ≡ P.group self.revision.value.memory.snapshot) }
+        ensures child_group { IfOk result (λ r. P.group r.1.revision.value.memory.snapshot
+            ≡ P.group self.revision.value.memory.snapshot) }
         ensures broken { IfErr result
-            (λ b. P.group b.snapshot ≡ P.group self.revision.memory.snapshot) }
+            (λ b. P.group b.forker.snapshot ≡ P.group self.revision.value.memory.snapshot) }
     {
         let AtFork {
             mut revision,
             block,
         } = self;
-        match fork_off(alloc, setting, block, &mut revision) {
-            Ok(child) => Ok((Parent { revision }, Runner { revision: child.0 }, child.1)),
-            Err(_) => Err(break_off(revision)),
+        match fork_off(alloc, setting, block, &mut *revision) {
+            Ok((child, how)) => match in_box(alloc, child) {
+                Ok(child) => Ok((Parent { revision }, Runner { revision: child }, how)),
+                Err(child) => Err(BrokenFork {
+                    forker: break_off(revision),
+                    child: Some(child),
+                }),
+            },
+            Err(_) => Err(BrokenFork {
+                forker: break_off(revision),
+                child: None,
+            }),
         }
     }
 
     /// The line charged last.
     pub fn line(&self) -> u32
         ensures { (g : CodeRun) (c : State _) (args : List (Word _)) → IsAtFork g
-            self.now.revision.run self.now.revision.memory.delta
-            (P.base self.now.revision.memory.snapshot) self.now.revision.memory.first.roots
+            self.now.revision.value.run self.now.revision.value.memory.delta
+            (P.base self.now.revision.value.memory.snapshot)
+            self.now.revision.value.memory.first.roots
             self.now.block c args → result ≡ c.line }
     {
         self.revision.run.registers.line
@@ -242,7 +280,7 @@ impl<P: Snapshot> AtFork<P> {
 
     /// Its snapshot, given back.
     pub fn give_up(self) -> P::Spent
-        ensures { P.spent_group result ≡ P.group self.revision.memory.snapshot }
+        ensures { P.spent_group result ≡ P.group self.revision.value.memory.snapshot }
     {
         let AtFork { revision, block } = self;
         break_off(revision).give_up()

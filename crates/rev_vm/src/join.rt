@@ -17,18 +17,18 @@ use version_map::{CodeTrap, EndValue, Finish, Snapshot, Written};
 /// A revision at a join. The join stands in its list of forks and joins already, and what it has
 /// written is at hand, so that no call here takes memory.
 pub struct AtJoin<P: Snapshot> {
-    pub(crate) revision: Revision<P>,
+    pub(crate) revision: Box<Revision<P>>,
     pub(crate) is_try: bool,
     pub(crate) on: u32,
     pub(crate) written: Items<Written>,
-    ghost ready: { IsReady revision.run },
+    ghost ready: { IsReady revision.value.run },
 }
 
 /// A joiner, and the end of the revision that it joins.
 pub struct Claimed<P: Snapshot> {
     pub(crate) at: AtJoin<P>,
     pub(crate) end: EndValue,
-    ghost fuel: { at.revision.run.registers.fuel + end.fuel < 2 ^ 64 },
+    ghost fuel: { at.revision.value.run.registers.fuel + end.fuel < 2 ^ 64 },
 }
 
 impl<P: Snapshot> AtJoin<P> {
@@ -48,9 +48,10 @@ impl<P: Snapshot> AtJoin<P> {
 
     /// The line charged last.
     pub fn line(&self) -> u32
-        ensures { (g : CodeRun) (c : State _) → IsAtJoin g self.now.revision.run
-            self.now.revision.memory.delta (P.base self.now.revision.memory.snapshot)
-            self.now.revision.memory.first.roots self.now.written self.now.is_try self.now.on c
+        ensures { (g : CodeRun) (c : State _) → IsAtJoin g self.now.revision.value.run
+            self.now.revision.value.memory.delta (P.base self.now.revision.value.memory.snapshot)
+            self.now.revision.value.memory.first.roots self.now.written self.now.is_try self.now.on
+            c
             → result ≡ c.line }
     {
         self.revision.run.registers.line
@@ -58,10 +59,11 @@ impl<P: Snapshot> AtJoin<P> {
 
     /// The fuel that is left.
     pub fn fuel(&self) -> u64
-        ensures rest { result ≡ self.now.revision.run.registers.fuel }
-        ensures state { (g : CodeRun) (c : State _) → IsAtJoin g self.now.revision.run
-            self.now.revision.memory.delta (P.base self.now.revision.memory.snapshot)
-            self.now.revision.memory.first.roots self.now.written self.now.is_try self.now.on c
+        ensures rest { result ≡ self.now.revision.value.run.registers.fuel }
+        ensures state { (g : CodeRun) (c : State _) → IsAtJoin g self.now.revision.value.run
+            self.now.revision.value.memory.delta (P.base self.now.revision.value.memory.snapshot)
+            self.now.revision.value.memory.first.roots self.now.written self.now.is_try self.now.on
+            c
             → result ≡ c.fuel }
     {
         self.revision.run.registers.fuel
@@ -69,9 +71,10 @@ impl<P: Snapshot> AtJoin<P> {
 
     /// What the revision has printed so far.
     pub fn text(&self) -> &[u8]
-        ensures { (g : CodeRun) (c : State _) → IsAtJoin g self.now.revision.run
-            self.now.revision.memory.delta (P.base self.now.revision.memory.snapshot)
-            self.now.revision.memory.first.roots self.now.written self.now.is_try self.now.on c
+        ensures { (g : CodeRun) (c : State _) → IsAtJoin g self.now.revision.value.run
+            self.now.revision.value.memory.delta (P.base self.now.revision.value.memory.snapshot)
+            self.now.revision.value.memory.first.roots self.now.written self.now.is_try self.now.on
+            c
             → result.now ≡ c.text }
     {
         self.revision.run.text.as_slice()
@@ -79,7 +82,7 @@ impl<P: Snapshot> AtJoin<P> {
 
     /// The joiner with the end of the revision that it joins, which is done.
     pub fn claim(self, end: EndValue) -> Claimed<P>
-        requires { self.revision.run.registers.fuel + end.fuel < 2 ^ 64 }
+        requires { self.revision.value.run.registers.fuel + end.fuel < 2 ^ 64 }
         ensures at { result.at ≡ self }
         ensures end { result.end ≡ end }
     {
@@ -90,12 +93,13 @@ impl<P: Snapshot> AtJoin<P> {
     /// which revision trapped first.
     pub fn trapped(self, trap: CodeTrap) -> Stopped<P>
         requires { self.is_try ≡ false }
-        ensures end { (g : CodeRun) (c : State _) (t : Trap _) → IsAtJoin g self.revision.run
-            self.revision.memory.delta (P.base self.revision.memory.snapshot)
-            self.revision.memory.first.roots self.written self.is_try self.on c → IsTrap t trap
+        ensures end { (g : CodeRun) (c : State _) (t : Trap _) → IsAtJoin g self.revision.value.run
+            self.revision.value.memory.delta (P.base self.revision.value.memory.snapshot)
+            self.revision.value.memory.first.roots self.written self.is_try self.on c
+            → IsTrap t trap
             → IsEnd g (end_of (inherit c false self.on t)) result.end }
         ensures by_join { is_by_join result.end.finish ≡ true }
-        ensures group { P.group result.snapshot ≡ P.group self.revision.memory.snapshot }
+        ensures group { P.group result.snapshot ≡ P.group self.revision.value.memory.snapshot }
     {
         let first = first_of(self.on, trap.origin);
         let AtJoin {
@@ -116,14 +120,14 @@ impl<P: Snapshot> AtJoin<P> {
     /// and the joiner is told so.
     pub fn dropped(self) -> Runner<P>
         requires { self.is_try ≡ true }
-        ensures state { (g : CodeRun) (c : State _) → IsAtJoin g self.revision.run
-            self.revision.memory.delta (P.base self.revision.memory.snapshot)
-            self.revision.memory.first.roots self.written self.is_try self.on c
-            → IsAt g result.revision.run result.revision.memory.delta
-            (P.base result.revision.memory.snapshot) result.revision.memory.first.roots
+        ensures state { (g : CodeRun) (c : State _) → IsAtJoin g self.revision.value.run
+            self.revision.value.memory.delta (P.base self.revision.value.memory.snapshot)
+            self.revision.value.memory.first.roots self.written self.is_try self.on c
+            → IsAt g result.revision.value.run result.revision.value.memory.delta
+            (P.base result.revision.value.memory.snapshot) result.revision.value.memory.first.roots
             (past_join c true false self.on) }
-        ensures group { P.group result.revision.memory.snapshot
-            ≡ P.group self.revision.memory.snapshot }
+        ensures group { P.group result.revision.value.memory.snapshot
+            ≡ P.group self.revision.value.memory.snapshot }
     {
         let AtJoin {
             mut revision,
@@ -137,7 +141,7 @@ impl<P: Snapshot> AtJoin<P> {
 
     /// Its snapshot, given back.
     pub fn give_up(self) -> P::Spent
-        ensures { P.spent_group result ≡ P.group self.revision.memory.snapshot }
+        ensures { P.spent_group result ≡ P.group self.revision.value.memory.snapshot }
     {
         let AtJoin {
             revision,

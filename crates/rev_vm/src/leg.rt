@@ -72,31 +72,32 @@ fn come_to_join<P: Snapshot>(
 /// no forker, counts as want of memory.
 fn at_join<P: Snapshot>(
     alloc: Global,
-    mut revision: Revision<P>,
+    mut revision: Box<Revision<P>>,
     is_try: bool,
     on: u64,
 ) -> Result<AtJoin<P>, Broken<P>>
-    requires { IsReady revision.run }
+    requires { IsReady revision.value.run }
     ensures tries { IfOk result (λ a. a.is_try ≡ is_try) }
     ensures on { IfOk result (λ a. a.on ≡ on) }
-    ensures noted { IfOk result (λ a. IsNoted on revision.run a.revision.run) }
+    ensures noted { IfOk result (λ a. IsNoted on revision.value.run a.revision.value.run) }
     ensures written { IfOk result (λ a. a.written ≡ written_below
-        (under revision.memory.delta (P.base revision.memory.snapshot))
-        (at revision.memory.first.roots) (P.size revision.memory.snapshot)) }
-    ensures kept { IfOk result (λ a. Kept (P.size revision.memory.snapshot)
-        (under revision.memory.delta (P.base revision.memory.snapshot))
-        (under a.revision.memory.delta (P.base a.revision.memory.snapshot))
-        (at revision.memory.first.roots) (at a.revision.memory.first.roots)) }
-    ensures size { IfOk result (λ a. P.size a.revision.memory.snapshot
-        ≡ P.size revision.memory.snapshot) }
-    ensures group { IfOk result (λ a. P.group a.revision.memory.snapshot
-        ≡ P.group revision.memory.snapshot) }
-    ensures broken { IfErr result (λ b. P.group b.snapshot ≡ P.group revision.memory.snapshot) }
+        (under revision.value.memory.delta (P.base revision.value.memory.snapshot))
+        (at revision.value.memory.first.roots) (P.size revision.value.memory.snapshot)) }
+    ensures kept { IfOk result (λ a. Kept (P.size revision.value.memory.snapshot)
+        (under revision.value.memory.delta (P.base revision.value.memory.snapshot))
+        (under a.revision.value.memory.delta (P.base a.revision.value.memory.snapshot))
+        (at revision.value.memory.first.roots) (at a.revision.value.memory.first.roots)) }
+    ensures size { IfOk result (λ a. P.size a.revision.value.memory.snapshot
+        ≡ P.size revision.value.memory.snapshot) }
+    ensures group { IfOk result (λ a. P.group a.revision.value.memory.snapshot
+        ≡ P.group revision.value.memory.snapshot) }
+    ensures broken { IfErr result (λ b. P.group b.snapshot
+        ≡ P.group revision.value.memory.snapshot) }
 {
     if on > u32::MAX as u64 {
         return Err(break_off(revision));
     }
-    match come_to_join(alloc, &mut revision, on) {
+    match come_to_join(alloc, &mut *revision, on) {
         Ok(written) => Ok(AtJoin {
             revision,
             is_try,
@@ -110,17 +111,18 @@ fn at_join<P: Snapshot>(
 /// The revision as one that has ended, with what it has written.
 fn stop_at<P: Snapshot>(
     alloc: Global,
-    mut revision: Revision<P>,
+    mut revision: Box<Revision<P>>,
     finish: Finish,
 ) -> Result<Stopped<P>, Broken<P>>
     ensures written { IfOk result (λ s. s.end.written ≡ written_below
-        (under revision.memory.delta (P.base revision.memory.snapshot))
-        (at revision.memory.first.roots) (P.size revision.memory.snapshot)) }
-    ensures text { IfOk result (λ s. s.end.text ≡ revision.run.text.items) }
-    ensures fuel { IfOk result (λ s. s.end.fuel ≡ revision.run.registers.fuel) }
+        (under revision.value.memory.delta (P.base revision.value.memory.snapshot))
+        (at revision.value.memory.first.roots) (P.size revision.value.memory.snapshot)) }
+    ensures text { IfOk result (λ s. s.end.text ≡ revision.value.run.text.items) }
+    ensures fuel { IfOk result (λ s. s.end.fuel ≡ revision.value.run.registers.fuel) }
     ensures finish { IfOk result (λ s. s.end.finish ≡ finish) }
-    ensures group { IfOk result (λ s. P.group s.snapshot ≡ P.group revision.memory.snapshot) }
-    ensures broken { IfErr result (λ b. P.group b.snapshot ≡ P.group revision.memory.snapshot) }
+    ensures group { IfOk result (λ s. P.group s.snapshot ≡ P.group revision.value.memory.snapshot) }
+    ensures broken { IfErr result (λ b. P.group b.snapshot
+        ≡ P.group revision.value.memory.snapshot) }
 {
     match revision.memory.written(alloc) {
         Ok(written) => Ok(stop(revision, Items::from_vec(written), finish)),
@@ -146,21 +148,22 @@ pub fn run_leg<P: Snapshot>(
     setting: &CodeSetting,
 ) -> Result<Event<P>, Broken<P>>
     requires setting { IsSetting setting.now }
-    requires stands { (c : State ℕ) × IsAt (run_under setting.now) runner.revision.run
-        runner.revision.memory.delta (P.base runner.revision.memory.snapshot)
-        runner.revision.memory.first.roots c }
-    ensures event { (c : State ℕ) → IsAt (run_under setting.now) runner.revision.run
-        runner.revision.memory.delta (P.base runner.revision.memory.snapshot)
-        runner.revision.memory.first.roots c
+    requires stands { (c : State ℕ) × IsAt (run_under setting.now) runner.revision.value.run
+        runner.revision.value.memory.delta (P.base runner.revision.value.memory.snapshot)
+        runner.revision.value.memory.first.roots c }
+    ensures event { (c : State ℕ) → IsAt (run_under setting.now) runner.revision.value.run
+        runner.revision.value.memory.delta (P.base runner.revision.value.memory.snapshot)
+        runner.revision.value.memory.first.roots c
         → IfOk result (λ e. elim e [
           | event.Fork a ↦ (d : State ℕ) × (args : List (Word ℕ))
               × (leg (run_under setting.now) c ≡ forks d a.block args)
-              × IsAtFork (run_under setting.now) a.revision.run a.revision.memory.delta
-              (P.base a.revision.memory.snapshot) a.revision.memory.first.roots a.block d args
+              × IsAtFork (run_under setting.now) a.revision.value.run a.revision.value.memory.delta
+              (P.base a.revision.value.memory.snapshot) a.revision.value.memory.first.roots a.block
+              d args
           | event.Join a ↦ (d : State ℕ)
               × (leg (run_under setting.now) c ≡ joins d a.is_try a.on)
-              × IsAtJoin (run_under setting.now) a.revision.run a.revision.memory.delta
-              (P.base a.revision.memory.snapshot) a.revision.memory.first.roots
+              × IsAtJoin (run_under setting.now) a.revision.value.run a.revision.value.memory.delta
+              (P.base a.revision.value.memory.snapshot) a.revision.value.memory.first.roots
               a.written a.is_try a.on d
           | event.End s ↦ (d : State ℕ) × (w : Option (Word ℕ))
               × (leg (run_under setting.now) c ≡ ends d w)
@@ -170,12 +173,12 @@ pub fn run_leg<P: Snapshot>(
               × IsEnd (run_under setting.now) (end_of (has_ended d (trap_of d e))) s.end
         ]) }
     ensures group { IfOk result (λ e. elim e [
-      | event.Fork a ↦ P.group a.revision.memory.snapshot
-          ≡ P.group runner.revision.memory.snapshot
-      | event.Join a ↦ P.group a.revision.memory.snapshot
-          ≡ P.group runner.revision.memory.snapshot
-      | event.End s ↦ P.group s.snapshot ≡ P.group runner.revision.memory.snapshot
-      | event.Trap s ↦ P.group s.snapshot ≡ P.group runner.revision.memory.snapshot
+      | event.Fork a ↦ P.group a.revision.value.memory.snapshot
+          ≡ P.group runner.revision.value.memory.snapshot
+      | event.Join a ↦ P.group a.revision.value.memory.snapshot
+          ≡ P.group runner.revision.value.memory.snapshot
+      | event.End s ↦ P.group s.snapshot ≡ P.group runner.revision.value.memory.snapshot
+      | event.Trap s ↦ P.group s.snapshot ≡ P.group runner.revision.value.memory.snapshot
     ]) }
     ensures own { IfOk result (λ e. elim e [
       | event.Fork a ↦ Unit {0}
@@ -184,10 +187,10 @@ pub fn run_leg<P: Snapshot>(
       | event.Trap s ↦ is_by_join s.end.finish ≡ false
     ]) }
     ensures broken { IfErr result
-        (λ b. P.group b.snapshot ≡ P.group runner.revision.memory.snapshot) }
+        (λ b. P.group b.snapshot ≡ P.group runner.revision.value.memory.snapshot) }
 {
     let Runner { mut revision } = runner;
-    match run(setting, &mut revision) {
+    match run(setting, &mut *revision) {
         Err(_) => Err(break_off(revision)),
         Ok(LegEnd::Fork(block)) => Ok(Event::Fork(AtFork { revision, block })),
         Ok(LegEnd::Join { is_try, on }) => {

@@ -14,7 +14,7 @@ mod settling;
 mod starting;
 
 pub use end::{Broken, Stopped, retire};
-pub use fork::{AtFork, Parent};
+pub use fork::{AtFork, BrokenFork, Parent};
 pub use join::{AtJoin, Claimed};
 pub use laws::standing_laws;
 pub use leg::{Event, run_leg};

@@ -78,14 +78,15 @@ pub fn start_main<P: Snapshot>(
     requires size { P.size snapshot ≡ count setting.now.code.vars }
     requires base { StartsWith setting.now.code.vars (P.base snapshot) }
     ensures state { (n : ℕ) (m : IsMain (run_under setting.now) n)
-        → IfOk result (λ r. IsAt (run_under setting.now) r.revision.run
-        r.revision.memory.delta (P.base r.revision.memory.snapshot)
-        r.revision.memory.first.roots
+        → IfOk result (λ r. IsAt (run_under setting.now) r.revision.value.run
+        r.revision.value.memory.delta (P.base r.revision.value.memory.snapshot)
+        r.revision.value.memory.first.roots
         (events.start n m.body [] (start_locations setting.now.code.vars) fuel)) }
-    ensures stands { IfOk result (λ r. (c : State ℕ) × IsAt (run_under setting.now) r.revision.run
-        r.revision.memory.delta (P.base r.revision.memory.snapshot)
-        r.revision.memory.first.roots c) }
-    ensures group { IfOk result (λ r. P.group r.revision.memory.snapshot ≡ P.group snapshot) }
+    ensures stands { IfOk result (λ r. (c : State ℕ) × IsAt
+        (run_under setting.now) r.revision.value.run
+        r.revision.value.memory.delta (P.base r.revision.value.memory.snapshot)
+        r.revision.value.memory.first.roots c) }
+    ensures group { IfOk result (λ r. P.group r.revision.value.memory.snapshot ≡ P.group snapshot) }
     ensures err { IfErr result (λ s. s ≡ snapshot) }
 {
     let main = main_of(&setting.code);

@@ -11,7 +11,7 @@ ghost use Rattle.leg_run.specs.Setting.{IsSetting};
 ghost use Rattle.rev_vm.specs.Meaning.{IsAt};
 ghost use Rattle.rev_vm.specs.Starts.{IsBase, IsCalled, run_under};
 
-use crate::end::break_off;
+use crate::end::{Broken, break_off, in_box};
 use crate::starting::begin_with;
 use block_run::Memory;
 use leg_run::{CodeSetting, Revision};
@@ -20,7 +20,21 @@ use version_map::Snapshot;
 
 /// A revision between two events, or before its first.
 pub struct Runner<P: Snapshot> {
-    pub(crate) revision: Revision<P>,
+    pub(crate) revision: Box<Revision<P>>,
+}
+
+/// The revision in its block, before its first event. The error hands its snapshot back.
+fn start_with<P: Snapshot>(alloc: Global, revision: Revision<P>) -> Result<Runner<P>, P>
+    ensures ok { IfOk result (λ r. r.revision.value ≡ revision) }
+    ensures err { IfErr result (λ s. s ≡ revision.memory.snapshot) }
+{
+    match in_box(alloc, revision) {
+        Ok(revision) => Ok(Runner { revision }),
+        Err(broken) => {
+            let Broken { snapshot } = broken;
+            Err(snapshot)
+        },
+    }
 }
 
 impl<P: Snapshot> Runner<P> {
@@ -41,15 +55,17 @@ impl<P: Snapshot> Runner<P> {
         ensures state { (b : CodeBlock) (xs : List (Word _)) (ls : List (Location _))
             → IsCalled (run_under setting.now) block b xs args.now
             → IsBase (run_under setting.now) (P.base snapshot) ls
-            → IfOk result (λ r. IsAt (run_under setting.now) r.revision.run
-            r.revision.memory.delta (P.base r.revision.memory.snapshot)
-            r.revision.memory.first.roots (events.start block b xs ls fuel)) }
-        ensures group { IfOk result (λ r. P.group r.revision.memory.snapshot ≡ P.group snapshot) }
+            → IfOk result (λ r. IsAt (run_under setting.now) r.revision.value.run
+            r.revision.value.memory.delta (P.base r.revision.value.memory.snapshot)
+            r.revision.value.memory.first.roots (events.start block b xs ls fuel)) }
+        ensures group { IfOk result (λ r. P.group r.revision.value.memory.snapshot
+            ≡ P.group snapshot) }
         ensures err { IfErr result (λ s. s ≡ snapshot) }
     {
         match begin_with(alloc, setting, block, args, fuel) {
-            Ok(parts) => Ok(Runner {
-                revision: Revision {
+            Ok(parts) => start_with(
+                alloc,
+                Revision {
                     memory: Memory {
                         delta: parts.1,
                         first: parts.2,
@@ -57,32 +73,32 @@ impl<P: Snapshot> Runner<P> {
                     },
                     run: parts.0,
                 },
-            }),
+            ),
             Err(_) => Err(snapshot),
         }
     }
 
     /// The fuel that is left.
     pub fn fuel(&self) -> u64
-        ensures { (g : CodeRun) (c : State _) → IsAt g self.now.revision.run
-            self.now.revision.memory.delta (P.base self.now.revision.memory.snapshot)
-            self.now.revision.memory.first.roots c → result ≡ c.fuel }
+        ensures { (g : CodeRun) (c : State _) → IsAt g self.now.revision.value.run
+            self.now.revision.value.memory.delta (P.base self.now.revision.value.memory.snapshot)
+            self.now.revision.value.memory.first.roots c → result ≡ c.fuel }
     {
         self.revision.run.registers.fuel
     }
 
     /// What the revision has printed so far.
     pub fn text(&self) -> &[u8]
-        ensures { (g : CodeRun) (c : State _) → IsAt g self.now.revision.run
-            self.now.revision.memory.delta (P.base self.now.revision.memory.snapshot)
-            self.now.revision.memory.first.roots c → result.now ≡ c.text }
+        ensures { (g : CodeRun) (c : State _) → IsAt g self.now.revision.value.run
+            self.now.revision.value.memory.delta (P.base self.now.revision.value.memory.snapshot)
+            self.now.revision.value.memory.first.roots c → result.now ≡ c.text }
     {
         self.revision.run.text.as_slice()
     }
 
     /// Its snapshot, given back.
     pub fn give_up(self) -> P::Spent
-        ensures { P.spent_group result ≡ P.group self.revision.memory.snapshot }
+        ensures { P.spent_group result ≡ P.group self.revision.value.memory.snapshot }
     {
         let Runner { revision } = self;
         break_off(revision).give_up()

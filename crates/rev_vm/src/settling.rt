@@ -139,32 +139,34 @@ fn fault_at(trap: MergeTrap, line: u32) -> Finish
 
 /// The joiner with what the joined revision left.
 fn take_over<P: Snapshot>(
-    mut revision: Revision<P>,
+    mut revision: Box<Revision<P>>,
     is_try: bool,
     end: EndValue,
     values: Vec<u64>,
 ) -> Result<Runner<P>, Broken<P>>
-    requires ready { IsReady revision.run }
-    requires fuel { revision.run.registers.fuel + end.fuel < 2 ^ 64 }
-    requires within { All (λ w. w.location < P.size revision.memory.snapshot) end.written }
+    requires ready { IsReady revision.value.run }
+    requires fuel { revision.value.run.registers.fuel + end.fuel < 2 ^ 64 }
+    requires within { All (λ w. w.location < P.size revision.value.memory.snapshot) end.written }
     requires many { length values.items ≡ length end.written }
     ensures taken { IfOk result
-        (λ r. IsTakenOver is_try end.fuel end.text revision.run r.revision.run) }
-    ensures wrote { IfOk result (λ r. HasWritten (P.size revision.memory.snapshot)
+        (λ r. IsTakenOver is_try end.fuel end.text revision.value.run r.revision.value.run) }
+    ensures wrote { IfOk result (λ r. HasWritten (P.size revision.value.memory.snapshot)
         end.written values.items
-        (under revision.memory.delta (P.base revision.memory.snapshot))
-        (at revision.memory.first.roots)
-        (under r.revision.memory.delta (P.base r.revision.memory.snapshot))
-        (at r.revision.memory.first.roots)) }
-    ensures size { IfOk result (λ r. P.size r.revision.memory.snapshot
-        ≡ P.size revision.memory.snapshot) }
-    ensures group { IfOk result (λ r. P.group r.revision.memory.snapshot
-        ≡ P.group revision.memory.snapshot) }
+        (under revision.value.memory.delta (P.base revision.value.memory.snapshot))
+        (at revision.value.memory.first.roots)
+        (under r.revision.value.memory.delta (P.base r.revision.value.memory.snapshot))
+        (at r.revision.value.memory.first.roots)) }
+    ensures size { IfOk result (λ r. P.size r.revision.value.memory.snapshot
+        ≡ P.size revision.value.memory.snapshot) }
+    ensures group { IfOk result (λ r. P.group r.revision.value.memory.snapshot
+        ≡ P.group revision.value.memory.snapshot) }
     ensures answered { IfOk result (λ r. (c : Collapsed)
-        → P.answered revision.memory.snapshot c → P.answered r.revision.memory.snapshot c) }
+        → P.answered revision.value.memory.snapshot c
+        → P.answered r.revision.value.memory.snapshot c) }
     ensures broken_answered { IfErr result (λ b. (c : Collapsed)
-        → P.answered revision.memory.snapshot c → P.answered b.snapshot c) }
-    ensures broken { IfErr result (λ b. P.group b.snapshot ≡ P.group revision.memory.snapshot) }
+        → P.answered revision.value.memory.snapshot c → P.answered b.snapshot c) }
+    ensures broken { IfErr result (λ b. P.group b.snapshot
+        ≡ P.group revision.value.memory.snapshot) }
 {
     let EndValue {
         written,
@@ -172,10 +174,11 @@ fn take_over<P: Snapshot>(
         fuel,
         finish,
     } = end;
-    write_all(&mut revision.memory, written.as_slice(), values.as_slice());
-    go_past(&mut revision.run, is_try);
-    revision.run.registers.fuel += fuel;
-    match append(&mut revision.run.text, text.into_vec()) {
+    let inside = &mut *revision;
+    write_all(&mut inside.memory, written.as_slice(), values.as_slice());
+    go_past(&mut inside.run, is_try);
+    inside.run.registers.fuel += fuel;
+    match append(&mut inside.run.text, text.into_vec()) {
         Ok(()) => Ok(Runner { revision }),
         Err(_) => Err(break_off(revision)),
     }
@@ -189,20 +192,23 @@ pub fn settle<P: Snapshot, M: MergeBy>(
     claimed: Claimed<P>,
     merges: &mut M,
 ) -> Result<Settled<P>, Broken<P>>
-    requires { (g : CodeRun) × (c : State ℕ) × (j : End ℕ) × IsClaimed g claimed.at.revision.run
-        claimed.at.revision.memory.delta (P.base claimed.at.revision.memory.snapshot)
-        claimed.at.revision.memory.first.roots claimed.at.written claimed.at.is_try claimed.at.on
+    requires { (g : CodeRun) × (c : State ℕ) × (j : End ℕ)
+        × IsClaimed g claimed.at.revision.value.run
+        claimed.at.revision.value.memory.delta (P.base claimed.at.revision.value.memory.snapshot)
+        claimed.at.revision.value.memory.first.roots claimed.at.written claimed.at.is_try
+        claimed.at.on
         claimed.end c j × (M.size merges.old ≡ count g.code.vars) }
     ensures settled { (g : CodeRun) (c : State ℕ) (j : End ℕ)
-        → IsClaimed g claimed.at.revision.run
-        claimed.at.revision.memory.delta (P.base claimed.at.revision.memory.snapshot)
-        claimed.at.revision.memory.first.roots claimed.at.written claimed.at.is_try claimed.at.on
+        → IsClaimed g claimed.at.revision.value.run
+        claimed.at.revision.value.memory.delta (P.base claimed.at.revision.value.memory.snapshot)
+        claimed.at.revision.value.memory.first.roots claimed.at.written claimed.at.is_try
+        claimed.at.on
         claimed.end c j → AreMergesOf g (M.merges merges.old)
         → IfOk result (λ s. elim s [
           | settled.Run r ↦ (c' : State ℕ)
               × (join_in g c claimed.at.is_try claimed.at.on j j.phase ≡ at_work c')
-              × IsAt g r.revision.run r.revision.memory.delta
-              (P.base r.revision.memory.snapshot) r.revision.memory.first.roots c'
+              × IsAt g r.revision.value.run r.revision.value.memory.delta
+              (P.base r.revision.value.memory.snapshot) r.revision.value.memory.first.roots c'
           | settled.Trap t ↦ IsEnd g
               (end_of (join_in g c claimed.at.is_try claimed.at.on j j.phase)) t.end
         ]) }
@@ -211,17 +217,17 @@ pub fn settle<P: Snapshot, M: MergeBy>(
       | settled.Trap t ↦ is_by_join t.end.finish ≡ true
     ]) }
     ensures group { IfOk result (λ s. elim s [
-      | settled.Run r ↦ P.group r.revision.memory.snapshot
-          ≡ P.group claimed.at.revision.memory.snapshot
-      | settled.Trap t ↦ P.group t.snapshot ≡ P.group claimed.at.revision.memory.snapshot
+      | settled.Run r ↦ P.group r.revision.value.memory.snapshot
+          ≡ P.group claimed.at.revision.value.memory.snapshot
+      | settled.Trap t ↦ P.group t.snapshot ≡ P.group claimed.at.revision.value.memory.snapshot
     ]) }
     ensures collapsed { IfOk result (λ s. elim s [
-      | settled.Run r ↦ HasCollapsed P.answered r.revision.memory.snapshot
+      | settled.Run r ↦ HasCollapsed P.answered r.revision.value.memory.snapshot
       | settled.Trap t ↦ HasCollapsed P.answered t.snapshot
     ]) }
     ensures broken_collapsed { IfErr result (λ b. HasCollapsed P.answered b.snapshot) }
     ensures broken { IfErr result
-        (λ b. P.group b.snapshot ≡ P.group claimed.at.revision.memory.snapshot) }
+        (λ b. P.group b.snapshot ≡ P.group claimed.at.revision.value.memory.snapshot) }
     ensures merges_size { M.size merges.new ≡ M.size merges.old }
     ensures merges_same { M.merges merges.new ≡ M.merges merges.old }
 {
@@ -232,8 +238,9 @@ pub fn settle<P: Snapshot, M: MergeBy>(
         on,
         written,
     } = at;
-    collapse(&mut revision.memory.snapshot, &mut revision.memory.delta);
-    match merge_words(alloc, &mut revision.memory, &end, merges) {
+    let inside = &mut *revision;
+    collapse(&mut inside.memory.snapshot, &mut inside.memory.delta);
+    match merge_words(alloc, &mut inside.memory, &end, merges) {
         Err(_) => Err(break_off(revision)),
         Ok(Merged::Fault(trap)) => {
             let finish = fault_at(trap, revision.run.registers.line);

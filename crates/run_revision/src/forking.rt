@@ -54,9 +54,9 @@ impl<'a, P: Snapshot> Model for CodeParent<'a, P> {
 
     ghost view = { λ p. record {
       run = run_under p.setting.now;
-      state = state_at (run_under p.setting.now) p.parent.revision.run
-          p.parent.revision.memory.delta (P.base p.parent.revision.memory.snapshot)
-          p.parent.revision.memory.first.roots;
+      state = state_at (run_under p.setting.now) p.parent.revision.value.run
+          p.parent.revision.value.memory.delta (P.base p.parent.revision.value.memory.snapshot)
+          p.parent.revision.value.memory.first.roots;
       group = parent_group p.parent;
     } };
 

@@ -1,5 +1,5 @@
 //! The legs of revisions of code, between the calls of a hub.
-ghost use Rattle.std.specs.Prelude.{◌≡◌, ◌≢◌};
+ghost use Rattle.std.specs.Prelude.{◌≡◌, ◌≢◌, IfSome};
 ghost use Rattle.version_map.specs.declared.end.Finish.TheVariants.{Done, Trapped};
 ghost use Rattle.hub_workers.specs.Legs.{IsSameHand};
 ghost use Rattle.rev_vm.specs.Meaning.{IsEnd};
@@ -47,6 +47,17 @@ fn leave<'a, P: Snapshot, M: MergeBy, K: Keeper<P>>(
     let (value, spent) = retire(stopped);
     hand.keeper.keep(spent);
     CodeEnd { setting, value }
+}
+
+/// Keeps what is left of the snapshot of a child, where it had one.
+fn keep_child<P: Snapshot, K: Keeper<P>>(keeper: &mut K, child: Option<P::Spent>)
+    requires { IfSome child (λ s. P.spent_group s ≡ K.group keeper.old) }
+    ensures { K.group keeper.new ≡ K.group keeper.old }
+{
+    match child {
+        Some(spent) => keeper.keep(spent),
+        None => {},
+    }
 }
 
 impl<'a, P: Snapshot, M: MergeBy, K: Keeper<P>> Legs for CodeRevisions<'a, P, M, K> {
@@ -101,7 +112,9 @@ impl<'a, P: Snapshot, M: MergeBy, K: Keeper<P>> Legs for CodeRevisions<'a, P, M,
                 ))
             },
             Err(broken) => {
-                hand.keeper.keep(broken.give_up());
+                let (forker, child) = broken.give_up();
+                hand.keeper.keep(forker);
+                keep_child(&mut hand.keeper, child);
                 Err(AllocError)
             },
         }

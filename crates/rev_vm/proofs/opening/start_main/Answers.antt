@@ -18,8 +18,8 @@ returns-clause-state g c = λ n m.
     let e = c.main_of-main.ensures.one n m.body m.is m.class in
     let there = ap (slice_get c.args.setting.now.code.blocks) (sym e) ∙ m.is in
     let base = starts_based (run_under c.args.setting.now) c.requires.setting.faultless (g.P.Snapshot.base c.args.snapshot) c.requires.base in
-    subst (λ k. IfOk c.start.result (λ r. IsAt (run_under c.args.setting.now) r.revision.run r.revision.memory.delta
-    (g.P.Snapshot.base r.revision.memory.snapshot) r.revision.memory.first.roots
+    subst (λ k. IfOk c.start.result (λ r. IsAt (run_under c.args.setting.now) r.revision.value.run r.revision.value.memory.delta
+    (g.P.Snapshot.base r.revision.value.memory.snapshot) r.revision.value.memory.first.roots
     (events.start k m.body [] (start_locations c.args.setting.now.code.vars) c.args.fuel))) (sym e)
     (c.start.ensures.state m.body [] (start_locations c.args.setting.now.code.vars)
     (main_called (run_under c.args.setting.now) c.requires.setting.faultless c.main_of-main.result m.body there m.class) base)
@@ -29,11 +29,11 @@ returns-clause-stands g c =
     let q = c.main_of-main.ensures.is in
     let base = starts_based (run_under c.args.setting.now) c.requires.setting.faultless (g.P.Snapshot.base c.args.snapshot) c.requires.base in
     if_ok c.start.result
-    (λ r. IsAt (run_under c.args.setting.now) r.revision.run r.revision.memory.delta
-    (g.P.Snapshot.base r.revision.memory.snapshot) r.revision.memory.first.roots
+    (λ r. IsAt (run_under c.args.setting.now) r.revision.value.run r.revision.value.memory.delta
+    (g.P.Snapshot.base r.revision.value.memory.snapshot) r.revision.value.memory.first.roots
     (events.start c.main_of-main.result q.0 [] (start_locations c.args.setting.now.code.vars) c.args.fuel))
-    (λ r. (s : State ℕ) × IsAt (run_under c.args.setting.now) r.revision.run r.revision.memory.delta
-    (g.P.Snapshot.base r.revision.memory.snapshot) r.revision.memory.first.roots s)
+    (λ r. (s : State ℕ) × IsAt (run_under c.args.setting.now) r.revision.value.run r.revision.value.memory.delta
+    (g.P.Snapshot.base r.revision.value.memory.snapshot) r.revision.value.memory.first.roots s)
     (λ r h. (events.start c.main_of-main.result q.0 [] (start_locations c.args.setting.now.code.vars) c.args.fuel, h))
     (c.start.ensures.state q.0 [] (start_locations c.args.setting.now.code.vars)
     (main_called (run_under c.args.setting.now) c.requires.setting.faultless c.main_of-main.result q.0 q.1 q.2) base)

@@ -1,4 +1,5 @@
 use Rattle.std.proofs.Common.{◌∙◌, map, sym, subst, arith}
+use Rattle.rev_num.specs.declared.outcome.Cause.TheVariants as cause
 use Rattle.code_soundness.specs.Typed.{location_kinds}
 use Rattle.version_map.specs.declared.end.Written.{Written}
 use Rattle.version_map.specs.Deltas.{at}
@@ -7,6 +8,7 @@ use Rattle.block_run.specs.Remembering.{Kept}
 use Rattle.version_map.specs.Composing.{composed, entries}
 use Rattle.rev_vm.specs.NewWords.{IsMergedTo}
 use Rattle.rev_vm.specs.Writes.{HasWritten}
+use Rattle.rev_vm.proofs.Boxes.{same_claimed, same_line, same_ready}
 use Rattle.rev_vm.proofs.Firsts.{kinds_many}
 use Rattle.rev_vm.proofs.Joins.{settled_run, settled_trap, values_many, within_all}
 use Rattle.rev_vm.proofs.settling.settle.Goals as goal
@@ -16,8 +18,8 @@ merge_words-requires-clause-memory g c = λ k d less.
     let q = c.requires in
     let w = within_all (location_kinds q.0.code.vars) q.2.written c.args.claimed.end.written q.3.joinee.written k d less in
     let m = kinds_many q.0.code.vars in
-    let a = c.args.claimed.at.revision.memory.written in
-    let b = q.3.joiner.stands.size in
+    let a = c.deref_mut-inside.result.now.memory.written in
+    let b = (same_claimed (sym c.deref_mut-inside.ensures.value) q.0 c.args.claimed.at.written c.args.claimed.at.is_try c.args.claimed.at.on c.args.claimed.end q.1 q.2 q.3).joiner.stands.size in
     let e = c.collapse.ensures.size in omega (arith, w, m, a, b, e)
 
 pub merge_words-requires-clause-merges : goal.merge_words-requires-clause-merges
@@ -27,13 +29,16 @@ merge_words-requires-clause-merges g c = λ k d less.
     let m = kinds_many q.0.code.vars in
     let e = q.4 in omega (arith, w, m, e)
 
+pub take_over-requires-clause-ready : goal.take_over-requires-clause-ready
+take_over-requires-clause-ready g c = same_ready (sym c.deref_mut-inside.ensures.value) c.args.claimed.at.ready
+
 pub take_over-requires-clause-within : goal.take_over-requires-clause-within
 take_over-requires-clause-within g c = λ k d less.
     let q = c.requires in
     let w = within_all (location_kinds q.0.code.vars) q.2.written c.args.claimed.end.written q.3.joinee.written k d less in
     let m = kinds_many q.0.code.vars in
-    let a = c.args.claimed.at.revision.memory.written in
-    let b = q.3.joiner.stands.size in
+    let a = c.deref_mut-inside.result.now.memory.written in
+    let b = (same_claimed (sym c.deref_mut-inside.ensures.value) q.0 c.args.claimed.at.written c.args.claimed.at.is_try c.args.claimed.at.on c.args.claimed.end q.1 q.2 q.3).joiner.stands.size in
     let e = c.collapse.ensures.size in
     let f = c.merge_words.ensures.size in omega (arith, w, m, a, b, e, f)
 
@@ -42,31 +47,33 @@ take_over-requires-clause-many g c =
     values_many (g.M.MergeBy.merges c.args.merges.now) (λ (w : Written). under c.collapse.new.into (g.P.Snapshot.base c.collapse.new.snapshot) w.location) c.args.claimed.end.written c.in-Ok-Words.values.items (subst (IsMergedTo (composed (g.M.MergeBy.merges c.args.merges.now) (map (λ (w : Written). under c.collapse.new.into (g.P.Snapshot.base c.collapse.new.snapshot) w.location) c.args.claimed.end.written) (entries c.args.claimed.end.written))) c.in-Ok-Words.field-0-is c.in-Ok-Words.ensures.merged)
 
 pub returns-in-Ok-Fault-clause-settled : goal.returns-in-Ok-Fault-clause-settled
-returns-in-Ok-Fault-clause-settled g c = λ g' s j h are.
-    settled_trap g' c.args.claimed.at.revision.run c.args.claimed.at.revision.memory.delta (g.P.Snapshot.base c.args.claimed.at.revision.memory.snapshot) c.args.claimed.at.revision.memory.first.roots
+returns-in-Ok-Fault-clause-settled g c = λ g' s j h0 are.
+    let h = same_claimed (sym c.deref_mut-inside.ensures.value) g' c.args.claimed.at.written c.args.claimed.at.is_try c.args.claimed.at.on c.args.claimed.end s j h0 in
+    settled_trap g' c.deref_mut-inside.result.now.run c.deref_mut-inside.result.now.memory.delta (g.P.Snapshot.base c.deref_mut-inside.result.now.memory.snapshot) c.deref_mut-inside.result.now.memory.first.roots
     c.args.claimed.at.written c.args.claimed.at.is_try c.args.claimed.at.on c.args.claimed.end s j h (g.M.MergeBy.merges c.args.merges.now) are
-    (g.P.Snapshot.size c.args.claimed.at.revision.memory.snapshot) (sym c.args.claimed.at.revision.memory.written ∙ h.joiner.stands.size)
+    (g.P.Snapshot.size c.deref_mut-inside.result.now.memory.snapshot) (sym c.deref_mut-inside.result.now.memory.written ∙ h.joiner.stands.size)
     (under c.collapse.new.into (g.P.Snapshot.base c.collapse.new.snapshot)) c.collapse.ensures.base
-    c.in-Ok-Fault.trap (subst (IsMergedTo (composed (g.M.MergeBy.merges c.args.merges.now) (map (λ (w : Written). under c.collapse.new.into (g.P.Snapshot.base c.collapse.new.snapshot) w.location) c.args.claimed.end.written) (entries c.args.claimed.end.written))) c.in-Ok-Fault.field-0-is c.in-Ok-Fault.ensures.merged) c.stop.result.end c.stop.ensures.written c.stop.ensures.text c.stop.ensures.fuel (c.stop.ensures.finish ∙ c.fault_at-finish.ensures)
+    c.in-Ok-Fault.trap (subst (IsMergedTo (composed (g.M.MergeBy.merges c.args.merges.now) (map (λ (w : Written). under c.collapse.new.into (g.P.Snapshot.base c.collapse.new.snapshot) w.location) c.args.claimed.end.written) (entries c.args.claimed.end.written))) c.in-Ok-Fault.field-0-is c.in-Ok-Fault.ensures.merged) c.stop.result.end c.stop.ensures.written c.stop.ensures.text c.stop.ensures.fuel (c.stop.ensures.finish ∙ c.fault_at-finish.ensures ∙ same_line c.deref.ensures (cause.Merge c.in-Ok-Fault.trap.location c.in-Ok-Fault.trap.fault))
 
 pub returns-in-Ok-clause-settled : goal.returns-in-Ok-clause-settled
-returns-in-Ok-clause-settled g c = λ g' s j h are.
-    let r = settled_run g' c.args.claimed.at.revision.run c.args.claimed.at.revision.memory.delta (g.P.Snapshot.base c.args.claimed.at.revision.memory.snapshot) c.args.claimed.at.revision.memory.first.roots
+returns-in-Ok-clause-settled g c = λ g' s j h0 are.
+    let h = same_claimed (sym c.deref_mut-inside.ensures.value) g' c.args.claimed.at.written c.args.claimed.at.is_try c.args.claimed.at.on c.args.claimed.end s j h0 in
+    let r = settled_run g' c.deref_mut-inside.result.now.run c.deref_mut-inside.result.now.memory.delta (g.P.Snapshot.base c.deref_mut-inside.result.now.memory.snapshot) c.deref_mut-inside.result.now.memory.first.roots
     c.args.claimed.at.written c.args.claimed.at.is_try c.args.claimed.at.on c.args.claimed.end s j h (g.M.MergeBy.merges c.args.merges.now) are
-    (g.P.Snapshot.size c.args.claimed.at.revision.memory.snapshot) (sym c.args.claimed.at.revision.memory.written ∙ h.joiner.stands.size)
+    (g.P.Snapshot.size c.deref_mut-inside.result.now.memory.snapshot) (sym c.deref_mut-inside.result.now.memory.written ∙ h.joiner.stands.size)
     (under c.collapse.new.into (g.P.Snapshot.base c.collapse.new.snapshot)) c.collapse.ensures.base
     c.in-Ok-Words.values.items (subst (IsMergedTo (composed (g.M.MergeBy.merges c.args.merges.now) (map (λ (w : Written). under c.collapse.new.into (g.P.Snapshot.base c.collapse.new.snapshot) w.location) c.args.claimed.end.written) (entries c.args.claimed.end.written))) c.in-Ok-Words.field-0-is c.in-Ok-Words.ensures.merged)
-    (under c.merge_words.new.memory.delta (g.P.Snapshot.base c.merge_words.new.memory.snapshot)) (under c.in-Ok.runner.revision.memory.delta (g.P.Snapshot.base c.in-Ok.runner.revision.memory.snapshot))
-    (at c.merge_words.new.memory.first.roots) (at c.in-Ok.runner.revision.memory.first.roots)
-    (subst (λ z. Kept z (under c.collapse.new.into (g.P.Snapshot.base c.collapse.new.snapshot)) (under c.merge_words.new.memory.delta (g.P.Snapshot.base c.merge_words.new.memory.snapshot)) (at c.args.claimed.at.revision.memory.first.roots) (at c.merge_words.new.memory.first.roots)) c.collapse.ensures.size c.merge_words.ensures.kept)
-    (subst (λ z. HasWritten z c.args.claimed.end.written c.in-Ok-Words.values.items (under c.merge_words.new.memory.delta (g.P.Snapshot.base c.merge_words.new.memory.snapshot)) (at c.merge_words.new.memory.first.roots) (under c.in-Ok.runner.revision.memory.delta (g.P.Snapshot.base c.in-Ok.runner.revision.memory.snapshot)) (at c.in-Ok.runner.revision.memory.first.roots)) (c.merge_words.ensures.size ∙ c.collapse.ensures.size) c.in-Ok.ensures.wrote)
-    c.in-Ok.runner.revision.run c.in-Ok.ensures.taken c.args.claimed.at.ready in (
+    (under c.merge_words.new.memory.delta (g.P.Snapshot.base c.merge_words.new.memory.snapshot)) (under c.in-Ok.runner.revision.value.memory.delta (g.P.Snapshot.base c.in-Ok.runner.revision.value.memory.snapshot))
+    (at c.merge_words.new.memory.first.roots) (at c.in-Ok.runner.revision.value.memory.first.roots)
+    (subst (λ z. Kept z (under c.collapse.new.into (g.P.Snapshot.base c.collapse.new.snapshot)) (under c.merge_words.new.memory.delta (g.P.Snapshot.base c.merge_words.new.memory.snapshot)) (at c.deref_mut-inside.result.now.memory.first.roots) (at c.merge_words.new.memory.first.roots)) c.collapse.ensures.size c.merge_words.ensures.kept)
+    (subst (λ z. HasWritten z c.args.claimed.end.written c.in-Ok-Words.values.items (under c.merge_words.new.memory.delta (g.P.Snapshot.base c.merge_words.new.memory.snapshot)) (at c.merge_words.new.memory.first.roots) (under c.in-Ok.runner.revision.value.memory.delta (g.P.Snapshot.base c.in-Ok.runner.revision.value.memory.snapshot)) (at c.in-Ok.runner.revision.value.memory.first.roots)) (c.merge_words.ensures.size ∙ c.collapse.ensures.size) c.in-Ok.ensures.wrote)
+    c.in-Ok.runner.revision.value.run c.in-Ok.ensures.taken (same_ready (sym c.deref_mut-inside.ensures.value) c.args.claimed.at.ready) in (
       r.next,
       r.is_next,
       record {
         verified = h.joiner.stands.verified;
         stands = r.stand;
-        size = c.in-Ok.runner.revision.memory.written ∙ c.in-Ok.ensures.size ∙ c.merge_words.ensures.size ∙ c.collapse.ensures.size ∙ sym c.args.claimed.at.revision.memory.written ∙ h.joiner.stands.size;
+        size = c.in-Ok.runner.revision.value.memory.written ∙ c.in-Ok.ensures.size ∙ c.merge_words.ensures.size ∙ c.collapse.ensures.size ∙ sym c.deref_mut-inside.result.now.memory.written ∙ h.joiner.stands.size;
       },
     )
 

@@ -1,13 +1,19 @@
+use Rattle.std.proofs.Common.{sym}
+use Rattle.rev_code.specs.Events as events
+use Rattle.rev_vm.specs.Starts.{run_under}
+use Rattle.rev_vm.proofs.Boxes.{same_at, same_fork}
 use Rattle.rev_vm.proofs.fork.AtFork.fork.Goals as goal
 
-pub returns-in-Ok-clause-parent : goal.returns-in-Ok-clause-parent
-returns-in-Ok-clause-parent t c = c.in-Ok.ensures.parent
+pub fork_off-requires-clause-at : goal.fork_off-requires-clause-at
+fork_off-requires-clause-at g c =
+    let q = c.requires.at in
+    (q.0, q.1, same_fork (sym c.deref_mut.ensures.value) (run_under c.args.setting.now) c.args.self.block q.0 q.1 q.2)
 
-pub returns-in-Ok-clause-child : goal.returns-in-Ok-clause-child
-returns-in-Ok-clause-child t c = c.in-Ok.ensures.child
+pub returns-in-Ok-in_box-clause-parent : goal.returns-in-Ok-in_box-clause-parent
+returns-in-Ok-in_box-clause-parent g c = λ s args h.
+    c.in-Ok.ensures.parent s args (same_fork (sym c.deref_mut.ensures.value) (run_under c.args.setting.now) c.args.self.block s args h)
 
-pub returns-in-Ok-clause-shared : goal.returns-in-Ok-clause-shared
-returns-in-Ok-clause-shared t c = c.in-Ok.ensures.shared
-
-pub returns-in-Ok-clause-copied : goal.returns-in-Ok-clause-copied
-returns-in-Ok-clause-copied t c = c.in-Ok.ensures.copied
+pub returns-in-Ok-in_box-clause-child : goal.returns-in-Ok-in_box-clause-child
+returns-in-Ok-in_box-clause-child g c = λ s args h.
+    let q = c.in-Ok.ensures.child s args (same_fork (sym c.deref_mut.ensures.value) (run_under c.args.setting.now) c.args.self.block s args h) in
+    (q.0, q.1, same_at (sym c.in-Ok-in_box.ensures.ok) (run_under c.args.setting.now) (events.child c.args.setting.now.share s c.args.self.block q.0 args) q.2)

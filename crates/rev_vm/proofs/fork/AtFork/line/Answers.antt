@@ -1,4 +1,6 @@
+use Rattle.std.proofs.Common.{sym}
+use Rattle.rev_vm.proofs.Boxes.{same_fork}
 use Rattle.rev_vm.proofs.fork.AtFork.line.Goals as goal
 
 pub returns : goal.returns
-returns t c = λ g s args h. h.stands.stands.here.run.line
+returns t c = λ g s args h. (same_fork (sym c.deref.ensures) g c.args.self.now.block s args h).stands.stands.here.run.line

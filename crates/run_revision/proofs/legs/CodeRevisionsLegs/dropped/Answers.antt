@@ -19,7 +19,7 @@ pub returns-clause-state : goal.returns-clause-state
 returns-clause-state g c e trap =
     let own = run_under c.at.inside.setting.now in
     let s = joiner_state own c.at.inside.at in
-    let r = c.dropped.result.revision in
+    let r = c.dropped.result.revision.value in
     let try : c.at.inside.at.is_try ≡ true = ap (λ a. a.try) c.at.view_is ∙ c.requires in
     let one = one_state own r.run r.memory.delta (g.P.Snapshot.base r.memory.snapshot) r.memory.first.roots (past_join s true false c.at.inside.at.on) (c.dropped.ensures.state own s c.at.invariant.1) in
     ap (λ z. state_of own (at_work z)) (sym one)

@@ -34,7 +34,7 @@ pub returns-in-Ok-Fork-clause-event : goal.returns-in-Ok-Fork-clause-event
 returns-in-Ok-Fork-clause-event g c =
     let own = run_under c.runner.inside.setting.now in
     let e = rw c.in-Ok-Fork.field-0-is at (c.in-Ok-Fork.ensures.event (runner_state own c.runner.inside.runner) c.runner.invariant.1) in
-    let r = c.in-Ok-Fork.at.revision in
+    let r = c.in-Ok-Fork.at.revision.value in
     let base = g.P.Snapshot.base r.memory.snapshot in
     let s = safe own r.run r.memory.delta base r.memory.first.roots c.in-Ok-Fork.at.block e.0 e.1 e.3 in
     let state : e.0 ≡ fork_state own c.in-Ok-Fork.at = one_state own r.run r.memory.delta base r.memory.first.roots e.0 e.3.stands in
@@ -51,7 +51,7 @@ returns-in-Ok-Join-clause-event g c =
     let at = c.in-Ok-Join.at in
     let a : JoinerValue = record { run = own; state = joiner_state own c.in-Ok-Join.at; try = at.is_try; on = at.on; group = joiner_group c.in-Ok-Join.at } in
     joins_here own (runner_state own c.runner.inside.runner) e.0 a c.args.runner.state (ap (λ x. x.state) c.runner.view_is) refl
-    (one_joining own at.revision.run at.revision.memory.delta (g.P.Snapshot.base at.revision.memory.snapshot) at.revision.memory.first.roots at.written at.is_try at.on e.0 e.2) e.1
+    (one_joining own at.revision.value.run at.revision.value.memory.delta (g.P.Snapshot.base at.revision.value.memory.snapshot) at.revision.value.memory.first.roots at.written at.is_try at.on e.0 e.2) e.1
 
 pub returns-in-Ok-End-clause-event : goal.returns-in-Ok-End-clause-event
 returns-in-Ok-End-clause-event g c =

@@ -38,14 +38,14 @@ settle-requires g c =
     let same = same_hand own its mine s c.at.inside.at.is_try c.at.inside.at.on (joiner_group c.at.inside.at) c.end.inside.value c.args.hand.now q.0 q.1 (c.at.view_is ∙ q.2.0) (c.end.view_is ∙ q.2.1) (ap (λ z. z.run) c.hand.view_is) q.4 in
     let alike = same_end own its mine s c.at.inside.at.is_try c.at.inside.at.on (joiner_group c.at.inside.at) c.end.inside.value c.args.hand.now q.0 q.1 (c.at.view_is ∙ q.2.0) (c.end.view_is ∙ q.2.1) (ap (λ z. z.run) c.hand.view_is) q.4 in
     let at = c.at.inside.at in
-    let has : IsClaimed own at.revision.run at.revision.memory.delta (g.P.Snapshot.base at.revision.memory.snapshot) at.revision.memory.first.roots at.written at.is_try at.on c.end.inside.value s j = record {
+    let has : IsClaimed own at.revision.value.run at.revision.value.memory.delta (g.P.Snapshot.base at.revision.value.memory.snapshot) at.revision.value.memory.first.roots at.written at.is_try at.on c.end.inside.value s j = record {
       joiner = c.at.invariant.1;
       joinee = subst (λ z. IsEnd z (end_for z c.end.inside.value) c.end.inside.value) alike c.end.invariant;
       done = is_done own its mine s c.at.inside.at.is_try c.at.inside.at.on (joiner_group c.at.inside.at) c.end.inside.value c.args.hand.now q.0 q.1 (c.at.view_is ∙ q.2.0) (c.end.view_is ∙ q.2.1) (ap (λ z. z.run) c.hand.view_is) q.4 q.3;
     } in
-    let given : IsClaimed own c.claim.result.at.revision.run c.claim.result.at.revision.memory.delta (g.P.Snapshot.base c.claim.result.at.revision.memory.snapshot) c.claim.result.at.revision.memory.first.roots c.claim.result.at.written c.claim.result.at.is_try c.claim.result.at.on c.claim.result.end s j =
-    subst (λ v. IsClaimed own c.claim.result.at.revision.run c.claim.result.at.revision.memory.delta (g.P.Snapshot.base c.claim.result.at.revision.memory.snapshot) c.claim.result.at.revision.memory.first.roots c.claim.result.at.written c.claim.result.at.is_try c.claim.result.at.on v s j) (sym c.claim.ensures.end)
-    (subst (λ k. IsClaimed own k.revision.run k.revision.memory.delta (g.P.Snapshot.base k.revision.memory.snapshot) k.revision.memory.first.roots k.written k.is_try k.on c.end.inside.value s j) (sym c.claim.ensures.at) has) in
+    let given : IsClaimed own c.claim.result.at.revision.value.run c.claim.result.at.revision.value.memory.delta (g.P.Snapshot.base c.claim.result.at.revision.value.memory.snapshot) c.claim.result.at.revision.value.memory.first.roots c.claim.result.at.written c.claim.result.at.is_try c.claim.result.at.on c.claim.result.end s j =
+    subst (λ v. IsClaimed own c.claim.result.at.revision.value.run c.claim.result.at.revision.value.memory.delta (g.P.Snapshot.base c.claim.result.at.revision.value.memory.snapshot) c.claim.result.at.revision.value.memory.first.roots c.claim.result.at.written c.claim.result.at.is_try c.claim.result.at.on v s j) (sym c.claim.ensures.end)
+    (subst (λ k. IsClaimed own k.revision.value.run k.revision.value.memory.delta (g.P.Snapshot.base k.revision.value.memory.snapshot) k.revision.value.memory.first.roots k.written k.is_try k.on c.end.inside.value s j) (sym c.claim.ensures.at) has) in
     let merges : AreMergesOf own (g.M.MergeBy.merges c.hand.inside.merges) = subst (λ z. AreMergesOf z (g.M.MergeBy.merges c.hand.inside.merges)) (sym same) c.hand.invariant.2 in
     (own, s, j, given, c.hand.invariant.1 ∙ ap (λ z. count z.code.vars) (sym same))
 
@@ -60,14 +60,14 @@ invariant_of-result g c =
     let same = same_hand own its mine s c.at.inside.at.is_try c.at.inside.at.on (joiner_group c.at.inside.at) c.end.inside.value c.args.hand.now q.0 q.1 (c.at.view_is ∙ q.2.0) (c.end.view_is ∙ q.2.1) (ap (λ z. z.run) c.hand.view_is) q.4 in
     let alike = same_end own its mine s c.at.inside.at.is_try c.at.inside.at.on (joiner_group c.at.inside.at) c.end.inside.value c.args.hand.now q.0 q.1 (c.at.view_is ∙ q.2.0) (c.end.view_is ∙ q.2.1) (ap (λ z. z.run) c.hand.view_is) q.4 in
     let at = c.at.inside.at in
-    let has : IsClaimed own at.revision.run at.revision.memory.delta (g.P.Snapshot.base at.revision.memory.snapshot) at.revision.memory.first.roots at.written at.is_try at.on c.end.inside.value s j = record {
+    let has : IsClaimed own at.revision.value.run at.revision.value.memory.delta (g.P.Snapshot.base at.revision.value.memory.snapshot) at.revision.value.memory.first.roots at.written at.is_try at.on c.end.inside.value s j = record {
       joiner = c.at.invariant.1;
       joinee = subst (λ z. IsEnd z (end_for z c.end.inside.value) c.end.inside.value) alike c.end.invariant;
       done = is_done own its mine s c.at.inside.at.is_try c.at.inside.at.on (joiner_group c.at.inside.at) c.end.inside.value c.args.hand.now q.0 q.1 (c.at.view_is ∙ q.2.0) (c.end.view_is ∙ q.2.1) (ap (λ z. z.run) c.hand.view_is) q.4 q.3;
     } in
-    let given : IsClaimed own c.claim.result.at.revision.run c.claim.result.at.revision.memory.delta (g.P.Snapshot.base c.claim.result.at.revision.memory.snapshot) c.claim.result.at.revision.memory.first.roots c.claim.result.at.written c.claim.result.at.is_try c.claim.result.at.on c.claim.result.end s j =
-    subst (λ v. IsClaimed own c.claim.result.at.revision.run c.claim.result.at.revision.memory.delta (g.P.Snapshot.base c.claim.result.at.revision.memory.snapshot) c.claim.result.at.revision.memory.first.roots c.claim.result.at.written c.claim.result.at.is_try c.claim.result.at.on v s j) (sym c.claim.ensures.end)
-    (subst (λ k. IsClaimed own k.revision.run k.revision.memory.delta (g.P.Snapshot.base k.revision.memory.snapshot) k.revision.memory.first.roots k.written k.is_try k.on c.end.inside.value s j) (sym c.claim.ensures.at) has) in
+    let given : IsClaimed own c.claim.result.at.revision.value.run c.claim.result.at.revision.value.memory.delta (g.P.Snapshot.base c.claim.result.at.revision.value.memory.snapshot) c.claim.result.at.revision.value.memory.first.roots c.claim.result.at.written c.claim.result.at.is_try c.claim.result.at.on c.claim.result.end s j =
+    subst (λ v. IsClaimed own c.claim.result.at.revision.value.run c.claim.result.at.revision.value.memory.delta (g.P.Snapshot.base c.claim.result.at.revision.value.memory.snapshot) c.claim.result.at.revision.value.memory.first.roots c.claim.result.at.written c.claim.result.at.is_try c.claim.result.at.on v s j) (sym c.claim.ensures.end)
+    (subst (λ k. IsClaimed own k.revision.value.run k.revision.value.memory.delta (g.P.Snapshot.base k.revision.value.memory.snapshot) k.revision.value.memory.first.roots k.written k.is_try k.on c.end.inside.value s j) (sym c.claim.ensures.at) has) in
     let merges : AreMergesOf own (g.M.MergeBy.merges c.hand.inside.merges) = subst (λ z. AreMergesOf z (g.M.MergeBy.merges c.hand.inside.merges)) (sym same) c.hand.invariant.2 in
     let r = rw c.in-Ok-Run.field-0-is at (c.in-Ok-Run.ensures.settled own s j given merges) in
     (c.at.invariant.0, at_own own _ _ _ _ _ r.2)
@@ -104,14 +104,14 @@ leave-requires-clause-end g c =
     let same = same_hand own its mine s c.at.inside.at.is_try c.at.inside.at.on (joiner_group c.at.inside.at) c.end.inside.value c.args.hand.now q.0 q.1 (c.at.view_is ∙ q.2.0) (c.end.view_is ∙ q.2.1) (ap (λ z. z.run) c.hand.view_is) q.4 in
     let alike = same_end own its mine s c.at.inside.at.is_try c.at.inside.at.on (joiner_group c.at.inside.at) c.end.inside.value c.args.hand.now q.0 q.1 (c.at.view_is ∙ q.2.0) (c.end.view_is ∙ q.2.1) (ap (λ z. z.run) c.hand.view_is) q.4 in
     let at = c.at.inside.at in
-    let has : IsClaimed own at.revision.run at.revision.memory.delta (g.P.Snapshot.base at.revision.memory.snapshot) at.revision.memory.first.roots at.written at.is_try at.on c.end.inside.value s j = record {
+    let has : IsClaimed own at.revision.value.run at.revision.value.memory.delta (g.P.Snapshot.base at.revision.value.memory.snapshot) at.revision.value.memory.first.roots at.written at.is_try at.on c.end.inside.value s j = record {
       joiner = c.at.invariant.1;
       joinee = subst (λ z. IsEnd z (end_for z c.end.inside.value) c.end.inside.value) alike c.end.invariant;
       done = is_done own its mine s c.at.inside.at.is_try c.at.inside.at.on (joiner_group c.at.inside.at) c.end.inside.value c.args.hand.now q.0 q.1 (c.at.view_is ∙ q.2.0) (c.end.view_is ∙ q.2.1) (ap (λ z. z.run) c.hand.view_is) q.4 q.3;
     } in
-    let given : IsClaimed own c.claim.result.at.revision.run c.claim.result.at.revision.memory.delta (g.P.Snapshot.base c.claim.result.at.revision.memory.snapshot) c.claim.result.at.revision.memory.first.roots c.claim.result.at.written c.claim.result.at.is_try c.claim.result.at.on c.claim.result.end s j =
-    subst (λ v. IsClaimed own c.claim.result.at.revision.run c.claim.result.at.revision.memory.delta (g.P.Snapshot.base c.claim.result.at.revision.memory.snapshot) c.claim.result.at.revision.memory.first.roots c.claim.result.at.written c.claim.result.at.is_try c.claim.result.at.on v s j) (sym c.claim.ensures.end)
-    (subst (λ k. IsClaimed own k.revision.run k.revision.memory.delta (g.P.Snapshot.base k.revision.memory.snapshot) k.revision.memory.first.roots k.written k.is_try k.on c.end.inside.value s j) (sym c.claim.ensures.at) has) in
+    let given : IsClaimed own c.claim.result.at.revision.value.run c.claim.result.at.revision.value.memory.delta (g.P.Snapshot.base c.claim.result.at.revision.value.memory.snapshot) c.claim.result.at.revision.value.memory.first.roots c.claim.result.at.written c.claim.result.at.is_try c.claim.result.at.on c.claim.result.end s j =
+    subst (λ v. IsClaimed own c.claim.result.at.revision.value.run c.claim.result.at.revision.value.memory.delta (g.P.Snapshot.base c.claim.result.at.revision.value.memory.snapshot) c.claim.result.at.revision.value.memory.first.roots c.claim.result.at.written c.claim.result.at.is_try c.claim.result.at.on v s j) (sym c.claim.ensures.end)
+    (subst (λ k. IsClaimed own k.revision.value.run k.revision.value.memory.delta (g.P.Snapshot.base k.revision.value.memory.snapshot) k.revision.value.memory.first.roots k.written k.is_try k.on c.end.inside.value s j) (sym c.claim.ensures.at) has) in
     let merges : AreMergesOf own (g.M.MergeBy.merges c.hand.inside.merges) = subst (λ z. AreMergesOf z (g.M.MergeBy.merges c.hand.inside.merges)) (sym same) c.hand.invariant.2 in
     end_own own _ c.in-Ok-Trap.stopped.end (rw c.in-Ok-Trap.field-0-is at (c.in-Ok-Trap.ensures.settled own s j given merges))
 
@@ -125,17 +125,17 @@ returns-in-Ok-Run-clause-state g c a e is none met =
     let same = same_hand own its mine s c.at.inside.at.is_try c.at.inside.at.on (joiner_group c.at.inside.at) c.end.inside.value c.args.hand.now a e (c.at.view_is ∙ is.0) (c.end.view_is ∙ is.1) (ap (λ z. z.run) c.hand.view_is) met in
     let alike = same_end own its mine s c.at.inside.at.is_try c.at.inside.at.on (joiner_group c.at.inside.at) c.end.inside.value c.args.hand.now a e (c.at.view_is ∙ is.0) (c.end.view_is ∙ is.1) (ap (λ z. z.run) c.hand.view_is) met in
     let at = c.at.inside.at in
-    let has : IsClaimed own at.revision.run at.revision.memory.delta (g.P.Snapshot.base at.revision.memory.snapshot) at.revision.memory.first.roots at.written at.is_try at.on c.end.inside.value s j = record {
+    let has : IsClaimed own at.revision.value.run at.revision.value.memory.delta (g.P.Snapshot.base at.revision.value.memory.snapshot) at.revision.value.memory.first.roots at.written at.is_try at.on c.end.inside.value s j = record {
       joiner = c.at.invariant.1;
       joinee = subst (λ z. IsEnd z (end_for z c.end.inside.value) c.end.inside.value) alike c.end.invariant;
       done = is_done own its mine s c.at.inside.at.is_try c.at.inside.at.on (joiner_group c.at.inside.at) c.end.inside.value c.args.hand.now a e (c.at.view_is ∙ is.0) (c.end.view_is ∙ is.1) (ap (λ z. z.run) c.hand.view_is) met none;
     } in
-    let given : IsClaimed own c.claim.result.at.revision.run c.claim.result.at.revision.memory.delta (g.P.Snapshot.base c.claim.result.at.revision.memory.snapshot) c.claim.result.at.revision.memory.first.roots c.claim.result.at.written c.claim.result.at.is_try c.claim.result.at.on c.claim.result.end s j =
-    subst (λ v. IsClaimed own c.claim.result.at.revision.run c.claim.result.at.revision.memory.delta (g.P.Snapshot.base c.claim.result.at.revision.memory.snapshot) c.claim.result.at.revision.memory.first.roots c.claim.result.at.written c.claim.result.at.is_try c.claim.result.at.on v s j) (sym c.claim.ensures.end)
-    (subst (λ k. IsClaimed own k.revision.run k.revision.memory.delta (g.P.Snapshot.base k.revision.memory.snapshot) k.revision.memory.first.roots k.written k.is_try k.on c.end.inside.value s j) (sym c.claim.ensures.at) has) in
+    let given : IsClaimed own c.claim.result.at.revision.value.run c.claim.result.at.revision.value.memory.delta (g.P.Snapshot.base c.claim.result.at.revision.value.memory.snapshot) c.claim.result.at.revision.value.memory.first.roots c.claim.result.at.written c.claim.result.at.is_try c.claim.result.at.on c.claim.result.end s j =
+    subst (λ v. IsClaimed own c.claim.result.at.revision.value.run c.claim.result.at.revision.value.memory.delta (g.P.Snapshot.base c.claim.result.at.revision.value.memory.snapshot) c.claim.result.at.revision.value.memory.first.roots c.claim.result.at.written c.claim.result.at.is_try c.claim.result.at.on v s j) (sym c.claim.ensures.end)
+    (subst (λ k. IsClaimed own k.revision.value.run k.revision.value.memory.delta (g.P.Snapshot.base k.revision.value.memory.snapshot) k.revision.value.memory.first.roots k.written k.is_try k.on c.end.inside.value s j) (sym c.claim.ensures.at) has) in
     let merges : AreMergesOf own (g.M.MergeBy.merges c.hand.inside.merges) = subst (λ z. AreMergesOf z (g.M.MergeBy.merges c.hand.inside.merges)) (sym same) c.hand.invariant.2 in
     let r = rw c.in-Ok-Run.field-0-is at (c.in-Ok-Run.ensures.settled own s j given merges) in
-    let run = c.in-Ok-Run.runner.revision in
+    let run = c.in-Ok-Run.runner.revision.value in
     let one = one_state own run.run run.memory.delta (g.P.Snapshot.base run.memory.snapshot) run.memory.first.roots r.0 r.2 in
     ap (λ z. state_of own (at_work z)) (sym one)
     ∙ (ap (state_of own) (sym r.1)
@@ -152,14 +152,14 @@ returns-in-Ok-Trap-clause-state g c a e is none met =
     let same = same_hand own its mine s c.at.inside.at.is_try c.at.inside.at.on (joiner_group c.at.inside.at) c.end.inside.value c.args.hand.now a e (c.at.view_is ∙ is.0) (c.end.view_is ∙ is.1) (ap (λ z. z.run) c.hand.view_is) met in
     let alike = same_end own its mine s c.at.inside.at.is_try c.at.inside.at.on (joiner_group c.at.inside.at) c.end.inside.value c.args.hand.now a e (c.at.view_is ∙ is.0) (c.end.view_is ∙ is.1) (ap (λ z. z.run) c.hand.view_is) met in
     let at = c.at.inside.at in
-    let has : IsClaimed own at.revision.run at.revision.memory.delta (g.P.Snapshot.base at.revision.memory.snapshot) at.revision.memory.first.roots at.written at.is_try at.on c.end.inside.value s j = record {
+    let has : IsClaimed own at.revision.value.run at.revision.value.memory.delta (g.P.Snapshot.base at.revision.value.memory.snapshot) at.revision.value.memory.first.roots at.written at.is_try at.on c.end.inside.value s j = record {
       joiner = c.at.invariant.1;
       joinee = subst (λ z. IsEnd z (end_for z c.end.inside.value) c.end.inside.value) alike c.end.invariant;
       done = is_done own its mine s c.at.inside.at.is_try c.at.inside.at.on (joiner_group c.at.inside.at) c.end.inside.value c.args.hand.now a e (c.at.view_is ∙ is.0) (c.end.view_is ∙ is.1) (ap (λ z. z.run) c.hand.view_is) met none;
     } in
-    let given : IsClaimed own c.claim.result.at.revision.run c.claim.result.at.revision.memory.delta (g.P.Snapshot.base c.claim.result.at.revision.memory.snapshot) c.claim.result.at.revision.memory.first.roots c.claim.result.at.written c.claim.result.at.is_try c.claim.result.at.on c.claim.result.end s j =
-    subst (λ v. IsClaimed own c.claim.result.at.revision.run c.claim.result.at.revision.memory.delta (g.P.Snapshot.base c.claim.result.at.revision.memory.snapshot) c.claim.result.at.revision.memory.first.roots c.claim.result.at.written c.claim.result.at.is_try c.claim.result.at.on v s j) (sym c.claim.ensures.end)
-    (subst (λ k. IsClaimed own k.revision.run k.revision.memory.delta (g.P.Snapshot.base k.revision.memory.snapshot) k.revision.memory.first.roots k.written k.is_try k.on c.end.inside.value s j) (sym c.claim.ensures.at) has) in
+    let given : IsClaimed own c.claim.result.at.revision.value.run c.claim.result.at.revision.value.memory.delta (g.P.Snapshot.base c.claim.result.at.revision.value.memory.snapshot) c.claim.result.at.revision.value.memory.first.roots c.claim.result.at.written c.claim.result.at.is_try c.claim.result.at.on c.claim.result.end s j =
+    subst (λ v. IsClaimed own c.claim.result.at.revision.value.run c.claim.result.at.revision.value.memory.delta (g.P.Snapshot.base c.claim.result.at.revision.value.memory.snapshot) c.claim.result.at.revision.value.memory.first.roots c.claim.result.at.written c.claim.result.at.is_try c.claim.result.at.on v s j) (sym c.claim.ensures.end)
+    (subst (λ k. IsClaimed own k.revision.value.run k.revision.value.memory.delta (g.P.Snapshot.base k.revision.value.memory.snapshot) k.revision.value.memory.first.roots k.written k.is_try k.on c.end.inside.value s j) (sym c.claim.ensures.at) has) in
     let merges : AreMergesOf own (g.M.MergeBy.merges c.hand.inside.merges) = subst (λ z. AreMergesOf z (g.M.MergeBy.merges c.hand.inside.merges)) (sym same) c.hand.invariant.2 in
     let end = rw c.in-Ok-Trap.field-0-is at (c.in-Ok-Trap.ensures.settled own s j given merges) in
     let l = join_in own s c.claim.result.at.is_try c.claim.result.at.on j j.phase in

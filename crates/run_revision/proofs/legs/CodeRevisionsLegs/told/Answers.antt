@@ -20,8 +20,8 @@ pub returns-clause-state : goal.returns-clause-state
 returns-clause-state g c =
     let own = run_under c.parent.inside.setting.now in
     let w = c.parent.invariant.1 in
-    let r = c.told.result.revision in
-    let p = c.parent.inside.parent.revision in
+    let r = c.told.result.revision.value in
+    let p = c.parent.inside.parent.revision.value in
     let after : events.parent own.share w.0 w.1 c.args.number ≡ runner_state own c.told.result = one_state own r.run r.memory.delta (g.P.Snapshot.base r.memory.snapshot) r.memory.first.roots (events.parent own.share w.0 w.1 c.args.number) (c.told.ensures.state own w.0 w.1 w.2) in
     let before : events.parent own.share w.0 w.1 0 ≡ state_at own p.run p.memory.delta (g.P.Snapshot.base p.memory.snapshot) p.memory.first.roots = one_state own p.run p.memory.delta (g.P.Snapshot.base p.memory.snapshot) p.memory.first.roots (events.parent own.share w.0 w.1 0) w.2 in
     ap (λ z. state_of own (at_work z)) (sym after ∙ (sym (renamed_parent own.share w.0 w.1 c.args.number) ∙ ap (λ z. renamed z c.args.number) before))

@@ -20,7 +20,7 @@ returns-in-Ok-clause-start g c =
     let own = run_under c.args.setting.now in
     let there = main_there c.args.setting.now.code c.requires.setting.faultless in
     let m : IsMain own (length c.args.setting.now.code.blocks - 1) = record { body = there.0; is = there.1; class = there.2 } in
-    let r = c.in-Ok.runner.revision in
+    let r = c.in-Ok.runner.revision.value in
     let first = events.start (length c.args.setting.now.code.blocks - 1) there.0 [] (start_locations c.args.setting.now.code.vars) c.args.fuel in
     let one = one_state own r.run r.memory.delta (g.P.Snapshot.base r.memory.snapshot) r.memory.first.roots first (c.in-Ok.ensures.state (length c.args.setting.now.code.blocks - 1) m) in
     record {
