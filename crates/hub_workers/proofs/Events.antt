@@ -1,15 +1,19 @@
 -- What a revision hands in is the event of its state, and a hand stays that of its seat's run.
-use Rattle.std.proofs.Common.{◌≡◌, ℕ, Bool, true, List, MatchBool, sym, ap, ◌∙◌, subst}
-use Rattle.revision_machine.specs.Numbered.{Bears}
+use Rattle.std.proofs.Common.{◌≡◌, ℕ, Bool, true, List, MatchBool, cond, sym, ap, ◌∙◌, subst}
+use Rattle.revision_machine.specs.Numbered.{Bears, put_number}
 use Rattle.revision_machine.proofs.Paths.{some_inj}
 use Rattle.hub_algebra.specs.Hub.{Stands}
 use Rattle.hub_algebra.specs.HubMachine.{HubMachine, numbered, values}
+use Rattle.turn_hub.specs.declared.answers.Onward.{Onward}
+use Rattle.turn_hub.specs.declared.answers.Onward.TheVariants as onward
+use Rattle.turn_hub.specs.declared.view.Said.{Said}
+use Rattle.turn_hub.specs.declared.view.Said.TheVariants as mark
 use Rattle.turn_hub.specs.declared.view.View.{View}
 use Rattle.turn_hub.specs.Seats.{HasState, HasFork, HasJoin, HasEnd, HasTrap, IsSameSeat}
-use Rattle.turn_hub.specs.Answers.{HasMet}
+use Rattle.turn_hub.specs.Answers.{EndedOn, HasMet, OnwardSays, WaitedOn}
 use Rattle.hub_workers.specs.declared.legs.Event.TheVariants as event
 use Rattle.hub_workers.specs.Legs.{IsReached, HaveMet, Comes, IsEndBy, IsSameHand}
-use Rattle.hub_workers.specs.Work.{IsHandOf, StandsAtFork}
+use Rattle.hub_workers.specs.Work.{IsHandOf, StandsAtFork, HasOnward}
 
 module _ {H L : Type 0} (begins : H → L → Type 0) (group : H → List ℕ) where
   pub hand_on :
@@ -28,8 +32,42 @@ module _ {H L : Type 0} (begins : H → L → Type 0) (group : H → List ℕ) w
   hand_after v w h h' of same seat = hand_stays v w h' (hand_on v h h' of same) seat
 
 module _ {L : Type 0} where
-  pub same_twice : (u v w : View L) → IsSameSeat u v → IsSameSeat v w → IsSameSeat u w
+  same_twice : (u v w : View L) → IsSameSeat u v → IsSameSeat v w → IsSameSeat u w
   same_twice u v w a b = (b.0 ∙ a.0, b.1 ∙ a.1, b.2 ∙ a.2)
+
+module _ {L R A E : Type 0} (d : HubMachine L R A E) (ends : E → L → Type 0)
+    (said : List Said) where
+  onward_here :
+      (v w : View L) (n : Onward R A) → OnwardSays d ends said v w n → HasOnward d ends w n
+  onward_here v w (onward.Run n r) h = (h.state, h.group)
+  onward_here v w (onward.Retry n a) h = (h.event, h.group)
+  onward_here v w onward.Nothing h = tt
+
+  onward_seat :
+      (v w : View L) (n : Onward R A) → OnwardSays d ends said v w n → IsSameSeat v w
+  onward_seat v w (onward.Run n r) h = h.keeps.0
+  onward_seat v w (onward.Retry n a) h = h.keeps.0
+  onward_seat v w onward.Nothing h = h.keeps.0
+
+-- the seat of a thread that has handed something in, and what it goes on with
+module _ {L R A E : Type 0} (d : HubMachine L R A E) (ends : E → L → Type 0) where
+  pub ended_on :
+      (v w : View L) (k : ℕ) (e : E) (b : Bool) (n : Onward R A) → EndedOn d ends v w k e b n
+      → IsSameSeat v w × HasOnward d ends w n
+  ended_on v w k e b n is =
+      let said = put_number w.said k (cond (d.trapped e) mark.Trapped mark.Done) in (
+        same_twice v is.between w is.ended.keeps.0 (onward_seat d ends said is.between w n is.onward),
+        onward_here d ends said is.between w n is.onward,
+      )
+
+  pub waited_on :
+      (v w : View L) (k : ℕ) (a : A) (n : Onward R A) → WaitedOn d ends v w k a n
+      → IsSameSeat v w × HasOnward d ends w n
+  waited_on v w k a n is =
+      let said = put_number w.said k (mark.Waits (d.on a)) in (
+        same_twice v is.between w is.waited.keeps.0 (onward_seat d ends said is.between w n is.onward),
+        onward_here d ends said is.between w n is.onward,
+      )
 
 module _ {H L R A E : Type 0} (d : HubMachine L R A E) (ends : E → L → Type 0)
     (begins : H → L → Type 0) (group : H → List ℕ) where

@@ -4,9 +4,6 @@ use std::sync::Wait;
 use std::sync::atomic::{AtomicBool, AtomicU64, Ordering};
 use std::time::Duration;
 
-// How many microseconds a scout sleeps between two looks.
-const NAP: u64 = 100;
-
 /// A count of what happened at a hub, and of the threads that sleep until more happens.
 ///
 /// At most one thread is the scout: it was woken, or is being woken, and has found nothing yet.
@@ -24,6 +21,9 @@ const NAP: u64 = 100;
 ///   there is a scout, and only then counts its wake as a ring, and wakes. A sleeper that it saw
 ///   either sleeps by then, so that the wake reaches one, or finds another count of rings. So
 ///   there is no scout that nobody is.
+/// - A scout that stays one naps for some milliseconds at most, and then looks again. It leaves a
+///   revision that is ready to the threads that run only while they make others ready all the time.
+///   Once they do not, it takes from the hub after its next nap or the one after that.
 /// - Two threads can be the scout where one returned from its sleep for no reason. The first that
 ///   finds something then says that there is none, and somebody is woken too early.
 #[derive(Drop)]
@@ -105,8 +105,8 @@ impl Bell {
         self.scouted.store(true, Ordering::SeqCst);
     }
 
-    /// A scout sleeps for a while, unless all is over.
-    pub fn nap<W: Wait>(&self, rt: &W) {
-        self.over.park_timeout(rt, 0, Duration::from_micros(NAP));
+    /// A scout sleeps for so many microseconds, unless all is over.
+    pub fn nap<W: Wait>(&self, rt: &W, micros: u64) {
+        self.over.park_timeout(rt, 0, Duration::from_micros(micros));
     }
 }

@@ -5,6 +5,7 @@ mod bell;
 mod gate;
 mod legs;
 mod running;
+mod scout;
 mod threads;
 mod vectors;
 mod worker;

@@ -9,17 +9,28 @@ use Rattle.hub_algebra.specs.Hub.{Meets}
 use Rattle.hub_algebra.specs.HubMachine.{HubMachine, numbered, values}
 use Rattle.turn_hub.specs.declared.value.Turn.{Turn}
 use Rattle.turn_hub.specs.declared.view.View.{View}
+use Rattle.turn_hub.specs.declared.answers.Onward.{Onward}
+use Rattle.turn_hub.specs.declared.answers.Onward.TheVariants as onward
 use Rattle.turn_hub.specs.declared.answers.JoinAnswer.{JoinAnswer}
 use Rattle.turn_hub.specs.declared.answers.JoinAnswer.TheVariants as join
 use Rattle.turn_hub.proofs.Turns.{Next, group_at, drawn, drawn_again, forked, joined, meeting, keeps_draw, keeps_commit, keeps_in, keeps_end}
 use Rattle.turn_hub.specs.declared.state.HubState.TheVariants.{All, Twice}
 use Rattle.turn_hub.specs.declared.view.Said.{Said}
 use Rattle.turn_hub.specs.declared.view.Said.TheVariants as mark
-use Rattle.turn_hub.specs.Views.{ended_said, ready_said, all_said, halt_by, or_no_memory, commits, hands_in, draws, stops, rests}
-use Rattle.turn_hub.specs.Seats.{HasState, HasFork, HasJoin, ForkedAs, KeepsAll}
+use Rattle.turn_hub.specs.Views.{ended_said, ready_said, all_said, halt_by, or_no_memory, commits, hands_in, ends_in, draws, stops, rests}
+use Rattle.turn_hub.specs.Passes.{IsPass}
+use Rattle.turn_hub.specs.Seats.{HasState, HasFork, HasJoin, ForkedAs, KeepsAll, KeepsOthers, IsSameSeat}
 use Rattle.turn_hub.specs.Found.{ended_here, is_ready}
-use Rattle.turn_hub.specs.Rule.{all_over, done, said_of, says, Told}
+use Rattle.turn_hub.specs.Rule.{all_over, done, said_of, says, InHand, Told}
+use Rattle.turn_hub.specs.Answers.{IsSameTurn, OnwardSays, IsNoneReady, WaitedOn, EndedOn, HasCome}
 use Rattle.turn_hub.specs.Answers.{IsHalted, Ran, Retried, IsIdleNow, IsFinished, WasHalted, Forked, TookIn, HasMet, Waited, MetTwice, JoinSays, TakesIn, EndedSays}
+
+module _ {L : Type 0} where
+  pub draws_turn : (w x : View L) (n : ℕ) → x ≡ rests (draws n w) → IsSameTurn w x
+  draws_turn w x n is = subst (IsSameTurn w) (sym is) record { said = refl; entered = refl; found = refl; log = refl; saw = refl; halt = refl }
+
+  pub rests_turn : (w x : View L) → x ≡ rests w → IsSameTurn w x
+  rests_turn w x is = subst (IsSameTurn w) (sym is) record { said = refl; entered = refl; found = refl; log = refl; saw = refl; halt = refl }
 
 module _ {L R A E : Type 0} (d : HubMachine L R A E) (ends : E → L → Type 0) where
   pub says_some : (slots : List (Status R A E)) (k : ℕ) (s : Status R A E) → at_number slots k ≡ Some s → at_number (says d ends slots) k ≡ Some (said_of d ends s)
@@ -68,10 +79,6 @@ module _ {L R A E : Type 0} (d : HubMachine L R A E) (ends : E → L → Type 0)
   says_all (Over e ∷ slots) = all_by (d.trapped e) (says d ends slots) ∙ says_all slots
   says_all (Gone ∷ slots) = says_all slots
 
-  pub where_idle : (said : List Said) (slots : List (Status R A E)) → said ≡ says d ends slots → all_over slots ≡ false → ((k : ℕ) → is_ready d slots (at_number slots k) ≡ false)
-      → (all_said said ≡ false) × ((k : ℕ) → ready_said said (at_number said k) ≡ false)
-  where_idle said slots e over h = (ap all_said e ∙ says_all slots ∙ over, λ k. ap (λ z. ready_said z (at_number z k)) e ∙ says_ready slots k ∙ h k)
-
   pub where_retry : (said : List Said) (slots : List (Status R A E)) (n : ℕ) (a : A) → said ≡ says d ends slots → at_number slots n ≡ Some (Waiting a) → is_ready d slots (at_number slots n) ≡ true
       → (at_number said n ≡ Some (mark.Waits (d.on a))) × (ended_said (at_number said (d.on a)) ≡ true)
   where_retry said slots n a e is ready = (ap (λ z. at_number z n) e ∙ says_some slots n (Waiting a) is, ap (λ z. ended_said (at_number z (d.on a))) e ∙ says_ended slots (d.on a) ∙ (sym (ap (is_ready d slots) is) ∙ ready))
@@ -96,45 +103,92 @@ module _ {L R A E : Type 0} (d : HubMachine L R A E) (ends : E → L → Type 0)
   abbrev Value : Type 0
   Value = Turn R A E
 
+  says_put : (slots : List (Status R A E)) (k : ℕ) (x : Status R A E) → says d ends (put_number slots k x) ≡ put_number (says d ends slots) k (said_of d ends x)
+  says_put [] k x = refl
+  says_put (y ∷ slots) zero x = refl
+  says_put (y ∷ slots) (suc k) x = ap (λ z. said_of d ends y ∷ z) (says_put slots k x)
+
+  keeps_over : (v w x : V) (k : ℕ) → IsSameSeat v w → w.passes ≡ v.passes → KeepsOthers w x k → KeepsOthers v x k
+  keeps_over v w x k seat p h = ((h.0.0 ∙ seat.0, h.0.1 ∙ seat.1, h.0.2 ∙ seat.2), λ j at ne q. h.1 j at ne (subst (λ l. IsPass l j at) (sym p) q))
+
   keeps_all : (v w : V) (t : Value) → Told d ends v w t → KeepsAll v (rests w)
   keeps_all v w t told = ((told.start, told.group, told.parts), told.passes)
 
-  pub ran : (v w x : V) (t t' : Value) (n : ℕ) (r : R) → Told d ends v w t → t.state ≡ All → at_number t.revisions.slots.items n ≡ Some (Ready r)
-      → Next d ends t' t.schedule.items (put_number t.revisions.slots.items n Out) t.revisions.forkers.items All → x ≡ rests (draws n w) → Ran d ends v x n r
-  ran v w x t t' n r told none e next is = subst (λ y. Ran d ends v y n r) (sym is) record {
-    free = told.entered ∙ none;
-    keeps = keeps_draw d ends v w t n told;
-    was = where_run w.said t.revisions.slots.items n (Ready r) told.said e;
-    state = (drawn d ends w t t' n r told.hand none e next).1;
-    group = group_at d ends w.group t.revisions.slots.items n (Ready r) told.hand.holds.grouped e;
+  -- what is handed out in the turn that the seat has
+  pub ran : (w x : V) (t t' : Value) (n : ℕ) (r : R) → InHand d ends w t → w.entered ≡ All → t.state ≡ All → at_number t.revisions.slots.items n ≡ Some (Ready r)
+      → Next d ends t' t.schedule.items (put_number t.revisions.slots.items n Out) t.revisions.forkers.items All → x ≡ rests (draws n w) → Ran d ends (says d ends t.revisions.slots.items) w x n r
+  ran w x t t' n r hand free none e next is = subst (λ y. Ran d ends (says d ends t.revisions.slots.items) w y n r) (sym is) record {
+    free = free;
+    keeps = keeps_draw d ends w n;
+    was = says_some t.revisions.slots.items n (Ready r) e;
+    state = (drawn d ends w t t' n r hand none e next).1;
+    group = group_at d ends w.group t.revisions.slots.items n (Ready r) hand.holds.grouped e;
   }
 
-  pub retried : (v w x : V) (t t' : Value) (n : ℕ) (a : A) → Told d ends v w t → t.state ≡ All → at_number t.revisions.slots.items n ≡ Some (Waiting a) → is_ready d t.revisions.slots.items (at_number t.revisions.slots.items n) ≡ true
-      → Next d ends t' t.schedule.items (put_number t.revisions.slots.items n Out) t.revisions.forkers.items All → x ≡ rests (draws n w) → Retried d ends v x n a
-  retried v w x t t' n a told none e ready next is = let f = where_retry w.said t.revisions.slots.items n a told.said e ready in subst (λ y. Retried d ends v y n a) (sym is) record {
-    free = told.entered ∙ none;
-    keeps = keeps_draw d ends v w t n told;
+  pub retried : (w x : V) (t t' : Value) (n : ℕ) (a : A) → InHand d ends w t → w.entered ≡ All → t.state ≡ All → at_number t.revisions.slots.items n ≡ Some (Waiting a) → is_ready d t.revisions.slots.items (at_number t.revisions.slots.items n) ≡ true
+      → Next d ends t' t.schedule.items (put_number t.revisions.slots.items n Out) t.revisions.forkers.items All → x ≡ rests (draws n w) → Retried d ends (says d ends t.revisions.slots.items) w x n a
+  retried w x t t' n a hand free none e ready next is = let f = where_retry (says d ends t.revisions.slots.items) t.revisions.slots.items n a refl e ready in subst (λ y. Retried d ends (says d ends t.revisions.slots.items) w y n a) (sym is) record {
+    free = free;
+    keeps = keeps_draw d ends w n;
     was = f.0;
     ended = f.1;
-    event = (drawn_again d ends w t t' n a told.hand none e next).1;
-    group = group_at d ends w.group t.revisions.slots.items n (Waiting a) told.hand.holds.grouped e;
+    event = (drawn_again d ends w t t' n a hand none e next).1;
+    group = group_at d ends w.group t.revisions.slots.items n (Waiting a) hand.holds.grouped e;
   }
 
-  pub idle_now : (v w x : V) (t : Value) → Told d ends v w t → t.state ≡ All → all_over t.revisions.slots.items ≡ false
-      → ((k : ℕ) → is_ready d t.revisions.slots.items (at_number t.revisions.slots.items k) ≡ false) → x ≡ rests w → IsIdleNow d ends v x
-  idle_now v w x t told none over f is = let g = where_idle w.said t.revisions.slots.items told.said over f in subst (IsIdleNow d ends v) (sym is) record {
-    free = told.entered ∙ none;
-    keeps = keeps_all v w t told;
-    unfinished = g.0;
-    none_ready = g.1;
+  pub none_now : (w x : V) (t : Value) → w.entered ≡ All → ((k : ℕ) → is_ready d t.revisions.slots.items (at_number t.revisions.slots.items k) ≡ false) → x ≡ rests w → IsNoneReady d ends (says d ends t.revisions.slots.items) w x
+  none_now w x t free f is = subst (IsNoneReady d ends (says d ends t.revisions.slots.items) w) (sym is) record {
+    free = free;
+    keeps = ((refl, refl, refl), refl);
+    none_ready = λ k. says_ready t.revisions.slots.items k ∙ f k;
   }
 
-  pub finished : (v w x : V) (t : Value) → Told d ends v w t → t.state ≡ All → all_over t.revisions.slots.items ≡ true → x ≡ rests w → IsFinished d ends v x
-  finished v w x t told none over is = subst (IsFinished d ends v) (sym is) record {
-    free = told.entered ∙ none;
-    keeps = keeps_all v w t told;
-    finished = ap all_said told.said ∙ (says_all t.revisions.slots.items ∙ over);
-    saw = told.over (ap (λ h. done h t.revisions.slots.items) none ∙ over);
+  -- the same of a view before this one that has the same passes, and of the same words of the revisions
+  pub onward_over : (said said' : List Said) (v w x : V) (n : Onward R A) → said ≡ said' → IsSameSeat v w → w.passes ≡ v.passes → OnwardSays d ends said w x n → OnwardSays d ends said' v x n
+  onward_over said said' v w x (onward.Run n r) e seat p h = record {
+    free = h.free;
+    keeps = keeps_over v w x n seat p h.keeps;
+    was = ap (λ z. at_number z n) (sym e) ∙ h.was;
+    state = h.state;
+    group = h.group;
+  }
+  onward_over said said' v w x (onward.Retry n a) e seat p h = record {
+    free = h.free;
+    keeps = keeps_over v w x n seat p h.keeps;
+    was = ap (λ z. at_number z n) (sym e) ∙ h.was;
+    ended = ap (λ z. ended_said (at_number z (d.on a))) (sym e) ∙ h.ended;
+    event = h.event;
+    group = h.group;
+  }
+  onward_over said said' v w x onward.Nothing e seat p h = record {
+    free = h.free;
+    keeps = ((h.keeps.0.0 ∙ seat.0, h.keeps.0.1 ∙ seat.1, h.keeps.0.2 ∙ seat.2), h.keeps.1 ∙ p);
+    none_ready = λ k. ap (λ z. ready_said z (at_number z k)) (sym e) ∙ h.none_ready k;
+  }
+
+  after : (v w x : V) (t : Value) (n : Onward R A) → Told d ends v w t → IsSameTurn w x → OnwardSays d ends (says d ends t.revisions.slots.items) w x n → OnwardSays d ends x.said v x n
+  after v w x t n told same h = onward_over (says d ends t.revisions.slots.items) x.said v w x n (sym (same.said ∙ told.said)) (told.start, told.group, told.parts) told.passes h
+
+  pub ran_after : (v w x : V) (t : Value) (n : ℕ) (r : R) → Told d ends v w t → IsSameTurn w x → Ran d ends (says d ends t.revisions.slots.items) w x n r → Ran d ends x.said v x n r
+  ran_after v w x t n r told same h = after v w x t (onward.Run n r) told same h
+
+  pub retried_after : (v w x : V) (t : Value) (n : ℕ) (a : A) → Told d ends v w t → IsSameTurn w x → Retried d ends (says d ends t.revisions.slots.items) w x n a → Retried d ends x.said v x n a
+  retried_after v w x t n a told same h = after v w x t (onward.Retry n a) told same h
+
+  pub idle_now : (v w x : V) (t : Value) → Told d ends v w t → all_over t.revisions.slots.items ≡ false → IsSameTurn w x → IsNoneReady d ends (says d ends t.revisions.slots.items) w x → IsIdleNow d ends v x
+  idle_now v w x t told over same h = let g = after v w x t onward.Nothing told same h in record {
+    free = g.free;
+    keeps = g.keeps;
+    unfinished = ap all_said (same.said ∙ told.said) ∙ (says_all t.revisions.slots.items ∙ over);
+    none_ready = g.none_ready;
+  }
+
+  pub finished : (v w x : V) (t : Value) → Told d ends v w t → t.state ≡ All → all_over t.revisions.slots.items ≡ true → IsSameTurn w x → IsNoneReady d ends (says d ends t.revisions.slots.items) w x → IsFinished d ends v x
+  finished v w x t told none over same h = let g = after v w x t onward.Nothing told same h in record {
+    free = g.free;
+    keeps = g.keeps;
+    finished = ap all_said (same.said ∙ told.said) ∙ (says_all t.revisions.slots.items ∙ over);
+    saw = same.saw ∙ told.over (ap (λ h. done h t.revisions.slots.items) none ∙ over);
   }
 
   pub was_halted : (v w x : V) (t : Value) (twice : Bool) → Told d ends v w t → t.state ≡ halt_by twice → x ≡ rests w → WasHalted d ends v x twice
@@ -206,6 +260,45 @@ module _ {L R A E : Type 0} (d : HubMachine L R A E) (ends : E → L → Type 0)
     entry = sym told.found;
   }
 
+  pub ended_says : (v w x : V) (t : Value) (k : ℕ) (b : Bool) → Told d ends v w t → t.state ≡ All → x ≡ rests (ends_in b k w) → EndedSays d ends v x k b
+  ended_says v w x t k true told none is = ended_trap v w x t k told none is
+  ended_says v w x t k false told none is = ended_leg v w x t k told none is
+
+  -- the end of a revision leaves what the seat found
+  ends_said : (b : Bool) (k : ℕ) (w : V) → (ends_in b k w).said ≡ w.said
+  ends_said true k w = refl
+  ends_said false k w = refl
+
+  ends_entered : (b : Bool) (k : ℕ) (w : V) → (ends_in b k w).entered ≡ w.entered
+  ends_entered true k w = refl
+  ends_entered false k w = refl
+
+  pub ended_free : (v w u : V) (t : Value) (k : ℕ) (b : Bool) → Told d ends v w t → t.state ≡ All → u ≡ ends_in b k w → u.entered ≡ All
+  ended_free v w u t k b told none is = ap (λ y. y.entered) is ∙ (ends_entered b k w ∙ (told.entered ∙ none))
+
+  -- two calls in one turn
+  in_turn : (y u x : V) (t : Value) (slots : List (Status R A E)) (k : ℕ) (s : Status R A E) (n : Onward R A) → u ≡ y → y.said ≡ says d ends t.revisions.slots.items → slots ≡ put_number t.revisions.slots.items k s → IsSameTurn u x
+      → OnwardSays d ends (says d ends slots) u x n → IsSameTurn (rests y) x × OnwardSays d ends (put_number x.said k (said_of d ends s)) (rests y) x n
+  in_turn y u x t slots k s n is said put same h =
+      let turn : IsSameTurn y x = subst (λ z. IsSameTurn z x) is same in
+      let found : x.said ≡ says d ends t.revisions.slots.items = turn.said ∙ said in (
+        record { said = turn.said; entered = turn.entered; found = turn.found; log = turn.log; saw = turn.saw; halt = turn.halt },
+        onward_over (says d ends slots) (put_number x.said k (said_of d ends s)) (rests y) y x n
+            (ap (says d ends) put ∙ (says_put t.revisions.slots.items k s ∙ ap (λ z. put_number z k (said_of d ends s)) (sym found))) (refl, refl, refl) refl (subst (λ z. OnwardSays d ends (says d ends slots) z x n) is h),
+      )
+
+  pub ended_on : (v w u x : V) (t t' : Value) (k : ℕ) (e : E) (b : Bool) (n : Onward R A) → Told d ends v w t → t.state ≡ All → u ≡ ends_in b k w → t'.revisions.slots.items ≡ put_number t.revisions.slots.items k (Over e)
+      → IsSameTurn u x → OnwardSays d ends (says d ends t'.revisions.slots.items) u x n → EndedOn d ends v x k e b n
+  ended_on v w u x t t' k e b n told none is put same h =
+      let f = in_turn (ends_in b k w) u x t t'.revisions.slots.items k (Over e) n is (ends_said b k w ∙ told.said) put same h in
+      record { between = rests (ends_in b k w); ended = ended_says v w (rests (ends_in b k w)) t k b told none refl; same = f.0; onward = f.1 }
+
+  pub waited_on : (v w u x : V) (t t' : Value) (k : ℕ) (a : A) (n : Onward R A) → Told d ends v w t → t.state ≡ All → ended_here (at_number t.revisions.slots.items (d.on a)) ≡ false → u ≡ hands_in k w
+      → t'.revisions.slots.items ≡ put_number t.revisions.slots.items k (Waiting a) → IsSameTurn u x → OnwardSays d ends (says d ends t'.revisions.slots.items) u x n → WaitedOn d ends v x k a n
+  waited_on v w u x t t' k a n told none not_ended is put same h =
+      let f = in_turn (hands_in k w) u x t t'.revisions.slots.items k (Waiting a) n is told.said put same h in
+      record { between = rests (hands_in k w); waited = waited v w (rests (hands_in k w)) t k a told none not_ended refl; same = f.0; onward = f.1 }
+
   pub has_met : (v w x : V) (t : Value) (k : ℕ) (a : A) (e : E) → Told d ends v w t → t.state ≡ All → HasJoin d ends v k a → at_number t.revisions.slots.items (d.on a) ≡ Some (Over e)
       → x ≡ rests (commits k w) → HasMet d ends x k a e
   has_met v w x t k a e told none event over is = subst (λ y. HasMet d ends y k a e) (sym is)
@@ -220,3 +313,11 @@ module _ {L R A E : Type 0} (d : HubMachine L R A E) (ends : E → L → Type 0)
     takes_says v x slots k a e (join.Trapped c) h s met g m is = (where_run x.said slots (d.on a) (Over e) m is ∙ ap (λ b. Some (cond b mark.Trapped mark.Done)) h.1, h.2, h.3 ∙ g, (e, h.0, h.1, met, s))
     takes_says v x slots k a e (join.Dropped b) h s met g m is = (h.0, where_run x.said slots (d.on a) (Over e) m is ∙ ap (λ c. Some (cond c mark.Trapped mark.Done)) h.1, h.2, (e, h.1, met, s))
     takes_says v x slots k a e (join.OutOfMemory b) h s met g m is = absurd h
+
+    pub come_says : (a : A) (e : E) (r : JoinAnswer A C S) → TakesIn d ends claimed stopped group halted a e r → HasCome d ends claimed stopped group halted r
+    come_says a e (join.Claimed c) h = tt
+    come_says a e join.Waits h = h
+    come_says a e (join.Twice b) h = tt
+    come_says a e (join.Trapped c) h = tt
+    come_says a e (join.Dropped b) h = tt
+    come_says a e (join.OutOfMemory b) h = tt

@@ -1,5 +1,5 @@
 -- What the seat that has the turn does to the value and says in its view.
-use Rattle.std.proofs.Common.{◌≡◌, inl, inr, ℕ, zero, suc, ◌<◌, true, false, List, [], ◌∷◌, ◌++◌, length, sym, refl, ap, ◌∙◌, subst, arith, Option, Some, None}
+use Rattle.std.proofs.Common.{◌≡◌, inl, inr, ℕ, zero, suc, ◌<◌, Bool, true, false, MatchBool, List, [], ◌∷◌, ◌++◌, length, sym, refl, ap, ◌∙◌, subst, arith, Option, Some, None}
 use mathlib.Core.Logic.{dite}
 use native.Mathlib.Decide.{ℕ_discrete}
 use Rattle.revision_machine.specs.Numbered.{at_number, put_number}
@@ -343,8 +343,8 @@ module _ {L R A E : Type 0} (d : HubMachine L R A E) (ends : E → L → Type 0)
   kept_pass : (v w : View L) (t : Value) (j : ℕ) (at : List ℕ) → Told d ends v w t → IsPass v.passes j at → IsPass w.passes j at
   kept_pass v w t j at told p = subst (λ l. IsPass l j at) (sym told.passes) p
 
-  pub keeps_draw : (v w : View L) (t : Value) (n : ℕ) → Told d ends v w t → KeepsOthers v (rests (draws n w)) n
-  keeps_draw v w t n told = ((told.start, told.group, told.parts), λ j at ne p. inr (kept_pass v w t j at told p))
+  pub keeps_draw : (w : View L) (n : ℕ) → KeepsOthers w (rests (draws n w)) n
+  keeps_draw w n = ((refl, refl, refl), λ j at ne p. inr p)
 
   pub keeps_commit : (v w : View L) (t : Value) (k : ℕ) → Told d ends v w t → KeepsOthers v (rests (commits k w)) k
   keeps_commit v w t k told = ((told.start, told.group, told.parts), λ j at ne p. inr (pass_left k w.passes j at (kept_pass v w t j at told p) ne))
@@ -361,6 +361,13 @@ module _ {L R A E : Type 0} (d : HubMachine L R A E) (ends : E → L → Type 0)
 
   pub still_out : (v w : View L) (t : Value) (k : ℕ) (at : List ℕ) → Told d ends v w t → IsPass v.passes k at → at_number t.revisions.slots.items k ≡ Some Out
   still_out v w t k at told pass = its_out v w t k at told pass
+
+  -- what is handed in at the end of a revision
+  pub trap_by : (v : View L) (k : ℕ) (e : E) (b : Bool) → b ≡ true → MatchBool b (HasTrap d ends v k e) (HasEnd d ends v k e) → HasTrap d ends v k e
+  trap_by v k e b by event = subst (λ c. MatchBool c (HasTrap d ends v k e) (HasEnd d ends v k e)) by event
+
+  pub leg_by : (v : View L) (k : ℕ) (e : E) (b : Bool) → b ≡ false → MatchBool b (HasTrap d ends v k e) (HasEnd d ends v k e) → HasEnd d ends v k e
+  leg_by v k e b by event = subst (λ c. MatchBool c (HasTrap d ends v k e) (HasEnd d ends v k e)) by event
 
 pub ended_within : {R A E : Type 0} → (slots : List (Status R A E)) (n : ℕ) → ended_here (at_number slots n) ≡ true → n < length slots
 ended_within [] n e = no_more e

@@ -1,23 +1,31 @@
 -- What the answers of a hub tell, of the seat's view before a call and after it.
 --   TakenSays    of `take`: what is handed out, and where each answer comes
+--   OnwardSays   of what a call that hands something in hands out in the same turn
 --   Forked       of `fork`: the forker's and the child's state, and the entry
 --   HasMet       the joiner and the end that it takes in, in the world of the schedule so far
 --   JoinSays     of `join`
 --   EndedSays    of `end`
+--   JoinedOn     of `join_or_take`: what `join` tells, and then what is handed out
+--   EndedOn      of `end_and_take`: what `end` tells, and then what is handed out
 --   IsHalted     a halt was entered, before the call or by it
-use Rattle.std.specs.Prelude.{◌≡◌, ℕ, Bool, true, false, Some, List, length, MatchBool}
-use Rattle.revision_machine.specs.Numbered.{at_number}
+use Rattle.std.specs.Prelude.{◌≡◌, ℕ, Bool, true, false, Some, List, length, cond, MatchBool}
+use Rattle.revision_machine.specs.Numbered.{at_number, put_number}
 use Rattle.hub_algebra.specs.Hub.{Meets}
 use Rattle.hub_algebra.specs.HubMachine.{HubMachine, numbered, values}
 use Rattle.turn_hub.specs.declared.state.HubState.TheVariants.{All, Twice}
 use Rattle.turn_hub.specs.declared.view.View.{View}
+use Rattle.turn_hub.specs.declared.view.Said.{Said}
 use Rattle.turn_hub.specs.declared.view.Said.TheVariants as mark
 use Rattle.turn_hub.specs.declared.answers.Taken.{Taken}
 use Rattle.turn_hub.specs.declared.answers.Taken.TheVariants as taken
+use Rattle.turn_hub.specs.declared.answers.Onward.{Onward}
+use Rattle.turn_hub.specs.declared.answers.Onward.TheVariants as onward
 use Rattle.turn_hub.specs.declared.answers.JoinAnswer.{JoinAnswer}
 use Rattle.turn_hub.specs.declared.answers.JoinAnswer.TheVariants as join
+use Rattle.turn_hub.specs.declared.answers.JoinStep.{JoinStep}
+use Rattle.turn_hub.specs.declared.answers.JoinStep.TheVariants as step
 use Rattle.turn_hub.specs.Views.{ended_said, ready_said, all_said, halt_by, or_no_memory}
-use Rattle.turn_hub.specs.Seats.{HasState, HasFork, HasJoin, ForkedAs, KeepsAll, KeepsOthers, AddsEntry, AddsNone}
+use Rattle.turn_hub.specs.Seats.{HasState, HasFork, HasJoin, ForkedAs, KeepsAll, KeepsOthers, AddsEntry, AddsNone, IsSameSeat}
 
 module _ {L : Type 0} where
   -- nothing was entered before this turn
@@ -31,23 +39,44 @@ module _ {L : Type 0} where
     pub halt : w.halt ≡ or_no_memory w.entered
     pub entry : AddsNone w
 
-module _ {L R A E : Type 0} (d : HubMachine L R A E) (ends : E → L → Type 0) where
-  -- no seat had the revision n; this one has its pass, with the state of the runner
-  pub record Ran (v w : View L) (n : ℕ) (r : R) : Type 0 where
-    pub free : IsFree w
-    pub keeps : KeepsOthers v w n
-    pub was : at_number w.said n ≡ Some mark.Ready
-    pub state : HasState d ends w n (d.runs r)
-    pub group : d.runner_group r ≡ w.group
+  -- in one turn, two views of the seat that has it: what it found, what it knows of halts, and the schedule
+  pub record IsSameTurn (v w : View L) : Type 0 where
+    pub said : w.said ≡ v.said
+    pub entered : w.entered ≡ v.entered
+    pub found : w.found ≡ v.found
+    pub log : w.log ≡ v.log
+    pub saw : w.saw ≡ v.saw
+    pub halt : w.halt ≡ v.halt
 
-  -- the revision n waited for a joinee, which has ended
-  pub record Retried (v w : View L) (n : ℕ) (a : A) : Type 0 where
-    pub free : IsFree w
-    pub keeps : KeepsOthers v w n
-    pub was : at_number w.said n ≡ Some (mark.Waits (d.on a))
-    pub ended : ended_said (at_number w.said (d.on a)) ≡ true
-    pub event : HasJoin d ends w n a
-    pub group : d.joiner_group a ≡ w.group
+module _ {L R A E : Type 0} (d : HubMachine L R A E) (ends : E → L → Type 0) where
+  -- what is handed out of revisions of which this is said
+  module _ (said : List Said) where
+    -- no seat had the revision n; this one has its pass, with the state of the runner
+    pub record Ran (v w : View L) (n : ℕ) (r : R) : Type 0 where
+      pub free : IsFree w
+      pub keeps : KeepsOthers v w n
+      pub was : at_number said n ≡ Some mark.Ready
+      pub state : HasState d ends w n (d.runs r)
+      pub group : d.runner_group r ≡ w.group
+
+    -- the revision n waited for a joinee, which has ended
+    pub record Retried (v w : View L) (n : ℕ) (a : A) : Type 0 where
+      pub free : IsFree w
+      pub keeps : KeepsOthers v w n
+      pub was : at_number said n ≡ Some (mark.Waits (d.on a))
+      pub ended : ended_said (at_number said (d.on a)) ≡ true
+      pub event : HasJoin d ends w n a
+      pub group : d.joiner_group a ≡ w.group
+
+    pub record IsNoneReady (v w : View L) : Type 0 where
+      pub free : IsFree w
+      pub keeps : KeepsAll v w
+      pub none_ready : (k : ℕ) → ready_said said (at_number said k) ≡ false
+
+    abbrev pub OnwardSays : View L → View L → Onward R A → Type 0
+    OnwardSays v w (onward.Run n r) = Ran v w n r
+    OnwardSays v w (onward.Retry n a) = Retried v w n a
+    OnwardSays v w onward.Nothing = IsNoneReady v w
 
   pub record IsIdleNow (v w : View L) : Type 0 where
     pub free : IsFree w
@@ -68,8 +97,8 @@ module _ {L R A E : Type 0} (d : HubMachine L R A E) (ends : E → L → Type 0)
     pub halt : w.halt ≡ halt_by twice
 
   abbrev pub TakenSays : View L → View L → Taken R A → Type 0
-  TakenSays v w (taken.Run n r) = Ran v w n r
-  TakenSays v w (taken.Retry n a) = Retried v w n a
+  TakenSays v w (taken.Run n r) = Ran w.said v w n r
+  TakenSays v w (taken.Retry n a) = Retried w.said v w n a
   TakenSays v w taken.Idle = IsIdleNow v w
   TakenSays v w taken.Finished = IsFinished v w
   TakenSays v w (taken.Halted twice) = WasHalted v w twice
@@ -95,6 +124,13 @@ module _ {L R A E : Type 0} (d : HubMachine L R A E) (ends : E → L → Type 0)
     pub keeps : KeepsOthers v w k
     pub entry : AddsNone w
     pub unfinished : ended_said (at_number w.said (d.on a)) ≡ false
+
+  -- it waits, and in the same turn the seat takes what is ready
+  pub record WaitedOn (v w : View L) (k : ℕ) (a : A) (next : Onward R A) : Type 0 where
+    pub between : View L
+    pub waited : Waited v between k a
+    pub same : IsSameTurn between w
+    pub onward : OnwardSays (put_number w.said k (mark.Waits (d.on a))) between w next
 
   -- the last entry
   pub record MetTwice (v w : View L) (k : ℕ) (a : A) : Type 0 where
@@ -127,6 +163,19 @@ module _ {L R A E : Type 0} (d : HubMachine L R A E) (ends : E → L → Type 0)
         × ((e : E) × (d.trapped e ≡ true) × HasMet w k a e × TookIn v w k (d.joined a e))
     JoinSays v w k a (join.OutOfMemory b) = (b ≡ a) × IsHalted v w
 
+    -- the joiner does not wait
+    abbrev pub HasCome : JoinAnswer A C S → Type 0
+    HasCome (join.Claimed c) = Unit {0}
+    HasCome join.Waits = ⊥
+    HasCome (join.Twice b) = Unit {0}
+    HasCome (join.Trapped s) = Unit {0}
+    HasCome (join.Dropped b) = Unit {0}
+    HasCome (join.OutOfMemory b) = Unit {0}
+
+    abbrev pub JoinedOn : View L → View L → ℕ → A → JoinStep R A C S → Type 0
+    JoinedOn v w k a (step.Came r) = HasCome r × JoinSays v w k a r
+    JoinedOn v w k a (step.Waits next) = WaitedOn v w k a next
+
     -- how an end is taken in
     abbrev pub TakesIn : A → E → JoinAnswer A C S → Type 0
     TakesIn a e (join.Claimed c) =
@@ -143,3 +192,10 @@ module _ {L R A E : Type 0} (d : HubMachine L R A E) (ends : E → L → Type 0)
     pub free : IsFree w
     pub keeps : KeepsOthers v w k
     pub entry : MatchBool by_join (AddsNone w) (AddsEntry w k)
+
+  -- and in the same turn the seat takes what is ready
+  pub record EndedOn (v w : View L) (k : ℕ) (e : E) (by_join : Bool) (next : Onward R A) : Type 0 where
+    pub between : View L
+    pub ended : EndedSays v between k by_join
+    pub same : IsSameTurn between w
+    pub onward : OnwardSays (put_number w.said k (cond (d.trapped e) mark.Trapped mark.Done)) between w next

@@ -1,5 +1,5 @@
 -- What a seat has: the passes of revisions, whose states are those of the hub's replay.
---   IsIdle                              it has not the turn
+--   IsIdle, IsResting                   it has not the turn, or no more
 --   AreOf, AreNew                       seats of one hub, and as its opening makes them
 --   HasState v k l                      it has the pass of the revision k, whose state is l
 --   HasFork, HasJoin, HasEnd, HasTrap   what is handed in is the event of that revision's leg
@@ -18,6 +18,10 @@ use Rattle.turn_hub.specs.Passes.{IsPass}
 module _ {S L : Type 0} where
   abbrev pub IsIdle : Me S (View L) → Type 0
   IsIdle me = (me.0.has ≡ 0) × (me.1 ≡ []) × (0 < me.0.parts)
+
+  -- it had the turn and has it no more
+  abbrev pub IsResting : Me S (View L) → Me S (View L) → Type 0
+  IsResting me me' = (me'.0.has ≡ 0) × (me'.1 ≡ []) × (me'.0.parts ≡ me.0.parts)
 
 module _ {S L : Type 0} where
   -- seats of this hub

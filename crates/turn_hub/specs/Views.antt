@@ -1,6 +1,6 @@
 -- What a seat knows, and how its steps change that.
 --   ended_said, ready_said, all_said   of what it found of the revisions
---   commits, hands_in, draws, stops    what the seat with the turn does
+--   commits, hands_in, ends_in, draws, stops   what the seat with the turn does
 --   rests                              it gives the turn back
 --   most, part, witness, both          seats are cut in two and joined
 use Rattle.std.specs.Prelude.{ℕ, ◌+◌, ◌-◌, Bool, true, false, List, [], ◌∷◌, ◌++◌, cond, ◌==◌, Option, Some, None}
@@ -120,6 +120,11 @@ module _ {L : Type 0} where
   hands_in k v =
       view v.parts v.start v.group v.has v.log (without k v.out) (left k v.passes)
       v.saw v.halt v.said v.entered v.found
+
+  -- the end of a revision: one entry, and none where its join trapped it
+  abbrev pub ends_in : Bool → ℕ → View L → View L
+  ends_in true k v = hands_in k v
+  ends_in false k v = hands_in k (commits k v)
 
   abbrev pub draws : ℕ → View L → View L
   draws k v =

@@ -15,6 +15,17 @@ pub enum Taken<R, A> {
     Halted { twice: bool },
 }
 
+/// What a seat is given in the turn in which it has handed something in.
+#[derive(Drop)]
+pub enum Onward<R, A> {
+    /// A revision before its leg.
+    Run { number: u32, runner: R },
+    /// A joiner whose joinee has ended.
+    Retry { number: u32, at: A },
+    /// Nothing is ready.
+    Nothing,
+}
+
 /// How a join came out.
 #[derive(Drop)]
 pub enum JoinAnswer<A, C, S> {
@@ -30,6 +41,15 @@ pub enum JoinAnswer<A, C, S> {
     Dropped(A),
     /// Want of memory, or a halt that was entered before.
     OutOfMemory(A),
+}
+
+/// How a join came out, and what the seat goes on with where the joiner waits.
+#[derive(Drop)]
+pub enum JoinStep<R, A, C, S> {
+    /// The joiner does not wait.
+    Came(JoinAnswer<A, C, S>),
+    /// The joinee has not ended, and the hub keeps the joiner.
+    Waits(Onward<R, A>),
 }
 
 /// What a halt left of a revision.

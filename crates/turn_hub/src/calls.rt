@@ -1,20 +1,17 @@
 //! The calls in a turn.
 ghost use Rattle.std.specs.Prelude.{◌≡◌, ◌<◌, ℕ, [], Some, None, IfOk, IfErr, OnOk, MatchBool};
 
-use crate::answers::{JoinAnswer, Taken};
+use crate::answers::{JoinAnswer, JoinStep, Onward, Taken};
 use crate::ended::has_ended;
 use crate::hub::TurnHub;
 use crate::revision::Revision;
 use crate::seat::HubSeat;
-use crate::state::HubState;
-use crate::taking::take_in;
-use crate::vectors::empty;
-use hub_algebra::Status;
 use std::sync::Wait;
 
 impl<L: Revision> TurnHub<L> {
     ghost use Rattle.turn_hub.specs.Seats.{HasFork, HasJoin, HasEnd, HasTrap, KeepsAll};
-    ghost use Rattle.turn_hub.specs.Answers.{TakenSays, Forked, JoinSays, EndedSays, IsHalted};
+    ghost use Rattle.turn_hub.specs.Answers.{TakenSays, Forked, JoinSays, JoinedOn};
+    ghost use Rattle.turn_hub.specs.Answers.{EndedSays, EndedOn, IsHalted};
 
     /// Takes a revision that is ready, if there is one.
     /// Idle: nothing is ready, and something is unfinished. Finished: nothing is unfinished.
@@ -24,31 +21,16 @@ impl<L: Revision> TurnHub<L> {
         ensures own { seat.new.place.table_id ≡ seat.old.place.table_id }
         ensures answer { TakenSays L.machine L.ends seat.old.place.me.0 seat.new.place.me.0 result }
     {
-        let mut turn = self.enter(rt, &mut seat.place);
+        let turn = self.enter(rt, &mut seat.place);
         if let Some(twice) = turn.halted() {
             self.put_home(&mut seat.place, turn);
             return Taken::Halted { twice };
         }
-        let Some(number) = turn.revisions.queue.take() else {
-            let over = turn.revisions.queue.unfinished == 0;
-            self.put_home(&mut seat.place, turn);
-            return if over { Taken::Finished } else { Taken::Idle };
-        };
-        match turn.revisions.swap(number, Status::Out) {
-            Status::Ready(runner) => {
-                self.draw(&mut seat.place, number);
-                self.put_home(&mut seat.place, turn);
-                Taken::Run { number, runner }
-            },
-            Status::Waiting(at) => {
-                self.draw(&mut seat.place, number);
-                self.put_home(&mut seat.place, turn);
-                Taken::Retry { number, at }
-            },
-            other => {
-                empty(Some(other));
-                unreachable!()
-            },
+        let over = turn.revisions.queue.unfinished == 0;
+        match self.take_next(&mut seat.place, turn) {
+            Onward::Run { number, runner } => Taken::Run { number, runner },
+            Onward::Retry { number, at } => Taken::Retry { number, at },
+            Onward::Nothing => { if over { Taken::Finished } else { Taken::Idle } },
         }
     }
 
@@ -112,35 +94,51 @@ impl<L: Revision> TurnHub<L> {
             self.put_home_halted(&mut seat.place, turn);
             return JoinAnswer::OutOfMemory(at);
         }
-        let on = L::on(&at);
-        if !has_ended::<L>(turn.revisions.slots.as_slice(), on) {
-            return match turn.revisions.keep(of, at, on) {
-                Ok(()) => {
-                    self.hand_in(&mut seat.place, of);
-                    self.put_home(&mut seat.place, turn);
-                    JoinAnswer::Waits
-                },
-                Err(at) => {
-                    self.put_home_halted(&mut seat.place, turn);
-                    JoinAnswer::OutOfMemory(at)
-                },
-            };
+        if has_ended::<L>(turn.revisions.slots.as_slice(), L::on(&at)) {
+            return self.join_in(&mut seat.place, turn, of, at);
         }
-        if !turn.enter(of) {
-            self.put_home_halted(&mut seat.place, turn);
-            return JoinAnswer::OutOfMemory(at);
-        }
-        self.commit(&mut seat.place, of);
-        match turn.revisions.join(on) {
-            Some(end) => {
+        match self.keep_in(&mut seat.place, &mut turn, of, at) {
+            Ok(()) => {
                 self.put_home(&mut seat.place, turn);
-                take_in::<L>(at, end)
+                JoinAnswer::Waits
             },
-            None => {
-                turn.state = HubState::Twice;
-                self.stop_twice(&mut seat.place);
-                self.put_home(&mut seat.place, turn);
-                JoinAnswer::Twice(at)
+            Err(at) => {
+                self.put_home_halted(&mut seat.place, turn);
+                JoinAnswer::OutOfMemory(at)
+            },
+        }
+    }
+
+    /// The same. Where the joiner waits, the seat takes what is ready in the same turn.
+    pub fn join_or_take<W: Wait>(
+        &self,
+        rt: &W,
+        seat: &mut HubSeat<L>,
+        of: u32,
+        at: L::AtJoin,
+    ) -> JoinStep<L::Runner, L::AtJoin, L::Claimed, L::Stopped>
+        requires own { seat.old.place.table_id ≡ self.now.turn.shared.table_id }
+        requires event { HasJoin L.machine L.ends seat.old.place.me.0 of at }
+        requires group { L.machine.joiner_group at ≡ seat.old.place.me.0.group }
+        ensures own { seat.new.place.table_id ≡ seat.old.place.table_id }
+        ensures answer { JoinedOn L.machine L.ends L.claimed L.stopped
+            L.claimed_group L.stopped_group
+            seat.old.place.me.0 seat.new.place.me.0 of at result }
+    {
+        let mut turn = self.enter(rt, &mut seat.place);
+        if turn.halted().is_some() {
+            self.put_home_halted(&mut seat.place, turn);
+            return JoinStep::Came(JoinAnswer::OutOfMemory(at));
+        }
+        let ended = has_ended::<L>(turn.revisions.slots.as_slice(), L::on(&at));
+        if ended {
+            return JoinStep::Came(self.join_in(&mut seat.place, turn, of, at));
+        }
+        match self.keep_in(&mut seat.place, &mut turn, of, at) {
+            Ok(()) => JoinStep::Waits(self.take_next(&mut seat.place, turn)),
+            Err(at) => {
+                self.put_home_halted(&mut seat.place, turn);
+                JoinStep::Came(JoinAnswer::OutOfMemory(at))
             },
         }
     }
@@ -169,21 +167,48 @@ impl<L: Revision> TurnHub<L> {
             self.put_home_halted(&mut seat.place, turn);
             return Err(end);
         }
-        if L::is_by_join(&end) {
-            turn.revisions.end(of, end);
-            self.hand_in(&mut seat.place, of);
-            self.put_home(&mut seat.place, turn);
-            return Ok(());
+        match self.end_in(&mut seat.place, &mut turn, of, end) {
+            Ok(()) => {
+                self.put_home(&mut seat.place, turn);
+                Ok(())
+            },
+            Err(end) => {
+                self.put_home_halted(&mut seat.place, turn);
+                Err(end)
+            },
         }
-        if !turn.enter(of) {
+    }
+
+    /// The same, and the seat takes what is ready in the same turn.
+    pub fn end_and_take<W: Wait>(
+        &self,
+        rt: &W,
+        seat: &mut HubSeat<L>,
+        of: u32,
+        end: L::End,
+    ) -> Result<Onward<L::Runner, L::AtJoin>, L::End>
+        requires own { seat.old.place.table_id ≡ self.now.turn.shared.table_id }
+        requires event { MatchBool (L.by_join end)
+            (HasTrap L.machine L.ends seat.old.place.me.0 of end)
+            (HasEnd L.machine L.ends seat.old.place.me.0 of end) }
+        ensures own { seat.new.place.table_id ≡ seat.old.place.table_id }
+        ensures ok { IfOk result (λ n. EndedOn L.machine L.ends seat.old.place.me.0
+            seat.new.place.me.0 of end (L.by_join end) n) }
+        ensures err { IfErr result (λ e. (e ≡ end) × IsHalted seat.old.place.me.0
+            seat.new.place.me.0) }
+    {
+        let mut turn = self.enter(rt, &mut seat.place);
+        if turn.halted().is_some() {
             self.put_home_halted(&mut seat.place, turn);
             return Err(end);
         }
-        turn.revisions.end(of, end);
-        self.commit(&mut seat.place, of);
-        self.hand_in(&mut seat.place, of);
-        self.put_home(&mut seat.place, turn);
-        Ok(())
+        match self.end_in(&mut seat.place, &mut turn, of, end) {
+            Ok(()) => Ok(self.take_next(&mut seat.place, turn)),
+            Err(end) => {
+                self.put_home_halted(&mut seat.place, turn);
+                Err(end)
+            },
+        }
     }
 
     /// Enters want of memory, where nothing was entered before.

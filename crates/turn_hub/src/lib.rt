@@ -7,6 +7,7 @@ mod calls;
 mod chains;
 mod closing;
 mod ended;
+mod held;
 mod hub;
 mod opening;
 mod queueing;
@@ -21,7 +22,7 @@ mod value;
 mod vectors;
 mod view;
 
-pub use answers::{JoinAnswer, Kept, Taken};
+pub use answers::{JoinAnswer, JoinStep, Kept, Onward, Taken};
 pub use closing::{HubEnd, HubRun, HubSchedule};
 pub use hub::TurnHub;
 pub use revision::Revision;

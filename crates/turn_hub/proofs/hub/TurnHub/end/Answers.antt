@@ -1,116 +1,21 @@
-use Rattle.std.proofs.Common.{rules, ◌≡◌, refl, true, false, ◌++◌, ◌∷◌, [], sym, ap, ◌∙◌, subst, MatchBool}
-use Rattle.revision_machine.specs.Numbered.{at_number, put_number}
-use Rattle.hub_algebra.specs.declared.status.Status.TheVariants.{Over}
+use Rattle.std.proofs.Common.{rules, ◌≡◌, refl, ap, ◌∙◌}
 use Rattle.turn_hub.specs.declared.state.HubState.TheVariants.{All}
-use Rattle.turn_hub.specs.Views.{rests, hands_in}
-use Rattle.turn_hub.specs.Seats.{HasTrap, HasEnd}
-use Rattle.turn_hub.specs.Answers.{EndedSays}
-use Rattle.turn_hub.specs.Chains.{EndsOne}
-use Rattle.turn_hub.specs.Queued.{Queued}
-use Rattle.turn_hub.proofs.Queues.{out_within, waits_within, queue_some, queue_end, queue_same}
-use Rattle.turn_hub.proofs.Turns.{ended, handed_in, moved_hand, same_hand, has_pass, still_out, named_again}
-use Rattle.turn_hub.proofs.Says.{ended_leg, ended_trap}
+use Rattle.turn_hub.specs.Views.{rests, stops, or_no_memory}
+use Rattle.turn_hub.proofs.Says.{ended_says, now_halted}
 use Rattle.turn_hub.proofs.hub.TurnHub.end.Goals as goal
 
-pub end-requires-clause-out : goal.end-requires-clause-out
-end-requires-clause-out g c =
-    let by : g.L.Revision.by_join c.args.end ≡ true = search rules in
-    let event = subst (λ b. MatchBool b (HasTrap g.L.Revision.machine g.L.Revision.ends c.args.seat.now.place.me.0 c.args.of c.args.end) (HasEnd g.L.Revision.machine g.L.Revision.ends c.args.seat.now.place.me.0 c.args.of c.args.end)) by c.requires.event in
-    still_out _ _ _ _ _ _ _ c.enter-turn.ensures.told event.3
+pub end_in-requires-clause-told : goal.end_in-requires-clause-told
+end_in-requires-clause-told g c = (c.args.seat.now.place.me.0, c.enter-turn.ensures.told, c.requires.event)
 
-pub end-requires-clause-within : goal.end-requires-clause-within
-end-requires-clause-within g c =
-    let by : g.L.Revision.by_join c.args.end ≡ true = search rules in
-    let event = subst (λ b. MatchBool b (HasTrap g.L.Revision.machine g.L.Revision.ends c.args.seat.now.place.me.0 c.args.of c.args.end) (HasEnd g.L.Revision.machine g.L.Revision.ends c.args.seat.now.place.me.0 c.args.of c.args.end)) by c.requires.event in
-    let told = c.enter-turn.ensures.told in
-    let queued = told.hand.holds.queued in
-    ((out_within g.L.Revision.machine _ _ _ _ queued (still_out _ _ _ _ _ _ _ told event.3)).1, waits_within g.L.Revision.machine _ _ _ queued)
-
-pub end-requires-clause-some : goal.end-requires-clause-some
-end-requires-clause-some g c =
-    let by : g.L.Revision.by_join c.args.end ≡ true = search rules in
-    let event = subst (λ b. MatchBool b (HasTrap g.L.Revision.machine g.L.Revision.ends c.args.seat.now.place.me.0 c.args.of c.args.end) (HasEnd g.L.Revision.machine g.L.Revision.ends c.args.seat.now.place.me.0 c.args.of c.args.end)) by c.requires.event in
-    let told = c.enter-turn.ensures.told in
-    queue_some g.L.Revision.machine _ _ _ told.hand.holds.queued (still_out _ _ _ _ _ _ _ told event.3)
-
-pub hand_in-requires-clause-has : goal.hand_in-requires-clause-has
-hand_in-requires-clause-has g c =
-    let by : g.L.Revision.by_join c.args.end ≡ true = search rules in
-    let event = subst (λ b. MatchBool b (HasTrap g.L.Revision.machine g.L.Revision.ends c.args.seat.now.place.me.0 c.args.of c.args.end) (HasEnd g.L.Revision.machine g.L.Revision.ends c.args.seat.now.place.me.0 c.args.of c.args.end)) by c.requires.event in
-    let told = c.enter-turn.ensures.told in (told.hand.has, has_pass _ _ _ _ _ _ _ told event.3)
-
-pub put_home-requires-clause-hand : goal.put_home-requires-clause-hand
-put_home-requires-clause-hand g c =
+pub returns-in-Ok-clause-ok : goal.returns-in-Ok-clause-ok
+returns-in-Ok-clause-ok g c =
     let none : c.enter-turn.result.state ≡ All = search rules in
-    let by : g.L.Revision.by_join c.args.end ≡ true = search rules in
-    let event = subst (λ b. MatchBool b (HasTrap g.L.Revision.machine g.L.Revision.ends c.args.seat.now.place.me.0 c.args.of c.args.end) (HasEnd g.L.Revision.machine g.L.Revision.ends c.args.seat.now.place.me.0 c.args.of c.args.end)) by c.requires.event in
-    let told = c.enter-turn.ensures.told in
-    let queued = queue_end g.L.Revision.machine _ _ _ _ _ told.hand.holds.queued (still_out _ _ _ _ _ _ _ told event.3) c.end.ensures.queue in
-    moved_hand _ _ _ _ _ (handed_in _ _ _ _ c.enter-turn.result _ _ _ c.enter-turn.ensures.told none event (refl, c.end.ensures.now, c.end.ensures.forkers, none, queued)) (ap (λ m. m.0) c.hand_in.ensures.after)
+    ended_says _ _ _ _ _ c.enter-turn.result _ _ c.enter-turn.ensures.told none (ap (λ m. m.0) c.put_home.ensures.rests ∙ ap rests c.in-Ok.ensures.ok.0)
 
-pub returns-then-is_by_join-clause-ok : goal.returns-then-is_by_join-clause-ok
-returns-then-is_by_join-clause-ok g c =
-    let none : c.enter-turn.result.state ≡ All = search rules in
-    let by : g.L.Revision.by_join c.args.end ≡ true = search rules in
-    let e = ap (λ m. m.0) c.put_home.ensures.rests ∙ ap (λ m. rests m.0) c.hand_in.ensures.after in
-    subst (EndedSays g.L.Revision.machine g.L.Revision.ends c.args.seat.now.place.me.0 c.put_home.new.place.me.0 c.args.of) (sym by) (ended_trap _ _ _ _ _ c.enter-turn.result _ c.enter-turn.ensures.told none e)
+pub returns-in-Err-clause-err : goal.returns-in-Err-clause-err
+returns-in-Err-clause-err g c =
+    let is = c.in-Err.ensures.err in
+    (is.0, now_halted _ _ _ _ _ c.enter-turn.result c.enter-turn.ensures.told (ap (λ m. m.0) c.put_home_halted-in-Err.ensures.rests ∙ ap (λ v. rests (stops (or_no_memory v.halt) v)) is.1))
 
-pub put_home_halted-requires-then-not-enter-clause-hand : goal.put_home_halted-requires-then-not-enter-clause-hand
-put_home_halted-requires-then-not-enter-clause-hand g c =
-    let same = c.enter.ensures.same in
-    let less : c.enter.new.self.schedule.items ≡ c.enter-turn.result.schedule.items = search rules in
-    same_hand _ _ _ c.enter-turn.result _ c.enter-turn.ensures.told.hand (less, ap (λ r. r.slots.items) same.0, ap (λ r. r.forkers.items) same.0, same.1, queue_same g.L.Revision.machine _ _ _ c.enter-turn.ensures.told.hand.holds.queued (ap (λ r. r.queue) same.0))
-
-pub end-requires-2-clause-out : goal.end-requires-2-clause-out
-end-requires-2-clause-out g c =
-    let by : g.L.Revision.by_join c.args.end ≡ false = search rules in
-    let event = subst (λ b. MatchBool b (HasTrap g.L.Revision.machine g.L.Revision.ends c.args.seat.now.place.me.0 c.args.of c.args.end) (HasEnd g.L.Revision.machine g.L.Revision.ends c.args.seat.now.place.me.0 c.args.of c.args.end)) by c.requires.event in
-    ap (λ r. at_number r.slots.items c.args.of) c.enter.ensures.same.0 ∙ still_out _ _ _ _ _ _ _ c.enter-turn.ensures.told event.3
-
-pub end-requires-2-clause-within : goal.end-requires-2-clause-within
-end-requires-2-clause-within g c =
-    let by : g.L.Revision.by_join c.args.end ≡ false = search rules in
-    let event = subst (λ b. MatchBool b (HasTrap g.L.Revision.machine g.L.Revision.ends c.args.seat.now.place.me.0 c.args.of c.args.end) (HasEnd g.L.Revision.machine g.L.Revision.ends c.args.seat.now.place.me.0 c.args.of c.args.end)) by c.requires.event in
-    let told = c.enter-turn.ensures.told in
-    let out = ap (λ r. at_number r.slots.items c.args.of) c.enter.ensures.same.0 ∙ still_out _ _ _ _ _ _ _ told event.3 in
-    let queued = subst (λ r. Queued g.L.Revision.machine r.slots.items r.queue) (sym c.enter.ensures.same.0) told.hand.holds.queued in
-    ((out_within g.L.Revision.machine _ _ _ _ queued out).1, waits_within g.L.Revision.machine _ _ _ queued)
-
-pub end-requires-2-clause-some : goal.end-requires-2-clause-some
-end-requires-2-clause-some g c =
-    let by : g.L.Revision.by_join c.args.end ≡ false = search rules in
-    let event = subst (λ b. MatchBool b (HasTrap g.L.Revision.machine g.L.Revision.ends c.args.seat.now.place.me.0 c.args.of c.args.end) (HasEnd g.L.Revision.machine g.L.Revision.ends c.args.seat.now.place.me.0 c.args.of c.args.end)) by c.requires.event in
-    let told = c.enter-turn.ensures.told in
-    let out = ap (λ r. at_number r.slots.items c.args.of) c.enter.ensures.same.0 ∙ still_out _ _ _ _ _ _ _ told event.3 in
-    let queued = subst (λ r. Queued g.L.Revision.machine r.slots.items r.queue) (sym c.enter.ensures.same.0) told.hand.holds.queued in
-    queue_some g.L.Revision.machine _ _ _ queued out
-
-pub commit-requires-clause-has : goal.commit-requires-clause-has
-commit-requires-clause-has g c =
-    let by : g.L.Revision.by_join c.args.end ≡ false = search rules in
-    let event = subst (λ b. MatchBool b (HasTrap g.L.Revision.machine g.L.Revision.ends c.args.seat.now.place.me.0 c.args.of c.args.end) (HasEnd g.L.Revision.machine g.L.Revision.ends c.args.seat.now.place.me.0 c.args.of c.args.end)) by c.requires.event in
-    let told = c.enter-turn.ensures.told in (told.hand.has, has_pass _ _ _ _ _ _ _ told event.3)
-
-pub hand_in-requires-2-clause-has : goal.hand_in-requires-2-clause-has
-hand_in-requires-2-clause-has g c = let v = ap (λ m. m.0) c.commit.ensures.after in (ap (λ v. v.has) v ∙ c.enter-turn.ensures.told.hand.has, named_again _ _ _ v)
-
-pub put_home-requires-2-clause-hand : goal.put_home-requires-2-clause-hand
-put_home-requires-2-clause-hand g c =
-    let none : c.enter-turn.result.state ≡ All = search rules in
-    let by : g.L.Revision.by_join c.args.end ≡ false = search rules in
-    let event = subst (λ b. MatchBool b (HasTrap g.L.Revision.machine g.L.Revision.ends c.args.seat.now.place.me.0 c.args.of c.args.end) (HasEnd g.L.Revision.machine g.L.Revision.ends c.args.seat.now.place.me.0 c.args.of c.args.end)) by c.requires.event in
-    let same = c.enter.ensures.same in
-    let more : c.enter.new.self.schedule.items ≡ c.enter-turn.result.schedule.items ++ c.args.of ∷ [] = search rules in
-    let now = c.end-2.ensures.now ∙ ap (λ r. put_number r.slots.items c.args.of (Over c.args.end)) same.0 in
-    let forkers = c.end-2.ensures.forkers ∙ ap (λ r. r.forkers.items) same.0 in
-    let told = c.enter-turn.ensures.told in
-    let ends = subst (λ r. EndsOne r.queue c.end-2.new.self.queue c.args.of) same.0 c.end-2.ensures.queue in
-    let queued = queue_end g.L.Revision.machine _ _ _ _ _ told.hand.holds.queued (still_out _ _ _ _ _ _ _ told event.3) ends in
-    moved_hand _ _ _ _ _ (ended _ _ _ _ c.enter-turn.result _ _ _ c.enter-turn.ensures.told none event (more, now, forkers, same.1 ∙ none, queued)) (ap (λ m. m.0) c.hand_in-2.ensures.after ∙ ap (λ m. hands_in c.args.of m.0) c.commit.ensures.after)
-
-pub returns-clause-ok : goal.returns-clause-ok
-returns-clause-ok g c =
-    let none : c.enter-turn.result.state ≡ All = search rules in
-    let by : g.L.Revision.by_join c.args.end ≡ false = search rules in
-    let e = ap (λ m. m.0) c.put_home-2.ensures.rests ∙ (ap (λ m. rests m.0) c.hand_in-2.ensures.after ∙ ap (λ m. rests (hands_in c.args.of m.0)) c.commit.ensures.after) in
-    subst (EndedSays g.L.Revision.machine g.L.Revision.ends c.args.seat.now.place.me.0 c.put_home-2.new.place.me.0 c.args.of) (sym by) (ended_leg _ _ _ _ _ c.enter-turn.result _ c.enter-turn.ensures.told none e)
+pub returns-then-is_some-clause-err : goal.returns-then-is_some-clause-err
+returns-then-is_some-clause-err g c = (refl, now_halted _ _ _ _ _ c.enter-turn.result c.enter-turn.ensures.told (ap (λ m. m.0) c.put_home_halted.ensures.rests))

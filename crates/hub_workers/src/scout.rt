@@ -1,0 +1,121 @@
+//! How a thread looks for work that has found nothing.
+
+use crate::bell::Bell;
+use crate::legs::Legs;
+use std::sync::Wait;
+use turn_hub::TurnHub;
+
+// How many microseconds a scout naps, at least and at most.
+const SHORT_NAP: u64 = 50;
+
+const LONG_NAP: u64 = 6400;
+
+// So many microseconds later than it should a nap ends.
+const LATE: u64 = 50;
+
+// A revision rings up to three times: where it is forked, where it is taken, and where its joiner
+// is. Where a ring comes in so many microseconds, moving a revision to another thread takes about as
+// long as it runs.
+const EACH_RING: u64 = 3;
+
+// What a look tells a scout.
+#[derive(Drop)]
+enum Look {
+    /// Something is ready to which the threads that run do not come soon, or all is over.
+    Take,
+    /// Revisions come and go within microseconds.
+    Again,
+    /// Little happens, so that others had better wake it.
+    Park,
+}
+
+// What was so before a nap: the hub's mark, and the count of rings.
+#[derive(Drop)]
+struct Before {
+    mark: u64,
+    heard: u64,
+}
+
+/// How a thread stands to the bell, and how long it naps between two looks.
+#[derive(Drop)]
+pub struct Scout {
+    is_scout: bool,
+    nap: u64,
+}
+
+/// A thread has taken what was ready. Another may take the next.
+pub fn pass_on<L: Legs>(hub: &TurnHub<L>, bell: &Bell) {
+    if hub.ready_mark() != 0 {
+        bell.ring();
+    }
+}
+
+// A look after a nap of so many microseconds.
+fn judge<L: Legs>(hub: &TurnHub<L>, bell: &Bell, before: &Before, nap: u64) -> Look {
+    if bell.is_over() {
+        return Look::Take;
+    }
+    let is_busy = bell.heard().wrapping_sub(before.heard) > nap.saturating_add(LATE) / EACH_RING;
+    let mark = hub.ready_mark();
+    if mark != 0 && (mark == before.mark || !is_busy) {
+        return Look::Take;
+    }
+    if is_busy { Look::Again } else { Look::Park }
+}
+
+impl Scout {
+    pub fn new() -> Scout {
+        Scout {
+            is_scout: false,
+            nap: SHORT_NAP,
+        }
+    }
+
+    // Naps and looks until it should take from the hub or sleep. After a look that found that
+    // revisions come and go, the next nap is twice as long.
+    fn watch<L: Legs, W: Wait>(&mut self, rt: &W, hub: &TurnHub<L>, bell: &Bell) -> Look {
+        for _ in rt.forever() {
+            let before = Before {
+                mark: hub.ready_mark(),
+                heard: bell.heard(),
+            };
+            bell.nap(rt, self.nap);
+            match judge(hub, bell, &before, self.nap) {
+                Look::Again => {
+                    if self.nap < LONG_NAP {
+                        self.nap *= 2;
+                    }
+                },
+                other => {
+                    self.nap = SHORT_NAP;
+                    return other;
+                },
+            }
+        }
+        unreachable!()
+    }
+
+    /// What a thread does that has found nothing: it sleeps, unless it rang since `heard`, and is
+    /// the scout then. A scout naps. When it returns the thread takes from the hub again.
+    pub fn rest<L: Legs, W: Wait>(&mut self, rt: &W, hub: &TurnHub<L>, bell: &Bell, heard: u64) {
+        if !self.is_scout {
+            bell.sleep(rt, heard);
+        }
+        match self.watch(rt, hub, bell) {
+            Look::Park => {
+                self.is_scout = false;
+                bell.stop_scouting();
+            },
+            _ => self.is_scout = true,
+        }
+    }
+
+    /// The thread has taken what was ready, and is the scout no more.
+    pub fn pass_on<L: Legs>(&mut self, hub: &TurnHub<L>, bell: &Bell) {
+        if self.is_scout {
+            self.is_scout = false;
+            bell.stop_scouting();
+        }
+        pass_on(hub, bell);
+    }
+}

@@ -1,0 +1,27 @@
+use Rattle.std.proofs.Common.{rules, ◌≡◌, refl, ap, ◌∙◌}
+use Rattle.turn_hub.specs.declared.state.HubState.TheVariants.{All}
+use Rattle.turn_hub.specs.Views.{rests, stops, or_no_memory}
+use Rattle.turn_hub.proofs.Says.{ended_on, ended_free, now_halted}
+use Rattle.turn_hub.proofs.hub.TurnHub.end_and_take.Goals as goal
+
+pub end_in-requires-clause-told : goal.end_in-requires-clause-told
+end_in-requires-clause-told g c = (c.args.seat.now.place.me.0, c.enter-turn.ensures.told, c.requires.event)
+
+pub take_next-requires-clause-free : goal.take_next-requires-clause-free
+take_next-requires-clause-free g c =
+    let none : c.enter-turn.result.state ≡ All = search rules in
+    (c.end_in.ensures.state ∙ none, ended_free _ _ _ _ _ c.enter-turn.result _ _ c.enter-turn.ensures.told none c.in-Ok.ensures.ok.0)
+
+pub returns-in-Ok-clause-ok : goal.returns-in-Ok-clause-ok
+returns-in-Ok-clause-ok g c =
+    let none : c.enter-turn.result.state ≡ All = search rules in
+    let is = c.in-Ok.ensures.ok in
+    ended_on _ _ _ _ _ _ c.enter-turn.result c.end_in.new.turn _ _ _ _ c.enter-turn.ensures.told none is.0 is.1 c.take_next.ensures.turn c.take_next.ensures.answer
+
+pub returns-in-Err-clause-err : goal.returns-in-Err-clause-err
+returns-in-Err-clause-err g c =
+    let is = c.in-Err.ensures.err in
+    (is.0, now_halted _ _ _ _ _ c.enter-turn.result c.enter-turn.ensures.told (ap (λ m. m.0) c.put_home_halted-in-Err.ensures.rests ∙ ap (λ v. rests (stops (or_no_memory v.halt) v)) is.1))
+
+pub returns-then-is_some-clause-err : goal.returns-then-is_some-clause-err
+returns-then-is_some-clause-err g c = (refl, now_halted _ _ _ _ _ c.enter-turn.result c.enter-turn.ensures.told (ap (λ m. m.0) c.put_home_halted.ensures.rests))

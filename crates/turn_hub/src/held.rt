@@ -1,0 +1,181 @@
+//! What a seat does in the turn that it has.
+ghost use Rattle.std.specs.Prelude.{◌≡◌, true, false, IfErr, OnOk, MatchBool};
+ghost use Rattle.revision_machine.specs.Numbered.{at_number, put_number};
+ghost use Rattle.hub_algebra.specs.declared.status.Status.TheVariants.{Waiting, Over};
+
+use crate::answers::{JoinAnswer, Onward};
+use crate::hub::TurnHub;
+use crate::revision::Revision;
+use crate::seat::Place;
+use crate::state::HubState;
+use crate::taking::take_in;
+use crate::value::Turn;
+use crate::vectors::empty;
+use crate::view::View;
+use hub_algebra::Status;
+
+impl<L: Revision> TurnHub<L> {
+    ghost use Rattle.turn_hub.specs.declared.state.HubState.TheVariants.{All};
+    ghost use Rattle.turn_hub.specs.Answers.{OnwardSays, JoinSays, HasCome, IsSameTurn};
+    ghost use Rattle.turn_hub.specs.Found.{ended_here};
+    ghost use Rattle.turn_hub.specs.Rule.{InHand, IsOpen, Told, says};
+    ghost use Rattle.turn_hub.specs.Seats.{HasJoin, HasEnd, HasTrap, IsResting};
+    ghost use Rattle.turn_hub.specs.Views.{hands_in, ends_in};
+
+    // Takes the first that is ready, and gives the turn back.
+    pub(crate) fn take_next(
+        &self,
+        place: &mut Place<L>,
+        mut turn: Turn<L::Runner, L::AtJoin, L::End>,
+    ) -> Onward<L::Runner, L::AtJoin>
+        requires own { (place.old.table_id ≡ self.now.turn.shared.table_id)
+            × IsOpen L.machine L.ends place.old.me }
+        requires hand { InHand L.machine L.ends place.old.me.0 turn }
+        requires free { (turn.state ≡ All) × (place.old.me.0.entered ≡ All) }
+        ensures own { place.new.table_id ≡ place.old.table_id }
+        ensures rests { IsResting place.old.me place.new.me }
+        ensures turn { IsSameTurn place.old.me.0 place.new.me.0 }
+        ensures answer { OnwardSays L.machine L.ends
+            (says L.machine L.ends turn.revisions.slots.items)
+            place.old.me.0 place.new.me.0 result }
+    {
+        let Some(number) = turn.revisions.queue.take() else {
+            self.put_home(place, turn);
+            return Onward::Nothing;
+        };
+        match turn.revisions.swap(number, Status::Out) {
+            Status::Ready(runner) => {
+                self.draw(place, number);
+                self.put_home(place, turn);
+                Onward::Run { number, runner }
+            },
+            Status::Waiting(at) => {
+                self.draw(place, number);
+                self.put_home(place, turn);
+                Onward::Retry { number, at }
+            },
+            other => {
+                empty(Some(other));
+                unreachable!()
+            },
+        }
+    }
+
+    // The hub keeps a joiner whose joinee has not ended. It comes back for want of memory.
+    pub(crate) fn keep_in(
+        &self,
+        place: &mut Place<L>,
+        turn: &mut Turn<L::Runner, L::AtJoin, L::End>,
+        of: u32,
+        at: L::AtJoin,
+    ) -> Result<(), L::AtJoin>
+        requires own { (place.old.table_id ≡ self.now.turn.shared.table_id)
+            × IsOpen L.machine L.ends place.old.me }
+        requires told { (v : View L.State) × Told L.machine L.ends v place.old.me.0 turn.old
+            × HasJoin L.machine L.ends v of at }
+        requires free { turn.old.state ≡ All }
+        requires group { L.machine.joiner_group at ≡ place.old.me.0.group }
+        requires waits { ended_here (at_number turn.old.revisions.slots.items (L.machine.on at))
+            ≡ false }
+        ensures own { (place.new.table_id ≡ place.old.table_id)
+            × IsOpen L.machine L.ends place.new.me }
+        ensures hand { InHand L.machine L.ends place.new.me.0 turn.new }
+        ensures state { turn.new.state ≡ turn.old.state }
+        ensures ok { OnOk result ((place.new.me.0 ≡ hands_in of place.old.me.0)
+            × (turn.new.revisions.slots.items
+            ≡ put_number turn.old.revisions.slots.items of (Waiting at))) }
+        ensures err { IfErr result (λ a. (a ≡ at) × (place.new.me.0 ≡ place.old.me.0)) }
+    {
+        let on = L::on(&at);
+        match turn.revisions.keep(of, at, on) {
+            Ok(()) => {
+                self.hand_in(place, of);
+                Ok(())
+            },
+            Err(at) => Err(at),
+        }
+    }
+
+    // A joiner takes in the end of its joinee, which has ended, and the turn is given back.
+    pub(crate) fn join_in(
+        &self,
+        place: &mut Place<L>,
+        mut turn: Turn<L::Runner, L::AtJoin, L::End>,
+        of: u32,
+        at: L::AtJoin,
+    ) -> JoinAnswer<L::AtJoin, L::Claimed, L::Stopped>
+        requires own { (place.old.table_id ≡ self.now.turn.shared.table_id)
+            × IsOpen L.machine L.ends place.old.me }
+        requires told { (v : View L.State) × Told L.machine L.ends v place.old.me.0 turn
+            × HasJoin L.machine L.ends v of at }
+        requires free { turn.state ≡ All }
+        requires group { L.machine.joiner_group at ≡ place.old.me.0.group }
+        requires ended { ended_here (at_number turn.revisions.slots.items (L.machine.on at))
+            ≡ true }
+        ensures own { place.new.table_id ≡ place.old.table_id }
+        ensures rests { IsResting place.old.me place.new.me }
+        ensures come { HasCome L.machine L.ends L.claimed L.stopped
+            L.claimed_group L.stopped_group result }
+        ensures answer { (v : View L.State) → Told L.machine L.ends v place.old.me.0 turn
+            → HasJoin L.machine L.ends v of at
+            → JoinSays L.machine L.ends L.claimed L.stopped L.claimed_group L.stopped_group
+            v place.new.me.0 of at result }
+    {
+        let on = L::on(&at);
+        if !turn.enter(of) {
+            self.put_home_halted(place, turn);
+            return JoinAnswer::OutOfMemory(at);
+        }
+        self.commit(place, of);
+        match turn.revisions.join(on) {
+            Some(end) => {
+                self.put_home(place, turn);
+                take_in::<L>(at, end)
+            },
+            None => {
+                turn.state = HubState::Twice;
+                self.stop_twice(place);
+                self.put_home(place, turn);
+                JoinAnswer::Twice(at)
+            },
+        }
+    }
+
+    // The end of a revision that this seat has: one entry, and none where its join trapped it. It
+    // comes back for want of memory.
+    pub(crate) fn end_in(
+        &self,
+        place: &mut Place<L>,
+        turn: &mut Turn<L::Runner, L::AtJoin, L::End>,
+        of: u32,
+        end: L::End,
+    ) -> Result<(), L::End>
+        requires own { (place.old.table_id ≡ self.now.turn.shared.table_id)
+            × IsOpen L.machine L.ends place.old.me }
+        requires told { (v : View L.State) × Told L.machine L.ends v place.old.me.0 turn.old
+            × MatchBool (L.by_join end) (HasTrap L.machine L.ends v of end)
+            (HasEnd L.machine L.ends v of end) }
+        requires free { turn.old.state ≡ All }
+        ensures own { (place.new.table_id ≡ place.old.table_id)
+            × IsOpen L.machine L.ends place.new.me }
+        ensures hand { InHand L.machine L.ends place.new.me.0 turn.new }
+        ensures state { turn.new.state ≡ turn.old.state }
+        ensures ok { OnOk result ((place.new.me.0 ≡ ends_in (L.by_join end) of place.old.me.0)
+            × (turn.new.revisions.slots.items
+            ≡ put_number turn.old.revisions.slots.items of (Over end))) }
+        ensures err { IfErr result (λ e. (e ≡ end) × (place.new.me.0 ≡ place.old.me.0)) }
+    {
+        if L::is_by_join(&end) {
+            turn.revisions.end(of, end);
+            self.hand_in(place, of);
+            return Ok(());
+        }
+        if !turn.enter(of) {
+            return Err(end);
+        }
+        turn.revisions.end(of, end);
+        self.commit(place, of);
+        self.hand_in(place, of);
+        Ok(())
+    }
+}
