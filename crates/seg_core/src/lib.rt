@@ -7,8 +7,6 @@ mod moves;
 mod segment;
 mod state;
 mod step;
-#[cfg(test)]
-mod tests;
 
 pub use laws::step_laws;
 pub use state::{SegState, apply, refs};

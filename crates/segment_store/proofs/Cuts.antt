@@ -1,5 +1,5 @@
 -- A view that is cut in two, and two that become one, keep the rule.
-use Rattle.std.proofs.Common.{◌≡◌, ℕ, ◌+◌, ◌-◌, ◌%◌, ◌<◌, ◌≢◌, Bool, true, false, eqb}
+use Rattle.std.proofs.Common.{◌≡◌, ℕ, ◌+◌, ◌%◌, ◌<◌, ◌≢◌, Bool, true, false, eqb}
 use Rattle.std.proofs.Common.{cond, List, [], ◌∷◌, ◌++◌, get_or, set, sym, refl, ap, ◌∙◌}
 use Rattle.std.proofs.Common.{subst, arith, ⊎_elim}
 use mathlib.Core.Option.{some}

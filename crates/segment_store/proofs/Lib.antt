@@ -5,6 +5,7 @@ pub mod Keeps
 pub mod Cuts
 pub mod Closes
 pub mod Walk
+pub mod Taken
 pub mod Fills
 pub mod Looks
 pub mod Forks

@@ -1,14 +1,12 @@
 -- Sums over the views, words by segment and offset, and chains.
-use Rattle.std.proofs.Common.{◌≡◌, ℕ, zero, suc, ◌+◌, ◌%◌, ◌<◌, ◌≤◌, ◌≢◌, Bool, cond, List, [], ◌∷◌}
-use Rattle.std.proofs.Common.{◌++◌, set, sym, refl, ap, ◌∙◌, subst, arith, ⊎_elim, eq-eqb, ne_eqb}
-use mathlib.Core.Option.{some, some-injective, some-ne-none}
+use Rattle.std.proofs.Common.{◌≡◌, ℕ, ◌+◌, ◌%◌, ◌<◌, ◌≤◌, ◌≢◌, cond, List, [], ◌∷◌}
+use Rattle.std.proofs.Common.{◌++◌, sym, refl, ◌∙◌, subst, arith, ⊎_elim, eq-eqb, ne_eqb}
 use mathlib.Core.Logic.{dite}
 use native.Mathlib.Decide.{dec_le}
-use lib.ListN.{get_elem?}
 use Rattle.segment_store.specs.Entry.{Entry}
 use Rattle.atomic_table.proofs.Lists.{one_turn}
 use Rattle.segment_store.specs.Store.{first_of, refs_in, Chain, Has}
-use Rattle.seg_core.specs.Core.{total, is_at}
+use Rattle.seg_core.specs.Core.{total}
 
 module _ {A : Type 0} (f : A → ℕ) where
   pub total_snoc : (l : List A) (w : A) → total f (l ++ w ∷ []) ≡ total f l + f w

@@ -14,21 +14,82 @@ use Rattle.std.specs.Int.{bit_at}
 use Rattle.version_map.specs.Masks.{rows}
 use Rattle.version_map.proofs.Bits.{rows_over}
 
--- the rest of a chain from which the location l is read, `left` segments long and from `at` on
+-- the first segment of a chain
+pub record Top (words stride masks first : ℕ) (chain : List Entry) : Type 0 where
+  pub e : Entry
+  pub more : List Entry
+  pub is : chain ≡ e ∷ more
+  pub seg : first ≡ e.seg
+  pub whole : Whole words stride masks e
+  pub up : word_of e 1 ≡ first_of more
+  pub sounds : Sound words stride masks more
+
+pub top_of : (words stride masks first : ℕ) (chain : List Entry) → first ≡ first_of chain
+    → Sound words stride masks chain → 0 < length chain → Top words stride masks first chain
+top_of words stride masks first [] is s h = absurd (omega arith)
+top_of words stride masks first (e ∷ more) is s h = record {
+  e = e;
+  more = more;
+  is = refl;
+  seg = is;
+  whole = s.0;
+  up = s.1;
+  sounds = s.2;
+}
+
+-- the rest of a chain, `left` segments long and from `at` on
+pub record Tail (words stride masks at left : ℕ) (chain : List Entry) : Type 0 where
+  pub rest : List Entry
+  pub here : at ≡ first_of rest
+  pub many : left ≡ length rest
+  pub part : (e : Entry) → Has e rest → Has e chain
+  pub sounds : Sound words stride masks rest
+
+abbrev pub entire : (words stride masks at left : ℕ) (chain : List Entry) → at ≡ first_of chain
+    → left ≡ length chain → Sound words stride masks chain → Tail words stride masks at left chain
+entire words stride masks at left chain p q w =
+    record { rest = chain; here = p; many = q; part = λ e h. h; sounds = w }
+
+-- its first segment
+abbrev pub TopOf : (words stride masks at left : ℕ) (chain : List Entry)
+    → Tail words stride masks at left chain → Type 0
+TopOf words stride masks at left chain t = Top words stride masks at t.rest
+
+pub tail_top : (words stride masks at left : ℕ) (chain : List Entry)
+    (t : Tail words stride masks at left chain) → 0 < left
+    → TopOf words stride masks at left chain t
+tail_top words stride masks at left chain t h = let many = t.many in
+    top_of words stride masks at t.rest t.here t.sounds (omega arith)
+
+pub top_part : (words stride masks at left : ℕ) (chain : List Entry)
+    (t : Tail words stride masks at left chain) (p : TopOf words stride masks at left chain t)
+    → Has p.e chain
+top_part words stride masks at left chain t p =
+    t.part p.e (subst (Has p.e) (sym p.is) (inl refl))
+
+-- what is left below it
+abbrev pub lower : (words stride masks at left next n : ℕ) (chain : List Entry)
+    (t : Tail words stride masks at left chain) (p : TopOf words stride masks at left chain t)
+    → n + 1 ≡ left → next ≡ first_of p.more → Tail words stride masks next n chain
+lower words stride masks at left next n chain t p one is = record {
+  rest = p.more;
+  here = is;
+  many = (let many : left ≡ length (p.e ∷ p.more) = t.many ∙ ap length p.is in omega arith);
+  part = λ x h. t.part x (subst (Has x) (sym p.is) (inr h));
+  sounds = p.sounds;
+}
+
+-- the location l is read from the rest of the chain
 pub record Going (root : List ℕ) (words stride masks l at left : ℕ) (chain : List Entry) : Type 0
   where
-    pub rest : List Entry
-    pub here : at ≡ first_of rest
-    pub many : left ≡ length rest
-    pub same : value masks root chain l ≡ value masks root rest l
-    pub part : (e : Entry) → Has e rest → Has e chain
-    pub whole : Sound words stride masks rest
+    pub tail : Tail words stride masks at left chain
+    pub same : value masks root chain l ≡ value masks root tail.rest l
 
 pub start : (root : List ℕ) (words stride masks l at left : ℕ) (chain : List Entry)
     → at ≡ first_of chain → left ≡ length chain → Sound words stride masks chain
     → Going root words stride masks l at left chain
 start root words stride masks l at left chain p q w =
-    record { rest = chain; here = p; many = q; same = refl; part = λ e h. h; whole = w }
+    record { tail = entire words stride masks at left chain p q w; same = refl }
 
 -- at a segment of the rest: what a load of its word i finds
 pub record At (root : List ℕ) (words stride masks l at left : ℕ) (chain : List Entry) : Type 0 where
@@ -45,33 +106,30 @@ pub record At (root : List ℕ) (words stride masks l at left : ℕ) (chain : Li
 pub visit : (root : List ℕ) (words stride masks l at left : ℕ) (chain : List Entry)
     → Going root words stride masks l at left chain → 0 < left
     → At root words stride masks l at left chain
-visit root words stride masks l at left chain g h =
-    at_rest g.rest g.here g.many g.same g.part g.whole where
-      at_rest : (rest : List Entry) → at ≡ first_of rest → left ≡ length rest
-          → value masks root chain l ≡ value masks root rest l
-          → ((e : Entry) → Has e rest → Has e chain) → Sound words stride masks rest
-          → At root words stride masks l at left chain
-      at_rest [] p q s i w = absurd (omega arith)
-      at_rest (e ∷ es) p q s i w = record {
-        e = e;
-        seg = p;
-        has = i e (inl refl);
-        whole = w.0;
-        more = es;
-        up = w.1;
-        go = λ n next nn is ne. record {
-          rest = es;
-          here = is;
-          many = omega arith;
-          same = s ∙ ap (λ (b : Bool). cond b (word_of e (2 + masks + l)) (value masks root es l))
-              (ne_eqb (bit_of e l) 1 ne);
-          part = λ x y. i x (inr y);
-          whole = w.2;
-        };
-        found = λ is. s ∙ ap (λ (b : Bool). cond b (word_of e (2 + masks + l))
-            (value masks root es l))
-            (eq-eqb (bit_of e l) 1 is);
-      }
+visit root words stride masks l at left chain g h = let t = g.tail in
+    let p = tail_top words stride masks at left chain t h in
+    let here : value masks root chain l ≡ value masks root (p.e ∷ p.more) l =
+    g.same ∙ ap (λ (es : List Entry). value masks root es l) p.is in
+    let pick : Bool → ℕ = λ b. cond b (word_of p.e (2 + masks + l)) (value masks root p.more l) in
+    record {
+      e = p.e;
+      seg = p.seg;
+      has = top_part words stride masks at left chain t p;
+      whole = p.whole;
+      more = p.more;
+      up = p.up;
+      go = λ n next nn is ne. record {
+        tail = lower words stride masks at left next n chain t p nn is;
+        same = here ∙ ap pick (ne_eqb (bit_of p.e l) 1 ne);
+      };
+      found = λ is. here ∙ ap pick (eq-eqb (bit_of p.e l) 1 is);
+    }
+
+-- what a load of the word i of a segment of the chain gives
+pub segment_word : (e : Entry) (s : Seat (Unit {0}) View) (at i x : ℕ) → Has e s.me.0.chain
+    → at ≡ e.seg → IsWord s (at + i) x → Known e i → x ≡ word_of e i
+segment_word e s at i x has seg word known =
+    word e (word_of e i) has (ap (λ (n : ℕ). look e.body (n + i)) seg ∙ known)
 
 -- what a load of the segment's word i gives
 pub loaded : (root : List ℕ) (words stride masks l at left i x : ℕ) (chain : List Entry)
@@ -79,31 +137,43 @@ pub loaded : (root : List ℕ) (words stride masks l at left i x : ℕ) (chain :
     → s.me.0.chain ≡ chain → IsWord s (at + i) x → Known a.e i
     → x ≡ word_of a.e i
 loaded root words stride masks l at left i x chain a s same word known =
-    word a.e (word_of a.e i) (subst (Has a.e) (sym same) a.has)
-    (ap (λ (n : ℕ). look a.e.body (n + i)) a.seg ∙ known)
+    segment_word a.e s at i x (subst (Has a.e) (sym same) a.has) a.seg word known
 
 pub row_of : (masks n l : ℕ) → masks ≡ rows n → l < n → l / 64 < masks
 row_of masks n l is h = subst (λ (z : ℕ). l / 64 < z) (sym is) (rows_over n l h)
 
 -- what a load of the mask word of the location says of its bit
+pub bit_read : (words stride masks segment l x : ℕ) (s : Seat (Unit {0}) View) (e : Entry)
+    → Has e s.me.0.chain → segment ≡ e.seg → Whole words stride masks e
+    → IsWord s (segment + (2 + l / 64)) x → l / 64 < masks → bit_at x (l % 64) ≡ bit_of e l
+bit_read words stride masks segment l x s e has seg whole word low = let i : ℕ = 2 + l / 64 in
+    ap (λ (z : ℕ). bit_at z (l % 64))
+    (segment_word e s segment i x has seg word (whole.header i (omega arith) (omega arith)))
+
 pub bit_loaded : (root : List ℕ) (words stride masks l at left x : ℕ) (chain : List Entry)
     (a : At root words stride masks l at left chain) (s : Seat (Unit {0}) View)
     → s.me.0.chain ≡ chain → IsWord s (at + (2 + l / 64)) x → l / 64 < masks
     → bit_at x (l % 64) ≡ bit_of a.e l
 bit_loaded root words stride masks l at left x chain a s same word low =
-    ap (λ (z : ℕ). bit_at z (l % 64))
-    (loaded root words stride masks l at left (2 + l / 64) x chain a s same word
-    (a.whole.header (2 + l / 64) (omega arith) (omega arith)))
+    bit_read words stride masks at l x s a.e (subst (Has a.e) (sym same) a.has) a.seg a.whole word
+    low
+
+pub no_entries : (es : List Entry) → length es ≡ 0 → es ≡ []
+no_entries [] h = refl
+no_entries (e ∷ es) h = absurd (omega arith)
+
+-- where no segment is left, the value is the root's
+pub bare_rest : (masks : ℕ) (root : List ℕ) (rest : List Entry) (l : ℕ) → length rest ≡ 0
+    → value masks root rest l ≡ slice_index root l
+bare_rest masks root rest l none =
+    ap (λ (es : List Entry). value masks root es l) (no_entries rest none)
 
 -- at the end of the chain
 pub ended : (root : List ℕ) (words stride masks l at left : ℕ) (chain : List Entry)
     → Going root words stride masks l at left chain → left ≡ 0 → (x : ℕ) → x ≡ slice_index root l
     → x ≡ value masks root chain l
 ended root words stride masks l at left chain g none x e = e
-    ∙ sym (g.same ∙ bare g.rest (sym g.many ∙ none)) where
-      bare : (rest : List Entry) → length rest ≡ 0 → value masks root rest l ≡ slice_index root l
-      bare [] q = refl
-      bare (y ∷ ys) q = absurd (omega arith)
+    ∙ sym (g.same ∙ bare_rest masks root g.tail.rest l (sym g.tail.many ∙ none))
 
 pub rests_log : (words stride masks first depth : ℕ) (v : View) (log : List Look)
     → Rests words stride masks first depth v → Rests words stride masks first depth (logged v log)
@@ -160,18 +230,11 @@ pub record Falling (words stride masks at left : ℕ) (s t : Seat (Unit {0}) Vie
   pub slots : t.me.1 ≡ s.me.1
   pub table : t.table_id ≡ s.table_id
 
-pub chain_head : (words stride masks : ℕ) (es : List Entry) → Sound words stride masks es
-    → 0 < length es → (e : Entry) × (more : List Entry) × (es ≡ e ∷ more)
-    × Whole words stride masks e × (word_of e 1 ≡ first_of more) × Sound words stride masks more
-chain_head words stride masks [] s h = absurd (omega arith)
-chain_head words stride masks (e ∷ more) s h = (e, more, refl, s.0, s.1, s.2)
-
 -- what a load of a word of the head gives
 pub head_word : (e : Entry) (more : List Entry) (s : Seat (Unit {0}) View) (at i x : ℕ)
     → s.me.0.chain ≡ e ∷ more → at ≡ e.seg → IsWord s (at + i) x → Known e i → x ≡ word_of e i
 head_word e more s at i x is seg word known =
-    word e (word_of e i) (subst (Has e) (sym is) (inl refl))
-    (ap (λ (n : ℕ). look e.body (n + i)) seg ∙ known)
+    segment_word e s at i x (subst (Has e) (sym is) (inl refl)) seg word known
 
 pub falls : (words stride masks at left next : ℕ) (s t u : Seat (Unit {0}) View)
     → Falling words stride masks at left s t → 0 < left
@@ -179,15 +242,14 @@ pub falls : (words stride masks at left next : ℕ) (s t u : Seat (Unit {0}) Vie
     → next ≡ word_of e 1) → Becomes t u (pops t.me.0)
     → Falling words stride masks next (left - 1) s u
 falls words stride masks at left next s t u f h word b = let many = f.many in
-    let c = chain_head words stride masks t.me.0.chain f.sounds (omega arith) in
-    let e : Entry = c.0 in let more : List Entry = c.1 in
-    let tail : rest_of t.me.0.chain ≡ more = ap rest_of c.2 in
+    let p = top_of words stride masks at t.me.0.chain f.head f.sounds (omega arith) in
+    let tail : rest_of t.me.0.chain ≡ p.more = ap rest_of p.is in
     let is : u.me.0 ≡ pops t.me.0 = ap (λ (m : Me (Unit {0}) View). m.0) b.2 in
-    let len : length t.me.0.chain ≡ length (e ∷ more) = ap length c.2 in
-    let new : u.me.0.chain ≡ more = ap (λ (v : View). v.chain) is ∙ tail in record {
-      head = word e more c.2 c.3 ∙ (c.4 ∙ ap first_of (sym new));
-      many = (let o : left - 1 ≡ length more = omega arith in o) ∙ ap length (sym new);
-      sounds = subst (Sound words stride masks) (sym new) c.5;
+    let len : length t.me.0.chain ≡ length (p.e ∷ p.more) = ap length p.is in
+    let new : u.me.0.chain ≡ p.more = ap (λ (v : View). v.chain) is ∙ tail in record {
+      head = word p.e p.more p.is p.whole ∙ (p.up ∙ ap first_of (sym new));
+      many = (let o : left - 1 ≡ length p.more = omega arith in o) ∙ ap length (sym new);
+      sounds = subst (Sound words stride masks) (sym new) p.sounds;
       single = ap (λ (v : View). v.extra) is ∙ f.single;
       build = ap (λ (v : View). v.build) is ∙ f.build;
       holds = ap (λ (v : View). v.holds) is ∙ f.holds;
@@ -211,7 +273,3 @@ falls_same words stride masks at left s t u f b = let c = chain_of t u b.2 in
       slots = ap (λ (m : Me (Unit {0}) View). m.1) b.2 ∙ f.slots;
       table = b.0 ∙ f.table;
     }
-
-pub no_chain : (es : List Entry) → length es ≡ 0 → es ≡ []
-no_chain [] h = refl
-no_chain (e ∷ es) h = absurd (omega arith)

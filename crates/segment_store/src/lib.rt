@@ -7,8 +7,6 @@ mod held;
 mod laws;
 mod plays;
 mod store;
-#[cfg(test)]
-mod tests;
 
 pub use board::{Size, View};
 pub use held::Held;

@@ -15,6 +15,7 @@ ghost use Rattle.segment_store.specs.Live.{live_segments};
 ghost use Rattle.segment_store.specs.Same.{IsSameSeat};
 ghost use Rattle.segment_store.specs.Own.{IsOwn};
 
+mod copies;
 mod steps;
 mod walks;
 

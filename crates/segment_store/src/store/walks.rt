@@ -1,9 +1,8 @@
 //! What a seat does along its chain, by many steps.
 ghost use Rattle.std.specs.Prelude.{◌≡◌, ℕ, ◌+◌, ◌*◌, ◌/◌, ◌<◌, ◌≤◌, ◌^◌, [], length};
-ghost use Rattle.std.specs.Prelude.{vec_len, slice_index, List, IfOk, IfErr, None, IfNone, IfSome};
+ghost use Rattle.std.specs.Prelude.{vec_len, List, IfOk, IfErr, None, IfNone, IfSome};
 ghost use mathlib.Core.Option.{some};
 ghost use Rattle.version_map.specs.Deltas.{at, locations};
-ghost use Rattle.version_map.specs.Overlay.{under};
 ghost use Rattle.segment_store.specs.Store.{first_of, idle, notes, claims};
 ghost use Rattle.segment_store.specs.Base.{value, IsLaid};
 ghost use Rattle.segment_store.specs.Base.{filled, logged};
@@ -11,7 +10,6 @@ ghost use Rattle.segment_store.specs.Same.{IsSameSeat, Becomes, IsWord};
 ghost use Rattle.segment_store.specs.Own.{root_in, IsOwn, IsComplete};
 
 use crate::store::{Place, Store};
-use std::alloc::{AllocError, Global};
 use version_map::Delta;
 
 impl Store {
@@ -315,35 +313,5 @@ impl Store {
     {
         self.tally(seat);
         self.part(seat)
-    }
-
-    // The base under the delta.
-    pub(super) fn copy(
-        &self,
-        alloc: Global,
-        seat: &mut Place,
-        first: usize,
-        depth: u64,
-        own: &Option<Vec<u64>>,
-        delta: &Delta,
-    ) -> Result<Vec<u64>, AllocError>
-        requires own { IsSeatOf self.now seat.old × IsDeltaOf self.now delta.now }
-        requires rests { RestsIn self.now first depth seat.old.me.0
-            × IsOwn self.now.stride self.now.masks first own.now }
-        ensures same { IsSameSeat seat.old seat.new }
-        ensures words { IfOk result (λ v. (vec_len v ≡ vec_len self.now.initial)
-            × ((l : ℕ) → l < vec_len self.now.initial
-            → slice_index v.items l ≡ under delta.now
-            (value self.now.masks (root_in self.now.initial own.now) seat.old.me.0.chain) l)) }
-    {
-        let mut words = Vec::new(alloc);
-        for l in 0..delta.locations() {
-            let word = match delta.get(l) {
-                Some(word) => word,
-                None => self.base_word(seat, first, depth, own, l as usize),
-            };
-            words.push(word)?;
-        }
-        Ok(words)
     }
 }

@@ -1,4 +1,4 @@
-use Rattle.std.proofs.Common.{arith, ◌≡◌, ℕ, ◌<◌, ◌≤◌, ◌+◌, ◌-◌, ◌%◌, eqb, List, sym, ◌∙◌, subst}
+use Rattle.std.proofs.Common.{arith, ◌≡◌, ℕ, ◌+◌, ◌-◌, ◌%◌, eqb, List, sym, ◌∙◌, subst}
 use Rattle.std.proofs.Common.{ap}
 use Rattle.std.specs.Mem.Slots.{slots_items}
 use mathlib.Core.Option.{some}

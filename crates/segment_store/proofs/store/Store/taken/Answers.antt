@@ -1,7 +1,7 @@
 use Rattle.std.proofs.Common.{arith, ℕ, ◌%◌, Option, sym, ap, refl, ◌∙◌}
 use Rattle.std.proofs.lemmas.Nat.Bits.{shr_and_one}
 use Rattle.segment_store.specs.Base.{absorbed}
-use Rattle.segment_store.proofs.Pops.{taken_none, taken_some}
+use Rattle.segment_store.proofs.Taken.{taken_none, taken_some}
 use Rattle.segment_store.proofs.Walk.{row_of}
 use Rattle.segment_store.proofs.store.Store.taken.Goals as goal
 

@@ -1,6 +1,6 @@
 ghost use Rattle.std.specs.Prelude.{◌≡◌, vec_len};
 
-use crate::{Applied, SegState, SegStep, apply, refs};
+use seg_core::{Applied, SegState, SegStep, apply, refs};
 use std::test::Fail;
 
 fn is_done(state: &mut SegState, step: SegStep) -> bool

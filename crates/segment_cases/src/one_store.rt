@@ -2,7 +2,7 @@ ghost use Rattle.std.specs.Prelude.{◌≡◌, vec_len, IfOk};
 ghost use Rattle.segment_store.specs.Names.{IsOf};
 ghost use Rattle.version_map.specs.Deltas.{locations};
 
-use crate::{Hold, Spent, Store};
+use segment_store::{Hold, Spent, Store};
 use std::alloc::{AllocError, Global};
 use std::test::Fail;
 use std::thread::join;
@@ -31,16 +31,23 @@ fn work(store: &Store, mut hold: Hold, mut into: Delta) -> (u64, u64, Spent)
 fn two_threads_read_what_they_forked_from(rt: HostRuntime) -> Result<(), Fail> {
     let alloc = rt.alloc();
     let words = vec![in alloc; 5; 70]?;
-    let (store, mut main) = Store::open(alloc, 1, words)?;
+    let (store, mut main) = Store::open(alloc, 2, words)?;
     let mut delta = Delta::new(alloc, 70)?;
+    delta.set(33, 6);
     delta.set(69, 7);
     let (child, how) = store.fork(alloc, &mut main, &mut delta)?;
     assert!(rt; how == How::Shared && delta.is_empty());
+    delta.set(69, 9);
+    let (second, how) = store.fork(alloc, &mut main, &mut delta)?;
+    assert!(rt; how == How::Shared && delta.is_empty());
     delta.set(0, 8);
-    let (copy, how) = store.fork(alloc, &mut main, &mut delta)?;
+    let (mut copy, how) = store.fork(alloc, &mut main, &mut delta)?;
     assert!(rt; how == How::Copied && !delta.is_empty());
+    // The first segment's 9 hides the second's 7, and what no segment has comes from the root.
+    let lower = store.read(&mut copy, 33);
+    let root = store.read(&mut copy, 34);
     let (c0, c1, copied) = look(&store, copy);
-    assert!(rt; c0 == 8 && c1 == 7);
+    assert!(rt; c0 == 8 && c1 == 9 && lower == 6 && root == 5);
     let more = Delta::new(alloc, 70)?;
     let shared = &store;
     let (a, b) = join(
@@ -55,9 +62,10 @@ fn two_threads_read_what_they_forked_from(rt: HostRuntime) -> Result<(), Fail> {
             ensures { result.2.seat.table_id ≡ shared.entry.now.table.shared.table_id }
         { look(shared, main) },
     );
-    assert!(rt; a.0 == 5 && b.0 == 5 && b.1 == 7);
+    assert!(rt; a.0 == 5 && b.0 == 5 && b.1 == 9);
     let mut all = a.2;
     store.gather(&mut all, b.2);
+    store.gather(&mut all, store.release(second));
     store.gather(&mut all, copied);
     let closed = store.close(all);
     assert!(rt; closed.out() == 0 && closed.live() == 0);

@@ -1,0 +1,7 @@
+use Rattle.std.proofs.Common.{◌≡◌, vec_len, slice_index}
+use Rattle.version_map.specs.Overlay.{under, Agree}
+use Rattle.segment_store.proofs.store.copies.words_under.Given as goal
+
+abbrev pub invariant-loop-l : goal.invariant-loop-l
+invariant-loop-l l = (vec_len l.all ≡ l.l)
+    × Agree l.l (slice_index l.all.items) (under l.fn.delta (slice_index l.fn.words))
