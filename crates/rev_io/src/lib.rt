@@ -10,8 +10,6 @@ ghost use Rattle.rev_io.specs.Stream.{Stream, Reads, Writes};
 mod adapters;
 mod memory_sink;
 mod memory_source;
-#[cfg(test)]
-mod tests;
 mod transfer;
 
 pub use adapters::{StdSink, StdSource};

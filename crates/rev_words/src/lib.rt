@@ -112,6 +112,3 @@ fn words_of(alloc: Global, matches: &ArgMatches) -> Result<Words, WordsFault>
         size,
     })
 }
-
-#[cfg(test)]
-mod tests;

@@ -1,6 +1,8 @@
 //! Words that are read, and words that are wrong usage, with ample memory.
 
-use crate::*;
+use rev_num::Items;
+use rev_words::*;
+use std::alloc::Global;
 use std::test::Fail;
 
 /// What the words say, each given as a text.

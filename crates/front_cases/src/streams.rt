@@ -1,5 +1,6 @@
-// Steps, failing calls, and readers and writers of the standard library.
-use super::*;
+//! Steps, failing calls, and readers and writers of the standard library.
+
+use rev_io::*;
 use std::io;
 use std::io::{Read, Write};
 
