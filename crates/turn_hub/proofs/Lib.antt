@@ -6,5 +6,6 @@ pub mod Keeps
 pub mod Turns
 pub mod Begins
 pub mod Says
+pub mod Drawing
 pub mod Rows
 pub mod Closes

@@ -22,15 +22,15 @@ use Rattle.turn_hub.specs.Passes.{IsPass}
 use Rattle.turn_hub.specs.Seats.{HasState, HasFork, HasJoin, ForkedAs, KeepsAll, KeepsOthers, IsSameSeat}
 use Rattle.turn_hub.specs.Found.{ended_here, is_ready}
 use Rattle.turn_hub.specs.Rule.{all_over, done, said_of, says, InHand, Told}
-use Rattle.turn_hub.specs.Answers.{IsSameTurn, OnwardSays, IsNoneReady, WaitedOn, EndedOn, HasCome}
+use Rattle.turn_hub.specs.Answers.{IsSameTurn, OnwardSays, IsNoneReady, WaitedOn, HasCome}
 use Rattle.turn_hub.specs.Answers.{IsHalted, Ran, Retried, IsIdleNow, IsFinished, WasHalted, Forked, TookIn, HasMet, Waited, MetTwice, JoinSays, TakesIn, EndedSays}
 
 module _ {L : Type 0} where
-  pub draws_turn : (w x : View L) (n : ℕ) → x ≡ rests (draws n w) → IsSameTurn w x
+  pub draws_turn : (w x : View L) (n : ℕ) → x ≡ draws n w → IsSameTurn w x
   draws_turn w x n is = subst (IsSameTurn w) (sym is) record { said = refl; entered = refl; found = refl; log = refl; saw = refl; halt = refl }
 
-  pub rests_turn : (w x : View L) → x ≡ rests w → IsSameTurn w x
-  rests_turn w x is = subst (IsSameTurn w) (sym is) record { said = refl; entered = refl; found = refl; log = refl; saw = refl; halt = refl }
+  pub same_turn : (w : View L) → IsSameTurn w w
+  same_turn w = record { said = refl; entered = refl; found = refl; log = refl; saw = refl; halt = refl }
 
 module _ {L R A E : Type 0} (d : HubMachine L R A E) (ends : E → L → Type 0) where
   pub says_some : (slots : List (Status R A E)) (k : ℕ) (s : Status R A E) → at_number slots k ≡ Some s → at_number (says d ends slots) k ≡ Some (said_of d ends s)
@@ -103,7 +103,7 @@ module _ {L R A E : Type 0} (d : HubMachine L R A E) (ends : E → L → Type 0)
   abbrev Value : Type 0
   Value = Turn R A E
 
-  says_put : (slots : List (Status R A E)) (k : ℕ) (x : Status R A E) → says d ends (put_number slots k x) ≡ put_number (says d ends slots) k (said_of d ends x)
+  pub says_put : (slots : List (Status R A E)) (k : ℕ) (x : Status R A E) → says d ends (put_number slots k x) ≡ put_number (says d ends slots) k (said_of d ends x)
   says_put [] k x = refl
   says_put (y ∷ slots) zero x = refl
   says_put (y ∷ slots) (suc k) x = ap (λ z. said_of d ends y ∷ z) (says_put slots k x)
@@ -116,7 +116,7 @@ module _ {L R A E : Type 0} (d : HubMachine L R A E) (ends : E → L → Type 0)
 
   -- what is handed out in the turn that the seat has
   pub ran : (w x : V) (t t' : Value) (n : ℕ) (r : R) → InHand d ends w t → w.entered ≡ All → t.state ≡ All → at_number t.revisions.slots.items n ≡ Some (Ready r)
-      → Next d ends t' t.schedule.items (put_number t.revisions.slots.items n Out) t.revisions.forkers.items All → x ≡ rests (draws n w) → Ran d ends (says d ends t.revisions.slots.items) w x n r
+      → Next d ends t' t.schedule.items (put_number t.revisions.slots.items n Out) t.revisions.forkers.items All → x ≡ draws n w → Ran d ends (says d ends t.revisions.slots.items) w x n r
   ran w x t t' n r hand free none e next is = subst (λ y. Ran d ends (says d ends t.revisions.slots.items) w y n r) (sym is) record {
     free = free;
     keeps = keeps_draw d ends w n;
@@ -126,7 +126,7 @@ module _ {L R A E : Type 0} (d : HubMachine L R A E) (ends : E → L → Type 0)
   }
 
   pub retried : (w x : V) (t t' : Value) (n : ℕ) (a : A) → InHand d ends w t → w.entered ≡ All → t.state ≡ All → at_number t.revisions.slots.items n ≡ Some (Waiting a) → is_ready d t.revisions.slots.items (at_number t.revisions.slots.items n) ≡ true
-      → Next d ends t' t.schedule.items (put_number t.revisions.slots.items n Out) t.revisions.forkers.items All → x ≡ rests (draws n w) → Retried d ends (says d ends t.revisions.slots.items) w x n a
+      → Next d ends t' t.schedule.items (put_number t.revisions.slots.items n Out) t.revisions.forkers.items All → x ≡ draws n w → Retried d ends (says d ends t.revisions.slots.items) w x n a
   retried w x t t' n a hand free none e ready next is = let f = where_retry (says d ends t.revisions.slots.items) t.revisions.slots.items n a refl e ready in subst (λ y. Retried d ends (says d ends t.revisions.slots.items) w y n a) (sym is) record {
     free = free;
     keeps = keeps_draw d ends w n;
@@ -136,8 +136,8 @@ module _ {L R A E : Type 0} (d : HubMachine L R A E) (ends : E → L → Type 0)
     group = group_at d ends w.group t.revisions.slots.items n (Waiting a) hand.holds.grouped e;
   }
 
-  pub none_now : (w x : V) (t : Value) → w.entered ≡ All → ((k : ℕ) → is_ready d t.revisions.slots.items (at_number t.revisions.slots.items k) ≡ false) → x ≡ rests w → IsNoneReady d ends (says d ends t.revisions.slots.items) w x
-  none_now w x t free f is = subst (IsNoneReady d ends (says d ends t.revisions.slots.items) w) (sym is) record {
+  pub none_now : (w : V) (t : Value) → w.entered ≡ All → ((k : ℕ) → is_ready d t.revisions.slots.items (at_number t.revisions.slots.items k) ≡ false) → IsNoneReady d ends (says d ends t.revisions.slots.items) w w
+  none_now w t free f = record {
     free = free;
     keeps = ((refl, refl, refl), refl);
     none_ready = λ k. says_ready t.revisions.slots.items k ∙ f k;
@@ -265,11 +265,11 @@ module _ {L R A E : Type 0} (d : HubMachine L R A E) (ends : E → L → Type 0)
   ended_says v w x t k false told none is = ended_leg v w x t k told none is
 
   -- the end of a revision leaves what the seat found
-  ends_said : (b : Bool) (k : ℕ) (w : V) → (ends_in b k w).said ≡ w.said
+  pub ends_said : (b : Bool) (k : ℕ) (w : V) → (ends_in b k w).said ≡ w.said
   ends_said true k w = refl
   ends_said false k w = refl
 
-  ends_entered : (b : Bool) (k : ℕ) (w : V) → (ends_in b k w).entered ≡ w.entered
+  pub ends_entered : (b : Bool) (k : ℕ) (w : V) → (ends_in b k w).entered ≡ w.entered
   ends_entered true k w = refl
   ends_entered false k w = refl
 
@@ -286,12 +286,6 @@ module _ {L R A E : Type 0} (d : HubMachine L R A E) (ends : E → L → Type 0)
         onward_over (says d ends slots) (put_number x.said k (said_of d ends s)) (rests y) y x n
             (ap (says d ends) put ∙ (says_put t.revisions.slots.items k s ∙ ap (λ z. put_number z k (said_of d ends s)) (sym found))) (refl, refl, refl) refl (subst (λ z. OnwardSays d ends (says d ends slots) z x n) is h),
       )
-
-  pub ended_on : (v w u x : V) (t t' : Value) (k : ℕ) (e : E) (b : Bool) (n : Onward R A) → Told d ends v w t → t.state ≡ All → u ≡ ends_in b k w → t'.revisions.slots.items ≡ put_number t.revisions.slots.items k (Over e)
-      → IsSameTurn u x → OnwardSays d ends (says d ends t'.revisions.slots.items) u x n → EndedOn d ends v x k e b n
-  ended_on v w u x t t' k e b n told none is put same h =
-      let f = in_turn (ends_in b k w) u x t t'.revisions.slots.items k (Over e) n is (ends_said b k w ∙ told.said) put same h in
-      record { between = rests (ends_in b k w); ended = ended_says v w (rests (ends_in b k w)) t k b told none refl; same = f.0; onward = f.1 }
 
   pub waited_on : (v w u x : V) (t t' : Value) (k : ℕ) (a : A) (n : Onward R A) → Told d ends v w t → t.state ≡ All → ended_here (at_number t.revisions.slots.items (d.on a)) ≡ false → u ≡ hands_in k w
       → t'.revisions.slots.items ≡ put_number t.revisions.slots.items k (Waiting a) → IsSameTurn u x → OnwardSays d ends (says d ends t'.revisions.slots.items) u x n → WaitedOn d ends v x k a n

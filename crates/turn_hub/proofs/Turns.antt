@@ -127,7 +127,7 @@ module _ {L R A E : Type 0} (d : HubMachine L R A E) (ends : E → L → Type 0)
   not_over : (v : View L) (t : Value) (k : ℕ) (x : Status R A E) → InHand d ends v t → t.state ≡ All → at_number t.revisions.slots.items k ≡ Some x → (IsEnded x → ⊥) → v.saw ≡ 1 → ⊥
   not_over v t k x h n e never o = never (all_ended t.revisions.slots.items k x (ap (λ z. done z t.revisions.slots.items) (sym n) ∙ h.saw o) e)
 
-  out_here : (v : View L) (t : Value) (k : ℕ) → InHand d ends v t → 0 < times k v.out → at_number t.revisions.slots.items k ≡ Some Out
+  pub out_here : (v : View L) (t : Value) (k : ℕ) → InHand d ends v t → 0 < times k v.out → at_number t.revisions.slots.items k ≡ Some Out
   out_here v t k h pos = let o = h.holds.outs k in is_out_one (at_number t.revisions.slots.items k) (omega arith)
 
   -- the value is in hand after a step of a hub in which nothing was halted, by a seat that has not seen all over

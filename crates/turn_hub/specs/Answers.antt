@@ -6,7 +6,7 @@
 --   JoinSays     of `join`
 --   EndedSays    of `end`
 --   JoinedOn     of `join_or_take`: what `join` tells, and then what is handed out
---   EndedOn      of `end_and_take`: what `end` tells, and then what is handed out
+--   EndedOn      of `end_and_take`: what `end` tells, and then what is handed out, or how the join of what waited came out
 --   IsHalted     a halt was entered, before the call or by it
 use Rattle.std.specs.Prelude.{◌≡◌, ℕ, Bool, true, false, Some, List, length, cond, MatchBool}
 use Rattle.revision_machine.specs.Numbered.{at_number, put_number}
@@ -24,7 +24,9 @@ use Rattle.turn_hub.specs.declared.answers.JoinAnswer.{JoinAnswer}
 use Rattle.turn_hub.specs.declared.answers.JoinAnswer.TheVariants as join
 use Rattle.turn_hub.specs.declared.answers.JoinStep.{JoinStep}
 use Rattle.turn_hub.specs.declared.answers.JoinStep.TheVariants as step
-use Rattle.turn_hub.specs.Views.{ended_said, ready_said, all_said, halt_by, or_no_memory}
+use Rattle.turn_hub.specs.declared.answers.EndStep.{EndStep}
+use Rattle.turn_hub.specs.declared.answers.EndStep.TheVariants as ending
+use Rattle.turn_hub.specs.Views.{ended_said, ready_said, all_said, halt_by, or_no_memory, sees}
 use Rattle.turn_hub.specs.Seats.{HasState, HasFork, HasJoin, ForkedAs, KeepsAll, KeepsOthers, AddsEntry, AddsNone, IsSameSeat}
 
 module _ {L : Type 0} where
@@ -39,7 +41,13 @@ module _ {L : Type 0} where
     pub halt : w.halt ≡ or_no_memory w.entered
     pub entry : AddsNone w
 
-  -- in one turn, two views of the seat that has it: what it found, what it knows of halts, and the schedule
+  -- in one turn, two views of the seat that has it: what it found
+  pub record IsOneTurn (v w : View L) : Type 0 where
+    pub said : w.said ≡ v.said
+    pub entered : w.entered ≡ v.entered
+    pub found : w.found ≡ v.found
+
+  -- the same, and what it knows of halts, and the schedule
   pub record IsSameTurn (v w : View L) : Type 0 where
     pub said : w.said ≡ v.said
     pub entered : w.entered ≡ v.entered
@@ -193,9 +201,25 @@ module _ {L R A E : Type 0} (d : HubMachine L R A E) (ends : E → L → Type 0)
     pub keeps : KeepsOthers v w k
     pub entry : MatchBool by_join (AddsNone w) (AddsEntry w k)
 
-  -- and in the same turn the seat takes what is ready
-  pub record EndedOn (v w : View L) (k : ℕ) (e : E) (by_join : Bool) (next : Onward R A) : Type 0 where
-    pub between : View L
-    pub ended : EndedSays v between k by_join
-    pub same : IsSameTurn between w
-    pub onward : OnwardSays (put_number w.said k (cond (d.trapped e) mark.Trapped mark.Done)) between w next
+  module _ {C S : Type 0} (claimed : C → A → E → Type 0) (stopped : S → A → E → Type 0) (group : C → List ℕ) (halted : S → List ℕ) where
+    -- the joiner n is handed out, and joins in the same turn: this is what `join` tells of it had the seat taken the turn between the two
+    pub record CameOn (said : List Said) (v w : View L) (n : ℕ) (r : JoinAnswer A C S) : Type 0 where
+      pub at : A
+      pub drawn : View L
+      pub same : IsSameTurn v drawn
+      pub retried : Retried said v drawn n at
+      pub come : HasCome claimed stopped group halted r
+      pub says :
+          JoinSays claimed stopped group halted drawn (sees (put_number said n mark.Out) v.log w) n at r
+
+    abbrev pub EndStepSays : List Said → View L → View L → EndStep R A C S → Type 0
+    EndStepSays said v w (ending.Run n r) = IsSameTurn v w × Ran said v w n r
+    EndStepSays said v w (ending.Came n r) = CameOn said v w n r
+    EndStepSays said v w ending.Nothing = IsSameTurn v w × IsNoneReady said v w
+
+    -- and in the same turn the seat takes what is ready, or a joiner that was ready goes on
+    pub record EndedOn (v w : View L) (k : ℕ) (e : E) (by_join : Bool) (next : EndStep R A C S) : Type 0 where
+      pub between : View L
+      pub ended : EndedSays v between k by_join
+      pub turn : IsOneTurn between w
+      pub onward : EndStepSays (put_number w.said k (cond (d.trapped e) mark.Trapped mark.Done)) between w next

@@ -5,6 +5,7 @@ pub mod Rule
 pub mod Seats
 pub mod Found
 pub mod Queued
+pub mod Drawn
 pub mod Answers
 pub mod Left
 pub mod Closing

@@ -2,6 +2,7 @@
 --   ended_said, ready_said, all_said   of what it found of the revisions
 --   commits, hands_in, ends_in, draws, stops   what the seat with the turn does
 --   rests                              it gives the turn back
+--   sees                               it says that it found something else
 --   most, part, witness, both          seats are cut in two and joined
 use Rattle.std.specs.Prelude.{ℕ, ◌+◌, ◌-◌, Bool, true, false, List, [], ◌∷◌, ◌++◌, cond, ◌==◌, Option, Some, None}
 use Rattle.revision_machine.specs.Numbered.{at_number}
@@ -137,6 +138,11 @@ module _ {L : Type 0} where
   abbrev pub rests : View L → View L
   rests v =
       view v.parts v.start v.group 0 v.log [] v.passes v.saw v.halt v.said v.entered v.found
+
+  -- the same seat, had it found this of the revisions, and this schedule
+  abbrev pub sees : List Said → List ℕ → View L → View L
+  sees said found v =
+      view v.parts v.start v.group v.has v.log v.out v.passes v.saw v.halt said v.entered found
 
   abbrev pub both : View L → View L → View L
   both v w =

@@ -52,6 +52,23 @@ pub enum JoinStep<R, A, C, S> {
     Waits(Onward<R, A>),
 }
 
+/// What a seat that has handed in an end goes on with.
+#[derive(Drop)]
+pub enum EndStep<R, A, C, S> {
+    /// A revision before its leg.
+    Run {
+        number: u32,
+        runner: R,
+    },
+    /// A joiner whose joinee has ended, and how its join came out.
+    Came {
+        number: u32,
+        answer: JoinAnswer<A, C, S>,
+    },
+    /// Nothing is ready.
+    Nothing,
+}
+
 /// What a halt left of a revision.
 #[derive(Drop)]
 pub enum Kept<R, A> {

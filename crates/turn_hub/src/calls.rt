@@ -1,7 +1,7 @@
 //! The calls in a turn.
 ghost use Rattle.std.specs.Prelude.{◌≡◌, ◌<◌, ℕ, [], Some, None, IfOk, IfErr, OnOk, MatchBool};
 
-use crate::answers::{JoinAnswer, JoinStep, Onward, Taken};
+use crate::answers::{EndStep, JoinAnswer, JoinStep, Onward, Taken};
 use crate::ended::has_ended;
 use crate::hub::TurnHub;
 use crate::revision::Revision;
@@ -179,21 +179,23 @@ impl<L: Revision> TurnHub<L> {
         }
     }
 
-    /// The same, and the seat takes what is ready in the same turn.
+    /// The same, and the seat takes what is ready in the same turn. A joiner that was ready, as each
+    /// that waited for this end, is joined in that turn too, by one further entry.
     pub fn end_and_take<W: Wait>(
         &self,
         rt: &W,
         seat: &mut HubSeat<L>,
         of: u32,
         end: L::End,
-    ) -> Result<Onward<L::Runner, L::AtJoin>, L::End>
+    ) -> Result<EndStep<L::Runner, L::AtJoin, L::Claimed, L::Stopped>, L::End>
         requires own { seat.old.place.table_id ≡ self.now.turn.shared.table_id }
         requires event { MatchBool (L.by_join end)
             (HasTrap L.machine L.ends seat.old.place.me.0 of end)
             (HasEnd L.machine L.ends seat.old.place.me.0 of end) }
         ensures own { seat.new.place.table_id ≡ seat.old.place.table_id }
-        ensures ok { IfOk result (λ n. EndedOn L.machine L.ends seat.old.place.me.0
-            seat.new.place.me.0 of end (L.by_join end) n) }
+        ensures ok { IfOk result (λ n. EndedOn L.machine L.ends L.claimed L.stopped
+            L.claimed_group L.stopped_group
+            seat.old.place.me.0 seat.new.place.me.0 of end (L.by_join end) n) }
         ensures err { IfErr result (λ e. (e ≡ end) × IsHalted seat.old.place.me.0
             seat.new.place.me.0) }
     {
@@ -203,7 +205,7 @@ impl<L: Revision> TurnHub<L> {
             return Err(end);
         }
         match self.end_in(&mut seat.place, &mut turn, of, end) {
-            Ok(()) => Ok(self.take_next(&mut seat.place, turn)),
+            Ok(()) => Ok(self.take_or_join(&mut seat.place, turn)),
             Err(end) => {
                 self.put_home_halted(&mut seat.place, turn);
                 Err(end)

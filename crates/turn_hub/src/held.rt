@@ -1,9 +1,9 @@
 //! What a seat does in the turn that it has.
-ghost use Rattle.std.specs.Prelude.{◌≡◌, true, false, IfErr, OnOk, MatchBool};
+ghost use Rattle.std.specs.Prelude.{◌≡◌, ◌≤◌, ℕ, List, true, false, IfErr, OnOk, MatchBool};
 ghost use Rattle.revision_machine.specs.Numbered.{at_number, put_number};
 ghost use Rattle.hub_algebra.specs.declared.status.Status.TheVariants.{Waiting, Over};
 
-use crate::answers::{JoinAnswer, Onward};
+use crate::answers::{EndStep, JoinAnswer, Onward};
 use crate::hub::TurnHub;
 use crate::revision::Revision;
 use crate::seat::Place;
@@ -11,16 +11,60 @@ use crate::state::HubState;
 use crate::taking::take_in;
 use crate::value::Turn;
 use crate::vectors::empty;
-use crate::view::View;
+use crate::view::{Said, View};
 use hub_algebra::Status;
 
 impl<L: Revision> TurnHub<L> {
     ghost use Rattle.turn_hub.specs.declared.state.HubState.TheVariants.{All};
     ghost use Rattle.turn_hub.specs.Answers.{OnwardSays, JoinSays, HasCome, IsSameTurn};
+    ghost use Rattle.turn_hub.specs.Answers.{IsOneTurn, EndStepSays};
+    ghost use Rattle.turn_hub.specs.Drawn.{IsDrawnHere};
     ghost use Rattle.turn_hub.specs.Found.{ended_here};
+    ghost use Rattle.turn_hub.specs.Passes.{named, times, Fresh};
     ghost use Rattle.turn_hub.specs.Rule.{InHand, IsOpen, Told, says};
     ghost use Rattle.turn_hub.specs.Seats.{HasJoin, HasEnd, HasTrap, IsResting};
-    ghost use Rattle.turn_hub.specs.Views.{hands_in, ends_in};
+    ghost use Rattle.turn_hub.specs.Views.{hands_in, ends_in, sees};
+
+    // Takes the first that is ready out of the value.
+    fn draw_next(
+        &self,
+        place: &mut Place<L>,
+        turn: &mut Turn<L::Runner, L::AtJoin, L::End>,
+    ) -> Onward<L::Runner, L::AtJoin>
+        requires own { (place.old.table_id ≡ self.now.turn.shared.table_id)
+            × IsOpen L.machine L.ends place.old.me }
+        requires hand { InHand L.machine L.ends place.old.me.0 turn.old }
+        requires free { (turn.old.state ≡ All) × (place.old.me.0.entered ≡ All) }
+        ensures own { (place.new.table_id ≡ place.old.table_id)
+            × IsOpen L.machine L.ends place.new.me }
+        ensures parts { place.new.me.0.parts ≡ place.old.me.0.parts }
+        ensures hand { InHand L.machine L.ends place.new.me.0 turn.new }
+        ensures state { turn.new.state ≡ turn.old.state }
+        ensures turn { IsSameTurn place.old.me.0 place.new.me.0 }
+        ensures drawn { IsDrawnHere L.machine place.old.me.0 place.new.me.0
+            turn.old turn.new result }
+        ensures answer { OnwardSays L.machine L.ends
+            (says L.machine L.ends turn.old.revisions.slots.items)
+            place.old.me.0 place.new.me.0 result }
+    {
+        let Some(number) = turn.revisions.queue.take() else {
+            return Onward::Nothing;
+        };
+        match turn.revisions.swap(number, Status::Out) {
+            Status::Ready(runner) => {
+                self.draw(place, number);
+                Onward::Run { number, runner }
+            },
+            Status::Waiting(at) => {
+                self.draw(place, number);
+                Onward::Retry { number, at }
+            },
+            other => {
+                empty(Some(other));
+                unreachable!()
+            },
+        }
+    }
 
     // Takes the first that is ready, and gives the turn back.
     pub(crate) fn take_next(
@@ -39,24 +83,43 @@ impl<L: Revision> TurnHub<L> {
             (says L.machine L.ends turn.revisions.slots.items)
             place.old.me.0 place.new.me.0 result }
     {
-        let Some(number) = turn.revisions.queue.take() else {
-            self.put_home(place, turn);
-            return Onward::Nothing;
-        };
-        match turn.revisions.swap(number, Status::Out) {
-            Status::Ready(runner) => {
-                self.draw(place, number);
+        let next = self.draw_next(place, &mut turn);
+        self.put_home(place, turn);
+        next
+    }
+
+    // The same, but a joiner joins, since its joinee has ended.
+    pub(crate) fn take_or_join(
+        &self,
+        place: &mut Place<L>,
+        mut turn: Turn<L::Runner, L::AtJoin, L::End>,
+    ) -> EndStep<L::Runner, L::AtJoin, L::Claimed, L::Stopped>
+        requires own { (place.old.table_id ≡ self.now.turn.shared.table_id)
+            × IsOpen L.machine L.ends place.old.me }
+        requires hand { InHand L.machine L.ends place.old.me.0 turn }
+        requires free { (turn.state ≡ All) × (place.old.me.0.entered ≡ All) }
+        requires fresh { Fresh place.old.me.0.log place.old.me.0.passes
+            × ((k : ℕ) → named k place.old.me.0.passes ≤ times k place.old.me.0.out) }
+        ensures own { place.new.table_id ≡ place.old.table_id }
+        ensures rests { IsResting place.old.me place.new.me }
+        ensures turn { IsOneTurn place.old.me.0 place.new.me.0 }
+        ensures answer { EndStepSays L.machine L.ends L.claimed L.stopped
+            L.claimed_group L.stopped_group
+            (says L.machine L.ends turn.revisions.slots.items)
+            place.old.me.0 place.new.me.0 result }
+    {
+        match self.draw_next(place, &mut turn) {
+            Onward::Run { number, runner } => {
                 self.put_home(place, turn);
-                Onward::Run { number, runner }
+                EndStep::Run { number, runner }
             },
-            Status::Waiting(at) => {
-                self.draw(place, number);
+            Onward::Retry { number, at } => {
+                let answer = self.join_in(place, turn, number, at);
+                EndStep::Came { number, answer }
+            },
+            Onward::Nothing => {
                 self.put_home(place, turn);
-                Onward::Retry { number, at }
-            },
-            other => {
-                empty(Some(other));
-                unreachable!()
+                EndStep::Nothing
             },
         }
     }
@@ -96,7 +159,8 @@ impl<L: Revision> TurnHub<L> {
         }
     }
 
-    // A joiner takes in the end of its joinee, which has ended, and the turn is given back.
+    // A joiner takes in the end of its joinee, which has ended, and the turn is given back. What it
+    // tells is told as if the seat had found the value as it is now, where that is not so.
     pub(crate) fn join_in(
         &self,
         place: &mut Place<L>,
@@ -106,7 +170,8 @@ impl<L: Revision> TurnHub<L> {
     ) -> JoinAnswer<L::AtJoin, L::Claimed, L::Stopped>
         requires own { (place.old.table_id ≡ self.now.turn.shared.table_id)
             × IsOpen L.machine L.ends place.old.me }
-        requires told { (v : View L.State) × Told L.machine L.ends v place.old.me.0 turn
+        requires told { (v : View L.State) × (said : List Said) × (found : List ℕ)
+            × Told L.machine L.ends v (sees said found place.old.me.0) turn
             × HasJoin L.machine L.ends v of at }
         requires free { turn.state ≡ All }
         requires group { L.machine.joiner_group at ≡ place.old.me.0.group }
@@ -114,12 +179,14 @@ impl<L: Revision> TurnHub<L> {
             ≡ true }
         ensures own { place.new.table_id ≡ place.old.table_id }
         ensures rests { IsResting place.old.me place.new.me }
+        ensures turn { IsOneTurn place.old.me.0 place.new.me.0 }
         ensures come { HasCome L.machine L.ends L.claimed L.stopped
             L.claimed_group L.stopped_group result }
-        ensures answer { (v : View L.State) → Told L.machine L.ends v place.old.me.0 turn
+        ensures answer { (v : View L.State) (said : List Said) (found : List ℕ)
+            → Told L.machine L.ends v (sees said found place.old.me.0) turn
             → HasJoin L.machine L.ends v of at
             → JoinSays L.machine L.ends L.claimed L.stopped L.claimed_group L.stopped_group
-            v place.new.me.0 of at result }
+            v (sees said found place.new.me.0) of at result }
     {
         let on = L::on(&at);
         if !turn.enter(of) {

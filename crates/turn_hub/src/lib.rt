@@ -22,7 +22,7 @@ mod value;
 mod vectors;
 mod view;
 
-pub use answers::{JoinAnswer, JoinStep, Kept, Onward, Taken};
+pub use answers::{EndStep, JoinAnswer, JoinStep, Kept, Onward, Taken};
 pub use closing::{HubEnd, HubRun, HubSchedule};
 pub use hub::TurnHub;
 pub use revision::Revision;

@@ -1,22 +1,27 @@
 use Rattle.std.proofs.Common.{rules, ◌≡◌, refl, ap, ◌∙◌}
 use Rattle.turn_hub.specs.declared.state.HubState.TheVariants.{All}
 use Rattle.turn_hub.specs.Views.{rests, stops, or_no_memory}
-use Rattle.turn_hub.proofs.Says.{ended_on, ended_free, now_halted}
+use Rattle.turn_hub.proofs.Says.{ended_free, now_halted}
+use Rattle.turn_hub.proofs.Drawing.{ended_on, passes_after}
 use Rattle.turn_hub.proofs.hub.TurnHub.end_and_take.Goals as goal
 
 pub end_in-requires-clause-told : goal.end_in-requires-clause-told
 end_in-requires-clause-told g c = (c.args.seat.now.place.me.0, c.enter-turn.ensures.told, c.requires.event)
 
-pub take_next-requires-clause-free : goal.take_next-requires-clause-free
-take_next-requires-clause-free g c =
+pub take_or_join-requires-clause-free : goal.take_or_join-requires-clause-free
+take_or_join-requires-clause-free g c =
     let none : c.enter-turn.result.state ≡ All = search rules in
     (c.end_in.ensures.state ∙ none, ended_free _ _ _ _ _ c.enter-turn.result _ _ c.enter-turn.ensures.told none c.in-Ok.ensures.ok.0)
+
+pub take_or_join-requires-clause-fresh : goal.take_or_join-requires-clause-fresh
+take_or_join-requires-clause-fresh g c = passes_after _ _ _ _ _ c.enter-turn.result _ _ c.enter-turn.ensures.told c.in-Ok.ensures.ok.0
 
 pub returns-in-Ok-clause-ok : goal.returns-in-Ok-clause-ok
 returns-in-Ok-clause-ok g c =
     let none : c.enter-turn.result.state ≡ All = search rules in
     let is = c.in-Ok.ensures.ok in
-    ended_on _ _ _ _ _ _ c.enter-turn.result c.end_in.new.turn _ _ _ _ c.enter-turn.ensures.told none is.0 is.1 c.take_next.ensures.turn c.take_next.ensures.answer
+    ended_on g.L.Revision.machine g.L.Revision.ends g.L.Revision.claimed g.L.Revision.stopped g.L.Revision.claimed_group g.L.Revision.stopped_group
+        _ _ _ _ c.enter-turn.result c.end_in.new.turn _ _ _ c.take_or_join.result c.enter-turn.ensures.told none is.0 is.1 c.take_or_join.ensures.turn c.take_or_join.ensures.answer
 
 pub returns-in-Err-clause-err : goal.returns-in-Err-clause-err
 returns-in-Err-clause-err g c =

@@ -4,10 +4,11 @@ use Rattle.turn_hub.specs.declared.state.HubState.TheVariants.{All}
 use Rattle.turn_hub.specs.Found.{ended_here}
 use Rattle.turn_hub.specs.Views.{rests, stops, or_no_memory}
 use Rattle.turn_hub.proofs.Says.{waited, now_halted}
+use Rattle.turn_hub.proofs.Drawing.{same_found}
 use Rattle.turn_hub.proofs.hub.TurnHub.join.Goals as goal
 
 pub join_in-requires-clause-told : goal.join_in-requires-clause-told
-join_in-requires-clause-told g c = (c.args.seat.now.place.me.0, c.enter-turn.ensures.told, c.requires.event)
+join_in-requires-clause-told g c = (c.args.seat.now.place.me.0, c.enter-turn.new.place.me.0.said, c.enter-turn.new.place.me.0.found, c.enter-turn.ensures.told, c.requires.event)
 
 pub join_in-requires-clause-group : goal.join_in-requires-clause-group
 join_in-requires-clause-group g c = c.requires.group ∙ sym c.enter-turn.ensures.told.group
@@ -23,7 +24,10 @@ keep_in-requires-clause-waits g c =
     let not_ended : ended_here (at_number c.enter-turn.result.revisions.slots.items (g.L.Revision.machine.on c.args.at)) ≡ false = search rules in not_ended
 
 pub returns-then-has_ended-clause-answer : goal.returns-then-has_ended-clause-answer
-returns-then-has_ended-clause-answer g c = c.join_in.ensures.answer _ c.enter-turn.ensures.told c.requires.event
+returns-then-has_ended-clause-answer g c =
+    let w = c.enter-turn.new.place.me.0 in
+    same_found g.L.Revision.machine g.L.Revision.ends g.L.Revision.claimed g.L.Revision.stopped g.L.Revision.claimed_group g.L.Revision.stopped_group
+        c.args.seat.now.place.me.0 w c.join_in.new.place.me.0 c.args.of c.args.at c.join_in.result c.join_in.ensures.turn (c.join_in.ensures.answer c.args.seat.now.place.me.0 w.said w.found c.enter-turn.ensures.told c.requires.event)
 
 pub returns-in-Ok-clause-answer : goal.returns-in-Ok-clause-answer
 returns-in-Ok-clause-answer g c =

@@ -4,10 +4,11 @@ use Rattle.turn_hub.specs.declared.state.HubState.TheVariants.{All}
 use Rattle.turn_hub.specs.Found.{ended_here}
 use Rattle.turn_hub.specs.Views.{rests, stops, or_no_memory}
 use Rattle.turn_hub.proofs.Says.{waited_on, now_halted}
+use Rattle.turn_hub.proofs.Drawing.{same_found}
 use Rattle.turn_hub.proofs.hub.TurnHub.join_or_take.Goals as goal
 
 pub join_in-requires-clause-told : goal.join_in-requires-clause-told
-join_in-requires-clause-told g c = (c.args.seat.now.place.me.0, c.enter-turn.ensures.told, c.requires.event)
+join_in-requires-clause-told g c = (c.args.seat.now.place.me.0, c.enter-turn.new.place.me.0.said, c.enter-turn.new.place.me.0.found, c.enter-turn.ensures.told, c.requires.event)
 
 pub join_in-requires-clause-group : goal.join_in-requires-clause-group
 join_in-requires-clause-group g c = c.requires.group ∙ sym c.enter-turn.ensures.told.group
@@ -28,7 +29,12 @@ take_next-requires-clause-free g c =
     (c.keep_in.ensures.state ∙ none, ap (λ v. v.entered) c.in-Ok.ensures.ok.0 ∙ (c.enter-turn.ensures.told.entered ∙ none))
 
 pub returns-then-ended-clause-answer : goal.returns-then-ended-clause-answer
-returns-then-ended-clause-answer g c = (c.join_in.ensures.come, c.join_in.ensures.answer _ c.enter-turn.ensures.told c.requires.event)
+returns-then-ended-clause-answer g c =
+    let w = c.enter-turn.new.place.me.0 in (
+      c.join_in.ensures.come,
+      same_found g.L.Revision.machine g.L.Revision.ends g.L.Revision.claimed g.L.Revision.stopped g.L.Revision.claimed_group g.L.Revision.stopped_group
+          c.args.seat.now.place.me.0 w c.join_in.new.place.me.0 c.args.of c.args.at c.join_in.result c.join_in.ensures.turn (c.join_in.ensures.answer c.args.seat.now.place.me.0 w.said w.found c.enter-turn.ensures.told c.requires.event),
+    )
 
 pub returns-in-Ok-clause-answer : goal.returns-in-Ok-clause-answer
 returns-in-Ok-clause-answer g c =

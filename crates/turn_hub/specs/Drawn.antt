@@ -1,0 +1,25 @@
+-- What is known of a joiner that was taken out of the value.
+--   IsDrawn    it is out with this seat, and its joinee has ended
+use Rattle.std.specs.Prelude.{◌≡◌, ℕ, true}
+use Rattle.revision_machine.specs.Numbered.{at_number, put_number}
+use Rattle.hub_algebra.specs.declared.status.Status.TheVariants.{Out}
+use Rattle.hub_algebra.specs.HubMachine.{HubMachine}
+use Rattle.turn_hub.specs.declared.answers.Onward.{Onward}
+use Rattle.turn_hub.specs.declared.answers.Onward.TheVariants as onward
+use Rattle.turn_hub.specs.declared.value.Turn.{Turn}
+use Rattle.turn_hub.specs.declared.view.View.{View}
+use Rattle.turn_hub.specs.Found.{ended_here}
+use Rattle.turn_hub.specs.Rule.{slots_of}
+use Rattle.turn_hub.specs.Views.{draws}
+
+module _ {L R A E : Type 0} (d : HubMachine L R A E) where
+  pub record IsDrawn (v w : View L) (t t' : Turn R A E) (n : ℕ) (a : A) : Type 0 where
+    pub view : w ≡ draws n v
+    pub slots : slots_of t' ≡ put_number (slots_of t) n Out
+    pub ended : ended_here (at_number (slots_of t') (d.on a)) ≡ true
+
+  -- where the first that is ready is a joiner
+  abbrev pub IsDrawnHere : View L → View L → Turn R A E → Turn R A E → Onward R A → Type 0
+  IsDrawnHere v w t t' (onward.Run n r) = Unit {0}
+  IsDrawnHere v w t t' (onward.Retry n a) = IsDrawn v w t t' n a
+  IsDrawnHere v w t t' onward.Nothing = Unit {0}
