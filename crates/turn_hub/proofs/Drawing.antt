@@ -1,10 +1,10 @@
 -- What is ready is drawn in a turn, and a joiner that was drawn joins in it.
-use Rattle.std.proofs.Common.{◌≡◌, ◌≢◌, inl, inr, ⊎_elim, ℕ, ◌+◌, ◌<◌, ◌≤◌, Bool, true, false, List, [], ◌∷◌, ◌++◌, cond, refl, sym, ap, ◌∙◌, subst, arith, Some}
+use Rattle.std.proofs.Common.{◌≡◌, ⊎_elim, ℕ, ◌≤◌, Bool, true, false, List, [], ◌∷◌, ◌++◌, refl, sym, ap, ◌∙◌, subst, arith, Some}
 use mathlib.Core.Logic.{dite}
 use native.Mathlib.Decide.{ℕ_discrete}
 use Rattle.revision_machine.specs.Numbered.{at_number, put_number}
 use Rattle.hub_algebra.specs.declared.status.Status.{Status}
-use Rattle.hub_algebra.specs.declared.status.Status.TheVariants.{Ready, Out, Waiting, Over, Gone}
+use Rattle.hub_algebra.specs.declared.status.Status.TheVariants.{Out, Waiting, Over}
 use Rattle.hub_algebra.specs.HubMachine.{HubMachine}
 use Rattle.hub_algebra.proofs.Replay.{put_other}
 use Rattle.turn_hub.specs.declared.value.Turn.{Turn}
@@ -17,13 +17,12 @@ use Rattle.turn_hub.specs.declared.answers.Onward.TheVariants as onward
 use Rattle.turn_hub.specs.declared.answers.JoinAnswer.{JoinAnswer}
 use Rattle.turn_hub.specs.declared.answers.EndStep.{EndStep}
 use Rattle.turn_hub.specs.declared.answers.EndStep.TheVariants as ending
-use Rattle.turn_hub.specs.Passes.{is_at, times, named, Pass, without, left, IsPass, Fresh}
+use Rattle.turn_hub.specs.Passes.{times, named, Pass, left, IsPass, Fresh}
 use Rattle.turn_hub.specs.Views.{commits, hands_in, ends_in, draws, rests, sees}
-use Rattle.turn_hub.specs.Seats.{KeepsOthers}
 use Rattle.turn_hub.specs.Found.{ended_here, is_ready}
-use Rattle.turn_hub.specs.Rule.{done, is_over, said_of, says, InHand, Told}
+use Rattle.turn_hub.specs.Rule.{done, said_of, says, InHand, Told}
 use Rattle.turn_hub.specs.Drawn.{IsDrawn}
-use Rattle.turn_hub.specs.Answers.{IsSameTurn, IsOneTurn, OnwardSays, Ran, Retried, IsNoneReady, HasCome, JoinSays, CameOn, EndStepSays, EndedOn}
+use Rattle.turn_hub.specs.Answers.{IsSameTurn, IsOneTurn, OnwardSays, Retried, HasCome, JoinSays, CameOn, EndStepSays, EndedOn}
 use Rattle.turn_hub.proofs.Lists.{is_at_same, is_at_other, count_gone, count_other, left_pass, since_more, since_now}
 use Rattle.turn_hub.proofs.Turns.{no_more, all_ended, out_here}
 use Rattle.turn_hub.proofs.Says.{says_put, onward_over, ends_said, ended_says}

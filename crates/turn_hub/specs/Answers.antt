@@ -27,7 +27,7 @@ use Rattle.turn_hub.specs.declared.answers.JoinStep.TheVariants as step
 use Rattle.turn_hub.specs.declared.answers.EndStep.{EndStep}
 use Rattle.turn_hub.specs.declared.answers.EndStep.TheVariants as ending
 use Rattle.turn_hub.specs.Views.{ended_said, ready_said, all_said, halt_by, or_no_memory, sees}
-use Rattle.turn_hub.specs.Seats.{HasState, HasFork, HasJoin, ForkedAs, KeepsAll, KeepsOthers, AddsEntry, AddsNone, IsSameSeat}
+use Rattle.turn_hub.specs.Seats.{HasState, HasFork, HasJoin, ForkedAs, KeepsAll, KeepsOthers, AddsEntry, AddsNone}
 
 module _ {L : Type 0} where
   -- nothing was entered before this turn

@@ -21,7 +21,7 @@ returns-in-Ok-clause-ok g c =
     let none : c.enter-turn.result.state ≡ All = search rules in
     let is = c.in-Ok.ensures.ok in
     ended_on g.L.Revision.machine g.L.Revision.ends g.L.Revision.claimed g.L.Revision.stopped g.L.Revision.claimed_group g.L.Revision.stopped_group
-        _ _ _ _ c.enter-turn.result c.end_in.new.turn _ _ _ c.take_or_join.result c.enter-turn.ensures.told none is.0 is.1 c.take_or_join.ensures.turn c.take_or_join.ensures.answer
+    _ _ _ _ c.enter-turn.result c.end_in.new.turn _ _ _ c.take_or_join.result c.enter-turn.ensures.told none is.0 is.1 c.take_or_join.ensures.turn c.take_or_join.ensures.answer
 
 pub returns-in-Err-clause-err : goal.returns-in-Err-clause-err
 returns-in-Err-clause-err g c =

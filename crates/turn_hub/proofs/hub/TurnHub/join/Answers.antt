@@ -27,7 +27,7 @@ pub returns-then-has_ended-clause-answer : goal.returns-then-has_ended-clause-an
 returns-then-has_ended-clause-answer g c =
     let w = c.enter-turn.new.place.me.0 in
     same_found g.L.Revision.machine g.L.Revision.ends g.L.Revision.claimed g.L.Revision.stopped g.L.Revision.claimed_group g.L.Revision.stopped_group
-        c.args.seat.now.place.me.0 w c.join_in.new.place.me.0 c.args.of c.args.at c.join_in.result c.join_in.ensures.turn (c.join_in.ensures.answer c.args.seat.now.place.me.0 w.said w.found c.enter-turn.ensures.told c.requires.event)
+    c.args.seat.now.place.me.0 w c.join_in.new.place.me.0 c.args.of c.args.at c.join_in.result c.join_in.ensures.turn (c.join_in.ensures.answer c.args.seat.now.place.me.0 w.said w.found c.enter-turn.ensures.told c.requires.event)
 
 pub returns-in-Ok-clause-answer : goal.returns-in-Ok-clause-answer
 returns-in-Ok-clause-answer g c =

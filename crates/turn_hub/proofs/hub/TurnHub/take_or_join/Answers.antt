@@ -20,5 +20,5 @@ returns-in-Retry-clause-answer g c =
     let said = says g.L.Revision.machine g.L.Revision.ends c.draw_next.new.turn.revisions.slots.items in
     let told = told_drawn _ _ _ w c.args.turn c.draw_next.new.turn _ _ c.draw_next.ensures.hand c.in-Retry.ensures.drawn (c.draw_next.ensures.state ∙ c.requires.free.0) c.requires.free.1 c.requires.fresh in
     came_on g.L.Revision.machine g.L.Revision.ends g.L.Revision.claimed g.L.Revision.stopped g.L.Revision.claimed_group g.L.Revision.stopped_group
-        c.args.place.now.me.0 w c.join_in-answer.new.place.me.0 c.args.turn c.draw_next.new.turn c.in-Retry.number c.in-Retry.at c.join_in-answer.result
-        c.in-Retry.ensures.drawn c.draw_next.ensures.turn c.in-Retry.ensures.answer c.join_in-answer.ensures.come (c.join_in-answer.ensures.answer w said w.log told c.in-Retry.ensures.answer.event)
+    c.args.place.now.me.0 w c.join_in-answer.new.place.me.0 c.args.turn c.draw_next.new.turn c.in-Retry.number c.in-Retry.at c.join_in-answer.result
+    c.in-Retry.ensures.drawn c.draw_next.ensures.turn c.in-Retry.ensures.answer c.join_in-answer.ensures.come (c.join_in-answer.ensures.answer w said w.log told c.in-Retry.ensures.answer.event)
