@@ -1,4 +1,5 @@
 pub mod Legs
+pub mod Nexts
 pub mod Work
 pub mod Threads
 pub mod Running

@@ -2,15 +2,20 @@
 --   IsHandOf       the hand is for the run of which the seat is
 --   StandsAtFork   the seat has a revision whose leg leads to this fork
 --   HasClaimed     the seat has a joiner that has taken an end in
---   HasOnward      the seat has the revision that the thread goes on with
-use Rattle.std.specs.Prelude.{◌≡◌, ℕ, List, Some, false}
+--   HasStopped     the seat has a joiner that an end has stopped
+--   HasAnswer      the seat has a joiner whose join came out so
+--   HasNext        the seat has the revision that the thread goes on with
+use Rattle.std.specs.Prelude.{◌≡◌, ℕ, List, [], Some, true, false}
 use Rattle.revision_machine.specs.Numbered.{Bears}
 use Rattle.hub_algebra.specs.HubMachine.{HubMachine}
-use Rattle.turn_hub.specs.declared.answers.Onward.{Onward}
-use Rattle.turn_hub.specs.declared.answers.Onward.TheVariants as onward
+use Rattle.turn_hub.specs.declared.answers.JoinAnswer.{JoinAnswer}
+use Rattle.turn_hub.specs.declared.answers.JoinAnswer.TheVariants as join
 use Rattle.turn_hub.specs.declared.view.View.{View}
 use Rattle.turn_hub.specs.Seats.{HasState, HasJoin}
+use Rattle.turn_hub.specs.Views.{sees}
 use Rattle.turn_hub.specs.Answers.{HasMet}
+use Rattle.hub_workers.specs.declared.next.Next.{Next}
+use Rattle.hub_workers.specs.declared.next.Next.TheVariants as next
 
 module _ {H L : Type 0} (begins : H → L → Type 0) (group : H → List ℕ) where
   -- the run began in a state that the hand is for, and its snapshots belong to what those of the hand do
@@ -23,12 +28,37 @@ module _ {L R A E : Type 0} (d : HubMachine L R A E) (ends : E → L → Type 0)
   StandsAtFork forker child v k at =
       (l : L) × HasState d ends v k l × (d.next l ≡ Bears (forker at) (child at))
 
+  -- in the world of a schedule from the run's start they met
+  abbrev pub HasMetOnce : View L → ℕ → A → E → Type 0
+  HasMetOnce v k a e = (schedule : List ℕ) × HasMet d ends (sees [] schedule v) k a e
+
   abbrev pub HasClaimed : {C : Type 0} → (C → A → E → Type 0) → View L → ℕ → C → Type 0
   HasClaimed claimed v k c =
-      (a : A) × (e : E) × claimed c a e × (d.trapped e ≡ false) × HasMet d ends v k a e
+      (a : A) × (e : E) × claimed c a e × (d.trapped e ≡ false) × HasMetOnce v k a e
       × HasState d ends v k (d.joined a e)
 
-  abbrev pub HasOnward : View L → Onward R A → Type 0
-  HasOnward v (onward.Run n r) = HasState d ends v n (d.runs r) × (d.runner_group r ≡ v.group)
-  HasOnward v (onward.Retry n a) = HasJoin d ends v n a × (d.joiner_group a ≡ v.group)
-  HasOnward v onward.Nothing = Unit {0}
+  abbrev pub HasStopped : {S : Type 0} → (S → A → E → Type 0) → View L → ℕ → S → Type 0
+  HasStopped stopped v k s =
+      (a : A) × (e : E) × stopped s a e × (d.trapped e ≡ true) × (d.is_try a ≡ false)
+      × HasMetOnce v k a e × HasState d ends v k (d.joined a e)
+
+  -- it outlives its joinee's trap
+  abbrev pub HasOutlived : View L → ℕ → A → Type 0
+  HasOutlived v k a =
+      (e : E) × (d.is_try a ≡ true) × (d.trapped e ≡ true) × HasState d ends v k (d.joined a e)
+
+  module _ {C S : Type 0} (claimed : C → A → E → Type 0) (stopped : S → A → E → Type 0)
+      (group : C → List ℕ) (halted : S → List ℕ) where
+    abbrev pub HasAnswer : View L → ℕ → JoinAnswer A C S → Type 0
+    HasAnswer v k (join.Claimed c) = HasClaimed claimed v k c × (group c ≡ v.group)
+    HasAnswer v k join.Waits = Unit {0}
+    HasAnswer v k (join.Twice a) = d.joiner_group a ≡ v.group
+    HasAnswer v k (join.Trapped s) = HasStopped stopped v k s × (halted s ≡ v.group)
+    HasAnswer v k (join.Dropped a) = HasOutlived v k a × (d.joiner_group a ≡ v.group)
+    HasAnswer v k (join.OutOfMemory a) = d.joiner_group a ≡ v.group
+
+    abbrev pub HasNext : View L → Next R A C S → Type 0
+    HasNext v (next.Run n r) = HasState d ends v n (d.runs r) × (d.runner_group r ≡ v.group)
+    HasNext v (next.Retry n a) = HasJoin d ends v n a × (d.joiner_group a ≡ v.group)
+    HasNext v (next.Came n r) = HasAnswer v n r
+    HasNext v next.Nothing = Unit {0}

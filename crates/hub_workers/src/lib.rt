@@ -4,6 +4,7 @@
 mod bell;
 mod gate;
 mod legs;
+mod next;
 mod running;
 mod scout;
 mod threads;

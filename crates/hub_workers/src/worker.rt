@@ -2,14 +2,15 @@
 ghost use Rattle.std.specs.Prelude.{◌≡◌, MatchBool};
 ghost use Rattle.turn_hub.specs.Names.{IsSeatOf, view_of};
 ghost use Rattle.turn_hub.specs.Seats.{HasState, HasJoin, HasEnd, HasTrap, IsSameSeat};
-ghost use Rattle.hub_workers.specs.Work.{IsHandOf, StandsAtFork, HasClaimed, HasOnward};
+ghost use Rattle.hub_workers.specs.Work.{IsHandOf, StandsAtFork, HasClaimed, HasAnswer, HasNext};
 
 use crate::bell::Bell;
 use crate::gate::Gate;
 use crate::legs::{Event, Legs, Settled};
+use crate::next::{Next, after_end, after_joiner};
 use crate::scout::{Scout, pass_on};
 use std::sync::Wait;
-use turn_hub::{HubSeat, JoinAnswer, JoinStep, Onward, Taken, TurnHub};
+use turn_hub::{HubSeat, JoinAnswer, JoinStep, Taken, TurnHub};
 
 // Enters want of memory.
 fn halt<L: Legs, W: Wait>(rt: &W, hub: &TurnHub<L>, seat: &mut HubSeat<L>)
@@ -20,7 +21,7 @@ fn halt<L: Legs, W: Wait>(rt: &W, hub: &TurnHub<L>, seat: &mut HubSeat<L>)
     hub.halt(rt, seat);
 }
 
-// Hands in an end, and takes what is ready: first what waited for that end.
+// Hands in an end, and takes what is ready: first what waited for that end, which has joined.
 fn hand_in<L: Legs, W: Wait>(
     rt: &W,
     hub: &TurnHub<L>,
@@ -28,21 +29,22 @@ fn hand_in<L: Legs, W: Wait>(
     seat: &mut HubSeat<L>,
     number: u32,
     end: L::End,
-) -> Onward<L::Runner, L::AtJoin>
+) -> Next<L::Runner, L::AtJoin, L::Claimed, L::Stopped>
     requires own { IsSeatOf hub.now seat.old }
     requires event { MatchBool (L.by_join end)
         (HasTrap L.machine L.ends (view_of seat.old) number end)
         (HasEnd L.machine L.ends (view_of seat.old) number end) }
     ensures own { IsSeatOf hub.now seat.new }
     ensures same { IsSameSeat (view_of seat.old) (view_of seat.new) }
-    ensures onward { HasOnward L.machine L.ends (view_of seat.new) result }
+    ensures next { HasNext L.machine L.ends L.claimed L.stopped
+        L.claimed_group L.stopped_group (view_of seat.new) result }
 {
     match hub.end_and_take(rt, seat, number, end) {
-        Ok(next) => {
+        Ok(step) => {
             pass_on(hub, bell);
-            next
+            after_end(step)
         },
-        Err(_) => Onward::Nothing,
+        Err(_) => Next::Nothing,
     }
 }
 
@@ -55,7 +57,7 @@ fn settle<L: Legs, W: Wait>(
     hand: &mut L::Hand,
     number: u32,
     claimed: L::Claimed,
-) -> Onward<L::Runner, L::AtJoin>
+) -> Next<L::Runner, L::AtJoin, L::Claimed, L::Stopped>
     requires own { IsSeatOf hub.now seat.old }
     requires hand { IsHandOf L.begins L.hand_group (view_of seat.old) hand.old }
     requires state { HasClaimed L.machine L.ends L.claimed
@@ -64,20 +66,59 @@ fn settle<L: Legs, W: Wait>(
     ensures own { IsSeatOf hub.now seat.new }
     ensures same { IsSameSeat (view_of seat.old) (view_of seat.new) }
     ensures hand { IsHandOf L.begins L.hand_group (view_of seat.new) hand.new }
-    ensures onward { HasOnward L.machine L.ends (view_of seat.new) result }
+    ensures next { HasNext L.machine L.ends L.claimed L.stopped
+        L.claimed_group L.stopped_group (view_of seat.new) result }
 {
     match L::settle(hand, claimed) {
-        Ok(Settled::Run(runner)) => Onward::Run { number, runner },
+        Ok(Settled::Run(runner)) => Next::Run { number, runner },
         Ok(Settled::Trap(end)) => hand_in(rt, hub, bell, seat, number, end),
         Err(_) => {
             halt(rt, hub, seat);
-            Onward::Nothing
+            Next::Nothing
         },
     }
 }
 
-// A joiner goes on where its joinee has ended and it outlives that. Where it waits, the thread
-// takes what is ready: first its joinee, where that was forked last.
+// How the join of a joiner came out: it goes on where its joinee has ended and it outlives that.
+fn come<L: Legs, W: Wait>(
+    rt: &W,
+    hub: &TurnHub<L>,
+    bell: &Bell,
+    seat: &mut HubSeat<L>,
+    hand: &mut L::Hand,
+    number: u32,
+    answer: JoinAnswer<L::AtJoin, L::Claimed, L::Stopped>,
+) -> Next<L::Runner, L::AtJoin, L::Claimed, L::Stopped>
+    requires own { IsSeatOf hub.now seat.old }
+    requires hand { IsHandOf L.begins L.hand_group (view_of seat.old) hand.old }
+    requires answer { HasAnswer L.machine L.ends L.claimed L.stopped
+        L.claimed_group L.stopped_group (view_of seat.old) number answer }
+    ensures own { IsSeatOf hub.now seat.new }
+    ensures same { IsSameSeat (view_of seat.old) (view_of seat.new) }
+    ensures hand { IsHandOf L.begins L.hand_group (view_of seat.new) hand.new }
+    ensures next { HasNext L.machine L.ends L.claimed L.stopped
+        L.claimed_group L.stopped_group (view_of seat.new) result }
+{
+    match answer {
+        JoinAnswer::Claimed(claimed) => settle(rt, hub, bell, seat, hand, number, claimed),
+        JoinAnswer::Trapped(stopped) => {
+            let end = L::retire(hand, stopped);
+            hand_in(rt, hub, bell, seat, number, end)
+        },
+        JoinAnswer::Dropped(at) => Next::Run {
+            number,
+            runner: L::dropped(at),
+        },
+        JoinAnswer::Waits => Next::Nothing,
+        JoinAnswer::Twice(at) | JoinAnswer::OutOfMemory(at) => {
+            L::give_up_joiner(hand, at);
+            Next::Nothing
+        },
+    }
+}
+
+// A joiner joins. Where it waits, the thread takes what is ready: first its joinee, where that was
+// forked last.
 fn join<L: Legs, W: Wait>(
     rt: &W,
     hub: &TurnHub<L>,
@@ -86,7 +127,7 @@ fn join<L: Legs, W: Wait>(
     hand: &mut L::Hand,
     number: u32,
     at: L::AtJoin,
-) -> Onward<L::Runner, L::AtJoin>
+) -> Next<L::Runner, L::AtJoin, L::Claimed, L::Stopped>
     requires own { IsSeatOf hub.now seat.old }
     requires hand { IsHandOf L.begins L.hand_group (view_of seat.old) hand.old }
     requires event { HasJoin L.machine L.ends (view_of seat.old) number at }
@@ -94,29 +135,15 @@ fn join<L: Legs, W: Wait>(
     ensures own { IsSeatOf hub.now seat.new }
     ensures same { IsSameSeat (view_of seat.old) (view_of seat.new) }
     ensures hand { IsHandOf L.begins L.hand_group (view_of seat.new) hand.new }
-    ensures onward { HasOnward L.machine L.ends (view_of seat.new) result }
+    ensures next { HasNext L.machine L.ends L.claimed L.stopped
+        L.claimed_group L.stopped_group (view_of seat.new) result }
 {
     match hub.join_or_take(rt, seat, number, at) {
-        JoinStep::Waits(next) => {
+        JoinStep::Waits(onward) => {
             pass_on(hub, bell);
-            next
+            after_joiner(onward)
         },
-        JoinStep::Came(JoinAnswer::Claimed(claimed)) => {
-            settle(rt, hub, bell, seat, hand, number, claimed)
-        },
-        JoinStep::Came(JoinAnswer::Trapped(stopped)) => {
-            let end = L::retire(hand, stopped);
-            hand_in(rt, hub, bell, seat, number, end)
-        },
-        JoinStep::Came(JoinAnswer::Dropped(at)) => Onward::Run {
-            number,
-            runner: L::dropped(at),
-        },
-        JoinStep::Came(JoinAnswer::Waits) => Onward::Nothing,
-        JoinStep::Came(JoinAnswer::Twice(at)) | JoinStep::Came(JoinAnswer::OutOfMemory(at)) => {
-            L::give_up_joiner(hand, at);
-            Onward::Nothing
-        },
+        JoinStep::Came(answer) => come(rt, hub, bell, seat, hand, number, answer),
     }
 }
 
@@ -129,7 +156,7 @@ fn fork<L: Legs, W: Wait>(
     hand: &mut L::Hand,
     number: u32,
     at: L::AtFork,
-) -> Onward<L::Runner, L::AtJoin>
+) -> Next<L::Runner, L::AtJoin, L::Claimed, L::Stopped>
     requires own { IsSeatOf hub.now seat.old }
     requires hand { IsHandOf L.begins L.hand_group (view_of seat.old) hand.old }
     requires event { StandsAtFork L.machine L.ends L.forker L.child
@@ -138,22 +165,23 @@ fn fork<L: Legs, W: Wait>(
     ensures own { IsSeatOf hub.now seat.new }
     ensures same { IsSameSeat (view_of seat.old) (view_of seat.new) }
     ensures hand { IsHandOf L.begins L.hand_group (view_of seat.new) hand.new }
-    ensures onward { HasOnward L.machine L.ends (view_of seat.new) result }
+    ensures next { HasNext L.machine L.ends L.claimed L.stopped
+        L.claimed_group L.stopped_group (view_of seat.new) result }
 {
     let Ok((parent, child)) = L::split(hand, at) else {
         halt(rt, hub, seat);
-        return Onward::Nothing;
+        return Next::Nothing;
     };
     match hub.fork(rt, seat, number, child) {
         Ok(child) => {
             bell.ring();
             let runner = L::told(parent, child);
-            Onward::Run { number, runner }
+            Next::Run { number, runner }
         },
         Err(child) => {
             L::give_up_runner(hand, child);
             L::give_up_parent(hand, parent);
-            Onward::Nothing
+            Next::Nothing
         },
     }
 }
@@ -168,7 +196,7 @@ fn step<L: Legs, G: Gate, W: Wait>(
     hand: &mut L::Hand,
     number: u32,
     runner: L::Runner,
-) -> Onward<L::Runner, L::AtJoin>
+) -> Next<L::Runner, L::AtJoin, L::Claimed, L::Stopped>
     requires own { IsSeatOf hub.now seat.old }
     requires hand { IsHandOf L.begins L.hand_group (view_of seat.old) hand.old }
     requires state { HasState L.machine L.ends
@@ -177,7 +205,8 @@ fn step<L: Legs, G: Gate, W: Wait>(
     ensures own { IsSeatOf hub.now seat.new }
     ensures same { IsSameSeat (view_of seat.old) (view_of seat.new) }
     ensures hand { IsHandOf L.begins L.hand_group (view_of seat.new) hand.new }
-    ensures onward { HasOnward L.machine L.ends (view_of seat.new) result }
+    ensures next { HasNext L.machine L.ends L.claimed L.stopped
+        L.claimed_group L.stopped_group (view_of seat.new) result }
 {
     gate.enter(number);
     match L::run_leg(hand, runner) {
@@ -186,7 +215,7 @@ fn step<L: Legs, G: Gate, W: Wait>(
         Ok(Event::End(end)) => hand_in(rt, hub, bell, seat, number, end),
         Err(_) => {
             halt(rt, hub, seat);
-            Onward::Nothing
+            Next::Nothing
         },
     }
 }
@@ -199,11 +228,12 @@ fn drive<L: Legs, G: Gate, W: Wait>(
     gate: &G,
     seat: &mut HubSeat<L>,
     hand: &mut L::Hand,
-    first: Onward<L::Runner, L::AtJoin>,
+    first: Next<L::Runner, L::AtJoin, L::Claimed, L::Stopped>,
 )
     requires own { IsSeatOf hub.now seat.old }
     requires hand { IsHandOf L.begins L.hand_group (view_of seat.old) hand.old }
-    requires onward { HasOnward L.machine L.ends (view_of seat.old) first }
+    requires next { HasNext L.machine L.ends L.claimed L.stopped
+        L.claimed_group L.stopped_group (view_of seat.old) first }
     ensures own { IsSeatOf hub.now seat.new }
     ensures same { IsSameSeat (view_of seat.old) (view_of seat.new) }
     ensures hand { IsHandOf L.begins L.hand_group (view_of seat.new) hand.new }
@@ -211,11 +241,14 @@ fn drive<L: Legs, G: Gate, W: Wait>(
     let mut next = first;
     for _ in rt.forever() {
         match next {
-            Onward::Run { number, runner } => {
+            Next::Run { number, runner } => {
                 next = step(rt, hub, bell, gate, seat, hand, number, runner);
             },
-            Onward::Retry { number, at } => next = join(rt, hub, bell, seat, hand, number, at),
-            Onward::Nothing => return,
+            Next::Retry { number, at } => next = join(rt, hub, bell, seat, hand, number, at),
+            Next::Came { number, answer } => {
+                next = come(rt, hub, bell, seat, hand, number, answer);
+            },
+            Next::Nothing => return,
         }
     }
     unreachable!()
@@ -244,12 +277,12 @@ pub fn work<L: Legs, G: Gate, W: Wait>(
         match hub.take(rt, seat) {
             Taken::Run { number, runner } => {
                 scout.pass_on(hub, bell);
-                let first = Onward::Run { number, runner };
+                let first = Next::Run { number, runner };
                 drive(rt, hub, bell, gate, seat, hand, first);
             },
             Taken::Retry { number, at } => {
                 scout.pass_on(hub, bell);
-                let first = Onward::Retry { number, at };
+                let first = Next::Retry { number, at };
                 drive(rt, hub, bell, gate, seat, hand, first);
             },
             Taken::Idle => scout.rest(rt, hub, bell, heard),

@@ -1,6 +1,6 @@
 use Rattle.std.proofs.Common.{◌≡◌}
 use Rattle.turn_hub.specs.Seats.{IsSameSeat}
-use Rattle.hub_workers.specs.Work.{IsHandOf, HasOnward}
+use Rattle.hub_workers.specs.Work.{IsHandOf, HasNext}
 use Rattle.hub_workers.proofs.worker.drive.Given as goal
 
 abbrev pub invariant-loop : goal.invariant-loop
@@ -8,4 +8,5 @@ invariant-loop g l =
     (l.seat.place.table_id ≡ l.initial.seat.place.table_id)
     × IsSameSeat l.initial.seat.place.me.0 l.seat.place.me.0
     × IsHandOf g.L.Legs.begins g.L.Legs.hand_group l.seat.place.me.0 l.hand
-    × HasOnward g.L.Revision.machine g.L.Revision.ends l.seat.place.me.0 l.next
+    × HasNext g.L.Revision.machine g.L.Revision.ends g.L.Revision.claimed g.L.Revision.stopped
+    g.L.Revision.claimed_group g.L.Revision.stopped_group l.seat.place.me.0 l.next

@@ -7,8 +7,8 @@ pub fork-requires-clause-event : goal.fork-requires-clause-event
 fork-requires-clause-event g c =
     forks_leg g.L.Revision.machine g.L.Revision.ends g.L.Legs.forker g.L.Legs.child c.args.seat.now.place.me.0 c.args.number c.args.at c.in-Ok.child c.requires.event c.in-Ok.ensures.child
 
-pub returns-in-Ok-fork-clause-onward : goal.returns-in-Ok-fork-clause-onward
-returns-in-Ok-fork-clause-onward g c = (
+pub returns-in-Ok-fork-clause-next : goal.returns-in-Ok-fork-clause-next
+returns-in-Ok-fork-clause-next g c = (
   subst (HasState g.L.Revision.machine g.L.Revision.ends c.fork.new.seat.place.me.0 c.args.number)
       (sym (c.told-runner.ensures.state ∙ c.in-Ok.ensures.parent c.in-Ok-fork.child))
       (c.in-Ok-fork.ensures.ok.forker (forks_leg g.L.Revision.machine g.L.Revision.ends g.L.Legs.forker g.L.Legs.child c.args.seat.now.place.me.0 c.args.number c.args.at c.in-Ok.child c.requires.event c.in-Ok.ensures.child)),

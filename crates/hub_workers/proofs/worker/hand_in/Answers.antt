@@ -2,7 +2,7 @@ use Rattle.hub_workers.proofs.Events.{ended_on}
 use Rattle.hub_workers.proofs.worker.hand_in.Goals as goal
 
 pub returns-in-Ok-clause-same : goal.returns-in-Ok-clause-same
-returns-in-Ok-clause-same g c = (ended_on g.L.Revision.machine g.L.Revision.ends _ _ _ _ _ _ c.in-Ok.ensures.ok).0
+returns-in-Ok-clause-same g c = (ended_on g.L.Revision.machine g.L.Revision.ends g.L.Revision.claimed g.L.Revision.stopped g.L.Revision.claimed_group g.L.Revision.stopped_group _ _ _ _ _ _ _ c.in-Ok.ensures.ok c.after_end.ensures).0
 
-pub returns-in-Ok-clause-onward : goal.returns-in-Ok-clause-onward
-returns-in-Ok-clause-onward g c = (ended_on g.L.Revision.machine g.L.Revision.ends _ _ _ _ _ _ c.in-Ok.ensures.ok).1
+pub returns-in-Ok-clause-next : goal.returns-in-Ok-clause-next
+returns-in-Ok-clause-next g c = (ended_on g.L.Revision.machine g.L.Revision.ends g.L.Revision.claimed g.L.Revision.stopped g.L.Revision.claimed_group g.L.Revision.stopped_group _ _ _ _ _ _ _ c.in-Ok.ensures.ok c.after_end.ensures).1
