@@ -1,4 +1,4 @@
-use Rattle.hub_workers.proofs.Events.{hand_stays, waited_on, came_so}
+use Rattle.hub_workers.proofs.Events.{hand_stays, waited_on}
 use Rattle.hub_workers.proofs.worker.join.Goals as goal
 
 pub returns-in-Waits-clause-same : goal.returns-in-Waits-clause-same
