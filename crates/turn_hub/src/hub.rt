@@ -10,13 +10,16 @@ use crate::vectors::empty;
 use crate::view::View;
 use atomic_table::{Badge, Table};
 use std::alloc::Global;
-use std::hint::spin_loop;
 use std::sync::Wait;
 use std::sync::atomic::{AtomicU64, Ordering};
 
 // How often a thread looks for the turn before it sleeps, each time after twice the pause. That is
-// some microseconds in all: about as long as a sleep and its end take.
-const LOOKS: u32 = 8;
+// some tens of microseconds in all. A turn is held for less than one, and a sleep and its end take
+// several, also of the thread that ends it.
+const LOOKS: u32 = 9;
+
+// So many steps of `pause`, a tenth of a microsecond, lie between the first look and the second.
+const FIRST_PAUSE: u32 = 16;
 
 /// A hub, whose revisions the threads take, run and hand back.
 pub struct TurnHub<L: Revision> {
@@ -34,9 +37,12 @@ pub struct TurnHub<L: Revision> {
     ghost sized: { (turn.shared.table_id.words ≡ 1) × (turn.shared.table_id.slots ≡ 1) },
 }
 
-fn pause(times: u32) {
-    for _ in 0..times {
-        spin_loop();
+// Some nanoseconds for each step. `spin_loop` has no body here, so that nothing is left of a loop
+// over it; a step is an addition to a word that no other thread sees.
+fn pause(steps: u32) {
+    let own = AtomicU64::new(0);
+    for _ in 0..steps {
+        own.fetch_add(1, Ordering::SeqCst);
     }
 }
 
@@ -70,7 +76,7 @@ impl<L: Revision> TurnHub<L> {
             if self.turn.shared.peek(0) == 0 && self.take_turn(place) {
                 return true;
             }
-            pause(1 << look);
+            pause(FIRST_PAUSE << look);
         }
         false
     }
