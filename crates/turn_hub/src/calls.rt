@@ -179,8 +179,8 @@ impl<L: Revision> TurnHub<L> {
         }
     }
 
-    /// The same, and the seat takes what is ready in the same turn. A joiner that was ready, as each
-    /// that waited for this end, is joined in that turn too, by one further entry.
+    /// The same, and the seat takes what is ready in the same turn. Where that is a joiner, as each
+    /// that waited for this end, it joins in that turn too, by one further entry.
     pub fn end_and_take<W: Wait>(
         &self,
         rt: &W,
