@@ -96,3 +96,27 @@ pub returns-clause-broken_collapsed : goal.returns-clause-broken_collapsed
 returns-clause-broken_collapsed g c =
     let h = c.collapse.ensures.collapsed in
     (h.0, h.1, c.in-Err-take_over.ensures.broken_answered h.0 (c.merge_words.ensures.answered h.0 h.2))
+
+pub returns-in-Err-clause-merges_size : goal.returns-in-Err-clause-merges_size
+returns-in-Err-clause-merges_size g c = c.merge_words.ensures.merges_size
+
+pub returns-in-Err-clause-merges_same : goal.returns-in-Err-clause-merges_same
+returns-in-Err-clause-merges_same g c = c.merge_words.ensures.merges_same
+
+pub returns-in-Ok-Fault-clause-merges_size : goal.returns-in-Ok-Fault-clause-merges_size
+returns-in-Ok-Fault-clause-merges_size g c = c.merge_words.ensures.merges_size
+
+pub returns-in-Ok-Fault-clause-merges_same : goal.returns-in-Ok-Fault-clause-merges_same
+returns-in-Ok-Fault-clause-merges_same g c = c.merge_words.ensures.merges_same
+
+pub returns-in-Ok-clause-merges_size : goal.returns-in-Ok-clause-merges_size
+returns-in-Ok-clause-merges_size g c = c.merge_words.ensures.merges_size
+
+pub returns-in-Ok-clause-merges_same : goal.returns-in-Ok-clause-merges_same
+returns-in-Ok-clause-merges_same g c = c.merge_words.ensures.merges_same
+
+pub returns-clause-merges_size : goal.returns-clause-merges_size
+returns-clause-merges_size g c = c.merge_words.ensures.merges_size
+
+pub returns-clause-merges_same : goal.returns-clause-merges_same
+returns-clause-merges_same g c = c.merge_words.ensures.merges_same
