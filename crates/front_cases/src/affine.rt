@@ -56,9 +56,33 @@ fn is_kept(alloc: Global, text: &str) -> bool {
     found(alloc, text.as_bytes()) == Some(None)
 }
 
+/// The first of the texts in which the checker finds a breach, or which is no such program.
+fn first_not_kept<'a>(alloc: Global, texts: &[&'a str]) -> Option<&'a str> {
+    for text in texts {
+        if !is_kept(alloc, text) {
+            return Some(*text);
+        }
+    }
+    None
+}
+
+/// The first of the texts whose first breach has not this number or stands elsewhere.
+fn first_not_broken<'a>(
+    alloc: Global,
+    texts: &[&'a str],
+    number: u32,
+) -> Result<Option<&'a str>, Fail> {
+    for text in texts {
+        if !is_broken(alloc, text, number)? {
+            return Ok(Some(*text));
+        }
+    }
+    Ok(None)
+}
+
 #[test]
 fn whole_programs(rt: HostRuntime) -> Result<(), Fail> {
-    let texts = [
+    let texts: &[&str] = &[
         "versioned x : int;\nproc child() { x = 1; }\nmain { let h = rfork child(); x = 2; rjoin h; print x; }",
         "proc child() { print \"child\"; }\nmain { let h = rfork child(); print \"one\"; rjoin h; print \"two\"; }",
         "main {\n  print 1;\n  rjoin none;\n}",
@@ -67,15 +91,13 @@ fn whole_programs(rt: HostRuntime) -> Result<(), Fail> {
         "versioned n : int; proc next(k: int) { if k > 0 { let h = rfork next(k - 1); rjoin h; } n = n + 1; } main { let h = rfork next(10000); rjoin h; print n; }",
         "proc hand(h: rev) { rjoin h; } proc p() { } main { let i = 0; while i < 5000 { let h = rfork p(); let g = rfork hand(h); rjoin g; i = i + 1; } }",
     ];
-    for text in texts {
-        assert!(rt; is_kept(rt.alloc(), text), "{text}");
-    }
+    assert_eq!(rt; first_not_kept(rt.alloc(), texts), None);
     Ok(())
 }
 
 #[test]
 fn copies(rt: HostRuntime) -> Result<(), Fail> {
-    let kept = [
+    let kept: &[&str] = &[
         "proc p() { } main { let h = rfork p(); rjoin h; }",
         "main { let h = none; rjoin h; }",
         "proc q(h: rev): rev { return h; } main { let h = none; h = call q(h); rjoin h; }",
@@ -87,10 +109,8 @@ fn copies(rt: HostRuntime) -> Result<(), Fail> {
         "main { let h = pick(true, none, none); rjoin h; }",
         "versioned s : rev; main { let h = s; rjoin h; rjoin pick(true, s, none); }",
     ];
-    for text in kept {
-        assert!(rt; is_kept(rt.alloc(), text), "{text}");
-    }
-    let broken = [
+    assert_eq!(rt; first_not_kept(rt.alloc(), kept), None);
+    let broken: &[&str] = &[
         "proc p() { } main { let h = rfork p(); let g = @h; }",
         "proc p() { } main { let h = rfork p(); let g = (@h); }",
         "proc p() { } main { let h = rfork p(); let g = none; g = @h; }",
@@ -102,15 +122,13 @@ fn copies(rt: HostRuntime) -> Result<(), Fail> {
         "main { return; let h = none; let g = @h; }",
         "main { while true { let h = none; if true { let b = tryjoin pick(true, @h, none); } } }",
     ];
-    for text in broken {
-        assert!(rt; is_broken(rt.alloc(), text, 1)?, "{text}");
-    }
+    assert_eq!(rt; first_not_broken(rt.alloc(), broken, 1)?, None);
     Ok(())
 }
 
 #[test]
 fn stores(rt: HostRuntime) -> Result<(), Fail> {
-    let kept = [
+    let kept: &[&str] = &[
         "versioned s : rev; main { rjoin s; rjoin s; }",
         "versioned s : rev[2]; main { rjoin s[0]; rjoin s[1]; }",
         "versioned s : rev; proc q(h: rev) { } main { call q(s); call q(s); }",
@@ -122,10 +140,8 @@ fn stores(rt: HostRuntime) -> Result<(), Fail> {
         "versioned x : int; versioned s : rev; main { x = 1; let h = s; rjoin h; }",
         "versioned b : bool[2]; versioned s : rev; main { b[0] = true; rjoin s; }",
     ];
-    for text in kept {
-        assert!(rt; is_kept(rt.alloc(), text), "{text}");
-    }
-    let broken = [
+    assert_eq!(rt; first_not_kept(rt.alloc(), kept), None);
+    let broken: &[&str] = &[
         "versioned hb : rev;\nversioned n : int;\nproc b() { n = 9; }\nproc a() { @hb = rfork b(); }\nmain { let h = rfork a(); rjoin h; rjoin hb; print n; }",
         "versioned s : rev; proc p() { } main { @s = rfork p(); }",
         "versioned s : rev[2]; proc p() { } main { let h = rfork p(); @s[0] = h; }",
@@ -137,15 +153,13 @@ fn stores(rt: HostRuntime) -> Result<(), Fail> {
         "versioned s : rev; main { if true { } else { @s = pick(true, none, none); } }",
         "versioned s : rev[2]; proc q(h: rev) { while true { @s[1] = none; rjoin h; } } main { }",
     ];
-    for text in broken {
-        assert!(rt; is_broken(rt.alloc(), text, 2)?, "{text}");
-    }
+    assert_eq!(rt; first_not_broken(rt.alloc(), broken, 2)?, None);
     Ok(())
 }
 
 #[test]
 fn second_uses(rt: HostRuntime) -> Result<(), Fail> {
-    let kept = [
+    let kept: &[&str] = &[
         "proc p() { } main { let h = rfork p(); if true { rjoin h; } else { rjoin h; } }",
         "proc p() { } proc q(h: rev): int { if true { rjoin h; return 1; } rjoin h; return 2; } main { }",
         "proc p() { } main { let h = rfork p(); rjoin h; h = rfork p(); rjoin h; }",
@@ -157,10 +171,8 @@ fn second_uses(rt: HostRuntime) -> Result<(), Fail> {
         "proc q(g: rev, h: rev) { rjoin g; rjoin h; } main { let g = none; let h = none; call q(g, h); }",
         "main { let h = none; if true { return; } rjoin h; if true { h = none; rjoin h; } }",
     ];
-    for text in kept {
-        assert!(rt; is_kept(rt.alloc(), text), "{text}");
-    }
-    let broken = [
+    assert_eq!(rt; first_not_kept(rt.alloc(), kept), None);
+    let broken: &[&str] = &[
         "proc b() { } main { print 1; let h = rfork b(); rjoin h; rjoin @h; }",
         "proc p() { } main { let h = rfork p(); let a = tryjoin h; let b = tryjoin (@h); }",
         "proc q(h: rev) { rjoin h; } main { let h = none; call q(h); rjoin @h; }",
@@ -173,15 +185,13 @@ fn second_uses(rt: HostRuntime) -> Result<(), Fail> {
         "main { let h = none; rjoin h; while true { h = none; } rjoin @h; }",
         "main { let h = none; let g = none; rjoin g; rjoin h; rjoin @h; rjoin g; }",
     ];
-    for text in broken {
-        assert!(rt; is_broken(rt.alloc(), text, 3)?, "{text}");
-    }
+    assert_eq!(rt; first_not_broken(rt.alloc(), broken, 3)?, None);
     Ok(())
 }
 
 #[test]
 fn loops(rt: HostRuntime) -> Result<(), Fail> {
-    let kept = [
+    let kept: &[&str] = &[
         "proc p() { } main { while true { let h = rfork p(); rjoin h; } }",
         "proc p() { } main { let h = rfork p(); while true { h = rfork p(); } rjoin h; }",
         "proc p() { } main { let h = rfork p(); rjoin h; while true { h = rfork p(); } }",
@@ -193,10 +203,8 @@ fn loops(rt: HostRuntime) -> Result<(), Fail> {
         "main { while true { while true { let h = none; rjoin h; } } }",
         "versioned s : rev; main { while true { rjoin s; } }",
     ];
-    for text in kept {
-        assert!(rt; is_kept(rt.alloc(), text), "{text}");
-    }
-    let broken = [
+    assert_eq!(rt; first_not_kept(rt.alloc(), kept), None);
+    let broken: &[&str] = &[
         "proc p() { } main { let h = rfork p(); while true { rjoin @h; h = rfork p(); } }",
         "proc p() { } main { let h = rfork p(); while true { rjoin @h; return; } }",
         "main { return; let h = none; while true { rjoin @h; } }",
@@ -208,8 +216,6 @@ fn loops(rt: HostRuntime) -> Result<(), Fail> {
         "main { while true { let h = none; while true { rjoin @h; h = none; } } }",
         "main { let h = none; while true { if true { rjoin @h; h = none; } } }",
     ];
-    for text in broken {
-        assert!(rt; is_broken(rt.alloc(), text, 4)?, "{text}");
-    }
+    assert_eq!(rt; first_not_broken(rt.alloc(), broken, 4)?, None);
     Ok(())
 }

@@ -70,7 +70,7 @@ fn faults_have_places(rt: HostRuntime) -> Result<(), Fail> {
             assert_eq!(rt; place(rt.alloc(), &TWO_PARTS[..front]), None);
         }
     }
-    let rows: [(&[u8], Option<u64>); 9] = [
+    let rows: &[(&[u8], Option<u64>)] = &[
         (b"revisions trace 1", Some(0)),
         (b"revisions trace 2\n", Some(0)),
         (
@@ -103,7 +103,7 @@ fn faults_have_places(rt: HostRuntime) -> Result<(), Fail> {
         ),
     ];
     for (text, at) in rows {
-        assert_eq!(rt; place(rt.alloc(), text), at);
+        assert_eq!(rt; place(rt.alloc(), text), *at);
     }
     Ok(())
 }

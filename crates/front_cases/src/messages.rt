@@ -65,7 +65,7 @@ fn refusals_beyond_texts(rt: HostRuntime) -> Result<(), Fail> {
 
 #[test]
 fn faults_of_instructions(rt: HostRuntime) -> Result<(), Fail> {
-    let wants = [
+    let wants: &[(InstructionFault, &str)] = &[
         (InstructionFault::BadJump, "bad jump"),
         (InstructionFault::BadOperand, "bad operand"),
         (InstructionFault::StackShape, "stack shape"),
@@ -78,7 +78,7 @@ fn faults_of_instructions(rt: HostRuntime) -> Result<(), Fail> {
         let refusal = Refusal::Code {
             block: 0,
             at: 4294967295,
-            fault,
+            fault: *fault,
         };
         let report = refusal_bytes(rt.alloc(), &refusal)?;
         let want = format!(in rt.alloc(); "error: block 0 instruction 4294967295: {name}\n")?;
@@ -132,7 +132,7 @@ fn modes(rt: HostRuntime) -> Result<(), Fail> {
 
 #[test]
 fn faults_of_texts(rt: HostRuntime) -> Result<(), Fail> {
-    let wants = [
+    let wants: &[(TextFault, &str)] = &[
         (TextFault::BadByte, "bad byte"),
         (TextFault::BadNumber, "bad number"),
         (TextFault::OpenText, "open text"),
@@ -153,7 +153,13 @@ fn faults_of_texts(rt: HostRuntime) -> Result<(), Fail> {
         column: 1048577,
     };
     for (fault, name) in wants {
-        let report = refusal_bytes(rt.alloc(), &Refusal::Text { place, fault })?;
+        let report = refusal_bytes(
+            rt.alloc(),
+            &Refusal::Text {
+                place,
+                fault: *fault,
+            },
+        )?;
         let want = format!(in rt.alloc(); "error: line 1 column 1048577: {name}\n")?;
         assert!(rt; report.err.as_slice() == want.as_bytes(), "{name}");
         assert!(rt; report.out.is_empty() && report.status == 2, "{name}");
@@ -163,7 +169,7 @@ fn faults_of_texts(rt: HostRuntime) -> Result<(), Fail> {
 
 #[test]
 fn limits_of_texts(rt: HostRuntime) -> Result<(), Fail> {
-    let wants = [
+    let wants: &[(u32, Limit, &str)] = &[
         (4096, Limit::Locations, "more than 4096 locations"),
         (256, Limit::Procedures, "more than 256 procedures"),
         (256, Limit::Funs, "more than 256 funs"),
@@ -179,8 +185,8 @@ fn limits_of_texts(rt: HostRuntime) -> Result<(), Fail> {
     for (limit, which, what) in wants {
         let refusal = Refusal::OverLimit {
             place,
-            limit,
-            which,
+            limit: *limit,
+            which: *which,
         };
         let report = refusal_bytes(rt.alloc(), &refusal)?;
         let want = format!(in rt.alloc(); "error: line 10 column 2: {what}\n")?;

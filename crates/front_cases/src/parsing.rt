@@ -43,7 +43,7 @@ fn nested(alloc: Global, times: usize) -> Result<Vec<u8>, Fail> {
 
 #[test]
 fn each_form_parses(rt: HostRuntime) -> Result<(), Fail> {
-    let texts: [&[u8]; 17] = [
+    let texts: &[&[u8]] = &[
         b"main { }",
         b"fun f() : int = 1; fun g(a : int, b : bool) : bool = b; main { }",
         b"merge m(a, b, c) = a + b - c; cumulative x : int by m = -3; cumulative y : int[4] by m; main { }",
@@ -70,7 +70,7 @@ fn each_form_parses(rt: HostRuntime) -> Result<(), Fail> {
 
 #[test]
 fn the_first_fault_stands_behind_what_begins_a_program(rt: HostRuntime) -> Result<(), Fail> {
-    let cases: [(&[u8], &[u8]); 34] = [
+    let cases: &[(&[u8], &[u8])] = &[
         (b"", b""),
         (b" // nothing\n", b""),
         (b"main { print 1 ", b"}"),

@@ -5,7 +5,7 @@ use std::alloc::Global;
 use std::test::Fail;
 
 /// The reserved words, as the text below has them.
-const WORDS: [Fixed; 27] = [
+const WORDS: &[Fixed] = &[
     Fixed::Fun,
     Fixed::Merge,
     Fixed::Versioned,
@@ -36,7 +36,7 @@ const WORDS: [Fixed; 27] = [
 ];
 
 /// The signs, as the text below has them.
-const SIGNS: [Fixed; 24] = [
+const SIGNS: &[Fixed] = &[
     Fixed::Equal,
     Fixed::NotEqual,
     Fixed::LessEqual,
@@ -71,8 +71,22 @@ fn read(alloc: Global, source: &[u8]) -> Result<Vec<Token>, LexFault> {
     }
 }
 
-const fn token(kind: TokenKind, start: u32, end: u32) -> Token {
-    Token { kind, start, end }
+/// A token: its kind, its start and its end.
+type Piece = (TokenKind, u32, u32);
+
+/// Whether the tokens are these.
+fn are(found: &[Token], want: &[Piece]) -> bool {
+    for (token, (kind, start, end)) in found.iter().zip(want) {
+        let wanted = Token {
+            kind: *kind,
+            start: *start,
+            end: *end,
+        };
+        if *token != wanted {
+            return false;
+        }
+    }
+    found.len() == want.len()
 }
 
 #[test]
@@ -83,85 +97,85 @@ fn reads_each_word_and_sign(rt: HostRuntime) -> Result<(), Fail> {
     let found = read(rt.alloc(), words)?;
     assert_eq!(rt; found.len(), WORDS.len());
     for (token, word) in found.iter().zip(WORDS) {
-        assert_eq!(rt; token.kind, TokenKind::Fixed(word), "at {token:?}");
+        assert_eq!(rt; token.kind, TokenKind::Fixed(*word), "at {token:?}");
     }
     let signs = b"== != <= >= && || ( ) { } [ ] , ; : = + - * / % ! < >";
     let found = read(rt.alloc(), signs)?;
     assert_eq!(rt; found.len(), SIGNS.len());
     for (token, sign) in found.iter().zip(SIGNS) {
-        assert_eq!(rt; token.kind, TokenKind::Fixed(sign), "at {token:?}");
+        assert_eq!(rt; token.kind, TokenKind::Fixed(*sign), "at {token:?}");
     }
     Ok(())
 }
 
 #[test]
 fn reads_the_longest_piece(rt: HostRuntime) -> Result<(), Fail> {
-    let cases: [(&[u8], &[Token]); 12] = [
+    let cases: &[(&[u8], &[Piece])] = &[
         (b"", &[]),
-        (b"forx", &[token(TokenKind::Name, 0, 4)]),
-        (b"rjoin", &[token(TokenKind::Fixed(Fixed::Join), 0, 5)]),
-        (b"_r2", &[token(TokenKind::Name, 0, 3)]),
+        (b"forx", &[(TokenKind::Name, 0, 4)]),
+        (b"rjoin", &[(TokenKind::Fixed(Fixed::Join), 0, 5)]),
+        (b"_r2", &[(TokenKind::Name, 0, 3)]),
         (
             b"<==",
             &[
-                token(TokenKind::Fixed(Fixed::LessEqual), 0, 2),
-                token(TokenKind::Fixed(Fixed::Assign), 2, 3),
+                (TokenKind::Fixed(Fixed::LessEqual), 0, 2),
+                (TokenKind::Fixed(Fixed::Assign), 2, 3),
             ],
         ),
         (
             b"===",
             &[
-                token(TokenKind::Fixed(Fixed::Equal), 0, 2),
-                token(TokenKind::Fixed(Fixed::Assign), 2, 3),
+                (TokenKind::Fixed(Fixed::Equal), 0, 2),
+                (TokenKind::Fixed(Fixed::Assign), 2, 3),
             ],
         ),
         (
             b"&&||",
             &[
-                token(TokenKind::Fixed(Fixed::And), 0, 2),
-                token(TokenKind::Fixed(Fixed::Or), 2, 4),
+                (TokenKind::Fixed(Fixed::And), 0, 2),
+                (TokenKind::Fixed(Fixed::Or), 2, 4),
             ],
         ),
         (
             b"007 9223372036854775807",
             &[
-                token(TokenKind::Int(7), 0, 3),
-                token(TokenKind::Int(9223372036854775807), 4, 23),
+                (TokenKind::Int(7), 0, 3),
+                (TokenKind::Int(9223372036854775807), 4, 23),
             ],
         ),
         (
             b"\"a\\b\"x",
-            &[token(TokenKind::Text, 0, 5), token(TokenKind::Name, 5, 6)],
+            &[(TokenKind::Text, 0, 5), (TokenKind::Name, 5, 6)],
         ),
         (
             b"x// \x80\xff \"&\n\ty",
-            &[token(TokenKind::Name, 0, 1), token(TokenKind::Name, 11, 12)],
+            &[(TokenKind::Name, 0, 1), (TokenKind::Name, 11, 12)],
         ),
         (
             b"/ /\r\n//",
             &[
-                token(TokenKind::Fixed(Fixed::Slash), 0, 1),
-                token(TokenKind::Fixed(Fixed::Slash), 2, 3),
+                (TokenKind::Fixed(Fixed::Slash), 0, 1),
+                (TokenKind::Fixed(Fixed::Slash), 2, 3),
             ],
         ),
         (
             b"-12",
             &[
-                token(TokenKind::Fixed(Fixed::Minus), 0, 1),
-                token(TokenKind::Int(12), 1, 3),
+                (TokenKind::Fixed(Fixed::Minus), 0, 1),
+                (TokenKind::Int(12), 1, 3),
             ],
         ),
     ];
     for (source, want) in cases {
         let found = read(rt.alloc(), source)?;
-        assert_eq!(rt; found.as_slice(), want, "of {source:?}");
+        assert!(rt; are(found.as_slice(), want), "of {source:?}: {found:?}");
     }
     Ok(())
 }
 
 #[test]
 fn reads_the_first_fault(rt: HostRuntime) {
-    let cases: [(&[u8], LexFault); 12] = [
+    let cases: &[(&[u8], LexFault)] = &[
         (b"a &b", LexFault::BadByte { at: 2 }),
         (b"&&&", LexFault::BadByte { at: 2 }),
         (b"|", LexFault::BadByte { at: 0 }),
@@ -176,7 +190,11 @@ fn reads_the_first_fault(rt: HostRuntime) {
         (b"\"\x7f\"", LexFault::OpenText { at: 0 }),
     ];
     for (source, want) in cases {
-        assert_eq!(rt; read(rt.alloc(), source).err(), Some(want), "of {source:?}");
+        assert_eq!(rt;
+            read(rt.alloc(), source).err(),
+            Some(*want),
+            "of {source:?}"
+        );
     }
 }
 
