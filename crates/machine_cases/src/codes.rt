@@ -61,7 +61,7 @@ fn blocks_of(
     let int = Some(ValueKind::Int);
     let three = [ValueKind::Int, ValueKind::Int, ValueKind::Int];
     let kinds = [ValueKind::Int, ValueKind::Bool, ValueKind::Rev];
-    let sum = [
+    let sum: &[Instr] = &[
         Instr::LoadLocal(0),
         Instr::LoadLocal(1),
         Instr::LoadLocal(2),
@@ -69,7 +69,7 @@ fn blocks_of(
         Instr::Add,
         Instr::Return,
     ];
-    let applied = [
+    let applied: &[Instr] = &[
         Instr::LoadLocal(0),
         Instr::LoadLocal(1),
         Instr::LoadLocal(2),
@@ -77,22 +77,8 @@ fn blocks_of(
         Instr::Return,
     ];
     let mut blocks = Vec::new(alloc);
-    blocks.push(block(
-        alloc,
-        BlockClass::Fun,
-        3,
-        int,
-        three.as_slice(),
-        sum.as_slice(),
-    )?)?;
-    blocks.push(block(
-        alloc,
-        BlockClass::Merge,
-        3,
-        int,
-        three.as_slice(),
-        applied.as_slice(),
-    )?)?;
+    blocks.push(block(alloc, BlockClass::Fun, 3, int, three.as_slice(), sum)?)?;
+    blocks.push(block(alloc, BlockClass::Merge, 3, int, three.as_slice(), applied)?)?;
     blocks.push(block(alloc, BlockClass::Proc, 0, None, kinds.as_slice(), child)?)?;
     blocks.push(block(alloc, BlockClass::Main, 0, None, kinds.as_slice(), main)?)?;
     Ok(Items::from_vec(blocks))

@@ -69,7 +69,7 @@ fn the_join_rule_on_twenty_locations(rt: HostRuntime) -> Result<(), Fail> {
 #[test]
 fn the_first_merge_that_faults(rt: HostRuntime) -> Result<(), Fail> {
     let alloc = rt.alloc();
-    let child = [
+    let child: &[Instr] = &[
         Instr::Charge(9),
         Instr::PushInt(4),
         Instr::PushInt(1),
@@ -80,7 +80,7 @@ fn the_first_merge_that_faults(rt: HostRuntime) -> Result<(), Fail> {
         Instr::StoreCell(1),
         Instr::Return,
     ];
-    let main = [
+    let main: &[Instr] = &[
         Instr::Charge(2),
         Instr::Fork(2),
         Instr::StoreLocal(2),
@@ -117,7 +117,7 @@ fn the_first_merge_that_faults(rt: HostRuntime) -> Result<(), Fail> {
             root: 0,
         },
     ];
-    match left_by(alloc, code_of(alloc, child.as_slice(), main.as_slice())?, 3)? {
+    match left_by(alloc, code_of(alloc, child, main)?, 3)? {
         None => panic!(rt; "the code does not end"),
         Some(end) => {
             assert_eq!(rt; end.finish, Finish::Trapped(trap));

@@ -36,7 +36,7 @@ fn block(
 /// `main`.
 fn blocks_of(alloc: Global) -> Result<Vec<CodeBlock>, AllocError> {
     let three = [ValueKind::Int, ValueKind::Int, ValueKind::Int];
-    let sum = [
+    let sum: &[Instr] = &[
         Instr::LoadLocal(0),
         Instr::LoadLocal(1),
         Instr::LoadLocal(2),
@@ -44,7 +44,7 @@ fn blocks_of(alloc: Global) -> Result<Vec<CodeBlock>, AllocError> {
         Instr::Add,
         Instr::Return,
     ];
-    let merge = [
+    let merge: &[Instr] = &[
         Instr::LoadLocal(0),
         Instr::LoadLocal(1),
         Instr::LoadLocal(2),
@@ -52,14 +52,8 @@ fn blocks_of(alloc: Global) -> Result<Vec<CodeBlock>, AllocError> {
         Instr::Return,
     ];
     let mut blocks = Vec::new(alloc);
-    blocks.push(block(alloc, BlockClass::Fun, 3, three.as_slice(), sum.as_slice())?)?;
-    blocks.push(block(
-        alloc,
-        BlockClass::Merge,
-        3,
-        three.as_slice(),
-        merge.as_slice(),
-    )?)?;
+    blocks.push(block(alloc, BlockClass::Fun, 3, three.as_slice(), sum)?)?;
+    blocks.push(block(alloc, BlockClass::Merge, 3, three.as_slice(), merge)?)?;
     blocks.push(block(alloc, BlockClass::Main, 0, &[], &[Instr::Return])?)?;
     Ok(blocks)
 }

@@ -69,42 +69,54 @@ fn faults(alloc: Global, x: i64, y: i64, instr: Instr, cause: Cause) -> Result<b
 
 #[test]
 fn arithmetic(rt: HostRuntime) -> Result<(), Fail> {
-    let alloc = rt.alloc();
-    assert!(rt; gives(alloc, 7, -2, Instr::Add, "5\n")?);
-    assert!(rt; gives(alloc, 7, -2, Instr::Sub, "9\n")?);
-    assert!(rt; gives(alloc, 7, -2, Instr::Mul, "-14\n")?);
-    assert!(rt; gives(alloc, 7, -2, Instr::Div, "-3\n")?);
-    assert!(rt; gives(alloc, 7, -2, Instr::Rem, "1\n")?);
+    let rows: &[(i64, i64, Instr, &str)] = &[
+        (7, -2, Instr::Add, "5\n"),
+        (7, -2, Instr::Sub, "9\n"),
+        (7, -2, Instr::Mul, "-14\n"),
+        (7, -2, Instr::Div, "-3\n"),
+        (7, -2, Instr::Rem, "1\n"),
+    ];
+    for (x, y, instr, text) in rows {
+        assert!(rt; gives(rt.alloc(), *x, *y, *instr, text)?, "{instr:?}");
+    }
     Ok(())
 }
 
 #[test]
 fn comparisons(rt: HostRuntime) -> Result<(), Fail> {
-    let alloc = rt.alloc();
-    assert!(rt; gives(alloc, 2, 3, Instr::Eq, "false\n")?);
-    assert!(rt; gives(alloc, 2, 3, Instr::Ne, "true\n")?);
-    assert!(rt; gives(alloc, 2, 3, Instr::Lt, "true\n")?);
-    assert!(rt; gives(alloc, 3, 3, Instr::Le, "true\n")?);
-    assert!(rt; gives(alloc, 2, 3, Instr::Gt, "false\n")?);
-    assert!(rt; gives(alloc, 3, 3, Instr::Ge, "true\n")?);
+    let rows: &[(i64, i64, Instr, &str)] = &[
+        (2, 3, Instr::Eq, "false\n"),
+        (2, 3, Instr::Ne, "true\n"),
+        (2, 3, Instr::Lt, "true\n"),
+        (3, 3, Instr::Le, "true\n"),
+        (2, 3, Instr::Gt, "false\n"),
+        (3, 3, Instr::Ge, "true\n"),
+    ];
+    for (x, y, instr, text) in rows {
+        assert!(rt; gives(rt.alloc(), *x, *y, *instr, text)?, "{instr:?}");
+    }
     Ok(())
 }
 
 #[test]
 fn faults_of_arithmetic(rt: HostRuntime) -> Result<(), Fail> {
-    let alloc = rt.alloc();
-    assert!(rt; faults(alloc, i64::MAX, 1, Instr::Add, Cause::Overflow)?);
-    assert!(rt; faults(alloc, i64::MIN, 1, Instr::Sub, Cause::Overflow)?);
-    assert!(rt; faults(alloc, i64::MAX, 2, Instr::Mul, Cause::Overflow)?);
-    assert!(rt; faults(alloc, 1, 0, Instr::Div, Cause::ZeroDivisor)?);
-    assert!(rt; faults(alloc, i64::MIN, -1, Instr::Div, Cause::Overflow)?);
-    assert!(rt; faults(alloc, 1, 0, Instr::Rem, Cause::ZeroDivisor)?);
+    let rows: &[(i64, i64, Instr, Cause)] = &[
+        (i64::MAX, 1, Instr::Add, Cause::Overflow),
+        (i64::MIN, 1, Instr::Sub, Cause::Overflow),
+        (i64::MAX, 2, Instr::Mul, Cause::Overflow),
+        (1, 0, Instr::Div, Cause::ZeroDivisor),
+        (i64::MIN, -1, Instr::Div, Cause::Overflow),
+        (1, 0, Instr::Rem, Cause::ZeroDivisor),
+    ];
+    for (x, y, instr, cause) in rows {
+        assert!(rt; faults(rt.alloc(), *x, *y, *instr, *cause)?, "{instr:?}");
+    }
     Ok(())
 }
 
 /// Whether `main`, which forks the child in line 2 and joins it in line 3, leaves this.
 fn joins(alloc: Global, child: &[Instr], finish: Finish, text: &str) -> Result<bool, AllocError> {
-    let main = [
+    let main: &[Instr] = &[
         Instr::Charge(2),
         Instr::Fork(2),
         Instr::StoreLocal(2),
@@ -118,7 +130,7 @@ fn joins(alloc: Global, child: &[Instr], finish: Finish, text: &str) -> Result<b
         Instr::Print(0),
         Instr::Return,
     ];
-    match left_by(alloc, code_of(alloc, child, main.as_slice())?, 3)? {
+    match left_by(alloc, code_of(alloc, child, main)?, 3)? {
         None => Ok(false),
         Some(end) => Ok(end.finish == finish && end.text.as_slice() == text.as_bytes()),
     }
@@ -126,7 +138,7 @@ fn joins(alloc: Global, child: &[Instr], finish: Finish, text: &str) -> Result<b
 
 #[test]
 fn a_joiner_takes_over_writes_and_text(rt: HostRuntime) -> Result<(), Fail> {
-    let child = [
+    let child: &[Instr] = &[
         Instr::Charge(9),
         Instr::LoadShared(2),
         Instr::Print(0),
@@ -135,13 +147,13 @@ fn a_joiner_takes_over_writes_and_text(rt: HostRuntime) -> Result<(), Fail> {
         Instr::StoreShared(2),
         Instr::Return,
     ];
-    assert!(rt; joins(rt.alloc(), child.as_slice(), Finish::Done, "0\n8\n")?);
+    assert!(rt; joins(rt.alloc(), child, Finish::Done, "0\n8\n")?);
     Ok(())
 }
 
 #[test]
 fn a_joiner_of_a_trapped_child_traps(rt: HostRuntime) -> Result<(), Fail> {
-    let child = [
+    let child: &[Instr] = &[
         Instr::Charge(9),
         Instr::PushBool(false),
         Instr::Assert,
@@ -152,14 +164,14 @@ fn a_joiner_of_a_trapped_child_traps(rt: HostRuntime) -> Result<(), Fail> {
         line: 9,
         origin: Some(1),
     };
-    assert!(rt; joins(rt.alloc(), child.as_slice(), Finish::Trapped(trap), "")?);
+    assert!(rt; joins(rt.alloc(), child, Finish::Trapped(trap), "")?);
     Ok(())
 }
 
 #[test]
 fn what_a_trapped_child_left_is_dropped(rt: HostRuntime) -> Result<(), Fail> {
     let alloc = rt.alloc();
-    let child = [
+    let child: &[Instr] = &[
         Instr::Charge(9),
         Instr::PushInt(1),
         Instr::Print(0),
@@ -171,7 +183,7 @@ fn what_a_trapped_child_left_is_dropped(rt: HostRuntime) -> Result<(), Fail> {
         Instr::Assert,
         Instr::Return,
     ];
-    let main = [
+    let main: &[Instr] = &[
         Instr::Charge(2),
         Instr::Fork(2),
         Instr::StoreLocal(2),
@@ -187,7 +199,7 @@ fn what_a_trapped_child_left_is_dropped(rt: HostRuntime) -> Result<(), Fail> {
         Instr::Print(0),
         Instr::Return,
     ];
-    match left_by(alloc, code_of(alloc, child.as_slice(), main.as_slice())?, 3)? {
+    match left_by(alloc, code_of(alloc, child, main)?, 3)? {
         None => panic!(rt; "the code does not end"),
         Some(end) => assert!(rt; end.text.as_slice() == b"false\n0\n".as_slice()),
     }
@@ -196,54 +208,70 @@ fn what_a_trapped_child_left_is_dropped(rt: HostRuntime) -> Result<(), Fail> {
 
 #[test]
 fn causes_of_traps(rt: HostRuntime) -> Result<(), Fail> {
-    let alloc = rt.alloc();
-    let outside = [
-        Instr::Charge(7),
-        Instr::PushInt(10),
-        Instr::LoadCell(0),
-        Instr::Print(0),
-        Instr::Return,
+    let rows: &[(&[Instr], Cause)] = &[
+        (
+            &[
+                Instr::Charge(7),
+                Instr::PushInt(10),
+                Instr::LoadCell(0),
+                Instr::Print(0),
+                Instr::Return,
+            ],
+            Cause::Index,
+        ),
+        (
+            &[
+                Instr::Charge(7),
+                Instr::PushInt(-1),
+                Instr::CheckCell(0),
+                Instr::PushInt(3),
+                Instr::StoreCell(0),
+                Instr::Return,
+            ],
+            Cause::Index,
+        ),
+        (
+            &[
+                Instr::Charge(7),
+                Instr::PushInt(0),
+                Instr::LoadInput,
+                Instr::Print(0),
+                Instr::Return,
+            ],
+            Cause::Index,
+        ),
+        (
+            &[
+                Instr::Charge(7),
+                Instr::PushNone,
+                Instr::Join,
+                Instr::Return,
+            ],
+            Cause::JoinNone,
+        ),
+        (
+            &[
+                Instr::Charge(7),
+                Instr::PushBool(false),
+                Instr::Assert,
+                Instr::Return,
+            ],
+            Cause::Assert,
+        ),
+        (
+            &[
+                Instr::Charge(7),
+                Instr::PushInt(i64::MIN),
+                Instr::Neg,
+                Instr::Print(0),
+                Instr::Return,
+            ],
+            Cause::Overflow,
+        ),
     ];
-    assert!(rt; traps(alloc, outside.as_slice(), Cause::Index)?);
-    let below = [
-        Instr::Charge(7),
-        Instr::PushInt(-1),
-        Instr::CheckCell(0),
-        Instr::PushInt(3),
-        Instr::StoreCell(0),
-        Instr::Return,
-    ];
-    assert!(rt; traps(alloc, below.as_slice(), Cause::Index)?);
-    let no_input = [
-        Instr::Charge(7),
-        Instr::PushInt(0),
-        Instr::LoadInput,
-        Instr::Print(0),
-        Instr::Return,
-    ];
-    assert!(rt; traps(alloc, no_input.as_slice(), Cause::Index)?);
-    let no_handle = [
-        Instr::Charge(7),
-        Instr::PushNone,
-        Instr::Join,
-        Instr::Return,
-    ];
-    assert!(rt; traps(alloc, no_handle.as_slice(), Cause::JoinNone)?);
-    let asserts = [
-        Instr::Charge(7),
-        Instr::PushBool(false),
-        Instr::Assert,
-        Instr::Return,
-    ];
-    assert!(rt; traps(alloc, asserts.as_slice(), Cause::Assert)?);
-    let least = [
-        Instr::Charge(7),
-        Instr::PushInt(i64::MIN),
-        Instr::Neg,
-        Instr::Print(0),
-        Instr::Return,
-    ];
-    assert!(rt; traps(alloc, least.as_slice(), Cause::Overflow)?);
+    for (main, cause) in rows {
+        assert!(rt; traps(rt.alloc(), main, *cause)?, "{main:?}: {cause:?}");
+    }
     Ok(())
 }
 
@@ -257,7 +285,7 @@ fn two_inputs(alloc: Global) -> Result<Vec<i64>, AllocError>
 #[test]
 fn inputs_inside_and_outside(rt: HostRuntime) -> Result<(), Fail> {
     let alloc = rt.alloc();
-    let main = [
+    let main: &[Instr] = &[
         Instr::Charge(7),
         Instr::PushInt(1),
         Instr::LoadInput,
@@ -274,7 +302,7 @@ fn inputs_inside_and_outside(rt: HostRuntime) -> Result<(), Fail> {
         Instr::Print(0),
         Instr::Return,
     ];
-    let code = code_of(alloc, &[Instr::Return], main.as_slice())?;
+    let code = code_of(alloc, &[Instr::Return], main)?;
     let trap = CodeTrap {
         cause: Cause::Index,
         line: 9,
@@ -293,30 +321,26 @@ fn inputs_inside_and_outside(rt: HostRuntime) -> Result<(), Fail> {
 #[test]
 fn too_many_frames_and_no_fuel(rt: HostRuntime) -> Result<(), Fail> {
     let alloc = rt.alloc();
-    let deeper = [Instr::Charge(7), Instr::Call(2), Instr::Return];
-    let calls = [Instr::Charge(2), Instr::Call(2), Instr::Return];
+    let deeper: &[Instr] = &[Instr::Charge(7), Instr::Call(2), Instr::Return];
+    let calls: &[Instr] = &[Instr::Charge(2), Instr::Call(2), Instr::Return];
     let trap = CodeTrap {
         cause: Cause::CallDepth,
         line: 7,
         origin: None,
     };
-    match left_by(
-        alloc,
-        code_of(alloc, deeper.as_slice(), calls.as_slice())?,
-        1,
-    )? {
+    match left_by(alloc, code_of(alloc, deeper, calls)?, 1)? {
         None => panic!(rt; "the code does not end"),
         Some(end) => assert_eq!(rt; end.finish, Finish::Trapped(trap)),
     }
-    let forever = [Instr::Charge(7), Instr::Jump(0), Instr::Return];
-    assert!(rt; traps(alloc, forever.as_slice(), Cause::Spent)?);
+    let forever: &[Instr] = &[Instr::Charge(7), Instr::Jump(0), Instr::Return];
+    assert!(rt; traps(alloc, forever, Cause::Spent)?);
     Ok(())
 }
 
 #[test]
 fn other_instructions(rt: HostRuntime) -> Result<(), Fail> {
     let alloc = rt.alloc();
-    let main = [
+    let main: &[Instr] = &[
         Instr::Charge(7),
         Instr::PushBool(true),
         Instr::Not,
@@ -341,6 +365,6 @@ fn other_instructions(rt: HostRuntime) -> Result<(), Fail> {
         Instr::Print(0),
         Instr::Return,
     ];
-    assert!(rt; prints(alloc, main.as_slice(), "3\n")?);
+    assert!(rt; prints(alloc, main, "3\n")?);
     Ok(())
 }

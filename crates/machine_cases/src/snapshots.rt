@@ -100,7 +100,7 @@ fn two_parts_are_taken_by_three_questions(rt: HostRuntime) -> Result<(), Fail> {
 fn fork_and_join(alloc: Global) -> Result<Code, AllocError>
     ensures { IfOk result (λ code. code.vars ≡ []) }
 {
-    let main = [
+    let main: &[Instr] = &[
         Instr::Charge(2),
         Instr::Fork(0),
         Instr::StoreLocal(0),
@@ -110,14 +110,7 @@ fn fork_and_join(alloc: Global) -> Result<Code, AllocError>
         Instr::Return,
     ];
     let child = block(alloc, BlockClass::Proc, 0, None, &[], &[Instr::Return])?;
-    let first = block(
-        alloc,
-        BlockClass::Main,
-        0,
-        None,
-        &[ValueKind::Rev],
-        main.as_slice(),
-    )?;
+    let first = block(alloc, BlockClass::Main, 0, None, &[ValueKind::Rev], main)?;
     let mut blocks = Vec::new(alloc);
     blocks.push(child)?;
     blocks.push(first)?;

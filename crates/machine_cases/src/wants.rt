@@ -17,7 +17,7 @@ use version_map::MergeBy;
 /// A child that calls, applies a fun, prints and writes a cumulative cell, and `main`, which forks
 /// and joins it and writes the same cell.
 fn code(alloc: Global) -> Result<Code, AllocError> {
-    let child = [
+    let child: &[Instr] = &[
         Instr::Charge(9),
         Instr::PushInt(6),
         Instr::PushInt(2),
@@ -30,7 +30,7 @@ fn code(alloc: Global) -> Result<Code, AllocError> {
         Instr::StoreCell(1),
         Instr::Return,
     ];
-    let main = [
+    let main: &[Instr] = &[
         Instr::Charge(2),
         Instr::Fork(2),
         Instr::StoreLocal(2),
@@ -49,7 +49,7 @@ fn code(alloc: Global) -> Result<Code, AllocError> {
         Instr::Print(0),
         Instr::Return,
     ];
-    code_of(alloc, child.as_slice(), main.as_slice())
+    code_of(alloc, child, main)
 }
 
 /// Whether the run comes to its end and leaves this text.
