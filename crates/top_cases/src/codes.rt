@@ -1,5 +1,11 @@
-// Code files, what `dis` writes of them, and what `emit` writes.
-use super::*;
+//! Code files, what `dis` writes of them, and what `emit` writes.
+
+use crate::calls::{SEVEN, answers, source_over, status_of, words_of};
+use rev_io::{CalmSink, CalmSource, MemSource};
+use std::alloc::AllocError;
+use std::sync::Wait;
+use std::test::Fail;
+use std::thread::Threads;
 
 /// `main` prints 7.
 const PRINTS_SEVEN: [u8; 48] = [
@@ -57,24 +63,24 @@ fn prefixes(rt: HostRuntime) -> Result<(), Fail> {
 
 #[test]
 fn lengths(rt: HostRuntime) -> Result<(), Fail> {
-    let trailing = ("", "error: code byte 48: trailing bytes\n", 2);
-    let too_long = ("", "error: source too long\n", 2);
-    let wants = [
+    const TRAILING: (&str, &str, u8) = ("", "error: code byte 48: trailing bytes\n", 2);
+    const TOO_LONG: (&str, &str, u8) = ("", "error: source too long\n", 2);
+    let wants: &[(usize, (&str, &str, u8))] = &[
         (0, (LISTING, "", 0)),
-        (1, trailing),
-        (16_777_168, trailing),
-        (16_777_169, too_long),
+        (1, TRAILING),
+        (16_777_168, TRAILING),
+        (16_777_169, TOO_LONG),
     ];
     for (zeros, want) in wants {
         let file = PRINTS_SEVEN.as_slice();
-        assert!(rt; lists(&rt, file, zeros, want)?, "{zeros} zeros");
+        assert!(rt; lists(&rt, file, *zeros, *want)?, "{zeros} zeros");
     }
     Ok(())
 }
 
 #[test]
 fn changed_bytes(rt: HostRuntime) -> Result<(), Fail> {
-    let wants: [(usize, u8, &str); 13] = [
+    let wants: &[(usize, u8, &str)] = &[
         (0, 83, "bad magic"),
         (5, 0, "bad version"),
         (5, 4, "bad version"),
@@ -98,8 +104,8 @@ fn changed_bytes(rt: HostRuntime) -> Result<(), Fail> {
     ];
     for (at, byte, what) in wants {
         let mut file = PRINTS_SEVEN;
-        if let Some(place) = file.get_mut(at) {
-            *place = byte;
+        if let Some(place) = file.get_mut(*at) {
+            *place = *byte;
         }
         let message = format!(in rt.alloc(); "error: {what}\n")?;
         let want = ("", message.as_str(), 2);
@@ -162,10 +168,10 @@ fn with_byte<R: AllocGlobal>(
 
 #[test]
 fn joins_that_outlive_a_trap(rt: HostRuntime) -> Result<(), Fail> {
-    let none = "trap: join of none at line 1 in revision main\n";
-    let wants: [(&[u8], usize, u8, (&str, &str, u8)); 4] = [
+    const NONE: &str = "trap: join of none at line 1 in revision main\n";
+    let wants: &[(&[u8], usize, u8, (&str, &str, u8))] = &[
         (&TRIES_A_TRAP, 80, 1, ("false\n", "", 0)),
-        (&TRIES_NONE, 38, 1, ("", none, 1)),
+        (&TRIES_NONE, 38, 1, ("", NONE, 1)),
         // there is one such join, and not two
         (
             &TRIES_NONE,
@@ -182,9 +188,9 @@ fn joins_that_outlive_a_trap(rt: HostRuntime) -> Result<(), Fail> {
         ),
     ];
     for (bytes, at, byte, want) in wants {
-        let mut source = with_byte(&rt, bytes, at, byte)?;
+        let mut source = with_byte(&rt, bytes, *at, *byte)?;
         assert!(rt;
-            answers(&rt, "exec", &mut source, want)?,
+            answers(&rt, "exec", &mut source, *want)?,
             "byte {at}: {byte}"
         );
     }

@@ -1,5 +1,6 @@
-// Merges of programs that keep all rules, on three numbers.
-use crate::many;
+//! Merges of programs that keep all rules, on three numbers.
+
+use crate::calls::many;
 use merge_decl::expand_funs;
 use rev_num::NumFault;
 use rev_parse::parse;
@@ -86,7 +87,7 @@ fn of_three_numbers(rt: HostRuntime) -> Result<(), Fail> {
 
 #[test]
 fn from_left_to_right(rt: HostRuntime) -> Result<(), Fail> {
-    let wants = [
+    let wants: &[(&str, Result<i64, NumFault>)] = &[
         ("9223372036854775807 + 1 + 1 / 0", Err(NumFault::Overflow)),
         (
             "1 / 0 + (9223372036854775807 + 1)",
@@ -107,7 +108,7 @@ fn from_left_to_right(rt: HostRuntime) -> Result<(), Fail> {
         let text = format!(in rt.alloc();
             "fun f(a: int, b: int): int = 0; merge s(m, j, r) = {expression}; main {{ }}"
         )?;
-        assert!(rt; gives(&rt, text.as_str(), (0, 0, 0), want), "{text}");
+        assert!(rt; gives(&rt, text.as_str(), (0, 0, 0), *want), "{text}");
     }
     Ok(())
 }

@@ -1,5 +1,11 @@
-// Programs and schedules by which their runs begin.
-use super::*;
+//! Programs and schedules by which their runs begin.
+
+use crate::calls::{SEVEN, USAGE, answers, many, source_over, status_of, words_of};
+use rev_io::{CalmSink, MemSink};
+use std::alloc::AllocError;
+use std::sync::Wait;
+use std::test::Fail;
+use std::thread::Threads;
 
 /// Whether the call on the text answers this: bytes of both outputs and the status.
 fn replays<R: AllocGlobal + Threads + Wait + Sync>(
@@ -25,22 +31,22 @@ main { let a = rfork one(); let b = rfork two(); rjoin a; rjoin b; }";
 
 #[test]
 fn legal_schedules(rt: HostRuntime) -> Result<(), Fail> {
-    let twice = ("", "error: a revision was joined twice\n", 3);
-    let leaves = ("p = 0.0\nq = 1.0\n", "", 0);
-    let trapped = ("1\n", "trap: join of none at line 1 in revision main\n", 1);
-    let wants = [
+    const TWICE: (&str, &str, u8) = ("", "error: a revision was joined twice\n", 3);
+    const LEAVES: (&str, &str, u8) = ("p = 0.0\nq = 1.0\n", "", 0);
+    const TRAPPED: (&str, &str, u8) = ("1\n", "trap: join of none at line 1 in revision main\n", 1);
+    let wants: &[(&str, &str, (&str, &str, u8))] = &[
         ("replay --schedule 0", SEVEN, ("7\n", "", 0)),
         ("replay --schedule=", SEVEN, ("7\n", "", 0)),
         ("replay", SEVEN, ("7\n", "", 0)),
-        ("replay --schedule 0,0,0,1,2,3", SECOND_JOINER, twice),
-        ("replay --schedule 0,0,0,1,3,2", SECOND_JOINER, twice),
-        ("replay --schedule 0,0", SECOND_JOINER, twice),
-        ("replay --values --schedule 0,0,1,2", TWO_LEAVES, leaves),
-        ("replay --values --schedule 0,0,2,1", TWO_LEAVES, leaves),
+        ("replay --schedule 0,0,0,1,2,3", SECOND_JOINER, TWICE),
+        ("replay --schedule 0,0,0,1,3,2", SECOND_JOINER, TWICE),
+        ("replay --schedule 0,0", SECOND_JOINER, TWICE),
+        ("replay --values --schedule 0,0,1,2", TWO_LEAVES, LEAVES),
+        ("replay --values --schedule 0,0,2,1", TWO_LEAVES, LEAVES),
         (
             "replay --values --schedule 0,0,2,1,3,2,4,1,0,0,0",
             TWO_LEAVES,
-            leaves,
+            LEAVES,
         ),
         (
             "replay --schedule 0 3 4",
@@ -50,18 +56,18 @@ fn legal_schedules(rt: HostRuntime) -> Result<(), Fail> {
         (
             "replay --schedule 0",
             "main { print 1; rjoin none; }",
-            trapped,
+            TRAPPED,
         ),
     ];
     for (line, text, want) in wants {
-        assert!(rt; replays(&rt, line, text, want)?, "{line}: {text}");
+        assert!(rt; replays(&rt, line, text, *want)?, "{line}: {text}");
     }
     Ok(())
 }
 
 #[test]
 fn entries_without_a_leg(rt: HostRuntime) -> Result<(), Fail> {
-    let wants: [(&str, &str, u32, u32); 7] = [
+    let wants: &[(&str, &str, u32, u32)] = &[
         ("1", SEVEN, 0, 1),
         ("4294967295", SEVEN, 0, 4_294_967_295),
         // behind the end of the run

@@ -1,5 +1,11 @@
-// Programs and what calls on them write.
-use super::*;
+//! Programs and what calls on them write.
+
+use crate::calls::{SEVEN, answers, source_over, status_of, words_of};
+use rev_io::{CalmSink, MemSource, Source};
+use std::alloc::AllocError;
+use std::sync::Wait;
+use std::test::Fail;
+use std::thread::Threads;
 
 /// Whether the call on the text answers this: bytes of both outputs and the status.
 pub fn writes<R: AllocGlobal + Threads + Wait + Sync>(
@@ -15,48 +21,51 @@ pub const TWICE: &str = "error: a revision was joined twice\n";
 
 #[test]
 fn joins(rt: HostRuntime) -> Result<(), Fail> {
-    let written = "versioned x : int; proc child() { x = 1; }
+    const WRITTEN: &str = "versioned x : int; proc child() { x = 1; }
         main { let h = rfork child(); x = 2; rjoin h; print x; }";
-    let nothing = "versioned x : int; proc child() { }
+    const NOTHING: &str = "versioned x : int; proc child() { }
         main { let h = rfork child(); x = 2; rjoin h; print x; }";
-    let old_value = "versioned x : int; proc child() { x = 0; }
+    const OLD_VALUE: &str = "versioned x : int; proc child() { x = 0; }
         main { let h = rfork child(); x = 2; rjoin h; print x; }";
-    let both_read = "versioned x : int; versioned y : int; proc child() { if x == 0 { y = y + 1; } }
+    const BOTH_READ: &str =
+        "versioned x : int; versioned y : int; proc child() { if x == 0 { y = y + 1; } }
         main { let h = rfork child(); if y == 0 { x = x + 1; } rjoin h; print x, y; }";
-    let merged = "merge sum(m, j, r) = m + j - r; cumulative x : int by sum;
+    const MERGED: &str = "merge sum(m, j, r) = m + j - r; cumulative x : int by sum;
         proc child() { x = x + 1; }
         main { x = 5; let h = rfork child(); x = x + 10; rjoin h; print x; }";
-    let snapshot = "versioned x : int; proc child() { x = x * 2; }
+    const SNAPSHOT: &str = "versioned x : int; proc child() { x = x * 2; }
         main { x = 3; let h = rfork child(); rjoin h; print x; }";
-    let by_sibling = "versioned n : int; proc b() { n = 4; } proc c(h: rev) { rjoin h; n = n + 1; }
+    const BY_SIBLING: &str =
+        "versioned n : int; proc b() { n = 4; } proc c(h: rev) { rjoin h; n = n + 1; }
         main { let hb = rfork b(); let hc = rfork c(hb); rjoin hc; print n; }";
-    let in_order = "proc child() { print \"child\"; }
+    const IN_ORDER: &str = "proc child() { print \"child\"; }
         main { let h = rfork child(); print \"one\"; rjoin h; print \"two\"; }";
-    let many = "merge sum(m, j, r) = m + j - r; cumulative t : int[64] by sum;
+    const MANY: &str = "merge sum(m, j, r) = m + j - r; cumulative t : int[64] by sum;
         proc work(k: int) { let i = 0; while i < 64 { t[i] = t[i] + k; i = i + 1; } }
         proc go(n: int) { if n > 0 { let h = rfork work(n); call go(n - 1); rjoin h; } }
         main { call go(100); print t[0], t[63]; }";
-    let largest = "merge sum(m, j, r) = m + j - r; cumulative t : int[4096] by sum;
+    const LARGEST: &str = "merge sum(m, j, r) = m + j - r; cumulative t : int[4096] by sum;
         proc work(k: int) { let i = 0; while i < 4096 { t[i] = t[i] + k; i = i + 1; } }
         main { let a = rfork work(1); let b = rfork work(2); rjoin a; rjoin b;
         print t[0], t[4095]; }";
-    let tried = "versioned x : int; proc child(d: int) { x = 1; print \"child\"; x = 7 / d; }
+    const TRIED: &str =
+        "versioned x : int; proc child(d: int) { x = 1; print \"child\"; x = 7 / d; }
         main { let h = rfork child(0); let ok = tryjoin h; print ok, x;
         let g = rfork child(2); ok = tryjoin g; print ok, x; }";
-    let wants = [
+    let wants: &[(&str, &str)] = &[
         ("main { print 7; }", "7\n"),
-        (written, "1\n"),
-        (nothing, "2\n"),
-        (old_value, "0\n"),
-        (both_read, "1 1\n"),
-        (merged, "16\n"),
-        (snapshot, "6\n"),
-        (by_sibling, "5\n"),
-        (in_order, "one\nchild\ntwo\n"),
-        (many, "5050 5050\n"),
+        (WRITTEN, "1\n"),
+        (NOTHING, "2\n"),
+        (OLD_VALUE, "0\n"),
+        (BOTH_READ, "1 1\n"),
+        (MERGED, "16\n"),
+        (SNAPSHOT, "6\n"),
+        (BY_SIBLING, "5\n"),
+        (IN_ORDER, "one\nchild\ntwo\n"),
+        (MANY, "5050 5050\n"),
         ("versioned a : int[65]; main { }", ""),
-        (largest, "3 3\n"),
-        (tried, "false 0\nchild\ntrue 3\n"),
+        (LARGEST, "3 3\n"),
+        (TRIED, "false 0\nchild\ntrue 3\n"),
     ];
     for (text, out) in wants {
         assert!(rt; writes(&rt, "run", text, (out, "", 0))?, "{text}");
@@ -82,33 +91,35 @@ fn joined_twice(rt: HostRuntime) -> Result<(), Fail> {
 
 #[test]
 fn traps(rt: HostRuntime) -> Result<(), Fail> {
-    let of_child = "versioned x : int;\nproc child() {\n  x = 1 / x;\n}
+    const OF_CHILD: &str = "versioned x : int;\nproc child() {\n  x = 1 / x;\n}
         main { let h = rfork child(); rjoin h; }";
-    let not_joined = "versioned x : int; proc child() { x = 1 / x; }
+    const NOT_JOINED: &str = "versioned x : int; proc child() { x = 1 / x; }
         main { let h = rfork child(); }";
-    let of_nobody = "proc spin() { while true { } } main { rfork spin(); print 1; }";
-    let calls = "proc f(n: int) { if n > 1 { call f(n - 1); } } main { call f(999); print 1; }";
-    let too_many = "proc f(n: int) { if n > 1 { call f(n - 1); } } main { call f(1000); print 1; }";
-    let left_first = "main { print (1 / 0) + (9223372036854775807 + 1); }";
-    let wants = [
+    const OF_NOBODY: &str = "proc spin() { while true { } } main { rfork spin(); print 1; }";
+    const CALLS: &str =
+        "proc f(n: int) { if n > 1 { call f(n - 1); } } main { call f(999); print 1; }";
+    const TOO_MANY: &str =
+        "proc f(n: int) { if n > 1 { call f(n - 1); } } main { call f(1000); print 1; }";
+    const LEFT_FIRST: &str = "main { print (1 / 0) + (9223372036854775807 + 1); }";
+    let wants: &[(&str, (&str, &str, u8))] = &[
         (
             "main {\n  print 1;\n  rjoin none;\n}",
             ("1\n", "trap: join of none at line 3 in revision main\n", 1),
         ),
         (
-            of_child,
+            OF_CHILD,
             ("", "trap: zero divisor at line 3 in revision 0\n", 1),
         ),
-        (not_joined, ("", "", 0)),
-        (of_nobody, ("1\n", "", 0)),
+        (NOT_JOINED, ("", "", 0)),
+        (OF_NOBODY, ("1\n", "", 0)),
         (
             "main { print (-9223372036854775807 - 1) / -1; }",
             ("", "trap: overflow at line 1 in revision main\n", 1),
         ),
         ("main { print -7 / 2, -7 % 2; }", ("-3 -1\n", "", 0)),
-        (calls, ("1\n", "", 0)),
+        (CALLS, ("1\n", "", 0)),
         (
-            too_many,
+            TOO_MANY,
             ("", "trap: call depth at line 1 in revision main\n", 1),
         ),
         (
@@ -116,7 +127,7 @@ fn traps(rt: HostRuntime) -> Result<(), Fail> {
             ("", "trap: assert at line 1 in revision main\n", 1),
         ),
         (
-            left_first,
+            LEFT_FIRST,
             ("", "trap: zero divisor at line 1 in revision main\n", 1),
         ),
         (
@@ -125,40 +136,40 @@ fn traps(rt: HostRuntime) -> Result<(), Fail> {
         ),
     ];
     for (text, want) in wants {
-        assert!(rt; writes(&rt, "run", text, want)?, "{text}");
+        assert!(rt; writes(&rt, "run", text, *want)?, "{text}");
     }
     Ok(())
 }
 
 #[test]
 fn words_count(rt: HostRuntime) -> Result<(), Fail> {
-    let handles = "versioned hb : rev; versioned n : int; proc b() { n = 9; }
+    const HANDLES: &str = "versioned hb : rev; versioned n : int; proc b() { n = 9; }
         proc a() { hb = rfork b(); }
         main { let h = rfork a(); rjoin h; rjoin hb; print n; }";
-    let faulty_merge = "merge sum(m, j, r) = m + j - r;\ncumulative a : int[2] by sum;
+    const FAULTY_MERGE: &str = "merge sum(m, j, r) = m + j - r;\ncumulative a : int[2] by sum;
         proc child() { a[1] = 9223372036854775807; a[0] = 9223372036854775807; }\nmain {
         let h = rfork child();\n  a[0] = 1; a[1] = 1;\n  rjoin h;\n}";
-    let spent = "trap: fuel spent at line 2 in revision main\n";
-    let overflow = "trap: merge of a[0]: overflow at line 7 in revision main\n";
-    let shared = "proc p() { let a = 1; let b = 2; }
+    const SPENT: &str = "trap: fuel spent at line 2 in revision main\n";
+    const OVERFLOW: &str = "trap: merge of a[0]: overflow at line 7 in revision main\n";
+    const SHARED: &str = "proc p() { let a = 1; let b = 2; }
         main { let h = rfork p(); let ok = tryjoin h; print ok; }";
-    let wants = [
-        ("run --values", handles, ("9\nhb = 0.0\nn = 9\n", "", 0)),
-        ("run", handles, ("9\n", "", 0)),
+    let wants: &[(&str, &str, (&str, &str, u8))] = &[
+        ("run --values", HANDLES, ("9\nhb = 0.0\nn = 9\n", "", 0)),
+        ("run", HANDLES, ("9\n", "", 0)),
         (
             "run --values",
-            faulty_merge,
-            ("a[0] = 1\na[1] = 1\n", overflow, 1),
+            FAULTY_MERGE,
+            ("a[0] = 1\na[1] = 1\n", OVERFLOW, 1),
         ),
-        ("run", faulty_merge, ("", overflow, 1)),
+        ("run", FAULTY_MERGE, ("", OVERFLOW, 1)),
         ("run --fuel 1", "main { print 1; }", ("1\n", "", 0)),
         (
             "run --fuel 1",
             "main { print 7;\nprint 8; }",
-            ("7\n", spent, 1),
+            ("7\n", SPENT, 1),
         ),
-        ("run --share 2", shared, ("true\n", "", 0)),
-        ("run --share 1", shared, ("false\n", "", 0)),
+        ("run --share 2", SHARED, ("true\n", "", 0)),
+        ("run --share 1", SHARED, ("false\n", "", 0)),
         (
             "run 3 4",
             "main { print input[0] + input[1], inputs; }",
@@ -174,7 +185,7 @@ fn words_count(rt: HostRuntime) -> Result<(), Fail> {
         ),
     ];
     for (line, text, want) in wants {
-        assert!(rt; writes(&rt, line, text, want)?, "{line}: {text}");
+        assert!(rt; writes(&rt, line, text, *want)?, "{line}: {text}");
     }
     Ok(())
 }

@@ -1,5 +1,10 @@
-// Texts and what calls on them answer. In a faulty text `@` stands before the place of the fault.
-use super::*;
+//! Texts and what calls on them answer. In a faulty text `@` stands before the place of the fault.
+
+use crate::calls::{answers, many, source_over};
+use std::alloc::AllocError;
+use std::sync::Wait;
+use std::test::Fail;
+use std::thread::Threads;
 
 /// Whether a run of the text answers this: bytes of both outputs and the status.
 fn gives<R: AllocGlobal + Threads + Wait + Sync>(
@@ -31,9 +36,36 @@ fn is_refused<R: AllocGlobal + Threads + Wait + Sync>(
     gives(rt, text.as_str(), ("", message.as_str(), 2))
 }
 
+/// The first of the texts that is not refused at its mark with its fault.
+fn first_not_refused<'a, R: AllocGlobal + Threads + Wait + Sync>(
+    rt: &R,
+    wants: &[(&'a str, &str)],
+) -> Result<Option<&'a str>, AllocError> {
+    for (text, fault) in wants {
+        if !is_refused(rt, text, fault)? {
+            return Ok(Some(*text));
+        }
+    }
+    Ok(None)
+}
+
+/// The first of the texts that is not refused at its mark with this fault.
+fn first_without<'a, R: AllocGlobal + Threads + Wait + Sync>(
+    rt: &R,
+    texts: &[&'a str],
+    fault: &str,
+) -> Result<Option<&'a str>, AllocError> {
+    for text in texts {
+        if !is_refused(rt, text, fault)? {
+            return Ok(Some(*text));
+        }
+    }
+    Ok(None)
+}
+
 #[test]
 fn printed(rt: HostRuntime) -> Result<(), Fail> {
-    let wants = [
+    let wants: &[(&str, &str)] = &[
         ("main { print 7; }", "7\n"),
         ("main { print 1, 2; print 3; }\n", "1 2\n3\n"),
         ("main{print(7),((0));\t} // seven", "7 0\n"),
@@ -52,7 +84,7 @@ fn printed(rt: HostRuntime) -> Result<(), Fail> {
 
 #[test]
 fn programs(rt: HostRuntime) -> Result<(), Fail> {
-    let texts = [
+    let texts: &[&str] = &[
         "main { print 1 + 1; }",
         "main { print -1; }",
         "main { print true; }",
@@ -77,7 +109,7 @@ fn programs(rt: HostRuntime) -> Result<(), Fail> {
 
 #[test]
 fn lexical_faults(rt: HostRuntime) -> Result<(), Fail> {
-    let wants = [
+    let wants: &[(&str, &str)] = &[
         ("main { @# }", "bad byte"),
         ("main { print 1 @& 2; }", "bad byte"),
         ("main { print 1@\u{ff}; }", "bad byte"),
@@ -87,15 +119,13 @@ fn lexical_faults(rt: HostRuntime) -> Result<(), Fail> {
         ("print else @#", "bad byte"),
         ("main { print x, none; } @\"", "open text"),
     ];
-    for (text, fault) in wants {
-        assert!(rt; is_refused(&rt, text, fault)?, "{text}");
-    }
+    assert_eq!(rt; first_not_refused(&rt, wants)?, None);
     Ok(())
 }
 
 #[test]
 fn syntax_faults(rt: HostRuntime) -> Result<(), Fail> {
-    let wants = [
+    let wants: &[(&str, &str)] = &[
         ("@", "unexpected end"),
         ("main { print 7;@", "unexpected end"),
         ("main { print 7 @}", "unexpected token"),
@@ -109,9 +139,7 @@ fn syntax_faults(rt: HostRuntime) -> Result<(), Fail> {
         ("versioned x : int = - @- 1; main { }", "unexpected token"),
         ("main { print none; print @}", "unexpected token"),
     ];
-    for (text, fault) in wants {
-        assert!(rt; is_refused(&rt, text, fault)?, "{text}");
-    }
+    assert_eq!(rt; first_not_refused(&rt, wants)?, None);
     let message = "error: line 3 column 2: unexpected end\n";
     assert!(rt; gives(&rt, "main { // open\n\n ", ("", message, 2))?);
     Ok(())
@@ -130,7 +158,7 @@ fn nesting(rt: HostRuntime) -> Result<(), Fail> {
 
 #[test]
 fn fun_faults(rt: HostRuntime) -> Result<(), Fail> {
-    let wants = [
+    let wants: &[(&str, &str)] = &[
         ("main { print @f(1); }", "unknown fun"),
         ("proc f() { } main { print @f(); }", "unknown fun"),
         ("fun f(): int = @f(); main { }", "fun declared later"),
@@ -154,15 +182,13 @@ fn fun_faults(rt: HostRuntime) -> Result<(), Fail> {
         ("main { print y; print @f(1); }", "unknown fun"),
         ("main { print @f(g(1)); }", "unknown fun"),
     ];
-    for (text, fault) in wants {
-        assert!(rt; is_refused(&rt, text, fault)?, "{text}");
-    }
+    assert_eq!(rt; first_not_refused(&rt, wants)?, None);
     Ok(())
 }
 
 #[test]
 fn unknown_names(rt: HostRuntime) -> Result<(), Fail> {
-    let texts = [
+    let texts: &[&str] = &[
         "main { print @y; }",
         "main { @y = 1; }",
         "main { @y[0] = 1; }",
@@ -179,15 +205,13 @@ fn unknown_names(rt: HostRuntime) -> Result<(), Fail> {
         "versioned x : int; merge m(a, b, c) = @x; main { }",
         "main { print @z; let x = 1; let x = 2; }",
     ];
-    for text in texts {
-        assert!(rt; is_refused(&rt, text, "unknown name")?, "{text}");
-    }
+    assert_eq!(rt; first_without(&rt, texts, "unknown name")?, None);
     Ok(())
 }
 
 #[test]
 fn redeclared_names(rt: HostRuntime) -> Result<(), Fail> {
-    let texts = [
+    let texts: &[&str] = &[
         "main { let x = 1; let @x = 2; }",
         "main { let x = 1; if true { let @x = 2; } }",
         "versioned x : int; proc @x() { } main { }",
@@ -199,15 +223,13 @@ fn redeclared_names(rt: HostRuntime) -> Result<(), Fail> {
         "versioned x : int; main { let @x = 1; }",
         "proc p(a: int) { let @a = 1; } main { }",
     ];
-    for text in texts {
-        assert!(rt; is_refused(&rt, text, "redeclared name")?, "{text}");
-    }
+    assert_eq!(rt; first_without(&rt, texts, "redeclared name")?, None);
     Ok(())
 }
 
 #[test]
 fn wrong_types_of_operands(rt: HostRuntime) -> Result<(), Fail> {
-    let texts = [
+    let texts: &[&str] = &[
         "main { print @none; }",
         "main { print @(none); }",
         "main { print 1 + @true; }",
@@ -233,15 +255,13 @@ fn wrong_types_of_operands(rt: HostRuntime) -> Result<(), Fail> {
         "fun f(): int = (@inputs); main { }",
         "merge m(a, b, c) = @input[0]; main { }",
     ];
-    for text in texts {
-        assert!(rt; is_refused(&rt, text, "wrong type")?, "{text}");
-    }
+    assert_eq!(rt; first_without(&rt, texts, "wrong type")?, None);
     Ok(())
 }
 
 #[test]
 fn wrong_types_of_statements(rt: HostRuntime) -> Result<(), Fail> {
-    let texts = [
+    let texts: &[&str] = &[
         "main { while @1 { } }",
         "main { if @1 { } }",
         "main { if true { } else if @1 { } }",
@@ -263,15 +283,13 @@ fn wrong_types_of_statements(rt: HostRuntime) -> Result<(), Fail> {
         "versioned b : int; proc p() { } main { b = @rfork p(); }",
         "versioned i : int; main { i = @tryjoin none; }",
     ];
-    for text in texts {
-        assert!(rt; is_refused(&rt, text, "wrong type")?, "{text}");
-    }
+    assert_eq!(rt; first_without(&rt, texts, "wrong type")?, None);
     Ok(())
 }
 
 #[test]
 fn faults_of_declarations(rt: HostRuntime) -> Result<(), Fail> {
-    let wants = [
+    let wants: &[(&str, &str)] = &[
         ("cumulative b : @bool by s; main { }", "wrong type"),
         ("versioned a : int = @true; main { }", "wrong type"),
         ("versioned a : bool = @-1; main { }", "wrong type"),
@@ -299,9 +317,7 @@ fn faults_of_declarations(rt: HostRuntime) -> Result<(), Fail> {
             "missing return",
         ),
     ];
-    for (text, fault) in wants {
-        assert!(rt; is_refused(&rt, text, fault)?, "{text}");
-    }
+    assert_eq!(rt; first_not_refused(&rt, wants)?, None);
     Ok(())
 }
 
@@ -322,16 +338,14 @@ fn numbered<R: AllocGlobal + Threads + Wait + Sync>(
 #[test]
 fn limits_of_declarations(rt: HostRuntime) -> Result<(), Fail> {
     assert!(rt; is_sound(&rt, "versioned a : int[4096]; main { }")?);
-    let wants = [
+    let wants: &[&str] = &[
         "versioned @a : int[4097]; main { }",
         "versioned a : int[4096]; versioned @b : int; main { }",
     ];
-    for text in wants {
-        assert!(rt;
-            is_refused(&rt, text, "more than 4096 locations")?,
-            "{text}"
-        );
-    }
+    assert_eq!(rt;
+        first_without(&rt, wants, "more than 4096 locations")?,
+        None
+    );
 
     let procs = numbered(&rt, "proc p", "() { } ", 256)?;
     let text = format!(in rt.alloc(); "{procs}main {{ }}")?;

@@ -1,9 +1,18 @@
-// Runs by threads: any number of workers and segments, the schedules that they make, and the run
-// that a call hands out.
-use super::runs::{TWICE, writes};
-use super::*;
+//! Runs by threads: any number of workers and segments, the schedules that they make, and the run
+//! that a call hands out.
+
+use crate::calls::{SEVEN, source_over, status_of, words_of};
+use crate::runs::{TWICE, writes};
+use hub_workers::{Gate, OpenGate};
+use rev_io::CalmSink;
+use rev_top::rev_main;
+use std::alloc::AllocError;
+use std::sync::Wait;
 use std::sync::atomic::{AtomicU64, Ordering};
+use std::test::Fail;
 use std::thread;
+use std::thread::Threads;
+use thread_runs::Ran;
 
 const SIBLING: &str = "versioned n : int; proc b() { n = 4; } proc c(h: rev) { rjoin h; n = n + 1; }
     main { let hb = rfork b(); let hc = rfork c(hb); rjoin hc; print n; }";
@@ -26,19 +35,19 @@ fn line_of<R: AllocGlobal>(
 
 #[test]
 fn any_workers_and_segments(rt: HostRuntime) -> Result<(), Fail> {
-    let handles = "versioned hb : rev; versioned n : int; proc b() { n = 9; }
+    const HANDLES: &str = "versioned hb : rev; versioned n : int; proc b() { n = 9; }
         proc a() { hb = rfork b(); }
         main { let h = rfork a(); rjoin h; rjoin hb; print n; }";
-    let many = "merge sum(m, j, r) = m + j - r; cumulative t : int[64] by sum;
+    const MANY: &str = "merge sum(m, j, r) = m + j - r; cumulative t : int[64] by sum;
         proc work(k: int) { let i = 0; while i < 64 { t[i] = t[i] + k; i = i + 1; } }
         proc go(n: int) { if n > 0 { let h = rfork work(n); call go(n - 1); rjoin h; } }
         main { call go(100); print t[0], t[63]; }";
-    let written = "versioned x : int; proc child() { x = x * 2; }
+    const WRITTEN: &str = "versioned x : int; proc child() { x = x * 2; }
         main { x = 3; let h = rfork child(); rjoin h; print x; }";
-    let wants = [
-        ("run --values", handles, ("9\nhb = 0.0\nn = 9\n", "", 0)),
-        ("run", many, ("5050 5050\n", "", 0)),
-        ("run", written, ("6\n", "", 0)),
+    let wants: &[(&str, &str, (&str, &str, u8))] = &[
+        ("run --values", HANDLES, ("9\nhb = 0.0\nn = 9\n", "", 0)),
+        ("run", MANY, ("5050 5050\n", "", 0)),
+        ("run", WRITTEN, ("6\n", "", 0)),
         ("run", SIBLING, ("5\n", "", 0)),
         ("run", TWO_JOINERS, ("", TWICE, 3)),
     ];
@@ -46,7 +55,7 @@ fn any_workers_and_segments(rt: HostRuntime) -> Result<(), Fail> {
         for workers in [1, 4, 8] {
             for segments in [0, 1, 2, 1024] {
                 let line = line_of(&rt, words, workers, segments)?;
-                assert!(rt; writes(&rt, line.as_str(), text, want)?, "{line}: {text}");
+                assert!(rt; writes(&rt, line.as_str(), text, *want)?, "{line}: {text}");
             }
         }
     }

@@ -1,5 +1,10 @@
-// Traces of programs, and audits of traces.
-use super::*;
+//! Traces of programs, and audits of traces.
+
+use crate::calls::{SEVEN, answers, source_over};
+use std::alloc::AllocError;
+use std::sync::Wait;
+use std::test::Fail;
+use std::thread::Threads;
 
 /// The child adds 1 to what `main` has, and `main` adds 10; the merge brings both together.
 const SUM: &str = "merge sum(m, j, r) = m + j - r;
@@ -32,22 +37,22 @@ const TWICE: &str = "proc child() { } main { let h = rfork child(); rjoin h; rjo
 
 #[test]
 fn traces(rt: HostRuntime) -> Result<(), Fail> {
-    let joined_twice = "error: a revision was joined twice\n";
-    let spent = "trap: fuel spent at line 1 in revision main\n";
-    let lines =
+    const JOINED_TWICE: &str = "error: a revision was joined twice\n";
+    const SPENT: &str = "trap: fuel spent at line 1 in revision main\n";
+    const LINES: &str =
         "revisions trace 1\nrevision main\nend fuel spent at line 1 in revision main\nfuel 0\n> 7\n";
-    let wants = [
+    let wants: &[(&str, &str, (&str, &str, u8))] = &[
         ("trace --fuel 100 --share 10", SUM, (SUM_TRACE, "", 0)),
-        ("trace", TWICE, ("", joined_twice, 3)),
+        ("trace", TWICE, ("", JOINED_TWICE, 3)),
         (
             "trace --fuel 1",
             "main { print 7; print 8; }",
-            (lines, spent, 1),
+            (LINES, SPENT, 1),
         ),
     ];
     for (line, text, want) in wants {
         let mut source = source_over(&rt, text, 0)?;
-        assert!(rt; answers(&rt, line, &mut source, want)?, "{text}");
+        assert!(rt; answers(&rt, line, &mut source, *want)?, "{text}");
     }
     Ok(())
 }
@@ -66,7 +71,7 @@ fn audits<R: AllocGlobal + Threads + Wait + Sync>(
 #[test]
 fn audits_of_traces(rt: HostRuntime) -> Result<(), Fail> {
     assert!(rt; audits(&rt, SUM_TRACE, ("yes\n", "", 0))?);
-    let wants = [
+    let wants: &[(&str, &str, &str)] = &[
         ("write x 6 root 5", "write x 7 root 5", "revision 0 differs"),
         ("write x 6 root 5", "write x 6 root 4", "revision 0 differs"),
         ("fuel 94", "fuel 95", "revision main differs"),
