@@ -5,6 +5,8 @@
 #[cfg(test)]
 mod instructions;
 #[cfg(test)]
+mod making;
+#[cfg(test)]
 mod operands;
 #[cfg(test)]
 mod tables;
