@@ -118,6 +118,11 @@ abbrev pub Found : ℕ → List Look → Type 0
 Found c [] = ⊥
 Found c (x ∷ xs) = ((x.segment ≡ c) × (0 < x.count)) ⊎ Found c xs
 
+-- between two logs the count of every segment from this one on and before that was found, and none was 0
+abbrev pub FoundBetween : ℕ → ℕ → ℕ → ℕ → List Look → List Look → Type 0
+FoundBetween words stride from to old new = (seen : List Look) × (new ≡ seen ++ old)
+    × ((c : ℕ) → IsSegment words stride c → from ≤ c → c < to → Found c seen)
+
 -- between two logs every segment's count was found, and none was 0
 abbrev pub FoundAll : ℕ → ℕ → List Look → List Look → Type 0
 FoundAll words stride old new = (seen : List Look) × (new ≡ seen ++ old)

@@ -11,7 +11,7 @@ use Rattle.segment_store.specs.declared.store.Hold.{Hold}
 use Rattle.segment_store.specs.declared.store.Spent.{Spent}
 use Rattle.segment_store.specs.Own.{root_in}
 use Rattle.segment_store.specs.Base.{value, absorbed, Sound, Rests, Forked, IsTaken, Popped}
-use Rattle.segment_store.specs.Base.{IsShared, FoundAll}
+use Rattle.segment_store.specs.Base.{IsShared, FoundAll, FoundBetween}
 
 abbrev pub IsOf : Store → Hold → Type 0
 IsOf s h = (h.seat.table_id ≡ s.table.shared.table_id) × (h.stride ≡ s.stride) × (h.masks ≡ s.masks)
@@ -39,6 +39,9 @@ SoundIn s es = Sound s.words s.stride s.masks es
 
 abbrev pub RestsIn : Store → ℕ → ℕ → View → Type 0
 RestsIn s first depth v = Rests s.words s.stride s.masks first depth v
+
+abbrev pub FoundBetweenIn : Store → ℕ → ℕ → List Look → List Look → Type 0
+FoundBetweenIn s from to old new = FoundBetween s.words s.stride from to old new
 
 abbrev pub FoundAllIn : Store → List Look → List Look → Type 0
 FoundAllIn s old new = FoundAll s.words s.stride old new

@@ -1,5 +1,5 @@
 //! What a seat does along its chain, by many steps.
-ghost use Rattle.std.specs.Prelude.{◌≡◌, ℕ, ◌+◌, ◌*◌, ◌/◌, ◌<◌, ◌≤◌, ◌^◌, [], length};
+ghost use Rattle.std.specs.Prelude.{◌≡◌, ℕ, ◌+◌, ◌*◌, ◌/◌, ◌%◌, ◌<◌, ◌≤◌, ◌^◌, [], length};
 ghost use Rattle.std.specs.Prelude.{vec_len, List, IfOk, IfErr, None, IfNone, IfSome};
 ghost use mathlib.Core.Option.{some};
 ghost use Rattle.version_map.specs.Deltas.{at, locations};
@@ -12,13 +12,49 @@ ghost use Rattle.segment_store.specs.Own.{root_in, IsOwn, IsComplete};
 use crate::store::{Place, Store};
 use version_map::Delta;
 
+// Neighbours begin so many segments apart.
+const SPREAD: usize = 619;
+
 impl Store {
     ghost use Rattle.segment_store.specs.Names.{IsSeatOf, IsDeltaOf, RestsIn, FoundAllIn};
     ghost use Rattle.segment_store.specs.Names.{IsTakenIn, SoundIn, PoppedIn, IsSharedIn, ForkedIn};
-    ghost use Rattle.segment_store.specs.Names.{IsSegmentIn};
+    ghost use Rattle.segment_store.specs.Names.{IsSegmentIn, FoundBetweenIn};
+
+    // A free segment from this one on and before that, which is now this seat's to build, or 0 where
+    // every count between them was found not 0.
+    fn claim_between(&self, seat: &mut Place, from: usize, to: usize) -> usize
+        requires own { IsSeatOf self.now seat.old }
+        requires free { (seat.old.me.0.build ≡ 0) × (0 < seat.old.me.0.holds) }
+        requires between { (0 < from) × (from % self.now.stride ≡ 0) × (to ≤ self.now.words) }
+        ensures none { result ≡ 0
+            → Becomes seat.old seat.new (logged seat.old.me.0 seat.new.me.0.log)
+            × FoundBetweenIn self.now from to seat.old.me.0.log seat.new.me.0.log }
+        ensures some { 0 < result
+            → Becomes seat.old seat.new (claims (logged seat.old.me.0 seat.new.me.0.log) result)
+            × IsSegmentIn self.now result × (result + self.now.stride ≤ self.now.words) }
+    {
+        let mut segment = from;
+        while segment < to {
+            if self.claim(seat, segment) {
+                return segment;
+            }
+            segment += self.stride;
+        }
+        0
+    }
+
+    // Where the search for a free segment begins. Threads whose holds refer to different segments
+    // begin at different places, and a hold that gave its segment back finds it at once.
+    fn begin_at(&self, first: usize) -> usize
+        requires { 0 < self.now.segments }
+        ensures { (0 < result) × (result % self.now.stride ≡ 0) × (result ≤ self.now.words) }
+    {
+        let segment = (first / self.stride).wrapping_mul(SPREAD) % self.segments + 1;
+        segment * self.stride
+    }
 
     // A free segment, which is now this seat's to build, or 0 where every count was found not 0.
-    pub(super) fn claim_any(&self, seat: &mut Place) -> usize
+    pub(super) fn claim_any(&self, seat: &mut Place, first: usize) -> usize
         requires own { IsSeatOf self.now seat.old }
         requires free { (seat.old.me.0.build ≡ 0) × (0 < seat.old.me.0.holds) }
         ensures none { result ≡ 0
@@ -28,14 +64,15 @@ impl Store {
             → Becomes seat.old seat.new (claims (logged seat.old.me.0 seat.new.me.0.log) result)
             × IsSegmentIn self.now result × (result + self.now.stride ≤ self.now.words) }
     {
-        let mut segment = self.stride;
-        while segment < self.words {
-            if self.claim(seat, segment) {
-                return segment;
-            }
-            segment += self.stride;
+        if self.segments == 0 {
+            return 0;
         }
-        0
+        let begin = self.begin_at(first);
+        let segment = self.claim_between(seat, begin, self.words);
+        if segment > 0 {
+            return segment;
+        }
+        self.claim_between(seat, self.stride, begin)
     }
 
     // Lays down the parent, the mask, and each value that the delta has.
@@ -108,7 +145,7 @@ impl Store {
             × ((root : List ℕ)
             → ForkedIn self.now root p.0 depth delta.new seat.old.me.0 seat.new.me.0 p.1.me.0)) }
     {
-        let segment = self.claim_any(seat);
+        let segment = self.claim_any(seat, first);
         if segment == 0 {
             return None;
         }

@@ -1,5 +1,5 @@
 use Rattle.std.proofs.Common.{arith, ◌≡◌, ◌≢◌, ◌<◌, ◌≤◌, ℕ, ◌+◌, ◌*◌, min, sym, ◌∙◌}
-use Rattle.std.proofs.Common.{subst, refl, None, Some, Option}
+use Rattle.std.proofs.Common.{subst, refl, Option}
 use Rattle.atomic_table.specs.Table.{Me}
 use mathlib.Core.Logic.{dite}
 use native.Mathlib.Decide.{ℕ_discrete}

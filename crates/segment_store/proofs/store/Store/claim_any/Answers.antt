@@ -1,42 +1,33 @@
-use Rattle.std.proofs.Common.{arith, rules, ◌∷◌, ◌∙◌, ap, refl, List, []}
-use Rattle.std.proofs.Math.Nat.{add-mod_right}
-use Rattle.segment_store.specs.Entry.{Look}
-use Rattle.segment_store.proofs.Looks.{log_more, log_claims, found_next, none_low, room_after}
+use Rattle.std.proofs.Common.{arith, refl, []}
+use Rattle.segment_store.proofs.Looks.{found_all, log_then, log_then_claims, none_in}
 use Rattle.segment_store.proofs.store.Store.claim_any.Goals as goal
 
-pub loop-segment-init : goal.loop-segment-init
-loop-segment-init c = (
+pub returns-then-self-eq0-clause-none : goal.returns-then-self-eq0-clause-none
+returns-then-self-eq0-clause-none c = λ _. (
   (refl, refl, refl),
-  search rules,
-  (let w = c.args.self.now.wide in let w0 = w.0 in omega arith),
-  ([], refl, λ d b lt. absurd (none_low _ d b.0 b.1 lt)),
+  (
+    [],
+    refl,
+    λ d b. absurd (none_in _ _ c.args.self.now.segments d c.if-self-eq0.true
+        c.args.self.now.rowed.1 b),
+  ),
 )
 
-pub loop-segment-preserved : goal.loop-segment-preserved
-loop-segment-preserved c = let i = c.loop-segment.invariant in
-    let t = c.claim.ensures.taken c.if-claim.false in
-    let m = log_more c.args.seat.now c.loop-segment.seat c.claim.new.seat c.loop-segment.segment t.0
-    i.0 t.2 in let p = i.2 in (
-      m.0,
-      add-mod_right c.loop-segment.segment c.args.self.now.stride ∙ i.1,
-      omega arith,
-      (
-        record { segment = c.loop-segment.segment; count = t.0 } ∷ i.3.0,
-        m.1 ∙ ap (λ (ls : List Look). record { segment = c.loop-segment.segment; count = t.0 } ∷ ls)
-            i.3.1,
-        found_next _ _ c.loop-segment.segment t.0 i.3.0 i.1 t.1 i.3.2,
-      ),
+pub returns-clause-some : goal.returns-clause-some
+returns-clause-some c = λ more.
+    let none = c.claim_between-segment.ensures.none (let h = c.if-segment-gt0.false in omega arith)
+    in let some = c.claim_between.ensures.some more in (
+      log_then_claims c.args.seat.now c.claim_between-segment.new.seat c.claim_between.new.seat
+          c.claim_between.result none.0 some.0,
+      some.1,
+      some.2,
     )
 
-pub returns-then-claim-clause-some : goal.returns-then-claim-clause-some
-returns-then-claim-clause-some c = λ _. let i = c.loop-segment.invariant in (
-  log_claims c.args.seat.now c.loop-segment.seat c.claim.new.seat c.loop-segment.segment i.0
-      (c.claim.ensures.claimed c.if-claim.true),
-  (i.2, i.1, c.loop-segment-test.true),
-  room_after _ _ _ i.1 c.args.self.now.wide.1 c.loop-segment-test.true,
-)
-
 pub returns-clause-none : goal.returns-clause-none
-returns-clause-none c = λ _. let i = c.loop-segment.invariant in
-    let h = c.loop-segment-test.false in
-    (i.0, (i.3.0, i.3.1, λ d b. i.3.2 d b (let top = b.2 in omega arith)))
+returns-clause-none c = λ no.
+    let late = c.claim_between-segment.ensures.none (let h = c.if-segment-gt0.false in omega arith)
+    in let early = c.claim_between.ensures.none no in (
+      log_then c.args.seat.now c.claim_between-segment.new.seat c.claim_between.new.seat late.0
+          early.0,
+      found_all _ _ c.begin_at-begin.result _ _ _ late.1 early.1,
+    )

@@ -1,10 +1,9 @@
-use Rattle.std.proofs.Common.{◌≡◌, ◌+◌, ℕ, List, sym, ap, ◌∙◌, subst, refl, vec_len, None, Some}
+use Rattle.std.proofs.Common.{◌≡◌, ◌+◌, ℕ, sym, ap, ◌∙◌, subst, refl, vec_len, Some}
 use Rattle.std.proofs.lemmas.Result.{IfOk-from_err}
 use Rattle.std.specs.declared.vec.Vec.{Vec}
 use Rattle.std.specs.declared.alloc.Global.{Global}
 use Rattle.atomic_table.specs.Table.{Me}
 use Rattle.atomic_table.specs.declared.shared.Seat.{Seat}
-use Rattle.segment_store.specs.Entry.{Entry, Look}
 use Rattle.segment_store.specs.declared.board.View.{View}
 use Rattle.segment_store.specs.Same.{IsSameSeat}
 use Rattle.segment_store.specs.Base.{value, Rests}

@@ -1,16 +1,17 @@
-use Rattle.std.proofs.Common.{◌≡◌, ℕ, ◌+◌, ◌-◌, ◌%◌, ◌<◌, List, ◌++◌}
+use Rattle.std.proofs.Common.{◌≡◌, ℕ, ◌+◌, ◌-◌, ◌%◌, ◌<◌, ◌≤◌, List, ◌++◌}
 use Rattle.segment_store.specs.Entry.{Look}
 use Rattle.segment_store.specs.Store.{IsSegment}
 use Rattle.segment_store.specs.Same.{Becomes}
 use Rattle.segment_store.specs.Base.{logged, Found}
-use Rattle.segment_store.proofs.store.Store.claim_any.Given as goal
+use Rattle.segment_store.proofs.store.Store.claim_between.Given as goal
 
 abbrev pub invariant-loop-segment : goal.invariant-loop-segment
 invariant-loop-segment l = Becomes l.initial.seat l.seat
     (logged l.initial.seat.me.0 l.seat.me.0.log) × (l.segment % l.fn.self.stride ≡ 0)
     × (0 < l.segment)
     × ((seen : List Look) × (l.seat.me.0.log ≡ seen ++ l.initial.seat.me.0.log)
-    × ((c : ℕ) → IsSegment l.fn.self.words l.fn.self.stride c → c < l.segment → Found c seen))
+    × ((c : ℕ) → IsSegment l.fn.self.words l.fn.self.stride c
+    → l.fn.from ≤ c → c < l.segment → Found c seen))
 
 abbrev pub decreases-loop-segment : goal.decreases-loop-segment
 decreases-loop-segment l = l.fn.self.words + 1 - l.segment
