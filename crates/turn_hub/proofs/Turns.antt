@@ -19,6 +19,7 @@ use Rattle.hub_table.specs.declared.state.HubState.TheVariants.{All, Twice, NoMe
 use Rattle.hub_table.specs.Found.{all_over}
 use Rattle.hub_table.specs.Queued.{Queued}
 use Rattle.hub_table.proofs.Lists.{is_at_same, is_at_other}
+use Rattle.hub_table.proofs.Slots.{no_more}
 use Rattle.turn_hub.specs.declared.view.View.{View}
 use Rattle.turn_hub.specs.Passes.{named, without, left, IsPass}
 use Rattle.turn_hub.specs.Views.{commits, hands_in, draws, stops, rests, or_no_memory}

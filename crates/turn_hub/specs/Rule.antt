@@ -19,6 +19,7 @@ use Rattle.hub_table.specs.declared.state.HubState.{HubState}
 use Rattle.hub_table.specs.declared.state.HubState.TheVariants.{All, Twice, NoMemory}
 use Rattle.hub_table.specs.declared.value.Turn.{Turn}
 use Rattle.hub_table.specs.Counts.{total, times}
+use Rattle.hub_table.specs.Found.{all_over}
 use Rattle.hub_table.specs.Queued.{Queued}
 use Rattle.turn_hub.specs.declared.view.Said.{Said}
 use Rattle.turn_hub.specs.declared.view.Said.TheVariants as mark
