@@ -1,12 +1,13 @@
 ghost use Rattle.std.specs.Prelude.{◌≡◌, IfOk, MatchBool, length};
 
 use crate::{Going, Node, Room, Tree, Way};
+use hub_table::HubState;
 use hub_workers::{Finished, NotBegun, OpenGate, run};
 use std::alloc::{AllocError, Global};
 use std::sync::Wait;
 use std::test::Fail;
 use std::thread::Threads;
-use turn_hub::{HubRun, HubState};
+use turn_hub::HubRun;
 
 // A hand for each of so many threads, or for one.
 fn hands(alloc: Global, two: bool, legs: u32) -> Result<Vec<Room>, AllocError>

@@ -11,9 +11,9 @@ use Rattle.hub_algebra.specs.Forkers.{ForkersAre}
 use Rattle.hub_algebra.specs.Hub.{EndsAre}
 use Rattle.hub_algebra.specs.HubMachine as hub
 use Rattle.hub_algebra.specs.Replay.{replay}
+use Rattle.hub_table.specs.declared.state.HubState.{HubState}
+use Rattle.hub_table.specs.declared.state.HubState.TheVariants.{All, Twice, NoMemory}
 use Rattle.turn_hub.specs.declared.closing.HubRun.{HubRun}
-use Rattle.turn_hub.specs.declared.state.HubState.{HubState}
-use Rattle.turn_hub.specs.declared.state.HubState.TheVariants.{All, Twice, NoMemory}
 use Rattle.turn_hub.specs.Closing.{Legal, ClosedHub}
 use Rattle.turn_hub.specs.Names.{run_state, run_schedule, run_forkers, run_ends}
 use Rattle.hub_workers.specs.Running.{IsRunFrom}

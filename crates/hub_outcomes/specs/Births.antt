@@ -5,7 +5,7 @@
 --   AreEarlier   each but the first was forked by an earlier one
 use Rattle.std.specs.Prelude.{◌≡◌, ◌≤◌, ℕ, suc, List, [], ◌∷◌, length, take, Some}
 use Rattle.revision_machine.specs.Numbered.{at_number}
-use Rattle.turn_hub.specs.Passes.{times}
+use Rattle.hub_table.specs.Counts.{times}
 use Rattle.code_world.specs.declared.table.Birth.{Birth}
 
 abbrev pub forks_by : ℕ → List ℕ → ℕ

@@ -3,9 +3,9 @@
 -- Of the machine that the hub runs only the ends have to be those of code.
 use Rattle.std.specs.Prelude.{◌≢◌, ◌≤◌, ℕ, List}
 use Rattle.reached_worlds.specs.Reached.{most_fuel}
-use Rattle.turn_hub.specs.declared.answers.Kept.{Kept}
+use Rattle.hub_table.specs.declared.kept.Kept.{Kept}
+use Rattle.hub_table.specs.declared.state.HubState.TheVariants.{NoMemory}
 use Rattle.turn_hub.specs.declared.closing.HubRun.{HubRun}
-use Rattle.turn_hub.specs.declared.state.HubState.TheVariants.{NoMemory}
 use Rattle.turn_hub.specs.Closing.{ClosedHub}
 use Rattle.turn_hub.specs.Names.{run_state, run_schedule, run_forkers, run_ends}
 use Rattle.code_machine.specs.Local.{CodeRun}

@@ -8,11 +8,12 @@ ghost use Rattle.hub_outcomes.specs.Runs.{IsRunOf};
 
 use crate::births::births_of;
 use crate::ends::{copy_of, main_end};
+use hub_table::HubState;
 use leg_run::CodeSetting;
 use rev_num::Outcome;
 use run_revision::CodeEnd;
 use std::alloc::{AllocError, Global};
-use turn_hub::{HubRun, HubState, Revision};
+use turn_hub::{HubRun, Revision};
 use world_outcomes::outcome_of;
 
 /// The outcome of the code, from what a hub kept of its run, over any machine whose ends are those

@@ -4,7 +4,7 @@
 --   IsRunFrom     what a run leaves that began in a state, with snapshots of a group
 use Rattle.std.specs.Prelude.{◌≡◌, ℕ, List, Some}
 use Rattle.hub_algebra.specs.HubMachine.{HubMachine}
-use Rattle.turn_hub.specs.declared.answers.Kept.{Kept}
+use Rattle.hub_table.specs.declared.kept.Kept.{Kept}
 use Rattle.turn_hub.specs.declared.closing.HubRun.{HubRun}
 use Rattle.turn_hub.specs.declared.hub.TurnHub.{TurnHub}
 use Rattle.turn_hub.specs.declared.revision.Revision.{Ghosts}

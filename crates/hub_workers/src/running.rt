@@ -10,10 +10,11 @@ use crate::gate::Gate;
 use crate::legs::Legs;
 use crate::threads::{Worker, run_workers};
 use crate::vectors::take_last;
+use hub_table::{Kept, append};
 use std::alloc::Global;
 use std::sync::Wait;
 use std::thread::Threads;
-use turn_hub::{HubEnd, HubRun, HubSeat, Kept, TurnHub, append};
+use turn_hub::{HubEnd, HubRun, HubSeat, TurnHub};
 
 /// A run that is over, and the hands that worked at it. What a halt left is given up.
 pub struct Finished<L: Legs> {

@@ -6,12 +6,12 @@ ghost use Rattle.rev_workers.specs.Hands.{IsHandFor, IsHandAt, AreMergesFor, kep
 
 use crate::keeper::StoreKeeper;
 use block_merges::BlockMerges;
+use hub_table::append;
 use hub_workers::take_last;
 use leg_run::CodeSetting;
 use run_revision::{CodeHand, CodeRevisions};
 use segment_store::{Held, Hold, Spent, Store};
 use std::alloc::{AllocError, Global};
-use turn_hub::append;
 
 /// The machine of verified code over the holds of a store.
 pub type StoreRevisions<'a, 's> = CodeRevisions<'a, Held<'s>, BlockMerges<'a>, StoreKeeper<'s>>;

@@ -4,7 +4,7 @@ ghost use Rattle.leg_run.specs.Setting.{IsSetting};
 ghost use Rattle.rev_vm.specs.Starts.{run_under};
 ghost use Rattle.segment_store.specs.Group.{closed_group};
 ghost use Rattle.segment_store.specs.Names.{IsSeatOf};
-ghost use Rattle.turn_hub.specs.declared.state.HubState.TheVariants.{NoMemory};
+ghost use Rattle.hub_table.specs.declared.state.HubState.TheVariants.{NoMemory};
 ghost use Rattle.turn_hub.specs.Names.{run_state, run_schedule};
 ghost use Rattle.run_revision.specs.CodeRuns.{IsOfCode};
 ghost use Rattle.rev_workers.specs.Hands.{IsHandAt, store_group};
@@ -14,6 +14,7 @@ ghost use Rattle.rev_workers.specs.Stores.{IsOpened};
 
 use crate::code_run::{NotRun, run_code};
 use crate::hands::{StoreRevisions, give_back, hands_for};
+use hub_table::HubState;
 use hub_workers::{Finished, Gate};
 use leg_run::CodeSetting;
 use rev_vm::start_words;
@@ -21,7 +22,7 @@ use segment_store::{Closed, Held, Hold, Spent, Store};
 use std::alloc::{AllocError, Global};
 use std::sync::Wait;
 use std::thread::Threads;
-use turn_hub::{HubRun, HubState};
+use turn_hub::HubRun;
 
 /// What threads leave of a run that did not end for want of memory.
 #[derive(Drop)]

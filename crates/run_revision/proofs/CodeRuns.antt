@@ -5,8 +5,8 @@ use Rattle.revision_machine.proofs.Paths.{some_inj}
 use Rattle.revision_machine.proofs.Numbers.{none_some}
 use Rattle.hub_algebra.specs.Replay.{replay}
 use Rattle.hub_algebra.proofs.Replay.{replay_is}
-use Rattle.turn_hub.specs.declared.state.HubState.{HubState}
-use Rattle.turn_hub.specs.declared.state.HubState.TheVariants.{All, Twice, NoMemory}
+use Rattle.hub_table.specs.declared.state.HubState.{HubState}
+use Rattle.hub_table.specs.declared.state.HubState.TheVariants.{All, Twice, NoMemory}
 use Rattle.turn_hub.specs.Closing.{Legal}
 use Rattle.code_machine.specs.Local.{CodeRun, Local}
 use Rattle.code_machine.specs.Machines.{numbered, start_in}

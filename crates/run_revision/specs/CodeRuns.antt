@@ -6,9 +6,9 @@
 --               what a hub leaves of a run from `main` is a run of the code
 use Rattle.std.specs.Prelude.{ℕ, List, Option}
 use Rattle.revision_machine.specs.Numbered.{Entries, Both, Listing, begin, Replays, CompleteSchedule}
-use Rattle.turn_hub.specs.declared.answers.Kept.{Kept}
-use Rattle.turn_hub.specs.declared.state.HubState.{HubState}
-use Rattle.turn_hub.specs.declared.state.HubState.TheVariants.{All, Twice, NoMemory}
+use Rattle.hub_table.specs.declared.kept.Kept.{Kept}
+use Rattle.hub_table.specs.declared.state.HubState.{HubState}
+use Rattle.hub_table.specs.declared.state.HubState.TheVariants.{All, Twice, NoMemory}
 use Rattle.code_machine.specs.Local.{CodeRun, IsVerified, Local}
 use Rattle.code_machine.specs.Machines.{numbered, IsMain, start_in}
 use Rattle.turn_hub.specs.Closing.{ClosedHub}

@@ -7,9 +7,9 @@ use Rattle.rev_vm.specs.Starts.{run_under}
 use Rattle.code_runs.proofs.Underway.{of_run}
 use Rattle.revision_machine.specs.Numbered.{World, Both, Listing}
 use Rattle.reached_worlds.specs.Reached.{most_fuel}
+use Rattle.hub_table.specs.declared.state.HubState.{HubState}
+use Rattle.hub_table.specs.declared.state.HubState.TheVariants.{All, Twice, NoMemory}
 use Rattle.turn_hub.specs.declared.closing.HubRun.{HubRun}
-use Rattle.turn_hub.specs.declared.state.HubState.{HubState}
-use Rattle.turn_hub.specs.declared.state.HubState.TheVariants.{All, Twice, NoMemory}
 use Rattle.turn_hub.specs.Names.{run_state}
 use Rattle.code_machine.specs.Local.{CodeRun, Local}
 use Rattle.code_hub.specs.CodeState.{CodeState}

@@ -5,16 +5,16 @@ use Rattle.hub_algebra.specs.declared.status.Status.{Status}
 use Rattle.hub_algebra.specs.declared.status.Status.TheVariants.{Ready}
 use Rattle.hub_algebra.specs.HubMachine.{HubMachine, numbered, values}
 use Rattle.hub_algebra.proofs.Hub as hub
+use Rattle.hub_table.specs.declared.value.Turn.{Turn}
+use Rattle.hub_table.specs.declared.state.HubState.{HubState}
+use Rattle.hub_table.specs.declared.state.HubState.TheVariants.{All}
+use Rattle.hub_table.specs.Chains.{HasOne}
+use Rattle.hub_table.specs.Queued.{Queued}
+use Rattle.hub_table.proofs.Queues.{queue_one}
 use Rattle.turn_hub.specs.declared.view.View.{View}
-use Rattle.turn_hub.specs.declared.value.Turn.{Turn}
-use Rattle.turn_hub.specs.declared.state.HubState.{HubState}
-use Rattle.turn_hub.specs.declared.state.HubState.TheVariants.{All}
 use Rattle.turn_hub.specs.Views.{opens}
-use Rattle.turn_hub.specs.Chains.{HasOne}
-use Rattle.turn_hub.specs.Queued.{Queued}
 use Rattle.turn_hub.specs.Rule.{OutsAre, AreOfGroup, SoundFrom, Turned}
 use Rattle.turn_hub.proofs.Keeps.{starts}
-use Rattle.turn_hub.proofs.Queues.{queue_one}
 
 module _ {L R A E : Type 0} (d : HubMachine L R A E) (ends : E → L → Type 0) where
   one_ready : (c : R) → OutsAre {R = R} {A = A} {E = E} (Ready c ∷ []) []

@@ -8,17 +8,19 @@ use Rattle.hub_algebra.specs.Hub as pure
 use Rattle.hub_algebra.specs.Hub.{Tied, EndsAre, end_of}
 use Rattle.hub_algebra.specs.HubMachine.{HubMachine, numbered, values}
 use Rattle.hub_algebra.proofs.Hub as hub
-use Rattle.turn_hub.specs.declared.answers.Kept.{Kept}
-use Rattle.turn_hub.specs.declared.state.HubState.{HubState}
-use Rattle.turn_hub.specs.declared.state.HubState.TheVariants.{All, Twice, NoMemory}
-use Rattle.turn_hub.specs.declared.value.Turn.{Turn}
+use Rattle.hub_table.specs.declared.kept.Kept.{Kept}
+use Rattle.hub_table.specs.declared.state.HubState.{HubState}
+use Rattle.hub_table.specs.declared.state.HubState.TheVariants.{All, Twice, NoMemory}
+use Rattle.hub_table.specs.declared.value.Turn.{Turn}
+use Rattle.hub_table.specs.Left.{kept_of}
+use Rattle.hub_table.specs.Found.{all_over}
+use Rattle.hub_table.proofs.Slots.{no_more}
 use Rattle.turn_hub.specs.declared.view.View.{View}
 use Rattle.turn_hub.specs.Passes.{named}
-use Rattle.turn_hub.specs.Left.{kept_of}
-use Rattle.turn_hub.specs.Rule.{is_out, all_over, done, Sound, SoundFrom, AreOfGroup}
+use Rattle.turn_hub.specs.Rule.{is_out, done, Sound, SoundFrom, AreOfGroup}
 use Rattle.turn_hub.specs.Closing.{ClosedTurn, ClosedHub, AreKeptOf, IsClosed}
 use Rattle.turn_hub.proofs.Keeps.{AtEnd}
-use Rattle.turn_hub.proofs.Turns.{no_more, some_start}
+use Rattle.turn_hub.proofs.Turns.{some_start}
 
 module _ {L R A E : Type 0} (d : HubMachine L R A E) (ends : E → L → Type 0) where
   pub closes : (first v : View L) (s : State (Option (Turn R A E)) (View L)) (a : AtEnd d ends first s v) → v.saw ≡ 1 → ClosedTurn d ends first v a.value

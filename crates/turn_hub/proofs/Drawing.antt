@@ -7,24 +7,27 @@ use Rattle.hub_algebra.specs.declared.status.Status.{Status}
 use Rattle.hub_algebra.specs.declared.status.Status.TheVariants.{Out, Waiting, Over}
 use Rattle.hub_algebra.specs.HubMachine.{HubMachine}
 use Rattle.hub_algebra.proofs.Replay.{put_other}
-use Rattle.turn_hub.specs.declared.value.Turn.{Turn}
+use Rattle.hub_table.specs.declared.value.Turn.{Turn}
+use Rattle.hub_table.specs.declared.state.HubState.TheVariants.{All}
+use Rattle.hub_table.specs.Counts.{times}
+use Rattle.hub_table.specs.Found.{ended_here, is_ready}
+use Rattle.hub_table.proofs.Lists.{is_at_same, is_at_other}
+use Rattle.hub_table.proofs.Slots.{no_more}
 use Rattle.turn_hub.specs.declared.view.View.{View}
 use Rattle.turn_hub.specs.declared.view.Said.{Said}
 use Rattle.turn_hub.specs.declared.view.Said.TheVariants as mark
-use Rattle.turn_hub.specs.declared.state.HubState.TheVariants.{All}
 use Rattle.turn_hub.specs.declared.answers.Onward.{Onward}
 use Rattle.turn_hub.specs.declared.answers.Onward.TheVariants as onward
 use Rattle.turn_hub.specs.declared.answers.JoinAnswer.{JoinAnswer}
 use Rattle.turn_hub.specs.declared.answers.EndStep.{EndStep}
 use Rattle.turn_hub.specs.declared.answers.EndStep.TheVariants as ending
-use Rattle.turn_hub.specs.Passes.{times, named, Pass, left, IsPass, Fresh}
+use Rattle.turn_hub.specs.Passes.{named, Pass, left, IsPass, Fresh}
 use Rattle.turn_hub.specs.Views.{commits, hands_in, ends_in, draws, rests, sees}
-use Rattle.turn_hub.specs.Found.{ended_here, is_ready}
 use Rattle.turn_hub.specs.Rule.{done, said_of, says, InHand, Told}
 use Rattle.turn_hub.specs.Drawn.{IsDrawn}
 use Rattle.turn_hub.specs.Answers.{IsSameTurn, IsOneTurn, OnwardSays, Retried, HasCome, JoinSays, CameOn, EndStepSays, EndedOn}
-use Rattle.turn_hub.proofs.Lists.{is_at_same, is_at_other, count_gone, count_other, left_pass, since_more, since_now}
-use Rattle.turn_hub.proofs.Turns.{no_more, all_ended, out_here}
+use Rattle.turn_hub.proofs.Passes.{count_gone, count_other, left_pass, since_more, since_now}
+use Rattle.turn_hub.proofs.Turns.{all_ended, out_here}
 use Rattle.turn_hub.proofs.Says.{says_put, onward_over, ends_said, ended_says}
 
 module _ {L : Type 0} where

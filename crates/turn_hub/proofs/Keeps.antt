@@ -9,16 +9,19 @@ use lib.Seq.{set-get_or}
 use Rattle.atomic_table.specs.Table.{State, Me, step, keeps, takes, gives, stepped, Allows, Splits, Joins}
 use Rattle.atomic_table.proofs.Lists.{at_set, at_snoc, set_again, set_here}
 use Rattle.hub_algebra.specs.HubMachine.{HubMachine}
+use Rattle.hub_table.specs.declared.value.Turn.{Turn}
+use Rattle.hub_table.specs.Counts.{total, is_at, times}
 use Rattle.turn_hub.specs.declared.view.View.{View}
-use Rattle.turn_hub.specs.declared.value.Turn.{Turn}
-use Rattle.turn_hub.specs.Passes.{total, is_at, times, Pass, named, without, left, IsPass, Fresh}
+use Rattle.turn_hub.specs.Passes.{Pass, named, without, left, IsPass, Fresh}
 use Rattle.hub_algebra.specs.declared.status.Status.{Status}
-use Rattle.turn_hub.specs.declared.state.HubState.{HubState}
-use Rattle.turn_hub.specs.declared.state.HubState.TheVariants.{All, Twice, NoMemory}
-use Rattle.turn_hub.specs.Views.{flag, halt_count, either_halt, view, blank, parts_of, has_turn, names, halts, commits, hands_in, draws, stops, rests, both, most, part, witness}
+use Rattle.hub_table.specs.declared.state.HubState.{HubState}
+use Rattle.hub_table.specs.declared.state.HubState.TheVariants.{All, Twice, NoMemory}
+use Rattle.hub_table.specs.Counts.{flag}
+use Rattle.hub_table.proofs.Lists.{total_set, total_snoc, total_append, total_one, total_two, total_only, is_at_same, is_at_other}
+use Rattle.turn_hub.specs.Views.{halt_count, either_halt, view, blank, parts_of, has_turn, names, halts, commits, hands_in, draws, stops, rests, both, most, part, witness}
 use Rattle.turn_hub.specs.Seats.{IsIdle}
 use Rattle.turn_hub.specs.Rule.{done, is_over, says, Holds, Knows, Turned, InHand, Told, took, gave, committed, handed_in, drew, stopped}
-use Rattle.turn_hub.proofs.Lists.{total_set, total_snoc, total_append, total_one, total_two, total_only, is_at_same, is_at_other, count_gone, count_other, pass_named, left_pass, since_more, since_now, fresh_append}
+use Rattle.turn_hub.proofs.Passes.{count_gone, count_other, pass_named, left_pass, since_more, since_now, fresh_append}
 
 one_if : (b : Bool) → flag b ≡ 1 → b ≡ true
 one_if true e = refl

@@ -1,7 +1,5 @@
-pub mod Lists
+pub mod Passes
 pub mod Outs
-pub mod Ways
-pub mod Queues
 pub mod Keeps
 pub mod Turns
 pub mod Begins

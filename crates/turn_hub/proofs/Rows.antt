@@ -1,27 +1,18 @@
 -- Lists of seats of one hub, and what they leave.
-use Rattle.std.proofs.Common.{◌≡◌, ◌≢◌, ◌⊎◌, inl, inr, ⊎_elim, ℕ, ◌+◌, Bool, cond, List, [], ◌∷◌, ◌++◌, length, map, Option, option_to_list, append_assoc, sym, ap, ◌∙◌, refl, arith, eq-eqb, ne_eqb}
+use Rattle.std.proofs.Common.{◌≡◌, ◌≢◌, ◌⊎◌, inl, inr, ⊎_elim, ℕ, ◌+◌, Bool, cond, List, [], ◌∷◌, ◌++◌, map, Option, sym, ap, ◌∙◌, refl, arith, eq-eqb, ne_eqb}
 use mathlib.Core.Logic.{dite}
 use native.Mathlib.Decide.{ℕ_discrete}
 use Rattle.atomic_table.specs.Seated.{TableId}
 use Rattle.atomic_table.specs.declared.shared.Seat.{Seat}
-use Rattle.hub_algebra.specs.declared.status.Status.{Status}
-use Rattle.hub_algebra.specs.declared.status.Status.TheVariants.{Ready, Out, Waiting, Over, Gone}
-use Rattle.hub_algebra.specs.Hub.{end_of}
-use Rattle.turn_hub.specs.declared.answers.Kept.{Kept}
-use Rattle.turn_hub.specs.declared.state.HubState.{HubState}
-use Rattle.turn_hub.specs.declared.state.HubState.TheVariants.{All, Twice, NoMemory}
+use Rattle.hub_table.specs.declared.state.HubState.{HubState}
+use Rattle.hub_table.specs.declared.state.HubState.TheVariants.{All, Twice, NoMemory}
+use Rattle.hub_table.specs.Counts.{is_at}
+use Rattle.hub_table.proofs.Lists.{total_snoc, total_append}
 use Rattle.turn_hub.specs.declared.view.View.{View}
-use Rattle.turn_hub.specs.Passes.{named}
+use Rattle.turn_hub.specs.Passes.{named, Pass}
 use Rattle.turn_hub.specs.Views.{either_saw, either_halt}
 use Rattle.turn_hub.specs.Seats.{AreOf, AreNew}
-use Rattle.turn_hub.specs.Left.{self_kept, kept_of}
 use Rattle.turn_hub.specs.Closing.{saw_of, halt_known, held_by}
-use Rattle.turn_hub.specs.Passes.{Pass, is_at}
-use Rattle.turn_hub.proofs.Lists.{total_snoc, total_append}
-
-pub many_more : {B : Type 0} → (xs : List B) (y : B) → length (xs ++ y ∷ []) ≡ length xs + 1
-many_more [] y = refl
-many_more (x ∷ xs) y = let r = many_more xs y in omega arith
 
 pub map_more : {B C : Type 0} → (f : B → C) (xs : List B) (y : B) → map f (xs ++ y ∷ []) ≡ map f xs ++ f y ∷ []
 map_more f [] y = refl
@@ -95,17 +86,3 @@ module _ {S L : Type 0} where
 
 pub named_both : (n : ℕ) (ps qs : List Pass) → named n (ps ++ qs) ≡ named n ps + named n qs
 named_both n ps qs = total_append (λ (p : Pass). is_at n p.0) ps qs
-
-module _ {R A E : Type 0} where
-  pub ends_step : (ended all : List (Option E)) (s : Status R A E) (rest : List (Status R A E)) → ended ++ map end_of (s ∷ rest) ≡ all → (ended ++ end_of s ∷ []) ++ map end_of rest ≡ all
-  ends_step ended all s rest e = append_assoc ended (end_of s ∷ []) (map end_of rest) ∙ e
-
-  kept_front : (s : Status R A E) (rest : List (Status R A E)) → option_to_list (self_kept s) ++ kept_of rest ≡ kept_of (s ∷ rest)
-  kept_front (Ready r) rest = refl
-  kept_front Out rest = refl
-  kept_front (Waiting a) rest = refl
-  kept_front (Over e) rest = refl
-  kept_front Gone rest = refl
-
-  pub kept_step : (kept all : List (Kept R A)) (s : Status R A E) (rest : List (Status R A E)) → kept ++ kept_of (s ∷ rest) ≡ all → (kept ++ option_to_list (self_kept s)) ++ kept_of rest ≡ all
-  kept_step kept all s rest e = append_assoc kept (option_to_list (self_kept s)) (kept_of rest) ∙ (ap (λ l. kept ++ l) (kept_front s rest) ∙ e)

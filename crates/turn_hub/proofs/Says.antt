@@ -7,21 +7,22 @@ use Rattle.hub_algebra.specs.declared.status.Status.{Status}
 use Rattle.hub_algebra.specs.declared.status.Status.TheVariants.{Ready, Out, Waiting, Over, Gone}
 use Rattle.hub_algebra.specs.Hub.{Meets}
 use Rattle.hub_algebra.specs.HubMachine.{HubMachine, numbered, values}
-use Rattle.turn_hub.specs.declared.value.Turn.{Turn}
+use Rattle.hub_table.specs.declared.value.Turn.{Turn}
+use Rattle.hub_table.specs.declared.state.HubState.TheVariants.{All, Twice}
+use Rattle.hub_table.specs.Halts.{halt_by}
+use Rattle.hub_table.specs.Found.{ended_here, is_ready, all_over}
 use Rattle.turn_hub.specs.declared.view.View.{View}
 use Rattle.turn_hub.specs.declared.answers.Onward.{Onward}
 use Rattle.turn_hub.specs.declared.answers.Onward.TheVariants as onward
 use Rattle.turn_hub.specs.declared.answers.JoinAnswer.{JoinAnswer}
 use Rattle.turn_hub.specs.declared.answers.JoinAnswer.TheVariants as join
 use Rattle.turn_hub.proofs.Turns.{Next, group_at, drawn, drawn_again, forked, joined, meeting, keeps_draw, keeps_commit, keeps_in, keeps_end}
-use Rattle.turn_hub.specs.declared.state.HubState.TheVariants.{All, Twice}
 use Rattle.turn_hub.specs.declared.view.Said.{Said}
 use Rattle.turn_hub.specs.declared.view.Said.TheVariants as mark
-use Rattle.turn_hub.specs.Views.{ended_said, ready_said, all_said, halt_by, or_no_memory, commits, hands_in, ends_in, draws, stops, rests}
+use Rattle.turn_hub.specs.Views.{ended_said, ready_said, all_said, or_no_memory, commits, hands_in, ends_in, draws, stops, rests}
 use Rattle.turn_hub.specs.Passes.{IsPass}
 use Rattle.turn_hub.specs.Seats.{HasState, HasFork, HasJoin, ForkedAs, KeepsAll, KeepsOthers, IsSameSeat}
-use Rattle.turn_hub.specs.Found.{ended_here, is_ready}
-use Rattle.turn_hub.specs.Rule.{all_over, done, said_of, says, InHand, Told}
+use Rattle.turn_hub.specs.Rule.{done, said_of, says, InHand, Told}
 use Rattle.turn_hub.specs.Answers.{IsSameTurn, OnwardSays, IsNoneReady, WaitedOn, HasCome}
 use Rattle.turn_hub.specs.Answers.{IsHalted, Ran, Retried, IsIdleNow, IsFinished, WasHalted, Forked, TookIn, HasMet, Waited, MetTwice, JoinSays, TakesIn, EndedSays}
 

@@ -12,26 +12,26 @@ use Rattle.hub_algebra.specs.Hub.{Tied, Meets}
 use Rattle.hub_algebra.specs.HubMachine.{HubMachine, numbered, values}
 use Rattle.hub_algebra.proofs.Replay.{put_other, put_here}
 use Rattle.hub_algebra.proofs.Hub as hub
+use Rattle.hub_table.specs.declared.value.Turn.{Turn}
+use Rattle.hub_table.specs.Counts.{is_at, times}
+use Rattle.hub_table.specs.declared.state.HubState.{HubState}
+use Rattle.hub_table.specs.declared.state.HubState.TheVariants.{All, Twice, NoMemory}
+use Rattle.hub_table.specs.Found.{all_over}
+use Rattle.hub_table.specs.Queued.{Queued}
+use Rattle.hub_table.proofs.Lists.{is_at_same, is_at_other}
+use Rattle.hub_table.proofs.Slots.{no_more}
 use Rattle.turn_hub.specs.declared.view.View.{View}
-use Rattle.turn_hub.specs.declared.value.Turn.{Turn}
-use Rattle.turn_hub.specs.Passes.{is_at, times, named, without, left, IsPass}
-use Rattle.turn_hub.specs.declared.state.HubState.{HubState}
-use Rattle.turn_hub.specs.declared.state.HubState.TheVariants.{All, Twice, NoMemory}
+use Rattle.turn_hub.specs.Passes.{named, without, left, IsPass}
 use Rattle.turn_hub.specs.Views.{commits, hands_in, draws, stops, rests, or_no_memory}
 use Rattle.turn_hub.specs.Seats.{HasState, HasFork, HasJoin, HasEnd, HasTrap, ForkedAs, KeepsOthers}
-use Rattle.turn_hub.specs.Found.{ended_here}
-use Rattle.turn_hub.specs.Queued.{Queued}
-use Rattle.turn_hub.specs.Rule.{is_out, OutsAre, all_over, done, IsOfGroup, AreOfGroup, EnteredTwice, SoundFrom, InHand, Told}
-use Rattle.turn_hub.proofs.Lists.{is_at_same, is_at_other, count_gone, count_other, pass_named, pass_left}
+use Rattle.turn_hub.specs.Rule.{is_out, OutsAre, done, IsOfGroup, AreOfGroup, EnteredTwice, SoundFrom, InHand, Told}
+use Rattle.turn_hub.proofs.Passes.{count_gone, count_other, pass_named, pass_left}
 
 -- a halt stays what it is
 keeps_halt : (h : HubState) → (h ≡ All → ⊥) → or_no_memory h ≡ h
 keeps_halt All n = absurd (n refl)
 keeps_halt Twice n = refl
 keeps_halt NoMemory n = refl
-
-pub no_more : {P : Type 0} → false ≡ true → P
-no_more e = absurd cc
 
 module _ {R A E : Type 0} where
   is_out_one : (o : Option (Status R A E)) → 0 < is_out o → o ≡ Some Out
@@ -369,15 +369,5 @@ module _ {L R A E : Type 0} (d : HubMachine L R A E) (ends : E → L → Type 0)
   pub leg_by : (v : View L) (k : ℕ) (e : E) (b : Bool) → b ≡ false → MatchBool b (HasTrap d ends v k e) (HasEnd d ends v k e) → HasEnd d ends v k e
   leg_by v k e b by event = subst (λ c. MatchBool c (HasTrap d ends v k e) (HasEnd d ends v k e)) by event
 
-pub ended_within : {R A E : Type 0} → (slots : List (Status R A E)) (n : ℕ) → ended_here (at_number slots n) ≡ true → n < length slots
-ended_within [] n e = no_more e
-ended_within (y ∷ slots) zero e = omega arith
-ended_within (y ∷ slots) (suc n) e = let r = ended_within slots n e in omega arith
-
 pub named_again : {L : Type 0} → (v x : View L) (k : ℕ) → x ≡ commits k v → 0 < named k x.passes
 named_again v x k is = let a = is_at_same k in let b : named k x.passes ≡ named k (commits k v).passes = ap (λ y. named k y.passes) is in omega arith
-
-pub put_again : {B : Type 0} → (w : List B) (n : ℕ) (x : B) → at_number w n ≡ Some x → put_number w n x ≡ w
-put_again [] n x e = refl
-put_again (y ∷ w) zero x e = ap (λ z. z ∷ w) (sym (some_inj e))
-put_again (y ∷ w) (suc n) x e = ap (λ z. y ∷ z) (put_again w n x e)

@@ -12,7 +12,8 @@ use Rattle.std.specs.Prelude.{◌≡◌, ℕ, Bool, true, false, Some, List, len
 use Rattle.revision_machine.specs.Numbered.{at_number, put_number}
 use Rattle.hub_algebra.specs.Hub.{Meets}
 use Rattle.hub_algebra.specs.HubMachine.{HubMachine, numbered, values}
-use Rattle.turn_hub.specs.declared.state.HubState.TheVariants.{All, Twice}
+use Rattle.hub_table.specs.declared.state.HubState.TheVariants.{All, Twice}
+use Rattle.hub_table.specs.Halts.{halt_by}
 use Rattle.turn_hub.specs.declared.view.View.{View}
 use Rattle.turn_hub.specs.declared.view.Said.{Said}
 use Rattle.turn_hub.specs.declared.view.Said.TheVariants as mark
@@ -26,7 +27,7 @@ use Rattle.turn_hub.specs.declared.answers.JoinStep.{JoinStep}
 use Rattle.turn_hub.specs.declared.answers.JoinStep.TheVariants as step
 use Rattle.turn_hub.specs.declared.answers.EndStep.{EndStep}
 use Rattle.turn_hub.specs.declared.answers.EndStep.TheVariants as ending
-use Rattle.turn_hub.specs.Views.{ended_said, ready_said, all_said, halt_by, or_no_memory, sees}
+use Rattle.turn_hub.specs.Views.{ended_said, ready_said, all_said, or_no_memory, sees}
 use Rattle.turn_hub.specs.Seats.{HasState, HasFork, HasJoin, ForkedAs, KeepsAll, KeepsOthers, AddsEntry, AddsNone}
 
 module _ {L : Type 0} where

@@ -10,15 +10,16 @@ use Rattle.hub_algebra.specs.Replay.{replay}
 use Rattle.hub_algebra.specs.Forkers.{ForkersAre}
 use Rattle.hub_algebra.specs.Hub.{AllFit, EndsAre, end_of}
 use Rattle.hub_algebra.specs.HubMachine.{HubMachine, numbered, values}
-use Rattle.turn_hub.specs.declared.state.HubState.{HubState}
-use Rattle.turn_hub.specs.declared.state.HubState.TheVariants.{All, Twice, NoMemory}
-use Rattle.turn_hub.specs.declared.answers.Kept.{Kept}
-use Rattle.turn_hub.specs.declared.answers.Kept.TheVariants as left
-use Rattle.turn_hub.specs.declared.value.Turn.{Turn}
+use Rattle.hub_table.specs.declared.state.HubState.{HubState}
+use Rattle.hub_table.specs.declared.state.HubState.TheVariants.{All, Twice, NoMemory}
+use Rattle.hub_table.specs.declared.kept.Kept.{Kept}
+use Rattle.hub_table.specs.declared.kept.Kept.TheVariants as left
+use Rattle.hub_table.specs.declared.value.Turn.{Turn}
+use Rattle.hub_table.specs.Counts.{total}
+use Rattle.hub_table.specs.Left.{kept_of}
 use Rattle.turn_hub.specs.declared.view.View.{View}
-use Rattle.turn_hub.specs.Passes.{total, named}
+use Rattle.turn_hub.specs.Passes.{named}
 use Rattle.turn_hub.specs.Views.{either_saw, either_halt}
-use Rattle.turn_hub.specs.Left.{kept_of}
 use Rattle.turn_hub.specs.Rule.{is_out, is_over, Sound, AreOfGroup}
 
 module _ {L S : Type 0} where

@@ -4,11 +4,11 @@ use Rattle.std.specs.Prelude.{◌≡◌, ℕ, true}
 use Rattle.revision_machine.specs.Numbered.{at_number, put_number}
 use Rattle.hub_algebra.specs.declared.status.Status.TheVariants.{Out}
 use Rattle.hub_algebra.specs.HubMachine.{HubMachine}
+use Rattle.hub_table.specs.declared.value.Turn.{Turn}
+use Rattle.hub_table.specs.Found.{ended_here}
 use Rattle.turn_hub.specs.declared.answers.Onward.{Onward}
 use Rattle.turn_hub.specs.declared.answers.Onward.TheVariants as onward
-use Rattle.turn_hub.specs.declared.value.Turn.{Turn}
 use Rattle.turn_hub.specs.declared.view.View.{View}
-use Rattle.turn_hub.specs.Found.{ended_here}
 use Rattle.turn_hub.specs.Rule.{slots_of}
 use Rattle.turn_hub.specs.Views.{draws}
 

@@ -1,12 +1,8 @@
 pub mod Passes
-pub mod Chains
 pub mod Views
 pub mod Rule
 pub mod Seats
-pub mod Found
-pub mod Queued
 pub mod Drawn
 pub mod Answers
-pub mod Left
 pub mod Closing
 pub mod Names

@@ -1,20 +1,10 @@
--- Numbers and passes.
---   times n ns      how often a list has a number
+-- The passes of a seat.
 --   Pass            a revision that a seat has: its number, and the schedule at its last turn
 --   named n ps      how many passes name it
 --   Fresh log ps    no pass has had an entry since
-use Rattle.std.specs.Prelude.{◌≡◌, ◌⊎◌, ℕ, ◌+◌, List, [], ◌∷◌, ◌++◌, cond, ◌==◌}
+use Rattle.std.specs.Prelude.{◌≡◌, ◌⊎◌, ℕ, List, [], ◌∷◌, ◌++◌, cond, ◌==◌}
 use Rattle.hub_algebra.specs.Replay.{IsNotIn}
-
-abbrev pub total : {A : Type 0} → (A → ℕ) → List A → ℕ
-total f [] = 0
-total f (x ∷ xs) = f x + total f xs
-
-abbrev pub is_at : ℕ → ℕ → ℕ
-is_at n x = cond (x == n) 1 0
-
-abbrev pub times : ℕ → List ℕ → ℕ
-times n = total (is_at n)
+use Rattle.hub_table.specs.Counts.{total, is_at}
 
 abbrev pub Pass : Type 0
 Pass = ℕ × List ℕ

@@ -5,7 +5,7 @@
 --   Knows     what each seat's view says is so
 --   Turned    the rule, which holds between any two steps
 --   Told      what taking the turn tells the seat
-use Rattle.std.specs.Prelude.{◌≡◌, ◌≢◌, ℕ, ◌<◌, ◌≤◌, Bool, true, false, List, [], ◌∷◌, ◌++◌, length, cond, slice_index, Option, Some, None}
+use Rattle.std.specs.Prelude.{◌≡◌, ◌≢◌, ℕ, ◌<◌, ◌≤◌, Bool, true, List, [], ◌∷◌, ◌++◌, length, cond, slice_index, Option, Some, None}
 use mathlib.Core.Option as m
 use lib.ListN.{get_elem?}
 use Rattle.atomic_table.specs.Table.{State, Me, Step}
@@ -15,14 +15,16 @@ use Rattle.hub_algebra.specs.declared.status.Status.TheVariants.{Ready, Out, Wai
 use Rattle.hub_algebra.specs.Replay.{replay}
 use Rattle.hub_algebra.specs.Hub.{Tied}
 use Rattle.hub_algebra.specs.HubMachine.{HubMachine, numbered, values}
-use Rattle.turn_hub.specs.declared.state.HubState.{HubState}
-use Rattle.turn_hub.specs.declared.state.HubState.TheVariants.{All, Twice, NoMemory}
+use Rattle.hub_table.specs.declared.state.HubState.{HubState}
+use Rattle.hub_table.specs.declared.state.HubState.TheVariants.{All, Twice, NoMemory}
+use Rattle.hub_table.specs.declared.value.Turn.{Turn}
+use Rattle.hub_table.specs.Counts.{total, times}
+use Rattle.hub_table.specs.Found.{all_over}
+use Rattle.hub_table.specs.Queued.{Queued}
 use Rattle.turn_hub.specs.declared.view.Said.{Said}
 use Rattle.turn_hub.specs.declared.view.Said.TheVariants as mark
 use Rattle.turn_hub.specs.declared.view.View.{View}
-use Rattle.turn_hub.specs.declared.value.Turn.{Turn}
-use Rattle.turn_hub.specs.Passes.{total, times, named, Fresh}
-use Rattle.turn_hub.specs.Queued.{Queued}
+use Rattle.turn_hub.specs.Passes.{named, Fresh}
 use Rattle.turn_hub.specs.Views.{halts, has_turn, parts_of, names, commits, hands_in, draws, stops, rests}
 
 module _ {R A E : Type 0} where
@@ -36,15 +38,6 @@ module _ {R A E : Type 0} where
 
   abbrev pub OutsAre : List (Status R A E) → List ℕ → Type 0
   OutsAre slots out = (n : ℕ) → times n out ≡ is_out (at_number slots n)
-
-  -- the end of each revision was handed in
-  abbrev pub all_over : List (Status R A E) → Bool
-  all_over [] = true
-  all_over (Ready r ∷ slots) = false
-  all_over (Out ∷ slots) = false
-  all_over (Waiting a ∷ slots) = false
-  all_over (Over e ∷ slots) = all_over slots
-  all_over (Gone ∷ slots) = all_over slots
 
   -- nothing is unfinished, or a halt was entered
   abbrev pub done : HubState → List (Status R A E) → Bool

@@ -11,7 +11,7 @@ use Rattle.atomic_table.specs.declared.shared.Seat.{Seat}
 use Rattle.hub_algebra.specs.Replay.{state_after}
 use Rattle.hub_algebra.specs.Hub.{Forks, Joins, EndsLeg, WasTrapped}
 use Rattle.hub_algebra.specs.HubMachine.{HubMachine, numbered, values}
-use Rattle.turn_hub.specs.declared.state.HubState.TheVariants.{All}
+use Rattle.hub_table.specs.declared.state.HubState.TheVariants.{All}
 use Rattle.turn_hub.specs.declared.view.View.{View}
 use Rattle.turn_hub.specs.Passes.{IsPass}
 

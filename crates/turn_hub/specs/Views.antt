@@ -6,8 +6,8 @@
 --   most, part, witness, both          seats are cut in two and joined
 use Rattle.std.specs.Prelude.{ℕ, ◌+◌, ◌-◌, Bool, true, false, List, [], ◌∷◌, ◌++◌, cond, ◌==◌, Option, Some, None}
 use Rattle.revision_machine.specs.Numbered.{at_number}
-use Rattle.turn_hub.specs.declared.state.HubState.{HubState}
-use Rattle.turn_hub.specs.declared.state.HubState.TheVariants.{All, Twice, NoMemory}
+use Rattle.hub_table.specs.declared.state.HubState.{HubState}
+use Rattle.hub_table.specs.declared.state.HubState.TheVariants.{All, Twice, NoMemory}
 use Rattle.turn_hub.specs.declared.view.Said.{Said}
 use Rattle.turn_hub.specs.declared.view.Said.TheVariants as mark
 use Rattle.turn_hub.specs.declared.view.View.{View}
@@ -54,11 +54,6 @@ halt_count All = 0
 halt_count Twice = 1
 halt_count NoMemory = 1
 
--- what `Halted` says
-abbrev pub halt_by : Bool → HubState
-halt_by true = Twice
-halt_by false = NoMemory
-
 abbrev pub either_halt : HubState → HubState → HubState
 either_halt All h = h
 either_halt Twice h = Twice
@@ -66,9 +61,6 @@ either_halt NoMemory h = NoMemory
 
 abbrev pub either_saw : ℕ → ℕ → ℕ
 either_saw a b = cond (a == 1) 1 b
-
-abbrev pub flag : Bool → ℕ
-flag b = cond b 1 0
 
 module _ {L : Type 0} where
   abbrev pub view :

@@ -68,12 +68,3 @@ pub enum EndStep<R, A, C, S> {
     /// Nothing is ready.
     Nothing,
 }
-
-/// What a halt left of a revision.
-#[derive(Drop)]
-pub enum Kept<R, A> {
-    /// A revision before its leg.
-    Run(R),
-    /// A joiner.
-    Join(A),
-}

@@ -8,16 +8,13 @@ ghost use Rattle.turn_hub.specs.Closing.{saw_of, halt_known, held_by, ClosedTurn
 mod order;
 mod retyped;
 
-use crate::answers::Kept;
 use crate::hub::TurnHub;
 use crate::revision::Revision;
-use crate::revisions::Parted;
 use crate::seat::{HubSeat, Place};
-use crate::state::HubState;
 use crate::steps::{TakeIn, Witness};
-use crate::value::Turn;
 use crate::view::View;
 use atomic_table::Badge;
+use hub_table::{HubState, Kept, Parted, Turn};
 pub use order::HubSchedule;
 
 /// A run that a hub kept. `close` alone makes one. It tells where the run began, and what its

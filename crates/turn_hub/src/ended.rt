@@ -1,7 +1,7 @@
 //! Whether a revision has ended.
 ghost use Rattle.std.specs.Prelude.{◌≡◌};
 ghost use Rattle.revision_machine.specs.Numbered.{at_number};
-ghost use Rattle.turn_hub.specs.Found.{ended_here};
+ghost use Rattle.hub_table.specs.Found.{ended_here};
 
 use crate::revision::Revision;
 use hub_algebra::Status;

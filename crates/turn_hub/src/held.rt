@@ -7,20 +7,19 @@ use crate::answers::{EndStep, JoinAnswer, Onward};
 use crate::hub::TurnHub;
 use crate::revision::Revision;
 use crate::seat::Place;
-use crate::state::HubState;
 use crate::taking::take_in;
-use crate::value::Turn;
-use crate::vectors::empty;
 use crate::view::{Said, View};
 use hub_algebra::Status;
+use hub_table::{HubState, Turn, empty};
 
 impl<L: Revision> TurnHub<L> {
-    ghost use Rattle.turn_hub.specs.declared.state.HubState.TheVariants.{All};
+    ghost use Rattle.hub_table.specs.declared.state.HubState.TheVariants.{All};
+    ghost use Rattle.hub_table.specs.Found.{ended_here};
+    ghost use Rattle.hub_table.specs.Counts.{times};
     ghost use Rattle.turn_hub.specs.Answers.{OnwardSays, JoinSays, HasCome, IsSameTurn};
     ghost use Rattle.turn_hub.specs.Answers.{IsOneTurn, EndStepSays};
     ghost use Rattle.turn_hub.specs.Drawn.{IsDrawnHere};
-    ghost use Rattle.turn_hub.specs.Found.{ended_here};
-    ghost use Rattle.turn_hub.specs.Passes.{named, times, Fresh};
+    ghost use Rattle.turn_hub.specs.Passes.{named, Fresh};
     ghost use Rattle.turn_hub.specs.Rule.{InHand, IsOpen, Told, says};
     ghost use Rattle.turn_hub.specs.Seats.{HasJoin, HasEnd, HasTrap, IsResting};
     ghost use Rattle.turn_hub.specs.Views.{hands_in, ends_in, sees};

@@ -3,12 +3,10 @@ ghost use Rattle.std.specs.Prelude.{◌≡◌, ◌≢◌, ◌<◌, ℕ, [], ◌�
 
 use crate::revision::Revision;
 use crate::seat::Place;
-use crate::state::HubState;
 use crate::steps::{Commit, Draw, Give, HandIn, OneHolder, StopNoMemory, StopTwice, Take};
-use crate::value::Turn;
-use crate::vectors::empty;
 use crate::view::View;
 use atomic_table::{Badge, Table};
+use hub_table::{HubState, Turn, empty};
 use std::alloc::Global;
 use std::sync::Wait;
 use std::sync::atomic::{AtomicU64, Ordering};
@@ -47,8 +45,9 @@ fn pause(steps: u32) {
 }
 
 impl<L: Revision> TurnHub<L> {
-    ghost use Rattle.turn_hub.specs.declared.state.HubState.TheVariants as state;
-    ghost use Rattle.turn_hub.specs.Passes.{named, times};
+    ghost use Rattle.hub_table.specs.declared.state.HubState.TheVariants as state;
+    ghost use Rattle.hub_table.specs.Counts.{times};
+    ghost use Rattle.turn_hub.specs.Passes.{named};
     ghost use Rattle.turn_hub.specs.Views.{rests, commits, hands_in, draws, stops, or_no_memory};
     ghost use Rattle.turn_hub.specs.Seats.{IsIdle};
     ghost use Rattle.turn_hub.specs.Rule.{Took, Told, InHand, IsOpen};

@@ -2,21 +2,18 @@
 ghost use Rattle.std.specs.Prelude.{◌≡◌, ◌<◌, ◌≤◌, ◌+◌, ℕ, [], ◌∷◌, length, map, Some, None};
 ghost use Rattle.std.specs.Prelude.{IfOk, IfErr, IfSome, vec_capacity};
 ghost use Rattle.hub_algebra.specs.declared.status.Status.TheVariants.{Ready};
-ghost use Rattle.turn_hub.specs.declared.state.HubState.TheVariants as state;
-ghost use Rattle.turn_hub.specs.Left.{IsReadyAlone};
+ghost use Rattle.hub_table.specs.declared.state.HubState.TheVariants as state;
+ghost use Rattle.hub_table.specs.Left.{IsReadyAlone};
 ghost use Rattle.turn_hub.specs.Seats.{AreOf, AreNew};
 ghost use Rattle.turn_hub.specs.Views.{opens, first_of};
 
 use crate::hub::TurnHub;
 use crate::revision::Revision;
-use crate::revisions::Revisions;
 use crate::seat::{HubSeat, Place};
-use crate::state::HubState;
 use crate::steps::{Another, OneHolder};
-use crate::value::Turn;
-use crate::vectors::append;
 use crate::view::View;
 use atomic_table::{Badge, Refused, Table, TableRule};
+use hub_table::{HubState, Revisions, Turn, append};
 use std::alloc::Global;
 use std::marker::PhantomData;
 use std::sync::atomic::AtomicU64;

@@ -2,9 +2,9 @@
 ghost use Rattle.std.specs.Prelude.{◌≡◌, []};
 
 use crate::revision::Revision;
-use crate::value::Turn;
 use crate::view::View;
 use atomic_table::Seat;
+use hub_table::Turn;
 
 /// A seat at the table of a hub.
 pub type Place<L> = Seat<

@@ -1,5 +1,5 @@
 //! What the seats know. No value of these is made.
-use crate::state::HubState;
+use hub_table::HubState;
 use std::collections::LinkedList;
 
 /// What a seat found of a revision when it took the turn.

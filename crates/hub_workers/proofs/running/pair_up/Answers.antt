@@ -1,6 +1,6 @@
 use Rattle.std.proofs.Common.{◌≡◌, ◌+◌, length, Some, sym, ap, ◌∙◌, arith}
 use Rattle.std.proofs.lemmas.List.Elements.{All-pop, All-push, All-same}
-use Rattle.turn_hub.proofs.Rows.{many_more}
+use Rattle.hub_table.proofs.Lists.{many_more}
 use Rattle.hub_workers.specs.Threads.{IsWorkerOf}
 use Rattle.hub_workers.specs.Running.{IsNewSeat, IsHandFor}
 use Rattle.hub_workers.proofs.running.pair_up.Goals as goal

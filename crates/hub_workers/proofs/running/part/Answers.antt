@@ -1,7 +1,7 @@
 use Rattle.std.proofs.Common.{◌≡◌, ◌+◌, length, Some, sym, ap, ◌∙◌, arith}
 use Rattle.std.proofs.lemmas.List.Elements.{All-pop, All-push, All-same}
+use Rattle.hub_table.proofs.Lists.{many_more}
 use Rattle.turn_hub.specs.Names.{began}
-use Rattle.turn_hub.proofs.Rows.{many_more}
 use Rattle.hub_workers.specs.Threads.{HasWorked}
 use Rattle.hub_workers.proofs.Rows.{Saw}
 use Rattle.hub_workers.proofs.running.part.Goals as goal

@@ -1,8 +1,8 @@
 use Rattle.std.proofs.Common.{rules, ◌≡◌, ◌+◌, length, Some, sym, ap, ◌∙◌, subst, arith}
 use Rattle.std.proofs.lemmas.List.Elements.{All-pop, All-push, All-same}
+use Rattle.hub_table.proofs.Lists.{many_more}
 use Rattle.turn_hub.specs.Closing.{AreKeptOf}
 use Rattle.turn_hub.specs.Names.{began}
-use Rattle.turn_hub.proofs.Rows.{many_more}
 use Rattle.hub_workers.specs.Threads.{HasWorked}
 use Rattle.hub_workers.proofs.Rows.{seats_are, one_saw, written_whole}
 use Rattle.hub_workers.proofs.running.run_open.Goals as goal

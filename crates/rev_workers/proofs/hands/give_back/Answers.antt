@@ -2,7 +2,7 @@ use Rattle.std.proofs.Common.{◌≡◌, ◌+◌, length, Some, ap, ◌∙◌, a
 use Rattle.std.proofs.lemmas.List.Elements.{All-pop}
 use Rattle.segment_store.specs.Names.{gathered}
 use Rattle.segment_store.proofs.Groups.{same_group}
-use Rattle.turn_hub.proofs.Rows.{many_more}
+use Rattle.hub_table.proofs.Lists.{many_more}
 use Rattle.rev_workers.specs.Hands.{IsHandAt, kept_by}
 use Rattle.rev_workers.proofs.Opened.{kept_more}
 use Rattle.rev_workers.proofs.hands.give_back.Goals as goal

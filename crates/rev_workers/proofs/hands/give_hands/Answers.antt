@@ -1,7 +1,7 @@
 use Rattle.std.proofs.Common.{◌≡◌, ◌+◌, length, Some, ap, ◌∙◌, arith}
 use Rattle.std.proofs.lemmas.List.Elements.{All-pop, All-push, All-same}
 use Rattle.segment_store.specs.Names.{IsOf, IsSameHold}
-use Rattle.turn_hub.proofs.Rows.{many_more}
+use Rattle.hub_table.proofs.Lists.{many_more}
 use Rattle.rev_workers.specs.Hands.{AreMergesFor, IsHandFor, store_group}
 use Rattle.rev_workers.proofs.Opened.{last_of}
 use Rattle.rev_workers.proofs.hands.give_hands.Goals as goal

@@ -1,7 +1,7 @@
 use Rattle.std.proofs.Common.{◌≡◌, refl, ◌+◌, length, ap, ◌∙◌, arith}
 use Rattle.std.proofs.lemmas.List.Elements.{All-push, All-same}
 use Rattle.rev_vm.specs.Starts.{run_under}
-use Rattle.turn_hub.proofs.Rows.{many_more}
+use Rattle.hub_table.proofs.Lists.{many_more}
 use Rattle.rev_workers.specs.Hands.{AreMergesFor}
 use Rattle.rev_workers.proofs.hands.merges_for.Goals as goal
 

@@ -1,10 +1,10 @@
 use Rattle.std.proofs.Common.{rules, ◌≡◌, refl, true, false, ◌++◌, ◌∷◌, [], sym, ap, ◌∙◌, subst}
 use Rattle.revision_machine.specs.Numbered.{at_number, put_number}
 use Rattle.hub_algebra.specs.declared.status.Status.TheVariants.{Over}
+use Rattle.hub_table.specs.Chains.{EndsOne}
+use Rattle.hub_table.specs.Queued.{Queued}
+use Rattle.hub_table.proofs.Queues.{out_within, waits_within, queue_some, queue_end, queue_same}
 use Rattle.turn_hub.specs.Views.{hands_in, ends_in}
-use Rattle.turn_hub.specs.Chains.{EndsOne}
-use Rattle.turn_hub.specs.Queued.{Queued}
-use Rattle.turn_hub.proofs.Queues.{out_within, waits_within, queue_some, queue_end, queue_same}
 use Rattle.turn_hub.proofs.Turns.{ended, handed_in, moved_hand, same_hand, has_pass, still_out, named_again, trap_by, leg_by}
 use Rattle.turn_hub.proofs.hub.TurnHub.end_in.Goals as goal
 

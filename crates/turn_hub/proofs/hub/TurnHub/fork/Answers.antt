@@ -1,7 +1,7 @@
 use Rattle.std.proofs.Common.{rules, ◌≡◌, sym, ap, ◌∙◌}
-use Rattle.turn_hub.specs.declared.state.HubState.TheVariants.{All}
+use Rattle.hub_table.specs.declared.state.HubState.TheVariants.{All}
+use Rattle.hub_table.proofs.Queues.{queue_few, queue_add, queue_kept}
 use Rattle.turn_hub.specs.Views.{rests}
-use Rattle.turn_hub.proofs.Queues.{queue_few, queue_add, queue_kept}
 use Rattle.turn_hub.proofs.Turns.{forked, same_hand, moved_hand, has_pass}
 use Rattle.turn_hub.proofs.Says.{has_forked}
 use Rattle.turn_hub.proofs.hub.TurnHub.fork.Goals as goal

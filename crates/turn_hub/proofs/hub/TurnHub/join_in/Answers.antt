@@ -1,11 +1,11 @@
 use Rattle.std.proofs.Common.{rules, ◌≡◌, refl, true, Some, ◌++◌, ◌∷◌, [], sym, ap, ◌∙◌}
 use Rattle.revision_machine.specs.Numbered.{at_number, put_number}
 use Rattle.hub_algebra.specs.declared.status.Status.TheVariants.{Over, Gone}
-use Rattle.turn_hub.specs.declared.value.Turn.{Turn}
-use Rattle.turn_hub.specs.declared.state.HubState.TheVariants.{Twice}
+use Rattle.hub_table.specs.declared.value.Turn.{Turn}
+use Rattle.hub_table.specs.declared.state.HubState.TheVariants.{Twice}
+use Rattle.hub_table.specs.Found.{ended_here}
+use Rattle.hub_table.proofs.Queues.{queue_join, queue_same}
 use Rattle.turn_hub.specs.Views.{commits, rests, stops, sees}
-use Rattle.turn_hub.specs.Found.{ended_here}
-use Rattle.turn_hub.proofs.Queues.{queue_join, queue_same}
 use Rattle.turn_hub.proofs.Turns.{joined, twice, moved_hand, same_hand, has_pass}
 use Rattle.turn_hub.proofs.Says.{took_in, has_met, takes_says, come_says, met_twice, now_halted}
 use Rattle.turn_hub.proofs.Drawing.{unseen}

@@ -1,7 +1,7 @@
 use Rattle.std.proofs.Common.{rules, ◌≡◌, List, [], ◌∷◌, Option, Some, refl, sym, subst}
 use Rattle.atomic_table.specs.Table.{opening}
-use Rattle.turn_hub.specs.declared.state.HubState.TheVariants.{All}
-use Rattle.turn_hub.specs.declared.value.Turn.{Turn}
+use Rattle.hub_table.specs.declared.state.HubState.TheVariants.{All}
+use Rattle.hub_table.specs.declared.value.Turn.{Turn}
 use Rattle.turn_hub.specs.Views.{first_of, opens}
 use Rattle.turn_hub.specs.Rule.{Turned}
 use Rattle.turn_hub.proofs.Begins.{begins}

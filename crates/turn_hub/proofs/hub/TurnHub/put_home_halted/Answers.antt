@@ -1,5 +1,5 @@
 use Rattle.std.proofs.Common.{rules, ◌≡◌, refl, ap}
-use Rattle.turn_hub.specs.declared.state.HubState.TheVariants.{All}
+use Rattle.hub_table.specs.declared.state.HubState.TheVariants.{All}
 use Rattle.turn_hub.proofs.Turns.{halts, moved_hand}
 use Rattle.turn_hub.proofs.hub.TurnHub.put_home_halted.Goals as goal
 

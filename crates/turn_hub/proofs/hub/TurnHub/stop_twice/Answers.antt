@@ -1,5 +1,5 @@
 use Rattle.std.proofs.Common.{rules}
-use Rattle.turn_hub.specs.declared.state.HubState.TheVariants.{Twice}
+use Rattle.hub_table.specs.declared.state.HubState.TheVariants.{Twice}
 use Rattle.turn_hub.proofs.Keeps.{stop}
 use Rattle.turn_hub.proofs.hub.TurnHub.stop_twice.Goals as goal
 

@@ -1,6 +1,6 @@
 use Rattle.std.proofs.Common.{rules, ◌≡◌, ◌≢◌, ◌∙◌}
-use Rattle.turn_hub.specs.declared.state.HubState.TheVariants.{All}
-use Rattle.turn_hub.proofs.Queues.{queue_over, queue_open}
+use Rattle.hub_table.specs.declared.state.HubState.TheVariants.{All}
+use Rattle.hub_table.proofs.Queues.{queue_over, queue_open}
 use Rattle.turn_hub.proofs.Says.{ran_after, retried_after, idle_now, finished}
 use Rattle.turn_hub.proofs.hub.TurnHub.take.Goals as goal
 

@@ -1,0 +1,4 @@
+pub mod Lists
+pub mod Ways
+pub mod Slots
+pub mod Queues
