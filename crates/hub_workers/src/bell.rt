@@ -1,8 +1,10 @@
 //! What threads sleep on that have nothing to do.
 
+use crate::legs::Legs;
 use std::sync::Wait;
 use std::sync::atomic::{AtomicBool, AtomicU64, Ordering};
 use std::time::Duration;
+use turn_hub::TurnHub;
 
 /// A count of what happened at a hub, and of the threads that sleep until more happens.
 ///
@@ -13,8 +15,10 @@ use std::time::Duration;
 ///
 /// No revision that is ready is lost:
 /// - A thread reads the count of rings, then looks for work, then counts itself as a sleeper, and
-///   then sleeps only if the count of rings is the same. Who rings made its revision ready, then
-///   counts the ring, and then looks for sleepers. So one of the two sees the other.
+///   then sleeps only if the hub's mark tells that nothing is ready and the count of rings is the
+///   same. Who rings made its revision ready, so that the mark tells of it, and then looks for
+///   sleepers and for a scout; it counts the ring where it finds one. So one of the two sees the
+///   other. Where all threads have work to do, nobody writes to the bell.
 /// - Who rings and sees a scout leaves its revision to that: a scout that stops being one does so
 ///   first, and then looks whether something is ready, or takes from the hub.
 /// - Who makes a thread the scout has a sleeper: it looks for one again after it has said that
@@ -52,8 +56,10 @@ impl Bell {
 
     /// Something is ready that the caller does not take at once.
     pub fn ring(&self) {
-        self.rings.fetch_add(1, Ordering::SeqCst);
-        if self.has_sleepers() && self.has_no_scout() {
+        if self.has_scout() {
+            self.rings.fetch_add(1, Ordering::SeqCst);
+        } else if self.has_sleepers() {
+            self.rings.fetch_add(1, Ordering::SeqCst);
             self.wake_scout();
         }
     }
@@ -62,8 +68,8 @@ impl Bell {
         self.sleepers.load(Ordering::SeqCst) > 0
     }
 
-    fn has_no_scout(&self) -> bool {
-        !self.scouted.load(Ordering::SeqCst)
+    fn has_scout(&self) -> bool {
+        self.scouted.load(Ordering::SeqCst)
     }
 
     // Wakes one thread, unless another does.
@@ -97,10 +103,13 @@ impl Bell {
         self.over.load(Ordering::SeqCst) == 1
     }
 
-    /// Sleeps, unless it rang since `heard`, and is the scout then. It may return for no reason.
-    pub fn sleep<W: Wait>(&self, rt: &W, heard: u64) {
+    /// Sleeps, unless something is ready or it rang since `heard`, and is the scout then. It may
+    /// return for no reason.
+    pub fn sleep<L: Legs, W: Wait>(&self, rt: &W, hub: &TurnHub<L>, heard: u64) {
         self.sleepers.fetch_add(1, Ordering::SeqCst);
-        self.rings.park(rt, (heard & 0xffff_ffff) as u32);
+        if hub.ready_mark() == 0 {
+            self.rings.park(rt, (heard & 0xffff_ffff) as u32);
+        }
         self.sleepers.fetch_sub(1, Ordering::SeqCst);
         self.scouted.store(true, Ordering::SeqCst);
     }

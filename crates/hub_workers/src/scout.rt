@@ -99,7 +99,7 @@ impl Scout {
     /// the scout then. A scout naps. When it returns the thread takes from the hub again.
     pub fn rest<L: Legs, W: Wait>(&mut self, rt: &W, hub: &TurnHub<L>, bell: &Bell, heard: u64) {
         if !self.is_scout {
-            bell.sleep(rt, heard);
+            bell.sleep(rt, hub, heard);
         }
         match self.watch(rt, hub, bell) {
             Look::Park => {

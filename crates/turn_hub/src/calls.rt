@@ -21,7 +21,7 @@ impl<L: Revision> TurnHub<L> {
         ensures own { seat.new.place.table_id ≡ seat.old.place.table_id }
         ensures answer { TakenSays L.machine L.ends seat.old.place.me.0 seat.new.place.me.0 result }
     {
-        let turn = self.enter(rt, &mut seat.place);
+        let turn = self.enter(rt, &mut seat.place, &mut seat.patience);
         if let Some(twice) = turn.halted() {
             self.put_home(&mut seat.place, turn);
             return Taken::Halted { twice };
@@ -52,7 +52,7 @@ impl<L: Revision> TurnHub<L> {
         ensures err { IfErr result (λ c. (c ≡ child) × IsHalted seat.old.place.me.0
             seat.new.place.me.0) }
     {
-        let mut turn = self.enter(rt, &mut seat.place);
+        let mut turn = self.enter(rt, &mut seat.place, &mut seat.patience);
         if turn.halted().is_some() {
             self.put_home_halted(&mut seat.place, turn);
             return Err(child);
@@ -89,7 +89,7 @@ impl<L: Revision> TurnHub<L> {
             L.claimed_group L.stopped_group
             seat.old.place.me.0 seat.new.place.me.0 of at result }
     {
-        let mut turn = self.enter(rt, &mut seat.place);
+        let mut turn = self.enter(rt, &mut seat.place, &mut seat.patience);
         if turn.halted().is_some() {
             self.put_home_halted(&mut seat.place, turn);
             return JoinAnswer::OutOfMemory(at);
@@ -125,7 +125,7 @@ impl<L: Revision> TurnHub<L> {
             L.claimed_group L.stopped_group
             seat.old.place.me.0 seat.new.place.me.0 of at result }
     {
-        let mut turn = self.enter(rt, &mut seat.place);
+        let mut turn = self.enter(rt, &mut seat.place, &mut seat.patience);
         if turn.halted().is_some() {
             self.put_home_halted(&mut seat.place, turn);
             return JoinStep::Came(JoinAnswer::OutOfMemory(at));
@@ -162,7 +162,7 @@ impl<L: Revision> TurnHub<L> {
         ensures err { IfErr result (λ e. (e ≡ end) × IsHalted seat.old.place.me.0
             seat.new.place.me.0) }
     {
-        let mut turn = self.enter(rt, &mut seat.place);
+        let mut turn = self.enter(rt, &mut seat.place, &mut seat.patience);
         if turn.halted().is_some() {
             self.put_home_halted(&mut seat.place, turn);
             return Err(end);
@@ -199,7 +199,7 @@ impl<L: Revision> TurnHub<L> {
         ensures err { IfErr result (λ e. (e ≡ end) × IsHalted seat.old.place.me.0
             seat.new.place.me.0) }
     {
-        let mut turn = self.enter(rt, &mut seat.place);
+        let mut turn = self.enter(rt, &mut seat.place, &mut seat.patience);
         if turn.halted().is_some() {
             self.put_home_halted(&mut seat.place, turn);
             return Err(end);
@@ -219,7 +219,7 @@ impl<L: Revision> TurnHub<L> {
         ensures own { seat.new.place.table_id ≡ seat.old.place.table_id }
         ensures halted { IsHalted seat.old.place.me.0 seat.new.place.me.0 }
     {
-        let entered = self.enter(rt, &mut seat.place);
+        let entered = self.enter(rt, &mut seat.place, &mut seat.patience);
         self.put_home_halted(&mut seat.place, entered);
     }
 }

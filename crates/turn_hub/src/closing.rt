@@ -88,12 +88,12 @@ impl<L: Revision> TurnHub<L> {
     {
         let mut rest = seats;
         let first = rest.pop().unwrap();
-        let HubSeat { place } = first;
+        let HubSeat { place, .. } = first;
         let mut all = place;
         let count = rest.len();
         for _ in 0..count {
             let seat = rest.pop().unwrap();
-            let HubSeat { place } = seat;
+            let HubSeat { place, .. } = seat;
             self.gather(&mut all, place);
         }
         rest.destroy_empty();
@@ -121,11 +121,7 @@ impl<L: Revision> TurnHub<L> {
         ensures { ClosedTurn L.machine L.ends
             (first_of self.turn.shared.key.views) place.me.0 result }
     {
-        let TurnHub {
-            turn,
-            sleepers: _,
-            mark: _,
-        } = self;
+        let TurnHub { turn, signs: _ } = self;
         let mut closed = turn.close_with(place);
         let value = closed.take(0);
         closed.free();

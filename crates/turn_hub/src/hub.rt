@@ -1,23 +1,37 @@
 //! The hub: the turn is taken and given back.
 ghost use Rattle.std.specs.Prelude.{◌≡◌, ◌≢◌, ◌<◌, ℕ, [], ◌∷◌, Some, None, true, false};
 
+use crate::patience::{Patience, WAITS, pause};
 use crate::revision::Revision;
 use crate::seat::Place;
 use crate::steps::{Commit, Draw, Give, HandIn, OneHolder, StopNoMemory, StopTwice, Take};
 use crate::view::View;
 use atomic_table::{Badge, Table};
+use crossbeam_utils::CachePadded;
 use hub_table::{HubState, Turn, empty};
 use std::alloc::Global;
 use std::sync::Wait;
 use std::sync::atomic::{AtomicU64, Ordering};
 
-// How often a thread looks for the turn before it sleeps, each time after twice the pause. That is
-// some tens of microseconds in all. A turn is held for less than one, and a sleep and its end take
-// several, also of the thread that ends it.
-const LOOKS: u32 = 9;
+/// What threads look at that have not the turn. It is written in each turn, and what lies beside it in
+/// a hub is only read, so it has a cache line of its own.
+#[derive(Drop)]
+pub struct Signs {
+    // How many threads sleep until the turn is given back, or are about to.
+    pub(crate) sleepers: AtomicU64,
+    // The mark of the run queue when the turn was last given back.
+    pub(crate) mark: AtomicU64,
+}
 
-// So many steps of `pause`, a tenth of a microsecond, lie between the first look and the second.
-const FIRST_PAUSE: u32 = 16;
+impl Signs {
+    /// Nobody sleeps, and this is the mark.
+    pub fn new(mark: u64) -> Signs {
+        Signs {
+            sleepers: AtomicU64::new(0),
+            mark: AtomicU64::new(mark),
+        }
+    }
+}
 
 /// A hub, whose revisions the threads take, run and hand back.
 pub struct TurnHub<L: Revision> {
@@ -28,20 +42,8 @@ pub struct TurnHub<L: Revision> {
         OneHolder<L>,
         Global,
     >,
-    // How many threads sleep until the turn is given back, or are about to.
-    pub(crate) sleepers: AtomicU64,
-    // The mark of the run queue when the turn was last given back.
-    pub(crate) mark: AtomicU64,
+    pub(crate) signs: CachePadded<Signs>,
     ghost sized: { (turn.shared.table_id.words ≡ 1) × (turn.shared.table_id.slots ≡ 1) },
-}
-
-// Some nanoseconds for each step. `spin_loop` has no body here, so that nothing is left of a loop
-// over it; a step is an addition to a word that no other thread sees.
-fn pause(steps: u32) {
-    let own = AtomicU64::new(0);
-    for _ in 0..steps {
-        own.fetch_add(1, Ordering::SeqCst);
-    }
 }
 
 impl<L: Revision> TurnHub<L> {
@@ -62,22 +64,47 @@ impl<L: Revision> TurnHub<L> {
         self.turn.shared.compare_exchange::<Take<L>>(place, 0, 0, 1) == 0
     }
 
-    // Some tries for the turn. A thread that finds it taken does not write, and looks more and more
-    // seldom, so that it does not delay who has it: a thread that takes the turn again soon finds
-    // what lies in the slot in its cache.
-    fn try_turn(&self, place: &mut Place<L>) -> bool
+    // One look, and a try where the turn is free.
+    fn look_for_turn(&self, place: &mut Place<L>) -> bool
         requires { (place.old.table_id ≡ self.now.turn.shared.table_id) × IsIdle place.old.me }
         ensures own { place.new.table_id ≡ place.old.table_id }
         ensures took { result ≡ true → Took L.machine L.ends place.old.me place.new.me }
         ensures missed { result ≡ false → place.new.me ≡ place.old.me }
     {
-        for look in 0..LOOKS {
-            if self.turn.shared.peek(0) == 0 && self.take_turn(place) {
+        self.turn.shared.peek(0) == 0 && self.take_turn(place)
+    }
+
+    // Looks after this wait and each longer one. A thread that finds the turn taken does not write,
+    // and looks more and more seldom, so that it does not delay who has it: a thread that takes the
+    // turn again soon finds what lies in the slot in its cache.
+    fn keep_looking(&self, place: &mut Place<L>, first: u32) -> bool
+        requires { (place.old.table_id ≡ self.now.turn.shared.table_id) × IsIdle place.old.me }
+        ensures own { place.new.table_id ≡ place.old.table_id }
+        ensures took { result ≡ true → Took L.machine L.ends place.old.me place.new.me }
+        ensures missed { result ≡ false → place.new.me ≡ place.old.me }
+    {
+        for number in first..WAITS {
+            pause(number);
+            if self.look_for_turn(place) {
                 return true;
             }
-            pause(FIRST_PAUSE << look);
         }
         false
+    }
+
+    // Some tries for the turn.
+    fn try_turn(&self, place: &mut Place<L>, patience: &mut Patience) -> bool
+        requires { (place.old.table_id ≡ self.now.turn.shared.table_id) × IsIdle place.old.me }
+        ensures own { place.new.table_id ≡ place.old.table_id }
+        ensures took { result ≡ true → Took L.machine L.ends place.old.me place.new.me }
+        ensures missed { result ≡ false → place.new.me ≡ place.old.me }
+    {
+        if self.look_for_turn(place) {
+            patience.found_free();
+            return true;
+        }
+        patience.found_taken();
+        self.keep_looking(place, patience.first_wait())
     }
 
     // Sleeps while another seat has the turn. It may return for no reason. No wake is lost: who
@@ -85,19 +112,19 @@ impl<L: Revision> TurnHub<L> {
     // stores that before it looks at the count. Who was woken and finds the turn taken again
     // counts itself again, and is seen by the seat that has it.
     fn sleep<W: Wait>(&self, rt: &W) {
-        self.sleepers.fetch_add(1, Ordering::SeqCst);
+        self.signs.sleepers.fetch_add(1, Ordering::SeqCst);
         self.turn.shared.park(rt, 0, 1);
-        self.sleepers.fetch_sub(1, Ordering::SeqCst);
+        self.signs.sleepers.fetch_sub(1, Ordering::SeqCst);
     }
 
     // Waits for the turn, whose value is still in the slot.
-    fn wait_turn<W: Wait>(&self, rt: &W, place: &mut Place<L>)
+    fn wait_turn<W: Wait>(&self, rt: &W, place: &mut Place<L>, patience: &mut Patience)
         requires { (place.old.table_id ≡ self.now.turn.shared.table_id) × IsIdle place.old.me }
         ensures own { place.new.table_id ≡ place.old.table_id }
         ensures took { Took L.machine L.ends place.old.me place.new.me }
     {
         for _ in rt.forever() {
-            if self.try_turn(place) {
+            if self.try_turn(place, patience) {
                 return;
             }
             self.sleep(rt);
@@ -110,26 +137,27 @@ impl<L: Revision> TurnHub<L> {
         &self,
         rt: &W,
         place: &mut Place<L>,
+        patience: &mut Patience,
     ) -> Turn<L::Runner, L::AtJoin, L::End>
         requires { (place.old.table_id ≡ self.now.turn.shared.table_id) × IsIdle place.old.me }
         ensures own { (place.new.table_id ≡ place.old.table_id)
             × IsOpen L.machine L.ends place.new.me }
         ensures told { Told L.machine L.ends place.old.me.0 place.new.me.0 result }
     {
-        self.wait_turn(rt, place);
+        self.wait_turn(rt, place, patience);
         self.turn.shared.exchange(place, 0, None).unwrap()
     }
 
     /// 0 where no revision was ready when the turn was last given back, and else a mark of that
     /// which came first. It is for a thread that asks whether to look: `take` alone tells.
     pub fn ready_mark(&self) -> u64 {
-        self.mark.load(Ordering::SeqCst)
+        self.signs.mark.load(Ordering::SeqCst)
     }
 
     // Only a seat with the turn calls this, so nothing is written in between.
     fn put_mark(&self, mark: u64) {
-        if self.mark.load(Ordering::SeqCst) != mark {
-            self.mark.store(mark, Ordering::SeqCst);
+        if self.signs.mark.load(Ordering::SeqCst) != mark {
+            self.signs.mark.store(mark, Ordering::SeqCst);
         }
     }
 
@@ -143,7 +171,7 @@ impl<L: Revision> TurnHub<L> {
         self.put_mark(turn.revisions.queue.mark());
         empty(self.turn.shared.exchange(place, 0, Some(turn)));
         self.give(place);
-        if self.sleepers.load(Ordering::SeqCst) > 0 {
+        if self.signs.sleepers.load(Ordering::SeqCst) > 0 {
             self.turn.shared.wake_one(0);
         }
     }

@@ -10,6 +10,7 @@ mod ended;
 mod held;
 mod hub;
 mod opening;
+mod patience;
 mod revision;
 mod seat;
 mod steps;

@@ -7,16 +7,17 @@ ghost use Rattle.hub_table.specs.Left.{IsReadyAlone};
 ghost use Rattle.turn_hub.specs.Seats.{AreOf, AreNew};
 ghost use Rattle.turn_hub.specs.Views.{opens, first_of};
 
-use crate::hub::TurnHub;
+use crate::hub::{Signs, TurnHub};
+use crate::patience::Patience;
 use crate::revision::Revision;
 use crate::seat::{HubSeat, Place};
 use crate::steps::{Another, OneHolder};
 use crate::view::View;
 use atomic_table::{Badge, Refused, Table, TableRule};
+use crossbeam_utils::CachePadded;
 use hub_table::{HubState, Revisions, Turn, append};
 use std::alloc::Global;
 use std::marker::PhantomData;
-use std::sync::atomic::AtomicU64;
 
 // The mark of the run queue of a hub that was opened: revision 0 is ready.
 const FIRST_MARK: u64 = 1;
@@ -107,8 +108,7 @@ impl<L: Revision> TurnHub<L> {
             Ok((turn, place)) => {
                 let hub = TurnHub {
                     turn,
-                    sleepers: AtomicU64::new(0),
-                    mark: AtomicU64::new(FIRST_MARK),
+                    signs: CachePadded::new(Signs::new(FIRST_MARK)),
                 };
                 Ok((hub, place))
             },
@@ -131,6 +131,7 @@ impl<L: Revision> TurnHub<L> {
     {
         HubSeat {
             place: self.turn.shared.split_seat::<Another<L>>(place),
+            patience: Patience::new(),
         }
     }
 
@@ -151,7 +152,13 @@ impl<L: Revision> TurnHub<L> {
             let next = self.another(&mut one);
             append(&mut list, next);
         }
-        append(&mut list, HubSeat { place: one });
+        append(
+            &mut list,
+            HubSeat {
+                place: one,
+                patience: Patience::new(),
+            },
+        );
         list
     }
 

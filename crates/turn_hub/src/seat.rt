@@ -1,6 +1,7 @@
 //! A thread's seat at a hub.
 ghost use Rattle.std.specs.Prelude.{◌≡◌, []};
 
+use crate::patience::Patience;
 use crate::revision::Revision;
 use crate::view::View;
 use atomic_table::Seat;
@@ -16,5 +17,6 @@ pub type Place<L> = Seat<
 #[derive(Drop)]
 pub struct HubSeat<L: Revision> {
     pub(crate) place: Place<L>,
+    pub(crate) patience: Patience,
     ghost idle: { (place.me.0.has ≡ 0) × (place.me.1 ≡ []) × (place.me.0.parts ≡ 1) },
 }

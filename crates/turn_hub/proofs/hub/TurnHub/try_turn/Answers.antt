@@ -2,5 +2,7 @@ use Rattle.std.proofs.Common.{subst}
 use Rattle.turn_hub.specs.Rule.{Took}
 use Rattle.turn_hub.proofs.hub.TurnHub.try_turn.Goals as goal
 
-pub returns-then-take_turn-clause-took : goal.returns-then-take_turn-clause-took
-returns-then-take_turn-clause-took g c = λ _. subst (λ m. Took g.L.Revision.machine g.L.Revision.ends m c.take_turn.new.place.me) c.loop-look.invariant.1 (c.take_turn.ensures.took c.if-take_turn.true)
+pub returns-clause-took : goal.returns-clause-took
+returns-clause-took g c = λ yes.
+    subst (λ m. Took g.L.Revision.machine g.L.Revision.ends m c.keep_looking.new.place.me)
+    (c.look_for_turn.ensures.missed c.if-look_for_turn.false) (c.keep_looking.ensures.took yes)

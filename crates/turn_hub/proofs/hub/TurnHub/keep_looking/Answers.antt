@@ -1,0 +1,6 @@
+use Rattle.std.proofs.Common.{subst}
+use Rattle.turn_hub.specs.Rule.{Took}
+use Rattle.turn_hub.proofs.hub.TurnHub.keep_looking.Goals as goal
+
+pub returns-then-look_for_turn-clause-took : goal.returns-then-look_for_turn-clause-took
+returns-then-look_for_turn-clause-took g c = λ _. subst (λ m. Took g.L.Revision.machine g.L.Revision.ends m c.look_for_turn.new.place.me) c.loop-number.invariant.1 (c.look_for_turn.ensures.took c.if-look_for_turn.true)
