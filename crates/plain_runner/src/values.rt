@@ -10,7 +10,7 @@ ghost use Rattle.plain_runner.specs.Shows.{shown_of};
 use rev_num::{Items, Shown, Value};
 use rev_syntax::Decl;
 use rev_types::{SharedInfo, Typed};
-use revision_state::Location;
+use revision_data::Location;
 use std::alloc::{AllocError, Global};
 
 /// The values that these locations show, each with the name of its variable, and the number of its

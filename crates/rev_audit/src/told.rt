@@ -17,7 +17,7 @@ use crate::stated::Stated;
 use rev_kinds::same_kind;
 use rev_num::{Cause, Trap};
 use revision_alone::{AloneEnd, AloneWrite};
-use revision_state::Location;
+use revision_data::Location;
 use std::alloc::{AllocError, Global};
 use trace_diagram::{Change, Part, PartEnd};
 

@@ -4,7 +4,7 @@ ghost use Rattle.std.specs.Prelude.{◌≡◌, IfOk};
 ghost use Rattle.revision_alone.specs.Alone as spec;
 
 use rev_num::{Trap, Value};
-use revision_state::Location;
+use revision_data::Location;
 use revision_steps::Local;
 use std::alloc::{AllocError, Global};
 

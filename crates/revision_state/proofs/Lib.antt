@@ -1,11 +1,8 @@
 pub mod Bindings
 pub mod Blocks
 pub mod Callees
-pub mod Compositions
-pub mod Lists
 pub mod LocalPlaces
 pub mod Merges
 pub mod Readings
 pub mod Rows
 pub mod Starts
-pub mod Texts

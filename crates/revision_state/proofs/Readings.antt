@@ -6,7 +6,7 @@ use Rattle.rev_types.specs.Layout.{SharedVariable, variables}
 use Rattle.revision_calculus.specs.Program.{variable_named, Setting}
 use Rattle.revision_calculus.specs.State.{Location}
 use Rattle.revision_calculus.specs.Evaluation.{read_shared, location_in, location_of, cell_location}
-use Rattle.revision_state.specs.Reading.{shared_at, behind, location_at}
+use Rattle.revision_data.specs.Reading.{shared_at, behind, location_at}
 use Rattle.revision_state.specs.Tables.{info_of}
 
 shared_row : (o : Option SharedVariable) (ms : List Location) → shared_at (option_map (λ x. x.info) o) ms ≡ read_shared o ms

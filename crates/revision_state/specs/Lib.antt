@@ -1,10 +1,7 @@
 pub mod TreeCodes
 pub mod LocalCodes
 pub mod LocalPlaces
-pub mod Reading
 pub mod Remaining
 pub mod Phases
-pub mod Pieces
 pub mod Tables
 pub mod Views
-pub mod Changes

@@ -12,13 +12,10 @@ use Rattle.rev_syntax.specs.Trees.{Statements}
 use Rattle.merge_decl.specs.Names.{Name}
 use Rattle.merge_decl.specs.Table.{Table}
 use Rattle.revision_calculus.specs.State.{Location, Frame, Noted, forked, joined, Phase, running, joining, done, trapped, Local}
+use Rattle.revision_data.specs.LocationCodes.{coded_location}
 use Rattle.revision_state.specs.TreeCodes.{coded_name, coded_statements}
 
--- ---- locations and frames
-
-abbrev pub coded_location : Coded Location
-coded_location =
-    code_by (Value × Option Value) (coded× value.the_row.coded (coded_option value.the_row.coded)) (λ m. (m.base, m.written)) (λ p. record { base = p.0; written = p.1 }) (λ _. refl)
+-- ---- frames
 
 -- a local with its value
 abbrev pub Bound : Type 0

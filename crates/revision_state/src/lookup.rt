@@ -9,7 +9,7 @@ ghost use Rattle.merge_decl.specs.Definitions.{names_of};
 ghost use Rattle.revision_calculus.specs.Program.{procedure_named};
 ghost use Rattle.revision_calculus.specs.Evaluation as evaluation;
 ghost use Rattle.revision_calculus.specs.Step as step;
-ghost use Rattle.revision_state.specs.Reading.{location_at};
+ghost use Rattle.revision_data.specs.Reading.{location_at};
 ghost use Rattle.revision_state.specs.Tables.{body_of, info_of, params_of, with_next};
 ghost use Rattle.revision_state.specs.Views.{given};
 
@@ -17,10 +17,10 @@ use crate::body_names::BodyNames;
 use crate::frame::Frame;
 use crate::locals::Locals;
 use crate::setting::Setting;
-use crate::values::place;
 use rev_num::{Cause, Value};
 use rev_syntax::{Decl, Param, Stmt};
 use rev_types::SharedInfo;
+use revision_data::place;
 use std::alloc::{AllocError, Global};
 use std::rc::Rc;
 

@@ -9,11 +9,11 @@ ghost use Rattle.revision_calculus.specs.State.{fresh};
 ghost use Rattle.revision_calculus.specs.Calculus.{start_values};
 ghost use Rattle.revision_state.specs.Tables.{start_of, starts_in};
 
-use crate::location::Location;
 use crate::tables::declared;
 use rev_num::{Value, ValueKind};
 use rev_syntax::{Const, Decl};
 use rev_types::{SharedInfo, Typed};
+use revision_data::Location;
 use std::alloc::{AllocError, Global};
 
 /// The start value of a shared variable without a constant.

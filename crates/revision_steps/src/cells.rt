@@ -15,7 +15,8 @@ use crate::local::Local;
 use crate::own::Own;
 use rev_num::{Cause, Path};
 use rev_syntax::{Expr, Name};
-use revision_state::{Setting, number_of, write_at};
+use revision_data::{number_of, write_at};
+use revision_state::Setting;
 use std::alloc::{AllocError, Global};
 
 impl<'a> Local<'a> {

@@ -12,7 +12,8 @@ use crate::local::Local;
 use crate::own::Own;
 use rev_num::{Cause, Path};
 use rev_syntax::{Arm, Stmt};
-use revision_state::{Setting, is_true};
+use revision_data::is_true;
+use revision_state::Setting;
 use std::alloc::{AllocError, Global};
 
 impl<'a> Local<'a> {

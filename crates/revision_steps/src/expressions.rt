@@ -7,7 +7,7 @@ ghost use Rattle.merge_decl.specs.Value as spec;
 ghost use Rattle.rev_evaluator.specs.Seen.{answer, seen};
 ghost use Rattle.revision_calculus.specs.State as state;
 ghost use Rattle.revision_calculus.specs.Evaluation as evaluation;
-ghost use Rattle.revision_state.specs.Reading.{listed, shared_at};
+ghost use Rattle.revision_data.specs.Reading.{listed, shared_at};
 ghost use Rattle.revision_state.specs.Views.{given};
 
 use crate::local::Local;
@@ -15,7 +15,8 @@ use rev_evaluator::{Environment, Seen, evaluate};
 use rev_num::{Cause, Value};
 use rev_syntax::{Expr, Name};
 use rev_types::SharedInfo;
-use revision_state::{Setting, owned, place, seen_of, value_at};
+use revision_data::{owned, place, seen_of, value_at};
+use revision_state::Setting;
 use std::alloc::{AllocError, Global};
 
 impl<'a> Local<'a> {

@@ -13,7 +13,8 @@ use crate::local::Local;
 use crate::own::Own;
 use rev_num::{Path, Value};
 use rev_syntax::{Expr, Name};
-use revision_state::{Frames, Noted, Phase, Setting, Text, snapshot};
+use revision_data::{Text, snapshot};
+use revision_state::{Frames, Noted, Phase, Setting};
 use std::alloc::{AllocError, Global};
 
 impl<'a> Local<'a> {

@@ -12,7 +12,8 @@ use crate::local::Local;
 use crate::own::Own;
 use rev_num::{Cause, Path, Value};
 use rev_syntax::{Block, Expr, Name, Stmt};
-use revision_state::{Phase, Setting, is_true};
+use revision_data::is_true;
+use revision_state::{Phase, Setting};
 use std::alloc::{AllocError, Global};
 use std::slice;
 

@@ -5,12 +5,13 @@ ghost use Rattle.rev_types.specs.Layout.{variables};
 ghost use Rattle.rev_num.specs.declared.outcome.Cause.TheVariants as cause;
 ghost use Rattle.revision_calculus.specs.State as state;
 ghost use Rattle.revision_calculus.specs.Join as join;
-ghost use Rattle.revision_state.specs.Changes.{put};
+ghost use Rattle.revision_data.specs.Changes.{put};
 ghost use Rattle.revision_state.specs.Views.{given};
 
 use crate::local::Local;
 use rev_num::{Cause, Path, Trap, Value};
-use revision_state::{Fault, Noted, Phase, Setting, compose, write_all};
+use revision_data::{Fault, compose, write_all};
+use revision_state::{Noted, Phase, Setting};
 use std::alloc::{AllocError, Global};
 
 impl<'a> Local<'a> {

@@ -16,10 +16,8 @@ ghost use Rattle.revision_state.specs.Views.{given};
 
 use crate::own::Own;
 use rev_num::{Cause, Path, Trap, Value};
-use revision_state::{
-    Frames, Location, Noted, Phase, Setting, Text, copy_locations, copy_noted, start_locations,
-    write_at,
-};
+use revision_data::{Location, Text, copy_locations, write_at};
+use revision_state::{Frames, Noted, Phase, Setting, copy_noted, start_locations};
 use std::alloc::{AllocError, Global};
 use std::marker::Model;
 

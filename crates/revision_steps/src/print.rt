@@ -16,7 +16,8 @@ use crate::own::Own;
 use rev_num::{Cause, Path, Value};
 use rev_report::append_value;
 use rev_syntax::Item;
-use revision_state::{Setting, Text};
+use revision_data::Text;
+use revision_state::Setting;
 use std::alloc::{AllocError, Global};
 
 /// The text of a value.

@@ -6,7 +6,8 @@ ghost use Rattle.audit_rules.specs.Parts as spec;
 ghost use Rattle.trace_making.specs.Made.{end_by, part_by};
 
 use rev_num::{Bytes, Cause, Items, Path, Trap};
-use revision_state::{Location, Noted};
+use revision_data::Location;
+use revision_state::Noted;
 use revision_steps::Local;
 use std::alloc::{AllocError, Global};
 use trace_diagram::{Change, Part, PartEnd, TraceEvent};

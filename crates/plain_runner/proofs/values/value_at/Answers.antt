@@ -1,6 +1,6 @@
 use Rattle.std.proofs.Common.{◌∙◌}
 use Rattle.revision_machine.proofs.Splits.{if_ok_map}
-use Rattle.revision_state.proofs.Lists.{seen_in, seen_out}
+use Rattle.revision_data.proofs.Lists.{seen_in, seen_out}
 use Rattle.plain_runner.proofs.values.value_at.Goals as goal
 
 pub returns-in-Some : goal.returns-in-Some

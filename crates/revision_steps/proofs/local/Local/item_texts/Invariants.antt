@@ -1,7 +1,7 @@
 use Rattle.std.proofs.Common.{◌≡◌, drop, map}
 use Rattle.rev_syntax.specs.View.{print_item}
 use Rattle.revision_calculus.specs.Step.{item_texts}
-use Rattle.revision_state.specs.Reading.{prefixed}
+use Rattle.revision_data.specs.Reading.{prefixed}
 use Rattle.revision_state.specs.Views.{given}
 use Rattle.revision_steps.proofs.local.Local.item_texts.Given as goal
 

@@ -1,7 +1,7 @@
 use Rattle.std.proofs.Common.{◌≡◌, drop}
 use Rattle.rev_syntax.specs.View.{expressions}
 use Rattle.revision_calculus.specs.Evaluation.{evals}
-use Rattle.revision_state.specs.Reading.{prefixed}
+use Rattle.revision_data.specs.Reading.{prefixed}
 use Rattle.revision_state.specs.Views.{given}
 use Rattle.revision_steps.proofs.local.Local.values.Given as goal
 

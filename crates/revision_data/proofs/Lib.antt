@@ -1,0 +1,3 @@
+pub mod Compositions
+pub mod Lists
+pub mod Texts

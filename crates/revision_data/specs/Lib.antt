@@ -1,0 +1,4 @@
+pub mod LocationCodes
+pub mod Reading
+pub mod Pieces
+pub mod Changes

@@ -1,9 +1,0 @@
-use Rattle.std.proofs.Common.{◌≡◌, vec_len}
-use Rattle.revision_state.specs.Changes.{put}
-use Rattle.revision_state.proofs.changes.write_all.Given as goal
-
-abbrev pub invariant-loop-change : goal.invariant-loop-change
-invariant-loop-change l = put l.locations l.changes.items ≡ put l.initial.locations l.initial.changes.items
-
-abbrev pub decreases-loop-change : goal.decreases-loop-change
-decreases-loop-change l = vec_len l.changes
