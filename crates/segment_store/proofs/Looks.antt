@@ -87,7 +87,7 @@ found_all words stride begin old mid new late early = (
   early.1 ∙ (ap (λ (ls : List Look). early.0 ++ ls) late.1 ∙ sym (append_assoc early.0 late.0 old)),
   λ c b. dite (dec_le begin c) (λ le. found_behind c early.0 late.0 (late.2 c b le b.2))
       (λ gt. found_before c early.0 late.0
-          (early.2 c b (first_le stride c b.0 b.1) (omega arith))),
+      (early.2 c b (first_le stride c b.0 b.1) (omega arith))),
 )
 
 -- looks, and then more of them
