@@ -13,7 +13,8 @@ use leg_run::CodeSetting;
 use rev_num::Outcome;
 use run_revision::CodeEnd;
 use std::alloc::{AllocError, Global};
-use turn_hub::{HubRun, Revision};
+use turn_hub::HubRun;
+use turn_rule::Revision;
 use world_outcomes::outcome_of;
 
 /// The outcome of the code, from what a hub kept of its run, over any machine whose ends are those

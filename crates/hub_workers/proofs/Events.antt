@@ -10,11 +10,11 @@ use Rattle.turn_hub.specs.declared.answers.JoinAnswer.{JoinAnswer}
 use Rattle.turn_hub.specs.declared.answers.JoinAnswer.TheVariants as join
 use Rattle.turn_hub.specs.declared.answers.Onward.{Onward}
 use Rattle.turn_hub.specs.declared.answers.Onward.TheVariants as onward
-use Rattle.turn_hub.specs.declared.view.Said.{Said}
-use Rattle.turn_hub.specs.declared.view.Said.TheVariants as mark
-use Rattle.turn_hub.specs.declared.view.View.{View}
-use Rattle.turn_hub.specs.Seats.{HasState, HasFork, HasJoin, HasEnd, HasTrap, IsSameSeat}
-use Rattle.turn_hub.specs.Views.{sees}
+use Rattle.turn_rule.specs.declared.view.Said.{Said}
+use Rattle.turn_rule.specs.declared.view.Said.TheVariants as mark
+use Rattle.turn_rule.specs.declared.view.View.{View}
+use Rattle.turn_rule.specs.Seats.{HasState, HasFork, HasJoin, HasEnd, HasTrap, IsSameSeat}
+use Rattle.turn_rule.specs.Views.{sees}
 use Rattle.turn_hub.specs.Answers.{EndedOn, EndStepSays, JoinSays, OnwardSays, WaitedOn}
 use Rattle.hub_workers.specs.declared.legs.Event.TheVariants as event
 use Rattle.hub_workers.specs.Legs.{IsReached, HaveMet, Comes, IsEndBy, IsSameHand}

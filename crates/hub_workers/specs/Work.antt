@@ -10,9 +10,9 @@ use Rattle.revision_machine.specs.Numbered.{Bears}
 use Rattle.hub_algebra.specs.HubMachine.{HubMachine}
 use Rattle.turn_hub.specs.declared.answers.JoinAnswer.{JoinAnswer}
 use Rattle.turn_hub.specs.declared.answers.JoinAnswer.TheVariants as join
-use Rattle.turn_hub.specs.declared.view.View.{View}
-use Rattle.turn_hub.specs.Seats.{HasState, HasJoin}
-use Rattle.turn_hub.specs.Views.{sees}
+use Rattle.turn_rule.specs.declared.view.View.{View}
+use Rattle.turn_rule.specs.Seats.{HasState, HasJoin}
+use Rattle.turn_rule.specs.Views.{sees}
 use Rattle.turn_hub.specs.Answers.{HasMet}
 use Rattle.hub_workers.specs.declared.next.Next.{Next}
 use Rattle.hub_workers.specs.declared.next.Next.TheVariants as next

@@ -4,7 +4,7 @@ ghost use Rattle.hub_workers.specs.Legs.{IsReached, HaveMet, Comes, IsSettled, I
 ghost use Rattle.hub_workers.specs.Legs.{IsEventOf, IsSettledOf, IsSameHand};
 
 use std::alloc::AllocError;
-use turn_hub::Revision;
+use turn_rule::Revision;
 
 /// Where a leg leads.
 pub enum Event<F, A, E> {

@@ -14,8 +14,8 @@ const LONG_NAP: u64 = 6400;
 const LATE: u64 = 50;
 
 // A revision rings up to three times: where it is forked, where it is taken, and where its joiner
-// is. Where a ring comes in so many microseconds, moving a revision to another thread takes about as
-// long as it runs.
+// is. Where a ring comes in so many microseconds, moving a revision to another thread takes about
+// as long as it runs.
 const EACH_RING: u64 = 3;
 
 // What a look tells a scout.

@@ -1,8 +1,9 @@
 //! One thread's work at a hub.
 ghost use Rattle.std.specs.Prelude.{◌≡◌, MatchBool};
 ghost use Rattle.turn_hub.specs.Names.{IsSeatOf, view_of};
-ghost use Rattle.turn_hub.specs.Seats.{HasState, HasJoin, HasEnd, HasTrap, IsSameSeat};
+ghost use Rattle.turn_rule.specs.Seats.{HasState, HasJoin, HasEnd, HasTrap, IsSameSeat};
 ghost use Rattle.hub_workers.specs.Work.{IsHandOf, StandsAtFork, HasClaimed, HasAnswer, HasNext};
+ghost use Rattle.hub_workers.specs.Handed.{HasHandedIn, IsAlone, OnlyAnswer, OnlyNext};
 
 use crate::bell::Bell;
 use crate::gate::Gate;
@@ -17,6 +18,7 @@ fn halt<L: Legs, W: Wait>(rt: &W, hub: &TurnHub<L>, seat: &mut HubSeat<L>)
     requires { IsSeatOf hub.now seat.old }
     ensures own { IsSeatOf hub.now seat.new }
     ensures same { IsSameSeat (view_of seat.old) (view_of seat.new) }
+    ensures only { HasHandedIn (view_of seat.new) }
 {
     hub.halt(rt, seat);
 }
@@ -38,6 +40,7 @@ fn hand_in<L: Legs, W: Wait>(
     ensures same { IsSameSeat (view_of seat.old) (view_of seat.new) }
     ensures next { HasNext L.machine L.ends L.claimed L.stopped
         L.claimed_group L.stopped_group (view_of seat.new) result }
+    ensures only { IsAlone (view_of seat.old) number → OnlyNext (view_of seat.new) result }
 {
     match hub.end_and_take(rt, seat, number, end) {
         Ok(step) => {
@@ -68,6 +71,7 @@ fn settle<L: Legs, W: Wait>(
     ensures hand { IsHandOf L.begins L.hand_group (view_of seat.new) hand.new }
     ensures next { HasNext L.machine L.ends L.claimed L.stopped
         L.claimed_group L.stopped_group (view_of seat.new) result }
+    ensures only { IsAlone (view_of seat.old) number → OnlyNext (view_of seat.new) result }
 {
     match L::settle(hand, claimed) {
         Ok(Settled::Run(runner)) => Next::Run { number, runner },
@@ -98,6 +102,8 @@ fn come<L: Legs, W: Wait>(
     ensures hand { IsHandOf L.begins L.hand_group (view_of seat.new) hand.new }
     ensures next { HasNext L.machine L.ends L.claimed L.stopped
         L.claimed_group L.stopped_group (view_of seat.new) result }
+    ensures only { OnlyAnswer (view_of seat.old) number answer
+        → OnlyNext (view_of seat.new) result }
 {
     match answer {
         JoinAnswer::Claimed(claimed) => settle(rt, hub, bell, seat, hand, number, claimed),
@@ -137,6 +143,7 @@ fn join<L: Legs, W: Wait>(
     ensures hand { IsHandOf L.begins L.hand_group (view_of seat.new) hand.new }
     ensures next { HasNext L.machine L.ends L.claimed L.stopped
         L.claimed_group L.stopped_group (view_of seat.new) result }
+    ensures only { IsAlone (view_of seat.old) number → OnlyNext (view_of seat.new) result }
 {
     match hub.join_or_take(rt, seat, number, at) {
         JoinStep::Waits(onward) => {
@@ -167,6 +174,7 @@ fn fork<L: Legs, W: Wait>(
     ensures hand { IsHandOf L.begins L.hand_group (view_of seat.new) hand.new }
     ensures next { HasNext L.machine L.ends L.claimed L.stopped
         L.claimed_group L.stopped_group (view_of seat.new) result }
+    ensures only { IsAlone (view_of seat.old) number → OnlyNext (view_of seat.new) result }
 {
     let Ok((parent, child)) = L::split(hand, at) else {
         halt(rt, hub, seat);
@@ -207,6 +215,7 @@ fn step<L: Legs, G: Gate, W: Wait>(
     ensures hand { IsHandOf L.begins L.hand_group (view_of seat.new) hand.new }
     ensures next { HasNext L.machine L.ends L.claimed L.stopped
         L.claimed_group L.stopped_group (view_of seat.new) result }
+    ensures only { IsAlone (view_of seat.old) number → OnlyNext (view_of seat.new) result }
 {
     gate.enter(number);
     match L::run_leg(hand, runner) {
@@ -220,7 +229,8 @@ fn step<L: Legs, G: Gate, W: Wait>(
     }
 }
 
-// Runs a revision, and what the thread takes behind it, until nothing is ready or a halt was entered.
+// Runs a revision, and what the thread takes behind it, until nothing is ready or a halt was
+// entered.
 fn drive<L: Legs, G: Gate, W: Wait>(
     rt: &W,
     hub: &TurnHub<L>,
@@ -237,6 +247,7 @@ fn drive<L: Legs, G: Gate, W: Wait>(
     ensures own { IsSeatOf hub.now seat.new }
     ensures same { IsSameSeat (view_of seat.old) (view_of seat.new) }
     ensures hand { IsHandOf L.begins L.hand_group (view_of seat.new) hand.new }
+    ensures only { OnlyNext (view_of seat.old) first → HasHandedIn (view_of seat.new) }
 {
     let mut next = first;
     for _ in rt.forever() {
@@ -255,7 +266,8 @@ fn drive<L: Legs, G: Gate, W: Wait>(
 }
 
 /// Takes revisions and runs them until all is over or a halt was entered, which the seat knows
-/// then. A thread that finds nothing ready sleeps until the bell rings.
+/// then. It hands in each that it takes, unless a halt was entered. A thread that finds nothing
+/// ready sleeps until the bell rings.
 pub fn work<L: Legs, G: Gate, W: Wait>(
     rt: &W,
     hub: &TurnHub<L>,
@@ -270,6 +282,7 @@ pub fn work<L: Legs, G: Gate, W: Wait>(
     ensures same { IsSameSeat (view_of seat.old) (view_of seat.new) }
     ensures hand { IsHandOf L.begins L.hand_group (view_of seat.new) hand.new }
     ensures over { (view_of seat.new).saw ≡ 1 }
+    ensures handed_in { HasHandedIn (view_of seat.old) → HasHandedIn (view_of seat.new) }
 {
     let mut scout = Scout::new();
     for _ in rt.forever() {

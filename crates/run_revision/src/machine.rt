@@ -10,7 +10,7 @@ use crate::runner::CodeRunner;
 use crate::state::AnyState;
 use leg_run::CodeSetting;
 use std::marker::PhantomData;
-use turn_hub::Revision;
+use turn_rule::Revision;
 use version_map::{MergeBy, Snapshot};
 
 /// The machine of verified code, over these snapshots, for threads with these merges and keepers.

@@ -15,12 +15,12 @@ use Rattle.hub_table.specs.declared.value.Turn.{Turn}
 use Rattle.hub_table.specs.Left.{kept_of}
 use Rattle.hub_table.specs.Found.{all_over}
 use Rattle.hub_table.proofs.Slots.{no_more}
-use Rattle.turn_hub.specs.declared.view.View.{View}
-use Rattle.turn_hub.specs.Passes.{named}
-use Rattle.turn_hub.specs.Rule.{is_out, done, Sound, SoundFrom, AreOfGroup}
+use Rattle.turn_rule.specs.declared.view.View.{View}
+use Rattle.turn_rule.specs.Passes.{named}
+use Rattle.turn_rule.specs.Rule.{is_out, done, Sound, SoundFrom, AreOfGroup}
 use Rattle.turn_hub.specs.Closing.{ClosedTurn, ClosedHub, AreKeptOf, IsClosed}
-use Rattle.turn_hub.proofs.Keeps.{AtEnd}
-use Rattle.turn_hub.proofs.Turns.{some_start}
+use Rattle.turn_rule.proofs.Keeps.{AtEnd}
+use Rattle.turn_rule.proofs.Turns.{some_start}
 
 module _ {L R A E : Type 0} (d : HubMachine L R A E) (ends : E → L → Type 0) where
   pub closes : (first v : View L) (s : State (Option (Turn R A E)) (View L)) (a : AtEnd d ends first s v) → v.saw ≡ 1 → ClosedTurn d ends first v a.value

@@ -13,21 +13,21 @@ use Rattle.hub_table.specs.Counts.{times}
 use Rattle.hub_table.specs.Found.{ended_here, is_ready}
 use Rattle.hub_table.proofs.Lists.{is_at_same, is_at_other}
 use Rattle.hub_table.proofs.Slots.{no_more}
-use Rattle.turn_hub.specs.declared.view.View.{View}
-use Rattle.turn_hub.specs.declared.view.Said.{Said}
-use Rattle.turn_hub.specs.declared.view.Said.TheVariants as mark
+use Rattle.turn_rule.specs.declared.view.View.{View}
+use Rattle.turn_rule.specs.declared.view.Said.{Said}
+use Rattle.turn_rule.specs.declared.view.Said.TheVariants as mark
 use Rattle.turn_hub.specs.declared.answers.Onward.{Onward}
 use Rattle.turn_hub.specs.declared.answers.Onward.TheVariants as onward
 use Rattle.turn_hub.specs.declared.answers.JoinAnswer.{JoinAnswer}
 use Rattle.turn_hub.specs.declared.answers.EndStep.{EndStep}
 use Rattle.turn_hub.specs.declared.answers.EndStep.TheVariants as ending
-use Rattle.turn_hub.specs.Passes.{named, Pass, left, IsPass, Fresh}
-use Rattle.turn_hub.specs.Views.{commits, hands_in, ends_in, draws, rests, sees}
-use Rattle.turn_hub.specs.Rule.{done, said_of, says, InHand, Told}
+use Rattle.turn_rule.specs.Passes.{named, Pass, left, IsPass, Fresh}
+use Rattle.turn_rule.specs.Views.{commits, hands_in, ends_in, draws, rests, sees}
+use Rattle.turn_rule.specs.Rule.{done, said_of, says, InHand, Told}
 use Rattle.turn_hub.specs.Drawn.{IsDrawn}
 use Rattle.turn_hub.specs.Answers.{IsSameTurn, IsOneTurn, OnwardSays, Retried, HasCome, JoinSays, CameOn, EndStepSays, EndedOn}
-use Rattle.turn_hub.proofs.Passes.{count_gone, count_other, left_pass, since_more, since_now}
-use Rattle.turn_hub.proofs.Turns.{all_ended, out_here}
+use Rattle.turn_rule.proofs.Passes.{count_gone, count_other, left_pass, since_more, since_now}
+use Rattle.turn_rule.proofs.Turns.{all_ended, out_here}
 use Rattle.turn_hub.proofs.Says.{says_put, onward_over, ends_said, ended_says}
 
 module _ {L : Type 0} where
@@ -128,6 +128,7 @@ module _ {L R A E : Type 0} (d : HubMachine L R A E) (ends : E → L → Type 0)
         said = refl;
         entered = ap (λ y. y.entered) drawn.view ∙ (free ∙ sym none);
         found = refl;
+        known = λ n. hand.halt;
       }
 
   module _ {C S : Type 0} (claimed : C → A → E → Type 0) (stopped : S → A → E → Type 0) (group : C → List ℕ) (halted : S → List ℕ) where
@@ -155,16 +156,16 @@ module _ {L R A E : Type 0} (d : HubMachine L R A E) (ends : E → L → Type 0)
 
     -- the same of the view that has given the turn back
     step_over : (said said' : List Said) (y x : V) (n : EndStep R A C S) → said ≡ said' → Steps said y x n → Steps said' (rests y) x n
-    step_over said said' y x (ending.Run n r) e h = (rested y x h.0, onward_over d ends said said' (rests y) y x (onward.Run n r) e (refl, refl, refl) refl h.1)
+    step_over said said' y x (ending.Run n r) e h = (rested y x h.0, onward_over d ends said said' (rests y) y x (onward.Run n r) e (refl, refl, refl) refl (λ z. refl) h.1)
     step_over said said' y x (ending.Came n r) e h = record {
       at = h.at;
       drawn = h.drawn;
       same = rested y h.drawn h.same;
-      retried = onward_over d ends said said' (rests y) y h.drawn (onward.Retry n h.at) e (refl, refl, refl) refl h.retried;
+      retried = onward_over d ends said said' (rests y) y h.drawn (onward.Retry n h.at) e (refl, refl, refl) refl (λ z. refl) h.retried;
       come = h.come;
       says = subst (λ z. JoinSays d ends claimed stopped group halted h.drawn (sees (put_number z n mark.Out) y.log x) n h.at r) e h.says;
     }
-    step_over said said' y x ending.Nothing e h = (rested y x h.0, onward_over d ends said said' (rests y) y x onward.Nothing e (refl, refl, refl) refl h.1)
+    step_over said said' y x ending.Nothing e h = (rested y x h.0, onward_over d ends said said' (rests y) y x onward.Nothing e (refl, refl, refl) refl (λ z. refl) h.1)
 
     pub ended_on : (v w u x : V) (t t' : Value) (k : ℕ) (e : E) (b : Bool) (n : EndStep R A C S) → Told d ends v w t → t.state ≡ All → u ≡ ends_in b k w → t'.revisions.slots.items ≡ put_number t.revisions.slots.items k (Over e)
         → IsOneTurn u x → Steps (says d ends t'.revisions.slots.items) u x n → EndedOn d ends claimed stopped group halted v x k e b n

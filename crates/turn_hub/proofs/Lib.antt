@@ -1,8 +1,3 @@
-pub mod Passes
-pub mod Outs
-pub mod Keeps
-pub mod Turns
-pub mod Begins
 pub mod Says
 pub mod Drawing
 pub mod Rows

@@ -8,10 +8,10 @@ use Rattle.hub_table.specs.declared.state.HubState.{HubState}
 use Rattle.hub_table.specs.declared.state.HubState.TheVariants.{All, Twice, NoMemory}
 use Rattle.hub_table.specs.Counts.{is_at}
 use Rattle.hub_table.proofs.Lists.{total_snoc, total_append}
-use Rattle.turn_hub.specs.declared.view.View.{View}
-use Rattle.turn_hub.specs.Passes.{named, Pass}
-use Rattle.turn_hub.specs.Views.{either_saw, either_halt}
-use Rattle.turn_hub.specs.Seats.{AreOf, AreNew}
+use Rattle.turn_rule.specs.declared.view.View.{View}
+use Rattle.turn_rule.specs.Passes.{named, Pass}
+use Rattle.turn_rule.specs.Views.{either_saw, either_halt}
+use Rattle.turn_rule.specs.Seats.{AreOf, AreNew}
 use Rattle.turn_hub.specs.Closing.{saw_of, halt_known, held_by}
 
 pub map_more : {B C : Type 0} → (f : B → C) (xs : List B) (y : B) → map f (xs ++ y ∷ []) ≡ map f xs ++ f y ∷ []

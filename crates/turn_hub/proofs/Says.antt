@@ -11,18 +11,18 @@ use Rattle.hub_table.specs.declared.value.Turn.{Turn}
 use Rattle.hub_table.specs.declared.state.HubState.TheVariants.{All, Twice}
 use Rattle.hub_table.specs.Halts.{halt_by}
 use Rattle.hub_table.specs.Found.{ended_here, is_ready, all_over}
-use Rattle.turn_hub.specs.declared.view.View.{View}
+use Rattle.turn_rule.specs.declared.view.View.{View}
 use Rattle.turn_hub.specs.declared.answers.Onward.{Onward}
 use Rattle.turn_hub.specs.declared.answers.Onward.TheVariants as onward
 use Rattle.turn_hub.specs.declared.answers.JoinAnswer.{JoinAnswer}
 use Rattle.turn_hub.specs.declared.answers.JoinAnswer.TheVariants as join
-use Rattle.turn_hub.proofs.Turns.{Next, group_at, drawn, drawn_again, forked, joined, meeting, keeps_draw, keeps_commit, keeps_in, keeps_end}
-use Rattle.turn_hub.specs.declared.view.Said.{Said}
-use Rattle.turn_hub.specs.declared.view.Said.TheVariants as mark
-use Rattle.turn_hub.specs.Views.{ended_said, ready_said, all_said, or_no_memory, commits, hands_in, ends_in, draws, stops, rests}
-use Rattle.turn_hub.specs.Passes.{IsPass}
-use Rattle.turn_hub.specs.Seats.{HasState, HasFork, HasJoin, ForkedAs, KeepsAll, KeepsOthers, IsSameSeat}
-use Rattle.turn_hub.specs.Rule.{done, said_of, says, InHand, Told}
+use Rattle.turn_rule.proofs.Turns.{Next, group_at, drawn, drawn_again, forked, joined, meeting, keeps_halt, told_halt, keeps_draw, keeps_commit, keeps_in, keeps_end, lacks_in, lacks_end}
+use Rattle.turn_rule.specs.declared.view.Said.{Said}
+use Rattle.turn_rule.specs.declared.view.Said.TheVariants as mark
+use Rattle.turn_rule.specs.Views.{ended_said, ready_said, all_said, or_no_memory, commits, hands_in, ends_in, draws, stops, rests}
+use Rattle.turn_rule.specs.Passes.{IsPass}
+use Rattle.turn_rule.specs.Seats.{HasState, HasFork, HasJoin, ForkedAs, KeepsAll, KeepsHalt, KeepsOthers, IsSameSeat}
+use Rattle.turn_rule.specs.Rule.{done, said_of, says, InHand, Told}
 use Rattle.turn_hub.specs.Answers.{IsSameTurn, OnwardSays, IsNoneReady, WaitedOn, HasCome}
 use Rattle.turn_hub.specs.Answers.{IsHalted, Ran, Retried, IsIdleNow, IsFinished, WasHalted, Forked, TookIn, HasMet, Waited, MetTwice, JoinSays, TakesIn, EndedSays}
 
@@ -109,11 +109,19 @@ module _ {L R A E : Type 0} (d : HubMachine L R A E) (ends : E → L → Type 0)
   says_put (y ∷ slots) zero x = refl
   says_put (y ∷ slots) (suc k) x = ap (λ z. said_of d ends y ∷ z) (says_put slots k x)
 
-  keeps_over : (v w x : V) (k : ℕ) → IsSameSeat v w → w.passes ≡ v.passes → KeepsOthers w x k → KeepsOthers v x k
-  keeps_over v w x k seat p h = ((h.0.0 ∙ seat.0, h.0.1 ∙ seat.1, h.0.2 ∙ seat.2), λ j at ne q. h.1 j at ne (subst (λ l. IsPass l j at) (sym p) q))
+  halt_over : (v w x : V) → KeepsHalt v w → KeepsHalt w x → KeepsHalt v x
+  halt_over v w x a b n = b (λ e. n (sym (a n) ∙ e)) ∙ a n
+
+  keeps_over : (v w x : V) (k : ℕ) → IsSameSeat v w → w.passes ≡ v.passes → KeepsHalt v w → KeepsOthers w x k → KeepsOthers v x k
+  keeps_over v w x k seat p halt h = (
+    (h.0.0 ∙ seat.0, h.0.1 ∙ seat.1, h.0.2 ∙ seat.2),
+    λ j at ne q. h.1 j at ne (subst (λ l. IsPass l j at) (sym p) q),
+    λ j at ne q. subst (λ l. IsPass l j at) p (h.2 j at ne q),
+    halt_over v w x halt h.3,
+  )
 
   keeps_all : (v w : V) (t : Value) → Told d ends v w t → KeepsAll v (rests w)
-  keeps_all v w t told = ((told.start, told.group, told.parts), told.passes)
+  keeps_all v w t told = ((told.start, told.group, told.parts), told.passes, told_halt d ends v w t told)
 
   -- what is handed out in the turn that the seat has
   pub ran : (w x : V) (t t' : Value) (n : ℕ) (r : R) → InHand d ends w t → w.entered ≡ All → t.state ≡ All → at_number t.revisions.slots.items n ≡ Some (Ready r)
@@ -140,35 +148,35 @@ module _ {L R A E : Type 0} (d : HubMachine L R A E) (ends : E → L → Type 0)
   pub none_now : (w : V) (t : Value) → w.entered ≡ All → ((k : ℕ) → is_ready d t.revisions.slots.items (at_number t.revisions.slots.items k) ≡ false) → IsNoneReady d ends (says d ends t.revisions.slots.items) w w
   none_now w t free f = record {
     free = free;
-    keeps = ((refl, refl, refl), refl);
+    keeps = ((refl, refl, refl), refl, λ n. refl);
     none_ready = λ k. says_ready t.revisions.slots.items k ∙ f k;
   }
 
   -- the same of a view before this one that has the same passes, and of the same words of the revisions
-  pub onward_over : (said said' : List Said) (v w x : V) (n : Onward R A) → said ≡ said' → IsSameSeat v w → w.passes ≡ v.passes → OnwardSays d ends said w x n → OnwardSays d ends said' v x n
-  onward_over said said' v w x (onward.Run n r) e seat p h = record {
+  pub onward_over : (said said' : List Said) (v w x : V) (n : Onward R A) → said ≡ said' → IsSameSeat v w → w.passes ≡ v.passes → KeepsHalt v w → OnwardSays d ends said w x n → OnwardSays d ends said' v x n
+  onward_over said said' v w x (onward.Run n r) e seat p halt h = record {
     free = h.free;
-    keeps = keeps_over v w x n seat p h.keeps;
+    keeps = keeps_over v w x n seat p halt h.keeps;
     was = ap (λ z. at_number z n) (sym e) ∙ h.was;
     state = h.state;
     group = h.group;
   }
-  onward_over said said' v w x (onward.Retry n a) e seat p h = record {
+  onward_over said said' v w x (onward.Retry n a) e seat p halt h = record {
     free = h.free;
-    keeps = keeps_over v w x n seat p h.keeps;
+    keeps = keeps_over v w x n seat p halt h.keeps;
     was = ap (λ z. at_number z n) (sym e) ∙ h.was;
     ended = ap (λ z. ended_said (at_number z (d.on a))) (sym e) ∙ h.ended;
     event = h.event;
     group = h.group;
   }
-  onward_over said said' v w x onward.Nothing e seat p h = record {
+  onward_over said said' v w x onward.Nothing e seat p halt h = record {
     free = h.free;
-    keeps = ((h.keeps.0.0 ∙ seat.0, h.keeps.0.1 ∙ seat.1, h.keeps.0.2 ∙ seat.2), h.keeps.1 ∙ p);
+    keeps = ((h.keeps.0.0 ∙ seat.0, h.keeps.0.1 ∙ seat.1, h.keeps.0.2 ∙ seat.2), h.keeps.1 ∙ p, halt_over v w x halt h.keeps.2);
     none_ready = λ k. ap (λ z. ready_said z (at_number z k)) (sym e) ∙ h.none_ready k;
   }
 
   after : (v w x : V) (t : Value) (n : Onward R A) → Told d ends v w t → IsSameTurn w x → OnwardSays d ends (says d ends t.revisions.slots.items) w x n → OnwardSays d ends x.said v x n
-  after v w x t n told same h = onward_over (says d ends t.revisions.slots.items) x.said v w x n (sym (same.said ∙ told.said)) (told.start, told.group, told.parts) told.passes h
+  after v w x t n told same h = onward_over (says d ends t.revisions.slots.items) x.said v w x n (sym (same.said ∙ told.said)) (told.start, told.group, told.parts) told.passes (told_halt d ends v w t told) h
 
   pub ran_after : (v w x : V) (t : Value) (n : ℕ) (r : R) → Told d ends v w t → IsSameTurn w x → Ran d ends (says d ends t.revisions.slots.items) w x n r → Ran d ends x.said v x n r
   ran_after v w x t n r told same h = after v w x t (onward.Run n r) told same h
@@ -202,7 +210,7 @@ module _ {L R A E : Type 0} (d : HubMachine L R A E) (ends : E → L → Type 0)
 
   pub now_halted : (v w x : V) (t : Value) → Told d ends v w t → x ≡ rests (stops (or_no_memory w.halt) w) → IsHalted v x
   now_halted v w x t told is = subst (IsHalted v) (sym is) record {
-    keeps = ((told.start, told.group, told.parts), told.passes);
+    keeps = ((told.start, told.group, told.parts), told.passes, λ n. ap or_no_memory (told_halt d ends v w t told n) ∙ keeps_halt v.halt n);
     saw = refl;
     halt = ap or_no_memory (told.hand.halt ∙ sym told.entered);
     entry = sym told.found;
@@ -233,6 +241,7 @@ module _ {L R A E : Type 0} (d : HubMachine L R A E) (ends : E → L → Type 0)
   waited v w x t k a told none not_ended is = subst (λ y. Waited d ends v y k a) (sym is) record {
     free = told.entered ∙ none;
     keeps = keeps_in d ends v w t k told;
+    gone = lacks_in d ends w k;
     entry = sym told.found;
     unfinished = where_waits w.said t.revisions.slots.items (d.on a) told.said not_ended;
   }
@@ -240,7 +249,7 @@ module _ {L R A E : Type 0} (d : HubMachine L R A E) (ends : E → L → Type 0)
   pub met_twice : (v w x : V) (t : Value) (k : ℕ) (a : A) → Told d ends v w t → t.state ≡ All → at_number t.revisions.slots.items (d.on a) ≡ Some Gone → x ≡ rests (stops Twice (commits k w)) → MetTwice d ends v x k a
   met_twice v w x t k a told none gone is = subst (λ y. MetTwice d ends v y k a) (sym is) record {
     free = told.entered ∙ none;
-    keeps = keeps_commit d ends v w t k told;
+    keeps = let h = keeps_commit d ends v w t k told in (h.0, h.1, h.2, λ n. absurd (n (told.known n ∙ none)));
     entry = ap (λ l. l ++ k ∷ []) (sym told.found);
     joined = where_run w.said t.revisions.slots.items (d.on a) Gone told.said gone;
     halt = refl;
@@ -251,6 +260,7 @@ module _ {L R A E : Type 0} (d : HubMachine L R A E) (ends : E → L → Type 0)
   ended_leg v w x t k told none is = subst (λ y. EndedSays d ends v y k false) (sym is) record {
     free = told.entered ∙ none;
     keeps = keeps_end d ends v w t k told;
+    gone = lacks_end d ends w k;
     entry = ap (λ l. l ++ k ∷ []) (sym told.found);
   }
 
@@ -258,6 +268,7 @@ module _ {L R A E : Type 0} (d : HubMachine L R A E) (ends : E → L → Type 0)
   ended_trap v w x t k told none is = subst (λ y. EndedSays d ends v y k true) (sym is) record {
     free = told.entered ∙ none;
     keeps = keeps_in d ends v w t k told;
+    gone = lacks_in d ends w k;
     entry = sym told.found;
   }
 
@@ -285,7 +296,7 @@ module _ {L R A E : Type 0} (d : HubMachine L R A E) (ends : E → L → Type 0)
       let found : x.said ≡ says d ends t.revisions.slots.items = turn.said ∙ said in (
         record { said = turn.said; entered = turn.entered; found = turn.found; log = turn.log; saw = turn.saw; halt = turn.halt },
         onward_over (says d ends slots) (put_number x.said k (said_of d ends s)) (rests y) y x n
-            (ap (says d ends) put ∙ (says_put t.revisions.slots.items k s ∙ ap (λ z. put_number z k (said_of d ends s)) (sym found))) (refl, refl, refl) refl (subst (λ z. OnwardSays d ends (says d ends slots) z x n) is h),
+            (ap (says d ends) put ∙ (says_put t.revisions.slots.items k s ∙ ap (λ z. put_number z k (said_of d ends s)) (sym found))) (refl, refl, refl) refl (λ h. refl) (subst (λ z. OnwardSays d ends (says d ends slots) z x n) is h),
       )
 
   pub waited_on : (v w u x : V) (t t' : Value) (k : ℕ) (a : A) (n : Onward R A) → Told d ends v w t → t.state ≡ All → ended_here (at_number t.revisions.slots.items (d.on a)) ≡ false → u ≡ hands_in k w

@@ -14,9 +14,9 @@ use Rattle.hub_algebra.specs.Hub.{Meets}
 use Rattle.hub_algebra.specs.HubMachine.{HubMachine, numbered, values}
 use Rattle.hub_table.specs.declared.state.HubState.TheVariants.{All, Twice}
 use Rattle.hub_table.specs.Halts.{halt_by}
-use Rattle.turn_hub.specs.declared.view.View.{View}
-use Rattle.turn_hub.specs.declared.view.Said.{Said}
-use Rattle.turn_hub.specs.declared.view.Said.TheVariants as mark
+use Rattle.turn_rule.specs.declared.view.View.{View}
+use Rattle.turn_rule.specs.declared.view.Said.{Said}
+use Rattle.turn_rule.specs.declared.view.Said.TheVariants as mark
 use Rattle.turn_hub.specs.declared.answers.Taken.{Taken}
 use Rattle.turn_hub.specs.declared.answers.Taken.TheVariants as taken
 use Rattle.turn_hub.specs.declared.answers.Onward.{Onward}
@@ -27,8 +27,8 @@ use Rattle.turn_hub.specs.declared.answers.JoinStep.{JoinStep}
 use Rattle.turn_hub.specs.declared.answers.JoinStep.TheVariants as step
 use Rattle.turn_hub.specs.declared.answers.EndStep.{EndStep}
 use Rattle.turn_hub.specs.declared.answers.EndStep.TheVariants as ending
-use Rattle.turn_hub.specs.Views.{ended_said, ready_said, all_said, or_no_memory, sees}
-use Rattle.turn_hub.specs.Seats.{HasState, HasFork, HasJoin, ForkedAs, KeepsAll, KeepsOthers, AddsEntry, AddsNone}
+use Rattle.turn_rule.specs.Views.{ended_said, ready_said, all_said, or_no_memory, sees}
+use Rattle.turn_rule.specs.Seats.{HasState, HasFork, HasJoin, ForkedAs, KeepsAll, KeepsOthers, LacksPass, AddsEntry, AddsNone}
 
 module _ {L : Type 0} where
   -- nothing was entered before this turn
@@ -131,6 +131,7 @@ module _ {L R A E : Type 0} (d : HubMachine L R A E) (ends : E → L → Type 0)
   pub record Waited (v w : View L) (k : ℕ) (a : A) : Type 0 where
     pub free : IsFree w
     pub keeps : KeepsOthers v w k
+    pub gone : LacksPass w k
     pub entry : AddsNone w
     pub unfinished : ended_said (at_number w.said (d.on a)) ≡ false
 
@@ -200,6 +201,7 @@ module _ {L R A E : Type 0} (d : HubMachine L R A E) (ends : E → L → Type 0)
   pub record EndedSays (v w : View L) (k : ℕ) (by_join : Bool) : Type 0 where
     pub free : IsFree w
     pub keeps : KeepsOthers v w k
+    pub gone : LacksPass w k
     pub entry : MatchBool by_join (AddsNone w) (AddsEntry w k)
 
   module _ {C S : Type 0} (claimed : C → A → E → Type 0) (stopped : S → A → E → Type 0) (group : C → List ℕ) (halted : S → List ℕ) where

@@ -17,10 +17,10 @@ use Rattle.hub_table.specs.declared.kept.Kept.TheVariants as left
 use Rattle.hub_table.specs.declared.value.Turn.{Turn}
 use Rattle.hub_table.specs.Counts.{total}
 use Rattle.hub_table.specs.Left.{kept_of}
-use Rattle.turn_hub.specs.declared.view.View.{View}
-use Rattle.turn_hub.specs.Passes.{named}
-use Rattle.turn_hub.specs.Views.{either_saw, either_halt}
-use Rattle.turn_hub.specs.Rule.{is_out, is_over, Sound, AreOfGroup}
+use Rattle.turn_rule.specs.declared.view.View.{View}
+use Rattle.turn_rule.specs.Passes.{named}
+use Rattle.turn_rule.specs.Views.{either_saw, either_halt}
+use Rattle.turn_rule.specs.Rule.{is_out, is_over, Sound, AreOfGroup}
 
 module _ {L S : Type 0} where
   -- 1 where one of them was answered Finished or Halted, or entered a halt

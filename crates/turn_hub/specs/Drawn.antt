@@ -8,9 +8,9 @@ use Rattle.hub_table.specs.declared.value.Turn.{Turn}
 use Rattle.hub_table.specs.Found.{ended_here}
 use Rattle.turn_hub.specs.declared.answers.Onward.{Onward}
 use Rattle.turn_hub.specs.declared.answers.Onward.TheVariants as onward
-use Rattle.turn_hub.specs.declared.view.View.{View}
-use Rattle.turn_hub.specs.Rule.{slots_of}
-use Rattle.turn_hub.specs.Views.{draws}
+use Rattle.turn_rule.specs.declared.view.View.{View}
+use Rattle.turn_rule.specs.Rule.{slots_of}
+use Rattle.turn_rule.specs.Views.{draws}
 
 module _ {L R A E : Type 0} (d : HubMachine L R A E) where
   pub record IsDrawn (v w : View L) (t t' : Turn R A E) (n : ℕ) (a : A) : Type 0 where

@@ -13,11 +13,11 @@ use Rattle.hub_table.specs.declared.value.Turn.{Turn}
 use Rattle.turn_hub.specs.declared.closing.HubRun.{HubRun}
 use Rattle.turn_hub.specs.declared.closing.order.HubSchedule.{HubSchedule}
 use Rattle.turn_hub.specs.declared.hub.TurnHub.{TurnHub}
-use Rattle.turn_hub.specs.declared.revision.Revision.{Ghosts}
+use Rattle.turn_rule.specs.declared.revision.Revision.{Ghosts}
 use Rattle.turn_hub.specs.declared.seat.HubSeat.{HubSeat}
-use Rattle.turn_hub.specs.declared.view.View.{View}
-use Rattle.turn_hub.specs.Seats.{AreOf}
-use Rattle.turn_hub.specs.Views.{first_of}
+use Rattle.turn_rule.specs.declared.view.View.{View}
+use Rattle.turn_rule.specs.Seats.{AreOf}
+use Rattle.turn_rule.specs.Views.{first_of}
 
 module _ {S : Type 0} where
   abbrev pub schedule_numbers : HubSchedule S → List ℕ

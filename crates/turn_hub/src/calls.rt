@@ -4,12 +4,12 @@ ghost use Rattle.std.specs.Prelude.{◌≡◌, ◌<◌, ℕ, [], Some, None, IfO
 use crate::answers::{EndStep, JoinAnswer, JoinStep, Onward, Taken};
 use crate::ended::has_ended;
 use crate::hub::TurnHub;
-use crate::revision::Revision;
 use crate::seat::HubSeat;
 use std::sync::Wait;
+use turn_rule::Revision;
 
 impl<L: Revision> TurnHub<L> {
-    ghost use Rattle.turn_hub.specs.Seats.{HasFork, HasJoin, HasEnd, HasTrap, KeepsAll};
+    ghost use Rattle.turn_rule.specs.Seats.{HasFork, HasJoin, HasEnd, HasTrap, KeepsAll};
     ghost use Rattle.turn_hub.specs.Answers.{TakenSays, Forked, JoinSays, JoinedOn};
     ghost use Rattle.turn_hub.specs.Answers.{EndedSays, EndedOn, IsHalted};
 

@@ -1,21 +1,19 @@
 //! The close of a hub.
 ghost use Rattle.std.specs.Prelude.{◌≡◌, ◌<◌, ◌≤◌, ◌+◌, ℕ, [], ◌∷◌, length, map, Some};
-ghost use Rattle.turn_hub.specs.Views.{first_of, both};
-ghost use Rattle.turn_hub.specs.Seats.{IsIdle, AreOf};
-ghost use Rattle.turn_hub.specs.Passes.{named};
+ghost use Rattle.turn_rule.specs.Views.{first_of, both};
+ghost use Rattle.turn_rule.specs.Seats.{IsIdle, AreOf};
+ghost use Rattle.turn_rule.specs.Passes.{named};
 ghost use Rattle.turn_hub.specs.Closing.{saw_of, halt_known, held_by, ClosedTurn, IsClosed};
 
 mod order;
 mod retyped;
 
 use crate::hub::TurnHub;
-use crate::revision::Revision;
 use crate::seat::{HubSeat, Place};
-use crate::steps::{TakeIn, Witness};
-use crate::view::View;
 use atomic_table::Badge;
 use hub_table::{HubState, Kept, Parted, Turn};
 pub use order::HubSchedule;
+use turn_rule::{Revision, TakeIn, View, Witness};
 
 /// A run that a hub kept. `close` alone makes one. It tells where the run began, and what its
 /// snapshots belong to.

@@ -3,8 +3,8 @@ ghost use Rattle.std.specs.Prelude.{◌≡◌};
 ghost use Rattle.revision_machine.specs.Numbered.{at_number};
 ghost use Rattle.hub_table.specs.Found.{ended_here};
 
-use crate::revision::Revision;
 use hub_algebra::Status;
+use turn_rule::Revision;
 
 /// Whether the end of the revision of this number was handed in.
 pub fn has_ended<L: Revision>(slots: &[Status<L::Runner, L::AtJoin, L::End>], number: u32) -> bool

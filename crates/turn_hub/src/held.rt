@@ -5,12 +5,11 @@ ghost use Rattle.hub_algebra.specs.declared.status.Status.TheVariants.{Waiting, 
 
 use crate::answers::{EndStep, JoinAnswer, Onward};
 use crate::hub::TurnHub;
-use crate::revision::Revision;
 use crate::seat::Place;
 use crate::taking::take_in;
-use crate::view::{Said, View};
 use hub_algebra::Status;
 use hub_table::{HubState, Turn, empty};
+use turn_rule::{Revision, Said, View};
 
 impl<L: Revision> TurnHub<L> {
     ghost use Rattle.hub_table.specs.declared.state.HubState.TheVariants.{All};
@@ -19,10 +18,10 @@ impl<L: Revision> TurnHub<L> {
     ghost use Rattle.turn_hub.specs.Answers.{OnwardSays, JoinSays, HasCome, IsSameTurn};
     ghost use Rattle.turn_hub.specs.Answers.{IsOneTurn, EndStepSays};
     ghost use Rattle.turn_hub.specs.Drawn.{IsDrawnHere};
-    ghost use Rattle.turn_hub.specs.Passes.{named, Fresh};
-    ghost use Rattle.turn_hub.specs.Rule.{InHand, IsOpen, Told, says};
-    ghost use Rattle.turn_hub.specs.Seats.{HasJoin, HasEnd, HasTrap, IsResting};
-    ghost use Rattle.turn_hub.specs.Views.{hands_in, ends_in, sees};
+    ghost use Rattle.turn_rule.specs.Passes.{named, Fresh};
+    ghost use Rattle.turn_rule.specs.Rule.{InHand, IsOpen, Told, says};
+    ghost use Rattle.turn_rule.specs.Seats.{HasJoin, HasEnd, HasTrap, IsResting};
+    ghost use Rattle.turn_rule.specs.Views.{hands_in, ends_in, sees};
 
     // Takes the first that is ready out of the value.
     fn draw_next(

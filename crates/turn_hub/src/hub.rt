@@ -2,19 +2,19 @@
 ghost use Rattle.std.specs.Prelude.{◌≡◌, ◌≢◌, ◌<◌, ℕ, [], ◌∷◌, Some, None, true, false};
 
 use crate::patience::{Patience, WAITS, pause};
-use crate::revision::Revision;
 use crate::seat::Place;
-use crate::steps::{Commit, Draw, Give, HandIn, OneHolder, StopNoMemory, StopTwice, Take};
-use crate::view::View;
 use atomic_table::{Badge, Table};
 use crossbeam_utils::CachePadded;
 use hub_table::{HubState, Turn, empty};
 use std::alloc::Global;
 use std::sync::Wait;
 use std::sync::atomic::{AtomicU64, Ordering};
+use turn_rule::{
+    Commit, Draw, Give, HandIn, OneHolder, Revision, StopNoMemory, StopTwice, Take, View,
+};
 
-/// What threads look at that have not the turn. It is written in each turn, and what lies beside it in
-/// a hub is only read, so it has a cache line of its own.
+/// What threads look at that have not the turn. It is written in each turn, and what lies beside
+/// it in a hub is only read, so it has a cache line of its own.
 #[derive(Drop)]
 pub struct Signs {
     // How many threads sleep until the turn is given back, or are about to.
@@ -49,10 +49,10 @@ pub struct TurnHub<L: Revision> {
 impl<L: Revision> TurnHub<L> {
     ghost use Rattle.hub_table.specs.declared.state.HubState.TheVariants as state;
     ghost use Rattle.hub_table.specs.Counts.{times};
-    ghost use Rattle.turn_hub.specs.Passes.{named};
-    ghost use Rattle.turn_hub.specs.Views.{rests, commits, hands_in, draws, stops, or_no_memory};
-    ghost use Rattle.turn_hub.specs.Seats.{IsIdle};
-    ghost use Rattle.turn_hub.specs.Rule.{Took, Told, InHand, IsOpen};
+    ghost use Rattle.turn_rule.specs.Passes.{named};
+    ghost use Rattle.turn_rule.specs.Views.{rests, commits, hands_in, draws, stops, or_no_memory};
+    ghost use Rattle.turn_rule.specs.Seats.{IsIdle};
+    ghost use Rattle.turn_rule.specs.Rule.{Took, Told, InHand, IsOpen};
 
     // One try for the turn.
     fn take_turn(&self, place: &mut Place<L>) -> bool

@@ -1,6 +1,6 @@
-//! A hub on a turn: one slot, which has the schedule and the revisions, or is out with the one seat
-//! that has the turn. It is generic in a machine of revisions by numbers. `hub_table` has what lies in
-//! the slot.
+//! A hub on a turn: one slot, which has the schedule and the revisions, or is out with the one
+//! seat that has the turn. It is generic in a machine of revisions by numbers. `hub_table` has
+//! what lies in the slot, and `turn_rule` the rule that each step keeps.
 #![tactic(auto)]
 
 mod answers;
@@ -11,15 +11,10 @@ mod held;
 mod hub;
 mod opening;
 mod patience;
-mod revision;
 mod seat;
-mod steps;
 mod taking;
-mod view;
 
 pub use answers::{EndStep, JoinAnswer, JoinStep, Onward, Taken};
 pub use closing::{HubEnd, HubRun, HubSchedule};
 pub use hub::TurnHub;
-pub use revision::Revision;
 pub use seat::HubSeat;
-pub use view::{Said, View};

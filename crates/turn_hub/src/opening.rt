@@ -4,20 +4,18 @@ ghost use Rattle.std.specs.Prelude.{IfOk, IfErr, IfSome, vec_capacity};
 ghost use Rattle.hub_algebra.specs.declared.status.Status.TheVariants.{Ready};
 ghost use Rattle.hub_table.specs.declared.state.HubState.TheVariants as state;
 ghost use Rattle.hub_table.specs.Left.{IsReadyAlone};
-ghost use Rattle.turn_hub.specs.Seats.{AreOf, AreNew};
-ghost use Rattle.turn_hub.specs.Views.{opens, first_of};
+ghost use Rattle.turn_rule.specs.Seats.{AreOf, AreNew};
+ghost use Rattle.turn_rule.specs.Views.{opens, first_of};
 
 use crate::hub::{Signs, TurnHub};
 use crate::patience::Patience;
-use crate::revision::Revision;
 use crate::seat::{HubSeat, Place};
-use crate::steps::{Another, OneHolder};
-use crate::view::View;
 use atomic_table::{Badge, Refused, Table, TableRule};
 use crossbeam_utils::CachePadded;
 use hub_table::{HubState, Revisions, Turn, append};
 use std::alloc::Global;
 use std::marker::PhantomData;
+use turn_rule::{Another, OneHolder, Revision, View};
 
 // The mark of the run queue of a hub that was opened: revision 0 is ready.
 const FIRST_MARK: u64 = 1;
@@ -71,8 +69,8 @@ fn take_back<R, A, E>(turn: Turn<R, A, E>) -> R
 }
 
 impl<L: Revision> TurnHub<L> {
-    ghost use Rattle.turn_hub.specs.Seats.{IsIdle};
-    ghost use Rattle.turn_hub.specs.Views.{most, part};
+    ghost use Rattle.turn_rule.specs.Seats.{IsIdle};
+    ghost use Rattle.turn_rule.specs.Views.{most, part};
 
     // A hub with one seat, which has every part of the right to close.
     fn open_one(

@@ -20,10 +20,11 @@ const EACH_POWER: u32 = 32;
 
 /// How often a thread lately found the turn taken.
 ///
-/// Where several threads do little but take the turn, each move of it from one processor to another
-/// takes longer than what is done in it. There a thread that finds the turn taken waits for long, so
-/// that another goes on with what lies in its cache, for some rounds. Where a thread mostly finds the
-/// turn free it waits for a tenth of a microsecond at first, since a turn is held for less than one.
+/// Where several threads do little but take the turn, each move of it from one processor to
+/// another takes longer than what is done in it. There a thread that finds the turn taken waits
+/// for long, so that another goes on with what lies in its cache, for some rounds. Where a thread
+/// mostly finds the turn free it waits for a tenth of a microsecond at first, since a turn is held
+/// for less than one.
 #[derive(Clone, Copy, Drop)]
 pub struct Patience {
     taken: u32,
@@ -53,8 +54,8 @@ impl Patience {
     }
 }
 
-/// The wait of this number. A step takes some nanoseconds: it is an addition to a word that no other
-/// thread sees. `spin_loop` has no body here, so that nothing is left of a loop over it.
+/// The wait of this number. A step takes some nanoseconds: it is an addition to a word that no
+/// other thread sees. `spin_loop` has no body here, so that nothing is left of a loop over it.
 pub fn pause(number: u32) {
     let own = AtomicU64::new(0);
     for _ in 0..FIRST_PAUSE << number.min(WAITS) {

@@ -2,10 +2,9 @@
 ghost use Rattle.std.specs.Prelude.{◌≡◌, []};
 
 use crate::patience::Patience;
-use crate::revision::Revision;
-use crate::view::View;
 use atomic_table::Seat;
 use hub_table::Turn;
+use turn_rule::{Revision, View};
 
 /// A seat at the table of a hub.
 pub type Place<L> = Seat<

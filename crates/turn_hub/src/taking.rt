@@ -3,7 +3,7 @@ ghost use Rattle.std.specs.Prelude.{◌≡◌};
 ghost use Rattle.turn_hub.specs.Answers.{TakesIn};
 
 use crate::answers::JoinAnswer;
-use crate::revision::Revision;
+use turn_rule::Revision;
 
 /// The joiner with the end of its joinee.
 pub fn take_in<L: Revision>(

@@ -2,13 +2,12 @@
 ghost use Rattle.std.specs.Prelude.{◌≡◌};
 
 use crate::closing::HubRun;
-use crate::revision::Revision;
-use crate::view::View;
 use atomic_table::Badge;
 use hub_table::HubState;
+use turn_rule::{Revision, View};
 
-/// The schedule of a run that a hub kept, without the ends, so that it borrows nothing. It is made of
-/// a `HubRun` alone. It tells where the run began, and what its snapshots belonged to.
+/// The schedule of a run that a hub kept, without the ends, so that it borrows nothing. It is made
+/// of a `HubRun` alone. It tells where the run began, and what its snapshots belonged to.
 #[derive(Drop)]
 pub struct HubSchedule<S> {
     numbers: Vec<u32>,

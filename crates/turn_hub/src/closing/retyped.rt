@@ -2,7 +2,7 @@
 ghost use Rattle.std.specs.Prelude.{◌≡◌};
 
 use crate::closing::HubRun;
-use crate::revision::Revision;
+use turn_rule::Revision;
 
 impl<L: Revision> HubRun<L> {
     /// The same run, as one of a machine with the same states and ends. So a run can outlive what

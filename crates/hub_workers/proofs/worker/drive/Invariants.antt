@@ -1,5 +1,6 @@
 use Rattle.std.proofs.Common.{◌≡◌}
-use Rattle.turn_hub.specs.Seats.{IsSameSeat}
+use Rattle.turn_rule.specs.Seats.{IsSameSeat}
+use Rattle.hub_workers.specs.Handed.{OnlyNext}
 use Rattle.hub_workers.specs.Work.{IsHandOf, HasNext}
 use Rattle.hub_workers.proofs.worker.drive.Given as goal
 
@@ -10,3 +11,4 @@ invariant-loop g l =
     × IsHandOf g.L.Legs.begins g.L.Legs.hand_group l.seat.place.me.0 l.hand
     × HasNext g.L.Revision.machine g.L.Revision.ends g.L.Revision.claimed g.L.Revision.stopped
     g.L.Revision.claimed_group g.L.Revision.stopped_group l.seat.place.me.0 l.next
+    × (OnlyNext l.initial.seat.place.me.0 l.initial.next → OnlyNext l.seat.place.me.0 l.next)

@@ -1,6 +1,7 @@
 use Rattle.std.proofs.Common.{sym, ◌∙◌, subst}
-use Rattle.turn_hub.specs.Seats.{HasState}
+use Rattle.turn_rule.specs.Seats.{HasState}
 use Rattle.hub_workers.proofs.Events.{forks_leg}
+use Rattle.hub_workers.proofs.Handed.{only_other}
 use Rattle.hub_workers.proofs.worker.fork.Goals as goal
 
 pub fork-requires-clause-event : goal.fork-requires-clause-event
@@ -14,3 +15,7 @@ returns-in-Ok-fork-clause-next g c = (
       (c.in-Ok-fork.ensures.ok.forker (forks_leg g.L.Revision.machine g.L.Revision.ends g.L.Legs.forker g.L.Legs.child c.args.seat.now.place.me.0 c.args.number c.args.at c.in-Ok.child c.requires.event c.in-Ok.ensures.child)),
   c.told-runner.ensures.group ∙ (c.in-Ok.ensures.parent_group ∙ (sym c.requires.hand.0 ∙ sym c.in-Ok-fork.ensures.ok.keeps.0.1)),
 )
+
+pub returns-in-Ok-fork-clause-only : goal.returns-in-Ok-fork-clause-only
+returns-in-Ok-fork-clause-only g c =
+    only_other c.args.seat.now.place.me.0 c.fork.new.seat.place.me.0 c.args.number c.in-Ok-fork.ensures.ok.keeps

@@ -1,5 +1,6 @@
 use Rattle.std.proofs.Common.{◌≡◌}
-use Rattle.turn_hub.specs.Seats.{IsSameSeat}
+use Rattle.turn_rule.specs.Seats.{IsSameSeat}
+use Rattle.hub_workers.specs.Handed.{HasHandedIn}
 use Rattle.hub_workers.specs.Work.{IsHandOf}
 use Rattle.hub_workers.proofs.worker.work.Given as goal
 
@@ -8,3 +9,4 @@ invariant-loop g l =
     (l.seat.place.table_id ≡ l.initial.seat.place.table_id)
     × IsSameSeat l.initial.seat.place.me.0 l.seat.place.me.0
     × IsHandOf g.L.Legs.begins g.L.Legs.hand_group l.seat.place.me.0 l.hand
+    × (HasHandedIn l.initial.seat.place.me.0 → HasHandedIn l.seat.place.me.0)

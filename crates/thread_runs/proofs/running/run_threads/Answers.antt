@@ -2,7 +2,7 @@ use Rattle.std.proofs.Common.{◌∙◌, ap, refl, sym}
 use Rattle.code_machine.specs.Local.{CodeRun}
 use Rattle.code_outcomes.specs.Outcomes.{HasOutcome}
 use Rattle.rev_vm.specs.Starts.{run_under}
-use Rattle.turn_hub.specs.Views.{first_of}
+use Rattle.turn_rule.specs.Views.{first_of}
 use Rattle.code_runs.proofs.Underway.{of_run}
 use Rattle.thread_runs.proofs.Owning.{is_kept, owned}
 use Rattle.thread_runs.proofs.running.run_threads.Goals as goal

@@ -1,6 +1,6 @@
 use Rattle.std.proofs.Common.{sym, ap, ◌∙◌, subst, map}
-use Rattle.turn_hub.specs.Passes.{named}
-use Rattle.turn_hub.specs.Views.{first_of}
+use Rattle.turn_rule.specs.Passes.{named}
+use Rattle.turn_rule.specs.Views.{first_of}
 use Rattle.turn_hub.specs.Closing.{IsClosed, held_by}
 use Rattle.turn_hub.proofs.Closes.{leaves}
 use Rattle.turn_hub.proofs.hub.TurnHub.close.Goals as goal

@@ -1,5 +1,5 @@
 use Rattle.std.proofs.Common.{rules}
-use Rattle.turn_hub.proofs.Keeps.{commit}
+use Rattle.turn_rule.proofs.Keeps.{commit}
 use Rattle.turn_hub.proofs.hub.TurnHub.commit.Goals as goal
 
 pub compare_exchange-requires : goal.compare_exchange-requires

@@ -1,6 +1,6 @@
 use Rattle.std.proofs.Common.{rules, length, sym, ap, ◌∙◌, subst}
 use Rattle.hub_table.proofs.Lists.{many_more}
-use Rattle.turn_hub.specs.Seats.{AreOf, AreNew}
+use Rattle.turn_rule.specs.Seats.{AreOf, AreNew}
 use Rattle.turn_hub.proofs.Rows.{are_more, new_more, map_items}
 use Rattle.turn_hub.proofs.hub.TurnHub.deal.Goals as goal
 

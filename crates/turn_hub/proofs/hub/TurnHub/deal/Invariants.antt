@@ -1,6 +1,6 @@
 use Rattle.std.proofs.Common.{◌≡◌, ◌+◌, ◌≤◌, [], length, map, vec_capacity}
 use Rattle.hub_table.specs.declared.state.HubState.TheVariants.{All}
-use Rattle.turn_hub.specs.Seats.{AreOf, AreNew}
+use Rattle.turn_rule.specs.Seats.{AreOf, AreNew}
 use Rattle.turn_hub.proofs.hub.TurnHub.deal.Given as goal
 
 abbrev pub invariant-loop : goal.invariant-loop

@@ -3,8 +3,8 @@ use Rattle.revision_machine.specs.Numbered.{at_number}
 use Rattle.hub_table.specs.declared.value.Turn.{Turn}
 use Rattle.hub_table.specs.Found.{is_ready}
 use Rattle.hub_table.proofs.Queues.{ready_within, queue_in, queue_ready, queue_take, queue_idle, queue_none}
-use Rattle.turn_hub.specs.Rule.{is_out}
-use Rattle.turn_hub.proofs.Turns.{drawn, drawn_again, moved_hand, same_hand}
+use Rattle.turn_rule.specs.Rule.{is_out}
+use Rattle.turn_rule.proofs.Turns.{drawn, drawn_again, moved_hand, same_hand}
 use Rattle.turn_hub.proofs.Says.{ran, retried, none_now, draws_turn, same_turn}
 use Rattle.turn_hub.proofs.Drawing.{still_ended}
 use Rattle.turn_hub.proofs.hub.TurnHub.draw_next.Goals as goal

@@ -1,6 +1,6 @@
 use Rattle.std.proofs.Common.{rules, ◌≡◌, refl, ap, ◌∙◌}
 use Rattle.hub_table.specs.declared.state.HubState.TheVariants.{All}
-use Rattle.turn_hub.specs.Views.{rests, stops, or_no_memory}
+use Rattle.turn_rule.specs.Views.{rests, stops, or_no_memory}
 use Rattle.turn_hub.proofs.Says.{ended_free, now_halted}
 use Rattle.turn_hub.proofs.Drawing.{ended_on, passes_after}
 use Rattle.turn_hub.proofs.hub.TurnHub.end_and_take.Goals as goal

@@ -4,8 +4,8 @@ use Rattle.hub_algebra.specs.declared.status.Status.TheVariants.{Over}
 use Rattle.hub_table.specs.Chains.{EndsOne}
 use Rattle.hub_table.specs.Queued.{Queued}
 use Rattle.hub_table.proofs.Queues.{out_within, waits_within, queue_some, queue_end, queue_same}
-use Rattle.turn_hub.specs.Views.{hands_in, ends_in}
-use Rattle.turn_hub.proofs.Turns.{ended, handed_in, moved_hand, same_hand, has_pass, still_out, named_again, trap_by, leg_by}
+use Rattle.turn_rule.specs.Views.{hands_in, ends_in}
+use Rattle.turn_rule.proofs.Turns.{ended, handed_in, moved_hand, same_hand, has_pass, still_out, named_again, trap_by, leg_by}
 use Rattle.turn_hub.proofs.hub.TurnHub.end_in.Goals as goal
 
 pub end-requires-clause-out : goal.end-requires-clause-out

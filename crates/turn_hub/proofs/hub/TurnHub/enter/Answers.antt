@@ -1,5 +1,5 @@
 use Rattle.std.proofs.Common.{rules, Some}
-use Rattle.turn_hub.proofs.Outs.{head_out}
+use Rattle.turn_rule.proofs.Outs.{head_out}
 use Rattle.turn_hub.proofs.hub.TurnHub.enter.Goals as goal
 
 pub exchange-requires : goal.exchange-requires

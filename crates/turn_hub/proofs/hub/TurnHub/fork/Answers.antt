@@ -1,9 +1,9 @@
-use Rattle.std.proofs.Common.{rules, ◌≡◌, sym, ap, ◌∙◌}
+use Rattle.std.proofs.Common.{rules, ◌≡◌, refl, sym, ap, ◌∙◌}
 use Rattle.hub_table.specs.declared.state.HubState.TheVariants.{All}
 use Rattle.hub_table.proofs.Queues.{queue_few, queue_add, queue_kept}
-use Rattle.turn_hub.specs.Views.{rests}
-use Rattle.turn_hub.proofs.Turns.{forked, same_hand, moved_hand, has_pass}
-use Rattle.turn_hub.proofs.Says.{has_forked}
+use Rattle.turn_rule.specs.Views.{rests}
+use Rattle.turn_rule.proofs.Turns.{forked, same_hand, moved_hand, has_pass}
+use Rattle.turn_hub.proofs.Says.{has_forked, now_halted}
 use Rattle.turn_hub.proofs.hub.TurnHub.fork.Goals as goal
 
 pub grow-requires-clause-queue : goal.grow-requires-clause-queue
@@ -34,3 +34,9 @@ returns-in-Ok-clause-ok g c =
     let is = c.in-Ok.ensures.ok in
     has_forked _ _ _ _ _ c.enter-turn.result c.grow.new.self _ _ _ told none c.requires.event (c.requires.group ∙ sym told.group) (is.1, is.2, is.3, c.grow.ensures.state ∙ none, queue_add g.L.Revision.machine _ _ _ _ _ told.hand.holds.queued is.0 c.in-Ok.ensures.added) is.0
     (ap (λ m. m.0) c.put_home.ensures.rests ∙ ap (λ m. rests m.0) c.commit.ensures.after)
+
+pub returns-then-is_some-clause-err : goal.returns-then-is_some-clause-err
+returns-then-is_some-clause-err g c = (refl, now_halted _ _ _ _ _ c.enter-turn.result c.enter-turn.ensures.told (ap (λ m. m.0) c.put_home_halted.ensures.rests))
+
+pub returns-in-Err-clause-err : goal.returns-in-Err-clause-err
+returns-in-Err-clause-err g c = (c.in-Err.ensures.err.0, now_halted _ _ _ _ _ c.enter-turn.result c.enter-turn.ensures.told (ap (λ m. m.0) c.put_home_halted-in-Err.ensures.rests))

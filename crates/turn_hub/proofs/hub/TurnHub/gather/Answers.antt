@@ -1,5 +1,5 @@
 use Rattle.std.proofs.Common.{rules}
-use Rattle.turn_hub.proofs.Keeps.{gather}
+use Rattle.turn_rule.proofs.Keeps.{gather}
 use Rattle.turn_hub.proofs.hub.TurnHub.gather.Goals as goal
 
 pub join_seat-requires : goal.join_seat-requires

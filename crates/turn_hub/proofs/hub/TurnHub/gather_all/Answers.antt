@@ -1,8 +1,8 @@
 use Rattle.std.proofs.Common.{rules, ◌≡◌, [], ◌∷◌, ◌++◌, length, map, option_to_list, sym, ap, ◌∙◌, subst, arith}
 use Rattle.hub_table.proofs.Lists.{many_more}
-use Rattle.turn_hub.specs.Passes.{named}
-use Rattle.turn_hub.specs.Views.{either_saw, either_halt}
-use Rattle.turn_hub.specs.Seats.{AreOf}
+use Rattle.turn_rule.specs.Passes.{named}
+use Rattle.turn_rule.specs.Views.{either_saw, either_halt}
+use Rattle.turn_rule.specs.Seats.{AreOf}
 use Rattle.turn_hub.specs.Closing.{saw_of, halt_known, held_by}
 use Rattle.turn_hub.proofs.Rows.{are_front, saw_last, saw_first, halt_last, halt_next, held_more, named_both, map_items}
 use Rattle.turn_hub.proofs.hub.TurnHub.gather_all.Goals as goal

@@ -1,7 +1,7 @@
 use Rattle.std.proofs.Common.{◌≡◌, ◌+◌, ◌<◌, ℕ, [], length, map}
-use Rattle.turn_hub.specs.Passes.{named}
-use Rattle.turn_hub.specs.Views.{either_saw, either_halt}
-use Rattle.turn_hub.specs.Seats.{AreOf}
+use Rattle.turn_rule.specs.Passes.{named}
+use Rattle.turn_rule.specs.Views.{either_saw, either_halt}
+use Rattle.turn_rule.specs.Seats.{AreOf}
 use Rattle.turn_hub.specs.Closing.{saw_of, halt_known, held_by}
 use Rattle.turn_hub.proofs.hub.TurnHub.gather_all.Given as goal
 

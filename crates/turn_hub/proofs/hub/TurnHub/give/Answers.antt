@@ -1,5 +1,5 @@
 use Rattle.std.proofs.Common.{rules}
-use Rattle.turn_hub.proofs.Keeps.{give}
+use Rattle.turn_rule.proofs.Keeps.{give}
 use Rattle.turn_hub.proofs.hub.TurnHub.give.Goals as goal
 
 pub store-requires : goal.store-requires

@@ -5,8 +5,8 @@ use Rattle.hub_table.specs.declared.value.Turn.{Turn}
 use Rattle.hub_table.specs.declared.state.HubState.TheVariants.{Twice}
 use Rattle.hub_table.specs.Found.{ended_here}
 use Rattle.hub_table.proofs.Queues.{queue_join, queue_same}
-use Rattle.turn_hub.specs.Views.{commits, rests, stops, sees}
-use Rattle.turn_hub.proofs.Turns.{joined, twice, moved_hand, same_hand, has_pass}
+use Rattle.turn_rule.specs.Views.{commits, rests, stops, sees}
+use Rattle.turn_rule.proofs.Turns.{joined, twice, moved_hand, same_hand, has_pass}
 use Rattle.turn_hub.proofs.Says.{took_in, has_met, takes_says, come_says, met_twice, now_halted}
 use Rattle.turn_hub.proofs.Drawing.{unseen}
 use Rattle.turn_hub.proofs.hub.TurnHub.join_in.Goals as goal

@@ -2,7 +2,7 @@ use Rattle.std.proofs.Common.{rules, ◌≡◌, refl, false, sym, ap, ◌∙◌}
 use Rattle.revision_machine.specs.Numbered.{at_number}
 use Rattle.hub_table.specs.declared.state.HubState.TheVariants.{All}
 use Rattle.hub_table.specs.Found.{ended_here}
-use Rattle.turn_hub.specs.Views.{rests, stops, or_no_memory}
+use Rattle.turn_rule.specs.Views.{rests, stops, or_no_memory}
 use Rattle.turn_hub.proofs.Says.{waited_on, now_halted}
 use Rattle.turn_hub.proofs.Drawing.{same_found}
 use Rattle.turn_hub.proofs.hub.TurnHub.join_or_take.Goals as goal

@@ -1,7 +1,7 @@
 use Rattle.std.proofs.Common.{refl, ap, subst}
 use Rattle.hub_table.specs.Chains.{DelaysOne}
 use Rattle.hub_table.proofs.Queues.{out_within, queue_delay, queue_kept}
-use Rattle.turn_hub.proofs.Turns.{waits, moved_hand, same_hand, has_pass, still_out}
+use Rattle.turn_rule.proofs.Turns.{waits, moved_hand, same_hand, has_pass, still_out}
 use Rattle.turn_hub.proofs.hub.TurnHub.keep_in.Goals as goal
 
 pub keep-requires-clause-out : goal.keep-requires-clause-out

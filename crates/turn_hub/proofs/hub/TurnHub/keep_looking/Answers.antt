@@ -1,5 +1,5 @@
 use Rattle.std.proofs.Common.{subst}
-use Rattle.turn_hub.specs.Rule.{Took}
+use Rattle.turn_rule.specs.Rule.{Took}
 use Rattle.turn_hub.proofs.hub.TurnHub.keep_looking.Goals as goal
 
 pub returns-then-look_for_turn-clause-took : goal.returns-then-look_for_turn-clause-took

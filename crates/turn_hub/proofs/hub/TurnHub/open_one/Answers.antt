@@ -2,9 +2,9 @@ use Rattle.std.proofs.Common.{rules, ◌≡◌, List, [], ◌∷◌, Option, Som
 use Rattle.atomic_table.specs.Table.{opening}
 use Rattle.hub_table.specs.declared.state.HubState.TheVariants.{All}
 use Rattle.hub_table.specs.declared.value.Turn.{Turn}
-use Rattle.turn_hub.specs.Views.{first_of, opens}
-use Rattle.turn_hub.specs.Rule.{Turned}
-use Rattle.turn_hub.proofs.Begins.{begins}
+use Rattle.turn_rule.specs.Views.{first_of, opens}
+use Rattle.turn_rule.specs.Rule.{Turned}
+use Rattle.turn_rule.proofs.Begins.{begins}
 use Rattle.turn_hub.proofs.hub.TurnHub.open_one.Goals as goal
 
 pub new-requires-2 : goal.new-requires-2

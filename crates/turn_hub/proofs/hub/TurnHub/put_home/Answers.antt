@@ -1,6 +1,6 @@
 use Rattle.std.proofs.Common.{None, sym, ap, subst}
-use Rattle.turn_hub.specs.Rule.{InHand}
-use Rattle.turn_hub.proofs.Outs.{put_in}
+use Rattle.turn_rule.specs.Rule.{InHand}
+use Rattle.turn_rule.proofs.Outs.{put_in}
 use Rattle.turn_hub.proofs.hub.TurnHub.put_home.Goals as goal
 
 pub give-requires-clause-hand : goal.give-requires-clause-hand

@@ -1,6 +1,6 @@
 use Rattle.std.proofs.Common.{rules, ◌≡◌, refl, ap}
 use Rattle.hub_table.specs.declared.state.HubState.TheVariants.{All}
-use Rattle.turn_hub.proofs.Turns.{halts, moved_hand}
+use Rattle.turn_rule.proofs.Turns.{halts, moved_hand}
 use Rattle.turn_hub.proofs.hub.TurnHub.put_home_halted.Goals as goal
 
 pub put_home-requires-2-clause-hand : goal.put_home-requires-2-clause-hand

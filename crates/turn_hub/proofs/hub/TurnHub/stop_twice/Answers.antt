@@ -1,6 +1,6 @@
 use Rattle.std.proofs.Common.{rules}
 use Rattle.hub_table.specs.declared.state.HubState.TheVariants.{Twice}
-use Rattle.turn_hub.proofs.Keeps.{stop}
+use Rattle.turn_rule.proofs.Keeps.{stop}
 use Rattle.turn_hub.proofs.hub.TurnHub.stop_twice.Goals as goal
 
 pub compare_exchange-requires : goal.compare_exchange-requires

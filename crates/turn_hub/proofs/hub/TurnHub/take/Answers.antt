@@ -1,7 +1,7 @@
-use Rattle.std.proofs.Common.{rules, ◌≡◌, ◌≢◌, ◌∙◌}
+use Rattle.std.proofs.Common.{rules, ◌≡◌, ◌≢◌, ap, ◌∙◌}
 use Rattle.hub_table.specs.declared.state.HubState.TheVariants.{All}
 use Rattle.hub_table.proofs.Queues.{queue_over, queue_open}
-use Rattle.turn_hub.proofs.Says.{ran_after, retried_after, idle_now, finished}
+use Rattle.turn_hub.proofs.Says.{ran_after, retried_after, idle_now, finished, was_halted}
 use Rattle.turn_hub.proofs.hub.TurnHub.take.Goals as goal
 
 pub take_next-requires-clause-free : goal.take_next-requires-clause-free
@@ -26,3 +26,7 @@ returns-else-over-clause-answer g c =
     let told = c.enter-turn.ensures.told in
     let some : c.enter-turn.result.revisions.queue.unfinished ≢ 0 = search rules in
     idle_now _ _ _ _ _ c.enter-turn.result told (queue_open g.L.Revision.machine _ _ told.hand.holds.queued some) c.take_next.ensures.turn c.in-Nothing.ensures.answer
+
+pub returns-in-Some-clause-answer : goal.returns-in-Some-clause-answer
+returns-in-Some-clause-answer g c =
+    was_halted _ _ _ _ _ c.enter-turn.result _ c.enter-turn.ensures.told c.in-Some.ensures (ap (λ m. m.0) c.put_home.ensures.rests)

@@ -1,6 +1,6 @@
 use Rattle.std.proofs.Common.{ap, ◌∙◌}
 use Rattle.turn_hub.specs.declared.answers.Onward.TheVariants as onward
-use Rattle.turn_hub.specs.Rule.{says}
+use Rattle.turn_rule.specs.Rule.{says}
 use Rattle.turn_hub.proofs.Drawing.{turn_rests, onward_rests, told_drawn, came_on}
 use Rattle.turn_hub.proofs.hub.TurnHub.take_or_join.Goals as goal
 

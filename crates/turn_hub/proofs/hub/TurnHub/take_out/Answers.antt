@@ -1,9 +1,9 @@
 use Rattle.std.proofs.Common.{rules, ◌≡◌, sym, ap, ◌∙◌, subst, Option, Some, None}
 use mathlib.Core.Option as m
 use Rattle.std.specs.Option.{IsSome}
-use Rattle.turn_hub.specs.Views.{first_of}
+use Rattle.turn_rule.specs.Views.{first_of}
 use Rattle.turn_hub.specs.Closing.{ClosedTurn}
-use Rattle.turn_hub.proofs.Keeps.{home_at_end}
+use Rattle.turn_rule.proofs.Keeps.{home_at_end}
 use Rattle.turn_hub.proofs.Closes.{closes}
 use Rattle.turn_hub.proofs.hub.TurnHub.take_out.Goals as goal
 

@@ -1,5 +1,5 @@
 use Rattle.std.proofs.Common.{rules}
-use Rattle.turn_hub.proofs.Keeps.{tell}
+use Rattle.turn_rule.proofs.Keeps.{tell}
 use Rattle.turn_hub.proofs.hub.TurnHub.tell.Goals as goal
 
 pub split_seat-requires : goal.split_seat-requires

@@ -1,5 +1,5 @@
 use Rattle.std.proofs.Common.{subst}
-use Rattle.turn_hub.specs.Rule.{Took}
+use Rattle.turn_rule.specs.Rule.{Took}
 use Rattle.turn_hub.proofs.hub.TurnHub.try_turn.Goals as goal
 
 pub returns-clause-took : goal.returns-clause-took

@@ -1,5 +1,5 @@
 use Rattle.std.proofs.Common.{◌∙◌, subst}
-use Rattle.turn_hub.specs.Rule.{Took}
+use Rattle.turn_rule.specs.Rule.{Took}
 use Rattle.turn_hub.proofs.hub.TurnHub.wait_turn.Goals as goal
 
 pub returns-then-try_turn : goal.returns-then-try_turn

@@ -8,10 +8,10 @@ use Rattle.std.specs.Prelude.{ℕ, ◌+◌, ◌-◌, Bool, true, false, List, []
 use Rattle.revision_machine.specs.Numbered.{at_number}
 use Rattle.hub_table.specs.declared.state.HubState.{HubState}
 use Rattle.hub_table.specs.declared.state.HubState.TheVariants.{All, Twice, NoMemory}
-use Rattle.turn_hub.specs.declared.view.Said.{Said}
-use Rattle.turn_hub.specs.declared.view.Said.TheVariants as mark
-use Rattle.turn_hub.specs.declared.view.View.{View}
-use Rattle.turn_hub.specs.Passes.{Pass, named, left, without}
+use Rattle.turn_rule.specs.declared.view.Said.{Said}
+use Rattle.turn_rule.specs.declared.view.Said.TheVariants as mark
+use Rattle.turn_rule.specs.declared.view.View.{View}
+use Rattle.turn_rule.specs.Passes.{Pass, named, left, without}
 
 -- its end was handed in
 abbrev pub ended_said : Option Said → Bool

@@ -21,11 +21,11 @@ use Rattle.hub_table.specs.declared.value.Turn.{Turn}
 use Rattle.hub_table.specs.Counts.{total, times}
 use Rattle.hub_table.specs.Found.{all_over}
 use Rattle.hub_table.specs.Queued.{Queued}
-use Rattle.turn_hub.specs.declared.view.Said.{Said}
-use Rattle.turn_hub.specs.declared.view.Said.TheVariants as mark
-use Rattle.turn_hub.specs.declared.view.View.{View}
-use Rattle.turn_hub.specs.Passes.{named, Fresh}
-use Rattle.turn_hub.specs.Views.{halts, has_turn, parts_of, names, commits, hands_in, draws, stops, rests}
+use Rattle.turn_rule.specs.declared.view.Said.{Said}
+use Rattle.turn_rule.specs.declared.view.Said.TheVariants as mark
+use Rattle.turn_rule.specs.declared.view.View.{View}
+use Rattle.turn_rule.specs.Passes.{named, Fresh}
+use Rattle.turn_rule.specs.Views.{halts, has_turn, parts_of, names, commits, hands_in, draws, stops, rests}
 
 module _ {R A E : Type 0} where
   abbrev pub is_out : Option (Status R A E) → ℕ
@@ -157,6 +157,8 @@ module _ {L R A E : Type 0} (d : HubMachine L R A E) (ends : E → L → Type 0)
     pub said : w.said ≡ says t.revisions.slots.items
     pub entered : w.entered ≡ t.state
     pub found : w.found ≡ w.log
+    -- a halt that it knew of is that of the value
+    pub known : v.halt ≢ All → v.halt ≡ t.state
 
   -- the slot is empty, and the seat has it
   abbrev pub IsOpen : Sat → Type 0

@@ -5,7 +5,7 @@ use native.Mathlib.Decide.{ℕ_discrete}
 use Rattle.hub_algebra.specs.Replay.{IsNotIn}
 use Rattle.hub_table.specs.Counts.{total, is_at}
 use Rattle.hub_table.proofs.Lists.{is_at_same, is_at_other}
-use Rattle.turn_hub.specs.Passes.{Pass, named, less, left, IsPass, IsSince, Fresh}
+use Rattle.turn_rule.specs.Passes.{Pass, named, less, left, IsPass, IsSince, Fresh}
 
 module _ {A : Type 0} (f : A → ℕ) where
   abbrev count : ℕ → List A → ℕ
@@ -44,6 +44,15 @@ left_pass k (p ∷ ps) j at h = dite (ℕ_discrete p.0 k)
     go : p.0 ≢ k → IsPass (p ∷ left k ps) j at → (IsPass (left k ps) j at → IsPass ps j at × (j ≢ k)) → IsPass (p ∷ ps) j at × (j ≢ k)
     go ne (inl q) later = (inl q, λ e. ne (q.0 ∙ e))
     go ne (inr q) later = (inr (later q).0, (later q).1)
+
+-- none of this number is left
+pub none_left : (k : ℕ) (ps : List Pass) (at : List ℕ) → IsPass (left k ps) k at → ⊥
+none_left k ps at h = (left_pass k ps k at h).1 refl
+
+-- a pass of another number than the first stands behind it
+pub pass_behind : (p : Pass) (ps : List Pass) (j : ℕ) (at : List ℕ) → IsPass (p ∷ ps) j at → j ≢ p.0 → IsPass ps j at
+pass_behind p ps j at (inl q) apart = absurd (apart (sym q.0))
+pass_behind p ps j at (inr q) apart = q
 
 -- and one of another number is left
 pub pass_left : (k : ℕ) (ps : List Pass) (j : ℕ) (at : List ℕ) → IsPass ps j at → j ≢ k → IsPass (left k ps) j at

@@ -11,17 +11,17 @@ use Rattle.atomic_table.proofs.Lists.{at_set, at_snoc, set_again, set_here}
 use Rattle.hub_algebra.specs.HubMachine.{HubMachine}
 use Rattle.hub_table.specs.declared.value.Turn.{Turn}
 use Rattle.hub_table.specs.Counts.{total, is_at, times}
-use Rattle.turn_hub.specs.declared.view.View.{View}
-use Rattle.turn_hub.specs.Passes.{Pass, named, without, left, IsPass, Fresh}
+use Rattle.turn_rule.specs.declared.view.View.{View}
+use Rattle.turn_rule.specs.Passes.{Pass, named, without, left, IsPass, Fresh}
 use Rattle.hub_algebra.specs.declared.status.Status.{Status}
 use Rattle.hub_table.specs.declared.state.HubState.{HubState}
 use Rattle.hub_table.specs.declared.state.HubState.TheVariants.{All, Twice, NoMemory}
 use Rattle.hub_table.specs.Counts.{flag}
 use Rattle.hub_table.proofs.Lists.{total_set, total_snoc, total_append, total_one, total_two, total_only, is_at_same, is_at_other}
-use Rattle.turn_hub.specs.Views.{halt_count, either_halt, view, blank, parts_of, has_turn, names, halts, commits, hands_in, draws, stops, rests, both, most, part, witness}
-use Rattle.turn_hub.specs.Seats.{IsIdle}
-use Rattle.turn_hub.specs.Rule.{done, is_over, says, Holds, Knows, Turned, InHand, Told, took, gave, committed, handed_in, drew, stopped}
-use Rattle.turn_hub.proofs.Passes.{count_gone, count_other, pass_named, left_pass, since_more, since_now, fresh_append}
+use Rattle.turn_rule.specs.Views.{halt_count, either_halt, view, blank, parts_of, has_turn, names, halts, commits, hands_in, draws, stops, rests, both, most, part, witness}
+use Rattle.turn_rule.specs.Seats.{IsIdle}
+use Rattle.turn_rule.specs.Rule.{done, is_over, says, Holds, Knows, Turned, InHand, Told, took, gave, committed, handed_in, drew, stopped}
+use Rattle.turn_rule.proofs.Passes.{count_gone, count_other, pass_named, left_pass, since_more, since_now, fresh_append}
 
 one_if : (b : Bool) → flag b ≡ 1 → b ≡ true
 one_if true e = refl
@@ -237,8 +237,8 @@ module _ {L R A E : Type 0} (d : HubMachine L R A E) (ends : E → L → Type 0)
       now : get_or (set s.words 0 1) 0 0 ≡ 1
       now = get_or-set_same s.words 0 1 0 (let o = r.wide in omega arith)
 
-  told : (s : St) (r : Rule s) (id : ℕ) (v : V) → At s id v → 0 < v.parts → (t : Turn R A E) → Holds d ends first.start first.group t r.log r.out → Told d ends v (taking v r.log r.out t) t
-  told s r id v at some_part t holds = let mine = r.seats id v at in record {
+  told : (s : St) (r : Rule s) (id : ℕ) (v : V) → At s id v → 0 < v.parts → (t : Turn R A E) → Holds d ends first.start first.group t r.log r.out → t.state ≡ r.state → Told d ends v (taking v r.log r.out t) t
+  told s r id v at some_part t holds is_state = let mine = r.seats id v at in record {
     hand = record { has = refl; part = some_part; holds = subst (λ (o : Option L × List ℕ). Holds d ends o.0 o.1 t r.log r.out) (λ i. (sym (mine.begun some_part).0 i, sym (mine.begun some_part).1 i)) holds; saw = one_if (is_over t); halt = refl; seen = λ n. if_one (is_over t) (done_halted t.state t.revisions.slots.items n) };
     parts = refl;
     start = refl;
@@ -250,6 +250,7 @@ module _ {L R A E : Type 0} (d : HubMachine L R A E) (ends : E → L → Type 0)
     said = refl;
     entered = refl;
     found = refl;
+    known = λ n. mine.halted n ∙ sym is_state;
   }
 
   -- the seat learns what the value says, and that its own passes are right
@@ -260,7 +261,7 @@ module _ {L R A E : Type 0} (d : HubMachine L R A E) (ends : E → L → Type 0)
         takes 0 (Some t),
         h.1,
         subst (λ b. Rule (stepped s 0 (either b 1 x) id me.1 w (takes 0 (Some t)))) (sym (eq-eqb x 0 z)) (taken_rule s r id v at idle.0 idle.2 t z h.3 h.4),
-        ((λ _. record { value = t; told = told s r id v at idle.2 t h.2; slot = ap (λ (l : List (ℕ × Slot)). (0, Some t) ∷ l) idle.1 }), λ n. absurd (n z)),
+        ((λ _. record { value = t; told = told s r id v at idle.2 t h.2 h.4; slot = ap (λ (l : List (ℕ × Slot)). (0, Some t) ∷ l) idle.1 }), λ n. absurd (n z)),
       ))
       (λ n. (
         v,

@@ -1,8 +1,8 @@
 //! The rule of the turn, and what its steps tell.
 ghost use Rattle.std.specs.Prelude.{◌≡◌, ℕ, [], Some};
 ghost use Rattle.hub_table.specs.declared.state.HubState.TheVariants as state;
-ghost use Rattle.turn_hub.specs.Views.{first_of, both, most, part, witness, blank};
-ghost use Rattle.turn_hub.specs.Rule.{Turned, took, gave, committed, handed_in, drew, stopped};
+ghost use Rattle.turn_rule.specs.Views.{first_of, both, most, part, witness, blank};
+ghost use Rattle.turn_rule.specs.Rule.{Turned, took, gave, committed, handed_in, drew, stopped};
 
 use crate::revision::Revision;
 use crate::view::View;

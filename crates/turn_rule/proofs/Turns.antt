@@ -20,15 +20,15 @@ use Rattle.hub_table.specs.Found.{all_over}
 use Rattle.hub_table.specs.Queued.{Queued}
 use Rattle.hub_table.proofs.Lists.{is_at_same, is_at_other}
 use Rattle.hub_table.proofs.Slots.{no_more}
-use Rattle.turn_hub.specs.declared.view.View.{View}
-use Rattle.turn_hub.specs.Passes.{named, without, left, IsPass}
-use Rattle.turn_hub.specs.Views.{commits, hands_in, draws, stops, rests, or_no_memory}
-use Rattle.turn_hub.specs.Seats.{HasState, HasFork, HasJoin, HasEnd, HasTrap, ForkedAs, KeepsOthers}
-use Rattle.turn_hub.specs.Rule.{is_out, OutsAre, done, IsOfGroup, AreOfGroup, EnteredTwice, SoundFrom, InHand, Told}
-use Rattle.turn_hub.proofs.Passes.{count_gone, count_other, pass_named, pass_left}
+use Rattle.turn_rule.specs.declared.view.View.{View}
+use Rattle.turn_rule.specs.Passes.{named, without, left, IsPass}
+use Rattle.turn_rule.specs.Views.{commits, hands_in, draws, stops, rests, or_no_memory}
+use Rattle.turn_rule.specs.Seats.{HasState, HasFork, HasJoin, HasEnd, HasTrap, ForkedAs, KeepsHalt, KeepsOthers, LacksPass}
+use Rattle.turn_rule.specs.Rule.{is_out, OutsAre, done, IsOfGroup, AreOfGroup, EnteredTwice, SoundFrom, InHand, Told}
+use Rattle.turn_rule.proofs.Passes.{count_gone, count_other, pass_named, pass_left, left_pass, none_left, pass_behind}
 
 -- a halt stays what it is
-keeps_halt : (h : HubState) → (h ≡ All → ⊥) → or_no_memory h ≡ h
+pub keeps_halt : (h : HubState) → (h ≡ All → ⊥) → or_no_memory h ≡ h
 keeps_halt All n = absurd (n refl)
 keeps_halt Twice n = refl
 keeps_halt NoMemory n = refl
@@ -343,17 +343,44 @@ module _ {L R A E : Type 0} (d : HubMachine L R A E) (ends : E → L → Type 0)
   kept_pass : (v w : View L) (t : Value) (j : ℕ) (at : List ℕ) → Told d ends v w t → IsPass v.passes j at → IsPass w.passes j at
   kept_pass v w t j at told p = subst (λ l. IsPass l j at) (sym told.passes) p
 
+  was_pass : (v w : View L) (t : Value) (j : ℕ) (at : List ℕ) → Told d ends v w t → IsPass w.passes j at → IsPass v.passes j at
+  was_pass v w t j at told p = subst (λ l. IsPass l j at) told.passes p
+
+  pub told_halt : (v w : View L) (t : Value) → Told d ends v w t → KeepsHalt v w
+  told_halt v w t told n = told.hand.halt ∙ sym (told.known n)
+
   pub keeps_draw : (w : View L) (n : ℕ) → KeepsOthers w (rests (draws n w)) n
-  keeps_draw w n = ((refl, refl, refl), λ j at ne p. inr p)
+  keeps_draw w n = ((refl, refl, refl), λ j at ne p. inr p, λ j at ne p. pass_behind (n, w.log) w.passes j at p ne, λ h. refl)
 
   pub keeps_commit : (v w : View L) (t : Value) (k : ℕ) → Told d ends v w t → KeepsOthers v (rests (commits k w)) k
-  keeps_commit v w t k told = ((told.start, told.group, told.parts), λ j at ne p. inr (pass_left k w.passes j at (kept_pass v w t j at told p) ne))
+  keeps_commit v w t k told = (
+    (told.start, told.group, told.parts),
+    λ j at ne p. inr (pass_left k w.passes j at (kept_pass v w t j at told p) ne),
+    λ j at ne p. was_pass v w t j at told (left_pass k w.passes j at (pass_behind (k, w.log ++ k ∷ []) (left k w.passes) j at p ne)).0,
+    told_halt v w t told,
+  )
 
   pub keeps_in : (v w : View L) (t : Value) (k : ℕ) → Told d ends v w t → KeepsOthers v (rests (hands_in k w)) k
-  keeps_in v w t k told = ((told.start, told.group, told.parts), λ j at ne p. pass_left k w.passes j at (kept_pass v w t j at told p) ne)
+  keeps_in v w t k told = (
+    (told.start, told.group, told.parts),
+    λ j at ne p. pass_left k w.passes j at (kept_pass v w t j at told p) ne,
+    λ j at ne p. was_pass v w t j at told (left_pass k w.passes j at p).0,
+    told_halt v w t told,
+  )
 
   pub keeps_end : (v w : View L) (t : Value) (k : ℕ) → Told d ends v w t → KeepsOthers v (rests (hands_in k (commits k w))) k
-  keeps_end v w t k told = ((told.start, told.group, told.parts), λ j at ne p. pass_left k ((k, w.log ++ k ∷ []) ∷ left k w.passes) j at (inr (pass_left k w.passes j at (kept_pass v w t j at told p) ne)) ne)
+  keeps_end v w t k told = (
+    (told.start, told.group, told.parts),
+    λ j at ne p. pass_left k ((k, w.log ++ k ∷ []) ∷ left k w.passes) j at (inr (pass_left k w.passes j at (kept_pass v w t j at told p) ne)) ne,
+    λ j at ne p. was_pass v w t j at told (left_pass k w.passes j at (pass_behind (k, w.log ++ k ∷ []) (left k w.passes) j at (left_pass k ((k, w.log ++ k ∷ []) ∷ left k w.passes) j at p).0 ne)).0,
+    told_halt v w t told,
+  )
+
+  pub lacks_in : (w : View L) (k : ℕ) → LacksPass (rests (hands_in k w)) k
+  lacks_in w k = λ at p. none_left k w.passes at p
+
+  pub lacks_end : (w : View L) (k : ℕ) → LacksPass (rests (hands_in k (commits k w))) k
+  lacks_end w k = λ at p. none_left k ((k, w.log ++ k ∷ []) ∷ left k w.passes) at p
 
   -- the seat has the pass that it had
   pub has_pass : (v w : View L) (t : Value) (k : ℕ) (at : List ℕ) → Told d ends v w t → IsPass v.passes k at → 0 < named k w.passes

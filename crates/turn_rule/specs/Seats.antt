@@ -3,7 +3,8 @@
 --   AreOf, AreNew                       seats of one hub, and as its opening makes them
 --   HasState v k l                      it has the pass of the revision k, whose state is l
 --   HasFork, HasJoin, HasEnd, HasTrap   what is handed in is the event of that revision's leg
---   KeepsOthers, KeepsAll               the other passes, or all, are as they were
+--   KeepsOthers, KeepsAll               the other passes, or all, are as they were, and so is a halt that it knew of
+--   LacksPass                           it has no pass of a revision
 use Rattle.std.specs.Prelude.{◌≡◌, ◌≢◌, ℕ, ◌<◌, List, [], ◌∷◌, ◌++◌, Option, Some}
 use Rattle.atomic_table.specs.Seated.{TableId}
 use Rattle.atomic_table.specs.Table.{Me}
@@ -12,8 +13,8 @@ use Rattle.hub_algebra.specs.Replay.{state_after}
 use Rattle.hub_algebra.specs.Hub.{Forks, Joins, EndsLeg, WasTrapped}
 use Rattle.hub_algebra.specs.HubMachine.{HubMachine, numbered, values}
 use Rattle.hub_table.specs.declared.state.HubState.TheVariants.{All}
-use Rattle.turn_hub.specs.declared.view.View.{View}
-use Rattle.turn_hub.specs.Passes.{IsPass}
+use Rattle.turn_rule.specs.declared.view.View.{View}
+use Rattle.turn_rule.specs.Passes.{IsPass}
 
 module _ {S L : Type 0} where
   abbrev pub IsIdle : Me S (View L) → Type 0
@@ -41,13 +42,22 @@ module _ {L : Type 0} where
   abbrev pub IsSameSeat : View L → View L → Type 0
   IsSameSeat v w = (w.start ≡ v.start) × (w.group ≡ v.group) × (w.parts ≡ v.parts)
 
+  -- a halt that it knew of is the one that it knows of
+  abbrev pub KeepsHalt : View L → View L → Type 0
+  KeepsHalt v w = v.halt ≢ All → w.halt ≡ v.halt
+
   abbrev pub KeepsOthers : View L → View L → ℕ → Type 0
   KeepsOthers v w k =
       IsSameSeat v w
       × ((j : ℕ) (at : List ℕ) → j ≢ k → IsPass v.passes j at → IsPass w.passes j at)
+      × ((j : ℕ) (at : List ℕ) → j ≢ k → IsPass w.passes j at → IsPass v.passes j at)
+      × KeepsHalt v w
 
   abbrev pub KeepsAll : View L → View L → Type 0
-  KeepsAll v w = IsSameSeat v w × (w.passes ≡ v.passes)
+  KeepsAll v w = IsSameSeat v w × (w.passes ≡ v.passes) × KeepsHalt v w
+
+  abbrev pub LacksPass : View L → ℕ → Type 0
+  LacksPass v k = (at : List ℕ) → IsPass v.passes k at → ⊥
 
   -- in its last turn the seat added this entry to the schedule, or none
   abbrev pub AddsEntry : View L → ℕ → Type 0

@@ -11,10 +11,10 @@ use Rattle.hub_table.specs.declared.state.HubState.TheVariants.{All}
 use Rattle.hub_table.specs.Chains.{HasOne}
 use Rattle.hub_table.specs.Queued.{Queued}
 use Rattle.hub_table.proofs.Queues.{queue_one}
-use Rattle.turn_hub.specs.declared.view.View.{View}
-use Rattle.turn_hub.specs.Views.{opens}
-use Rattle.turn_hub.specs.Rule.{OutsAre, AreOfGroup, SoundFrom, Turned}
-use Rattle.turn_hub.proofs.Keeps.{starts}
+use Rattle.turn_rule.specs.declared.view.View.{View}
+use Rattle.turn_rule.specs.Views.{opens}
+use Rattle.turn_rule.specs.Rule.{OutsAre, AreOfGroup, SoundFrom, Turned}
+use Rattle.turn_rule.proofs.Keeps.{starts}
 
 module _ {L R A E : Type 0} (d : HubMachine L R A E) (ends : E → L → Type 0) where
   one_ready : (c : R) → OutsAre {R = R} {A = A} {E = E} (Ready c ∷ []) []

@@ -1,0 +1,5 @@
+use Rattle.hub_workers.proofs.Handed.{unless_halted}
+use Rattle.hub_workers.proofs.worker.halt.Goals as goal
+
+pub returns-clause-only : goal.returns-clause-only
+returns-clause-only g c = unless_halted _ _ c.halt.ensures.halted

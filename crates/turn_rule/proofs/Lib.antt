@@ -1,0 +1,5 @@
+pub mod Passes
+pub mod Outs
+pub mod Keeps
+pub mod Turns
+pub mod Begins

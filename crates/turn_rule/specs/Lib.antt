@@ -1,0 +1,4 @@
+pub mod Passes
+pub mod Views
+pub mod Rule
+pub mod Seats
