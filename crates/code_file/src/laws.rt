@@ -6,8 +6,8 @@ ghost use Rattle.code_file.specs.Laws.{EachIsRead, ReadsBack};
 use rev_num::word_laws;
 
 /// What was written is read again as the same code, and two codes with one file are the same. What
-/// is read is the file of the code that was read. What has a first fault is the file of no code, and
-/// whatever bytes are not read as code have one, which is not want of memory.
+/// is read is the file of the code that was read. What has a first fault is the file of no code,
+/// and whatever bytes are not read as code have one, which is not want of memory.
 pub fn file_laws()
     ensures back { ReadsBack }
     ensures one { OneCode }

@@ -7,7 +7,8 @@ ghost use Rattle.code_prices.specs.Uses.{EveryNumberedStepPays, LegsAreBounded};
 ghost use Rattle.code_prices.specs.Once.{OncePerFrame};
 
 /// Every step of certified code uses up what it costs, and so a leg ends; between two charges each
-/// instruction is passed at most once in a frame; the prices of legs and of schedules bear all code.
+/// instruction is passed at most once in a frame; the prices of legs and of schedules bear all
+/// code.
 pub fn price_laws()
     ensures steps { EveryNumberedStepPays }
     ensures legs { LegsAreBounded }

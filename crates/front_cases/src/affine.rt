@@ -1,6 +1,6 @@
 //! Texts and what the checker of the affine rule finds in them. In a text with a breach `@` stands
-//! before its place. For each rule there are ten texts that break it, and ten that come near and keep
-//! it.
+//! before its place. For each rule there are ten texts that break it, and ten that come near and
+//! keep it.
 
 use affine_check::{AffineFault, affine};
 use merge_decl::expand_funs;

@@ -47,7 +47,8 @@ pub fn replay_laws<H: HubWorld>()
 /// - `wait`, `hand_in`: by a join that waits, and by the end of a joiner that its join trapped,
 ///   which are none;
 /// - `twice`: a join of what was joined is the last entry;
-/// - `complete`: where all have ended the schedule is complete, and the ends are those of its world.
+/// - `complete`: where all have ended the schedule is complete, and the ends are those of its
+///   world.
 pub fn hub_laws<H: HubWorld>()
     ensures opens { (s : H) (main : _) → OpenLaw (H.hub s).machine (H.hub s).values main }
     ensures take { (s : H) (main : _) → TakeLaw (H.hub s).machine (H.hub s).values main }

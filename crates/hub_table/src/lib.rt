@@ -1,5 +1,5 @@
-//! What lies in a hub's slot while nobody has the turn, as plain data: the schedule, the revisions by
-//! number, the run queue, and which halt was entered.
+//! What lies in a hub's slot while nobody has the turn, as plain data: the schedule, the revisions
+//! by number, the run queue, and which halt was entered.
 #![tactic(auto)]
 
 mod chains;

@@ -51,8 +51,8 @@ fn variable(alloc: Global, name: u8, cumulative: bool, cells: u32) -> Result<Cod
     })
 }
 
-/// Fun 0 gives its first number and the difference of the two others, merge 1 applies it, block 2 is
-/// the child, with a local of each kind, and block 3 `main`, with the same.
+/// Fun 0 gives its first number and the difference of the two others, merge 1 applies it, block 2
+/// is the child, with a local of each kind, and block 3 `main`, with the same.
 fn blocks_of(
     alloc: Global,
     child: &[Instr],
@@ -84,8 +84,8 @@ fn blocks_of(
     Ok(Items::from_vec(blocks))
 }
 
-/// The variables are `v` and the cumulative `n` of ten cells each, and `x` of one. Layout 0 prints a
-/// number, layout 1 a truth value.
+/// The variables are `v` and the cumulative `n` of ten cells each, and `x` of one. Layout 0 prints
+/// a number, layout 1 a truth value.
 pub fn code_of(alloc: Global, child: &[Instr], main: &[Instr]) -> Result<Code, AllocError> {
     let mut vars = Vec::new(alloc);
     vars.push(variable(alloc, b'v', false, 10)?)?;

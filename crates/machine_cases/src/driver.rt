@@ -1,4 +1,5 @@
-//! Runs code whose children come to their end in one leg, and whose joiners join the latest of them.
+//! Runs code whose children come to their end in one leg, and whose joiners join the latest of
+//! them.
 
 ghost use Rattle.std.specs.Prelude.{◌≡◌, ◌<◌, ◌+◌, ◌^◌, ℕ, IfOk, IfSome};
 ghost use Rattle.rev_code.specs.State.{State};

@@ -32,8 +32,8 @@ pub(crate) struct OwnRun<'a> {
     pub(crate) children: Vec<LocalState<'a>>,
 }
 
-/// Steps the revision up to its next join, or to its end, with the children that it forks behind the
-/// others.
+/// Steps the revision up to its next join, or to its end, with the children that it forks behind
+/// the others.
 fn run_on<'a>(
     alloc: Global,
     stated: &Stated<'a>,

@@ -11,9 +11,9 @@ pub fn one_answer()
 {}
 
 /// Why an answer to words with a reading has its status: 1 exactly where `main` trapped, 3 exactly
-/// where a revision was joined twice, and 2 exactly where the source is too long, its text, its code
-/// file or its trace is at fault, or an entry of the schedule has no leg, of which the first fault is
-/// reported.
+/// where a revision was joined twice, and 2 exactly where the source is too long, its text, its
+/// code file or its trace is at fault, or an entry of the schedule has no leg, of which the first
+/// fault is reported.
 pub fn statuses()
     ensures { StatusLaw }
 {}

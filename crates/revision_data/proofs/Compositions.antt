@@ -102,7 +102,3 @@ module _ (p : ProgramTree) where
   composed_all ks ms js n cs most len =
       ap (in_front (put (take n ms) cs)) (short n (drop n ks) (drop n ms) (drop n js) (one_is_short ks ms js n most))
       ∙ ap (λ i. merged (put (take i ms) cs ++ drop i ms)) (sym len) ∙ ap merged (put_split ms cs)
-
-pub front_none : (o : Composition) → in_front [] o ≡ o
-front_none (merged ms) = refl
-front_none (faults n f) = refl

@@ -1,21 +1,12 @@
--- Shared variables by their rows, cells and input numbers by their indices.
-use Rattle.std.proofs.Common.{◌≡◌, ◌+◌, ℤ, pos, negsuc, Bool, true, false, cond, ltb, List, Option, Some, None, option_map, Ok, Err, refl}
+-- Cells of shared variables by their rows and indices.
+use Rattle.std.proofs.Common.{◌≡◌, ◌+◌, ℤ, pos, negsuc, Bool, true, false, cond, ltb, Option, Some, None, option_map, Ok, Err, refl}
 use Rattle.rev_num.specs.declared.outcome.Cause.TheVariants as cause
 use Rattle.merge_decl.specs.Names.{Name}
 use Rattle.rev_types.specs.Layout.{SharedVariable, variables}
 use Rattle.revision_calculus.specs.Program.{variable_named, Setting}
-use Rattle.revision_calculus.specs.State.{Location}
-use Rattle.revision_calculus.specs.Evaluation.{read_shared, location_in, location_of, cell_location}
-use Rattle.revision_data.specs.Reading.{shared_at, behind, location_at}
+use Rattle.revision_calculus.specs.Evaluation.{location_in, location_of, cell_location}
+use Rattle.revision_data.specs.Reading.{behind, location_at}
 use Rattle.revision_state.specs.Tables.{info_of}
-
-shared_row : (o : Option SharedVariable) (ms : List Location) → shared_at (option_map (λ x. x.info) o) ms ≡ read_shared o ms
-shared_row None ms = refl
-shared_row (Some x) ms = refl
-
--- a shared variable reads as its row says
-pub shared_read : (s : Setting) (name : Name) (ms : List Location) → shared_at (info_of s.program name) ms ≡ read_shared (variable_named (variables s.program) name) ms
-shared_read s name ms = shared_row (variable_named (variables s.program) name) ms
 
 in_row : (x : SharedVariable) (z : ℤ) → location_at (Some x.info) z ≡ location_in x z
 in_row x (negsuc i) = refl

@@ -1,5 +1,5 @@
-//! One revision after another, each by itself: `main` forks a child, and joins it by what is told of
-//! it.
+//! One revision after another, each by itself: `main` forks a child, and joins it by what is told
+//! of it.
 
 use crate::orders::typed_of;
 use rev_num::Value;

@@ -133,8 +133,8 @@ fn all_come<'a>(
     Ok(true)
 }
 
-/// Whether the joiners come to what they should, before their joins, at them, and when the child has
-/// ended.
+/// Whether the joiners come to what they should, before their joins, at them, and when the child
+/// has ended.
 fn joiners_come<'a>(alloc: Global, language: &PlainLanguage<'a>) -> Result<bool, AllocError> {
     let state = forked(alloc, language)?;
     let first = all_come(alloc, language, &state, &[(1, 2, Came::Same)])?;

@@ -24,8 +24,8 @@ pub fn left_side_law()
     ensures { LeftSidesTake }
 {}
 
-/// Behind a join a joiner goes on in a related state, once its left side has what a `tryjoin` gives,
-/// where both machines have written the same.
+/// Behind a join a joiner goes on in a related state, once its left side has what a `tryjoin`
+/// gives, where both machines have written the same.
 pub fn join_law()
     ensures { JoinersGoOn }
 {}

@@ -20,8 +20,8 @@ impl Store {
     ghost use Rattle.segment_store.specs.Names.{IsTakenIn, SoundIn, PoppedIn, IsSharedIn, ForkedIn};
     ghost use Rattle.segment_store.specs.Names.{IsSegmentIn, FoundBetweenIn};
 
-    // A free segment from this one on and before that, which is now this seat's to build, or 0 where
-    // every count between them was found not 0.
+    // A free segment from this one on and before that, which is now this seat's to build, or 0
+    // where every count between them was found not 0.
     fn claim_between(&self, seat: &mut Place, from: usize, to: usize) -> usize
         requires own { IsSeatOf self.now seat.old }
         requires free { (seat.old.me.0.build ≡ 0) × (0 < seat.old.me.0.holds) }
