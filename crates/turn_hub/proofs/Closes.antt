@@ -1,5 +1,6 @@
 -- What is known at the close: of the slot, and of what the hub leaves.
 use Rattle.std.proofs.Common.{◌≡◌, ℕ, true, List, [], ◌∷◌, map, Option, sym, ◌∙◌, refl, subst}
+use Rattle.std.specs.Global.{Box}
 use Rattle.atomic_table.specs.Table.{State}
 use Rattle.revision_machine.specs.Numbered.{at_number}
 use Rattle.hub_algebra.specs.declared.status.Status.{Status}
@@ -23,10 +24,10 @@ use Rattle.turn_rule.proofs.Keeps.{AtEnd}
 use Rattle.turn_rule.proofs.Turns.{some_start}
 
 module _ {L R A E : Type 0} (d : HubMachine L R A E) (ends : E → L → Type 0) where
-  pub closes : (first v : View L) (s : State (Option (Turn R A E)) (View L)) (a : AtEnd d ends first s v) → v.saw ≡ 1 → ClosedTurn d ends first v a.value
+  pub closes : (first v : View L) (s : State (Option (Box (Turn R A E))) (View L)) (a : AtEnd d ends first s v) → v.saw ≡ 1 → ClosedTurn d ends first v a.value.value
   closes first v s a saw =
       let h = a.holds in
-      let t = a.value in
+      let t = a.value.value in
       let start = some_start d ends first.start t.state a.log t.revisions.slots.items t.revisions.forkers.items h.sound in
       record {
         start = start.0;

@@ -97,7 +97,7 @@ impl<L: Revision> TurnHub<L> {
         if has_ended::<L>(turn.revisions.slots.as_slice(), L::on(&at)) {
             return self.join_in(&mut seat.place, turn, of, at);
         }
-        match self.keep_in(&mut seat.place, &mut turn, of, at) {
+        match self.keep_in(&mut seat.place, &mut *turn, of, at) {
             Ok(()) => {
                 self.put_home(&mut seat.place, turn);
                 JoinAnswer::Waits
@@ -134,7 +134,7 @@ impl<L: Revision> TurnHub<L> {
         if ended {
             return JoinStep::Came(self.join_in(&mut seat.place, turn, of, at));
         }
-        match self.keep_in(&mut seat.place, &mut turn, of, at) {
+        match self.keep_in(&mut seat.place, &mut *turn, of, at) {
             Ok(()) => JoinStep::Waits(self.take_next(&mut seat.place, turn)),
             Err(at) => {
                 self.put_home_halted(&mut seat.place, turn);
@@ -167,7 +167,7 @@ impl<L: Revision> TurnHub<L> {
             self.put_home_halted(&mut seat.place, turn);
             return Err(end);
         }
-        match self.end_in(&mut seat.place, &mut turn, of, end) {
+        match self.end_in(&mut seat.place, &mut *turn, of, end) {
             Ok(()) => {
                 self.put_home(&mut seat.place, turn);
                 Ok(())
@@ -204,7 +204,7 @@ impl<L: Revision> TurnHub<L> {
             self.put_home_halted(&mut seat.place, turn);
             return Err(end);
         }
-        match self.end_in(&mut seat.place, &mut turn, of, end) {
+        match self.end_in(&mut seat.place, &mut *turn, of, end) {
             Ok(()) => Ok(self.take_or_join(&mut seat.place, turn)),
             Err(end) => {
                 self.put_home_halted(&mut seat.place, turn);

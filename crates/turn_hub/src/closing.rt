@@ -123,7 +123,7 @@ impl<L: Revision> TurnHub<L> {
         let mut closed = turn.close_with(place);
         let value = closed.take(0);
         closed.free();
-        value.unwrap()
+        Box::into_inner(value.unwrap())
     }
 
     /// What the hub has. All seats that `open` made are handed in, and one of them was answered

@@ -68,20 +68,20 @@ impl<L: Revision> TurnHub<L> {
     pub(crate) fn take_next(
         &self,
         place: &mut Place<L>,
-        mut turn: Turn<L::Runner, L::AtJoin, L::End>,
+        mut turn: Box<Turn<L::Runner, L::AtJoin, L::End>>,
     ) -> Onward<L::Runner, L::AtJoin>
         requires own { (place.old.table_id ≡ self.now.turn.shared.table_id)
             × IsOpen L.machine L.ends place.old.me }
-        requires hand { InHand L.machine L.ends place.old.me.0 turn }
-        requires free { (turn.state ≡ All) × (place.old.me.0.entered ≡ All) }
+        requires hand { InHand L.machine L.ends place.old.me.0 turn.value }
+        requires free { (turn.value.state ≡ All) × (place.old.me.0.entered ≡ All) }
         ensures own { place.new.table_id ≡ place.old.table_id }
         ensures rests { IsResting place.old.me place.new.me }
         ensures turn { IsSameTurn place.old.me.0 place.new.me.0 }
         ensures answer { OnwardSays L.machine L.ends
-            (says L.machine L.ends turn.revisions.slots.items)
+            (says L.machine L.ends turn.value.revisions.slots.items)
             place.old.me.0 place.new.me.0 result }
     {
-        let next = self.draw_next(place, &mut turn);
+        let next = self.draw_next(place, &mut *turn);
         self.put_home(place, turn);
         next
     }
@@ -90,12 +90,12 @@ impl<L: Revision> TurnHub<L> {
     pub(crate) fn take_or_join(
         &self,
         place: &mut Place<L>,
-        mut turn: Turn<L::Runner, L::AtJoin, L::End>,
+        mut turn: Box<Turn<L::Runner, L::AtJoin, L::End>>,
     ) -> EndStep<L::Runner, L::AtJoin, L::Claimed, L::Stopped>
         requires own { (place.old.table_id ≡ self.now.turn.shared.table_id)
             × IsOpen L.machine L.ends place.old.me }
-        requires hand { InHand L.machine L.ends place.old.me.0 turn }
-        requires free { (turn.state ≡ All) × (place.old.me.0.entered ≡ All) }
+        requires hand { InHand L.machine L.ends place.old.me.0 turn.value }
+        requires free { (turn.value.state ≡ All) × (place.old.me.0.entered ≡ All) }
         requires fresh { Fresh place.old.me.0.log place.old.me.0.passes
             × ((k : ℕ) → named k place.old.me.0.passes ≤ times k place.old.me.0.out) }
         ensures own { place.new.table_id ≡ place.old.table_id }
@@ -103,10 +103,10 @@ impl<L: Revision> TurnHub<L> {
         ensures turn { IsOneTurn place.old.me.0 place.new.me.0 }
         ensures answer { EndStepSays L.machine L.ends L.claimed L.stopped
             L.claimed_group L.stopped_group
-            (says L.machine L.ends turn.revisions.slots.items)
+            (says L.machine L.ends turn.value.revisions.slots.items)
             place.old.me.0 place.new.me.0 result }
     {
-        match self.draw_next(place, &mut turn) {
+        match self.draw_next(place, &mut *turn) {
             Onward::Run { number, runner } => {
                 self.put_home(place, turn);
                 EndStep::Run { number, runner }
@@ -162,18 +162,18 @@ impl<L: Revision> TurnHub<L> {
     pub(crate) fn join_in(
         &self,
         place: &mut Place<L>,
-        mut turn: Turn<L::Runner, L::AtJoin, L::End>,
+        mut turn: Box<Turn<L::Runner, L::AtJoin, L::End>>,
         of: u32,
         at: L::AtJoin,
     ) -> JoinAnswer<L::AtJoin, L::Claimed, L::Stopped>
         requires own { (place.old.table_id ≡ self.now.turn.shared.table_id)
             × IsOpen L.machine L.ends place.old.me }
         requires told { (v : View L.State) × (said : List Said) × (found : List ℕ)
-            × Told L.machine L.ends v (sees said found place.old.me.0) turn
+            × Told L.machine L.ends v (sees said found place.old.me.0) turn.value
             × HasJoin L.machine L.ends v of at }
-        requires free { turn.state ≡ All }
+        requires free { turn.value.state ≡ All }
         requires group { L.machine.joiner_group at ≡ place.old.me.0.group }
-        requires ended { ended_here (at_number turn.revisions.slots.items (L.machine.on at))
+        requires ended { ended_here (at_number turn.value.revisions.slots.items (L.machine.on at))
             ≡ true }
         ensures own { place.new.table_id ≡ place.old.table_id }
         ensures rests { IsResting place.old.me place.new.me }
@@ -181,24 +181,25 @@ impl<L: Revision> TurnHub<L> {
         ensures come { HasCome L.machine L.ends L.claimed L.stopped
             L.claimed_group L.stopped_group result }
         ensures answer { (v : View L.State) (said : List Said) (found : List ℕ)
-            → Told L.machine L.ends v (sees said found place.old.me.0) turn
+            → Told L.machine L.ends v (sees said found place.old.me.0) turn.value
             → HasJoin L.machine L.ends v of at
             → JoinSays L.machine L.ends L.claimed L.stopped L.claimed_group L.stopped_group
             v (sees said found place.new.me.0) of at result }
     {
         let on = L::on(&at);
-        if !turn.enter(of) {
+        let held = &mut *turn;
+        if !held.enter(of) {
             self.put_home_halted(place, turn);
             return JoinAnswer::OutOfMemory(at);
         }
         self.commit(place, of);
-        match turn.revisions.join(on) {
+        match held.revisions.join(on) {
             Some(end) => {
                 self.put_home(place, turn);
                 take_in::<L>(at, end)
             },
             None => {
-                turn.state = HubState::Twice;
+                held.state = HubState::Twice;
                 self.stop_twice(place);
                 self.put_home(place, turn);
                 JoinAnswer::Twice(at)

@@ -1,5 +1,6 @@
 //! The hub: the turn is taken and given back.
 ghost use Rattle.std.specs.Prelude.{◌≡◌, ◌≢◌, ◌<◌, ℕ, [], ◌∷◌, Some, None, true, false};
+ghost use Rattle.std.specs.Global.{Box};
 
 use crate::patience::{Patience, WAITS, pause};
 use crate::seat::Place;
@@ -36,7 +37,7 @@ impl Signs {
 /// A hub, whose revisions the threads take, run and hand back.
 pub struct TurnHub<L: Revision> {
     pub(crate) turn: Table<
-        Option<Turn<L::Runner, L::AtJoin, L::End>>,
+        Option<Box<Turn<L::Runner, L::AtJoin, L::End>>>,
         View<L::State>,
         Badge<View<L::State>>,
         OneHolder<L>,
@@ -138,11 +139,11 @@ impl<L: Revision> TurnHub<L> {
         rt: &W,
         place: &mut Place<L>,
         patience: &mut Patience,
-    ) -> Turn<L::Runner, L::AtJoin, L::End>
+    ) -> Box<Turn<L::Runner, L::AtJoin, L::End>>
         requires { (place.old.table_id ≡ self.now.turn.shared.table_id) × IsIdle place.old.me }
         ensures own { (place.new.table_id ≡ place.old.table_id)
             × IsOpen L.machine L.ends place.new.me }
-        ensures told { Told L.machine L.ends place.old.me.0 place.new.me.0 result }
+        ensures told { Told L.machine L.ends place.old.me.0 place.new.me.0 result.value }
     {
         self.wait_turn(rt, place, patience);
         self.turn.shared.exchange(place, 0, None).unwrap()
@@ -161,10 +162,14 @@ impl<L: Revision> TurnHub<L> {
         }
     }
 
-    pub(crate) fn put_home(&self, place: &mut Place<L>, turn: Turn<L::Runner, L::AtJoin, L::End>)
+    pub(crate) fn put_home(
+        &self,
+        place: &mut Place<L>,
+        turn: Box<Turn<L::Runner, L::AtJoin, L::End>>,
+    )
         requires own { (place.old.table_id ≡ self.now.turn.shared.table_id)
             × IsOpen L.machine L.ends place.old.me }
-        requires hand { InHand L.machine L.ends place.old.me.0 turn }
+        requires hand { InHand L.machine L.ends place.old.me.0 turn.value }
         ensures own { place.new.table_id ≡ place.old.table_id }
         ensures rests { place.new.me ≡ (rests place.old.me.0, []) }
     {
@@ -178,8 +183,8 @@ impl<L: Revision> TurnHub<L> {
 
     fn give(&self, place: &mut Place<L>)
         requires own { place.old.table_id ≡ self.now.turn.shared.table_id }
-        requires hand { (t : Turn L.Runner L.AtJoin L.End) × InHand L.machine L.ends
-            place.old.me.0 t × (place.old.me.1 ≡ (0, Some t) ∷ []) }
+        requires hand { (t : Box (Turn L.Runner L.AtJoin L.End)) × InHand L.machine L.ends
+            place.old.me.0 t.value × (place.old.me.1 ≡ (0, Some t) ∷ []) }
         ensures own { place.new.table_id ≡ place.old.table_id }
         ensures rests { place.new.me ≡ (rests place.old.me.0, []) }
     {
@@ -253,11 +258,11 @@ impl<L: Revision> TurnHub<L> {
     pub(crate) fn put_home_halted(
         &self,
         place: &mut Place<L>,
-        mut turn: Turn<L::Runner, L::AtJoin, L::End>,
+        mut turn: Box<Turn<L::Runner, L::AtJoin, L::End>>,
     )
         requires own { (place.old.table_id ≡ self.now.turn.shared.table_id)
             × IsOpen L.machine L.ends place.old.me }
-        requires hand { InHand L.machine L.ends place.old.me.0 turn }
+        requires hand { InHand L.machine L.ends place.old.me.0 turn.value }
         ensures own { place.new.table_id ≡ place.old.table_id }
         ensures rests { place.new.me ≡ (
           rests (stops (or_no_memory place.old.me.0.halt)
@@ -265,11 +270,12 @@ impl<L: Revision> TurnHub<L> {
           [],
         ) }
     {
-        if turn.halted().is_some() {
+        let held = &mut *turn;
+        if held.halted().is_some() {
             self.put_home(place, turn);
             return;
         }
-        turn.state = HubState::NoMemory;
+        held.state = HubState::NoMemory;
         self.stop_no_memory(place);
         self.put_home(place, turn);
     }

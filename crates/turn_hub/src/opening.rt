@@ -1,6 +1,7 @@
 //! The opening of a hub.
 ghost use Rattle.std.specs.Prelude.{◌≡◌, ◌<◌, ◌≤◌, ◌+◌, ℕ, [], ◌∷◌, length, map, Some, None};
 ghost use Rattle.std.specs.Prelude.{IfOk, IfErr, IfSome, vec_capacity};
+ghost use Rattle.std.specs.Global.{Box};
 ghost use Rattle.hub_algebra.specs.declared.status.Status.TheVariants.{Ready};
 ghost use Rattle.hub_table.specs.declared.state.HubState.TheVariants as state;
 ghost use Rattle.hub_table.specs.Left.{IsReadyAlone};
@@ -68,6 +69,31 @@ fn take_back<R, A, E>(turn: Turn<R, A, E>) -> R
     revisions.into_first()
 }
 
+// The value in its box, as the one that the slot begins with. The runner comes back for want of
+// memory.
+fn home_of<R, A, E>(
+    alloc: Global,
+    turn: Turn<R, A, E>,
+) -> Result<Vec<Option<Box<Turn<R, A, E>>>>, R>
+    requires { IsReadyAlone turn.revisions.slots.items }
+    ensures ok { IfOk result (λ hs. (b : Box (Turn R A E)) × (hs.items ≡ Some b ∷ [])
+        × (b.value ≡ turn)) }
+    ensures err { IfErr result (λ r. turn.revisions.slots.items ≡ Ready r ∷ []) }
+{
+    let boxed = match Box::new(alloc, turn) {
+        Ok(boxed) => boxed,
+        Err(failed) => return Err(take_back(failed.value)),
+    };
+    let mut homes = Vec::new(alloc);
+    match homes.push(Some(boxed)) {
+        Ok(()) => Ok(homes),
+        Err(failed) => {
+            homes.destroy_empty();
+            Err(take_back(Box::into_inner(failed.value.unwrap())))
+        },
+    }
+}
+
 impl<L: Revision> TurnHub<L> {
     ghost use Rattle.turn_rule.specs.Seats.{IsIdle};
     ghost use Rattle.turn_rule.specs.Views.{most, part};
@@ -97,11 +123,7 @@ impl<L: Revision> TurnHub<L> {
             revisions,
             state: HubState::All,
         };
-        let mut homes = Vec::new(alloc);
-        if let Err(failed) = homes.push(Some(turn)) {
-            homes.destroy_empty();
-            return Err(take_back(failed.value.unwrap()));
-        }
+        let homes = home_of(alloc, turn)?;
         match Table::new(alloc, &[0], homes, &badge) {
             Ok((turn, place)) => {
                 let hub = TurnHub {
@@ -113,7 +135,7 @@ impl<L: Revision> TurnHub<L> {
             Err(Refused { mut slots }) => {
                 let turn = slots.pop().unwrap();
                 slots.destroy_empty();
-                Err(take_back(turn.unwrap()))
+                Err(take_back(Box::into_inner(turn.unwrap())))
             },
         }
     }

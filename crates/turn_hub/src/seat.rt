@@ -8,7 +8,7 @@ use turn_rule::{Revision, View};
 
 /// A seat at the table of a hub.
 pub type Place<L> = Seat<
-    Option<Turn<<L as Revision>::Runner, <L as Revision>::AtJoin, <L as Revision>::End>>,
+    Option<Box<Turn<<L as Revision>::Runner, <L as Revision>::AtJoin, <L as Revision>::End>>>,
     View<<L as Revision>::State>,
 >;
 

@@ -1,5 +1,6 @@
 -- A hub at its opening.
 use Rattle.std.proofs.Common.{◌≡◌, ℕ, zero, suc, ◌<◌, List, [], ◌∷◌, sym, refl, subst, Some}
+use Rattle.std.specs.Global.{Box}
 use Rattle.atomic_table.specs.Table.{opening}
 use Rattle.hub_algebra.specs.declared.status.Status.{Status}
 use Rattle.hub_algebra.specs.declared.status.Status.TheVariants.{Ready}
@@ -21,13 +22,13 @@ module _ {L R A E : Type 0} (d : HubMachine L R A E) (ends : E → L → Type 0)
   one_ready c zero = refl
   one_ready c (suc n) = refl
 
-  pub begins : (first : View L) (t : Turn R A E) (c : R) (seats : ℕ) → first ≡ opens seats (Some (d.runs c)) (d.runner_group c) → 0 < seats
-      → t.schedule.items ≡ [] → t.state ≡ All → t.revisions.slots.items ≡ Ready c ∷ [] → t.revisions.forkers.items ≡ 0 ∷ [] → HasOne t.revisions.queue → Turned d ends first (opening (0 ∷ []) (Some t ∷ []) first)
-  begins first t c seats is some_seat schedule free slots forkers one =
-      subst (λ f. Turned d ends f (opening (0 ∷ []) (Some t ∷ []) f)) (sym is) (starts d ends (opens seats (Some (d.runs c)) (d.runner_group c)) t refl refl refl refl some_seat free record {
+  pub begins : (first : View L) (b : Box (Turn R A E)) (c : R) (seats : ℕ) → first ≡ opens seats (Some (d.runs c)) (d.runner_group c) → 0 < seats
+      → b.value.schedule.items ≡ [] → b.value.state ≡ All → b.value.revisions.slots.items ≡ Ready c ∷ [] → b.value.revisions.forkers.items ≡ 0 ∷ [] → HasOne b.value.revisions.queue → Turned d ends first (opening (0 ∷ []) (Some b ∷ []) first)
+  begins first b c seats is some_seat schedule free slots forkers one =
+      subst (λ f. Turned d ends f (opening (0 ∷ []) (Some b ∷ []) f)) (sym is) (starts d ends (opens seats (Some (d.runs c)) (d.runner_group c)) b refl refl refl refl some_seat free record {
         schedule = schedule;
         outs = subst (λ l. OutsAre l []) (sym slots) (one_ready c);
         sound = subst (λ (z : HubState × List (Status R A E) × List ℕ). SoundFrom d ends (Some (d.runs c)) z.0 [] z.1 z.2) (λ i. (sym free i, sym slots i, sym forkers i)) (hub.opens (numbered d) (values d ends) (d.runs c) c refl);
         grouped = subst (AreOfGroup d ends (d.runner_group c)) (sym slots) (refl, tt);
-        queued = subst (λ l. Queued d l t.revisions.queue) (sym slots) (queue_one d c t.revisions.queue one);
+        queued = subst (λ l. Queued d l b.value.revisions.queue) (sym slots) (queue_one d c b.value.revisions.queue one);
       })

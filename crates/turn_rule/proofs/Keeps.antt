@@ -6,6 +6,7 @@ use native.Mathlib.Decide.{ℕ_discrete}
 use prog.Atomic.{either}
 use lib.ListN.{get_elem?}
 use lib.Seq.{set-get_or}
+use Rattle.std.specs.Global.{Box}
 use Rattle.atomic_table.specs.Table.{State, Me, step, keeps, takes, gives, stepped, Allows, Splits, Joins}
 use Rattle.atomic_table.proofs.Lists.{at_set, at_snoc, set_again, set_here}
 use Rattle.hub_algebra.specs.HubMachine.{HubMachine}
@@ -63,7 +64,7 @@ module _ {L R A E : Type 0} (d : HubMachine L R A E) (ends : E → L → Type 0)
   V = View L
 
   abbrev Slot : Type 0
-  Slot = Option (Turn R A E)
+  Slot = Option (Box (Turn R A E))
 
   abbrev St : Type 0
   St = State Slot V
@@ -256,12 +257,12 @@ module _ {L R A E : Type 0} (d : HubMachine L R A E) (ends : E → L → Type 0)
   -- the seat learns what the value says, and that its own passes are right
   pub take : (slots id : ℕ) (me : Me Slot V) → IsIdle me → Allows Rule slots id me 0 (λ n. either (eqb n 0) 1 n) (took d ends (step slots 0 0 1 m.none) me)
   take slots id me idle s r wide at _ = let x : ℕ = get_or s.words 0 0 in let v : V = me.0 in dite (ℕ_discrete x 0)
-      (λ z. let h = r.home z in let t : Turn R A E = h.0 in let w : V = taking v r.log r.out t in (
+      (λ z. let h = r.home z in let b : Box (Turn R A E) = h.0 in let t : Turn R A E = b.value in let w : V = taking v r.log r.out t in (
         w,
-        takes 0 (Some t),
+        takes 0 (Some b),
         h.1,
-        subst (λ b. Rule (stepped s 0 (either b 1 x) id me.1 w (takes 0 (Some t)))) (sym (eq-eqb x 0 z)) (taken_rule s r id v at idle.0 idle.2 t z h.3 h.4),
-        ((λ _. record { value = t; told = told s r id v at idle.2 t h.2 h.4; slot = ap (λ (l : List (ℕ × Slot)). (0, Some t) ∷ l) idle.1 }), λ n. absurd (n z)),
+        subst (λ y. Rule (stepped s 0 (either y 1 x) id me.1 w (takes 0 (Some b)))) (sym (eq-eqb x 0 z)) (taken_rule s r id v at idle.0 idle.2 t z h.3 h.4),
+        ((λ _. record { value = b; told = told s r id v at idle.2 t h.2 h.4; slot = ap (λ (l : List (ℕ × Slot)). (0, Some b) ∷ l) idle.1 }), λ n. absurd (n z)),
       ))
       (λ n. (
         v,
@@ -272,7 +273,7 @@ module _ {L R A E : Type 0} (d : HubMachine L R A E) (ends : E → L → Type 0)
         ((λ z. absurd (n z)), λ _. refl),
       ))
 
-  give_held : (slots id : ℕ) (v : V) (t : Turn R A E) → InHand d ends v t → Allows Rule slots id (v, (0, Some t) ∷ []) 0 (λ _. 0) (λ _. gave d ends (step slots 0 0 0 m.none) (v, (0, Some t) ∷ []) 0)
+  give_held : (slots id : ℕ) (v : V) (t : Box (Turn R A E)) → InHand d ends v t.value → Allows Rule slots id (v, (0, Some t) ∷ []) 0 (λ _. 0) (λ _. gave d ends (step slots 0 0 0 m.none) (v, (0, Some t) ∷ []) 0)
   give_held slots id v t h s r wide at _ = (rests v, gives, tt, rule, refl)
     where
       mine : Knows d ends first.start first.group r.log r.out r.over r.state v
@@ -298,7 +299,7 @@ module _ {L R A E : Type 0} (d : HubMachine L R A E) (ends : E → L → Type 0)
         home = λ _. (
           t,
           set_here s.homes 0 (m.some (Some t)) (let o = r.long in omega arith),
-          subst (λ (z : Option L × List ℕ × List ℕ × List ℕ). Holds d ends z.0 z.1 t z.2 z.3) (λ i. ((mine.begun h.part).0 i, (mine.begun h.part).1 i, its.0 i, its.1 i)) h.holds,
+          subst (λ (z : Option L × List ℕ × List ℕ × List ℕ). Holds d ends z.0 z.1 t.value z.2 z.3) (λ i. ((mine.begun h.part).0 i, (mine.begun h.part).1 i, its.0 i, its.1 i)) h.holds,
           (λ o. h.saw (its.2 o)),
           sym h.halt ∙ its.3,
         );
@@ -318,7 +319,7 @@ module _ {L R A E : Type 0} (d : HubMachine L R A E) (ends : E → L → Type 0)
         known = λ n. let t' = total_set halts s.views id v (rests v) at in let a = r.known n in omega arith;
       }
 
-  pub give : (slots id : ℕ) (me : Me Slot V) (t : Turn R A E) → InHand d ends me.0 t → me.1 ≡ (0, Some t) ∷ [] → Allows Rule slots id me 0 (λ _. 0) (λ _. gave d ends (step slots 0 0 0 m.none) me 0)
+  pub give : (slots id : ℕ) (me : Me Slot V) (t : Box (Turn R A E)) → InHand d ends me.0 t.value → me.1 ≡ (0, Some t) ∷ [] → Allows Rule slots id me 0 (λ _. 0) (λ _. gave d ends (step slots 0 0 0 m.none) me 0)
   give slots id me t h slot = subst (λ (c : List (ℕ × Slot)). Allows Rule slots id (me.0, c) 0 (λ _. 0) (λ _. gave d ends (step slots 0 0 0 m.none) (me.0, c) 0)) (sym slot) (give_held slots id me.0 t h)
 
   -- the views of a list with one more
@@ -442,13 +443,13 @@ module _ {L R A E : Type 0} (d : HubMachine L R A E) (ends : E → L → Type 0)
 
   -- with every part, the value is at home, and the passes are those of this seat
   pub record AtEnd (s : St) (v : V) : Type 0 where
-    pub value : Turn R A E
+    pub value : Box (Turn R A E)
     pub log : List ℕ
     pub out : List ℕ
     pub home : get_elem? s.homes 0 ≡ m.some (m.some (Some value))
-    pub holds : Holds d ends first.start first.group value log out
-    pub over : v.saw ≡ 1 → is_over value ≡ true
-    pub state : value.state ≡ v.halt
+    pub holds : Holds d ends first.start first.group value.value log out
+    pub over : v.saw ≡ 1 → is_over value.value ≡ true
+    pub state : value.value.state ≡ v.halt
     pub passes : (n : ℕ) → times n out ≡ named n v.passes
     pub same : (v.start ≡ first.start) × (v.group ≡ first.group)
 
@@ -489,7 +490,7 @@ module _ {L R A E : Type 0} (d : HubMachine L R A E) (ends : E → L → Type 0)
   one_view v w zero e = m.some-injective v w e
   one_view v w (suc i) e = absurd (m.some-ne-none w (sym e))
 
-  pub starts : (t : Turn R A E) → first.has ≡ 0 → first.saw ≡ 0 → first.passes ≡ [] → first.halt ≡ All → 0 < first.parts → t.state ≡ All → Holds d ends first.start first.group t [] [] → Rule record { words = 0 ∷ []; homes = m.some (Some t) ∷ []; views = first ∷ [] }
+  pub starts : (t : Box (Turn R A E)) → first.has ≡ 0 → first.saw ≡ 0 → first.passes ≡ [] → first.halt ≡ All → 0 < first.parts → t.value.state ≡ All → Holds d ends first.start first.group t.value [] [] → Rule record { words = 0 ∷ []; homes = m.some (Some t) ∷ []; views = first ∷ [] }
   starts t idle blind none clear some_part free holds = record {
     log = [];
     out = [];

@@ -335,6 +335,10 @@ module _ {L R A E : Type 0} (d : HubMachine L R A E) (ends : E → L → Type 0)
       let same : or_no_memory w.halt ≡ w.halt = keeps_halt w.halt (λ c. halted (sym h.halt ∙ c)) in
       ap (λ (z : ℕ × HubState). rests record { parts = w.parts; start = w.start; group = w.group; has = w.has; log = w.log; out = w.out; passes = w.passes; saw = z.0; halt = z.1; said = w.said; entered = w.entered; found = w.found }) (λ i. (saw i, sym same i))
 
+  -- what is told of a value is told of an equal one, as of what lies in its box
+  pub told_at : (v w : View L) (t t' : Value) → t' ≡ t → Told d ends v w t → Told d ends v w t'
+  told_at v w t t' is told = subst (λ x. Told d ends v w x) (sym is) told
+
   -- the same of the view as a step leaves it
   pub moved_hand : (x y : View L) (t : Value) → InHand d ends y t → x ≡ y → InHand d ends x t
   moved_hand x y t h is = subst (λ z. InHand d ends z t) (sym is) h

@@ -6,6 +6,7 @@
 --   Turned    the rule, which holds between any two steps
 --   Told      what taking the turn tells the seat
 use Rattle.std.specs.Prelude.{◌≡◌, ◌≢◌, ℕ, ◌<◌, ◌≤◌, Bool, true, List, [], ◌∷◌, ◌++◌, length, cond, slice_index, Option, Some, None}
+use Rattle.std.specs.Global.{Box}
 use mathlib.Core.Option as m
 use lib.ListN.{get_elem?}
 use Rattle.atomic_table.specs.Table.{State, Me, Step}
@@ -97,7 +98,7 @@ module _ {L R A E : Type 0} (d : HubMachine L R A E) (ends : E → L → Type 0)
     pub saw : v.saw ≡ 1 → over ≡ 1
     pub halted : v.halt ≢ All → v.halt ≡ state
 
-  pub record Turned (first : View L) (s : State (Option (Turn R A E)) (View L)) : Type 0 where
+  pub record Turned (first : View L) (s : State (Option (Box (Turn R A E))) (View L)) : Type 0 where
     pub log : List ℕ
     pub out : List ℕ
     pub over : ℕ
@@ -109,8 +110,8 @@ module _ {L R A E : Type 0} (d : HubMachine L R A E) (ends : E → L → Type 0)
     pub all : total parts_of s.views ≡ first.parts
     pub home :
         slice_index s.words 0 ≡ 0
-        → (t : Turn R A E) × (get_elem? s.homes 0 ≡ m.some (m.some (Some t)))
-        × Holds first.start first.group t log out × (over ≡ 1 → is_over t ≡ true) × (t.state ≡ state)
+        → (t : Box (Turn R A E)) × (get_elem? s.homes 0 ≡ m.some (m.some (Some t)))
+        × Holds first.start first.group t.value log out × (over ≡ 1 → is_over t.value ≡ true) × (t.value.state ≡ state)
     pub seats :
         (i : ℕ) (v : View L) → get_elem? s.views i ≡ m.some v
         → Knows first.start first.group log out over state v
@@ -121,7 +122,7 @@ module _ {L R A E : Type 0} (d : HubMachine L R A E) (ends : E → L → Type 0)
     pub known : state ≢ All → 0 < total halts s.views
 
   abbrev Sat : Type 0
-  Sat = Me (Option (Turn R A E)) (View L)
+  Sat = Me (Option (Box (Turn R A E))) (View L)
 
   abbrev pub said_of : Status R A E → Said
   said_of (Ready r) = mark.Ready
@@ -165,25 +166,25 @@ module _ {L R A E : Type 0} (d : HubMachine L R A E) (ends : E → L → Type 0)
   IsOpen me = me.1 ≡ (0, None) ∷ []
 
   pub record Took (me me' : Sat) : Type 0 where
-    pub value : Turn R A E
-    pub told : Told me.0 me'.0 value
+    pub value : Box (Turn R A E)
+    pub told : Told me.0 me'.0 value.value
     pub slot : me'.1 ≡ (0, Some value) ∷ []
 
   -- what each step tells
-  abbrev pub took : Step (Option (Turn R A E)) → Sat → ℕ → Sat → Type 0
+  abbrev pub took : Step (Option (Box (Turn R A E))) → Sat → ℕ → Sat → Type 0
   took st me r me' = (r ≡ 0 → Took me me') × (r ≢ 0 → me' ≡ me)
 
-  abbrev pub gave : Step (Option (Turn R A E)) → Sat → ℕ → Sat → Type 0
+  abbrev pub gave : Step (Option (Box (Turn R A E))) → Sat → ℕ → Sat → Type 0
   gave st me r me' = me' ≡ (rests me.0, [])
 
-  abbrev pub committed : Step (Option (Turn R A E)) → Sat → ℕ → Sat → Type 0
+  abbrev pub committed : Step (Option (Box (Turn R A E))) → Sat → ℕ → Sat → Type 0
   committed st me r me' = me' ≡ (commits st.first me.0, me.1)
 
-  abbrev pub handed_in : Step (Option (Turn R A E)) → Sat → ℕ → Sat → Type 0
+  abbrev pub handed_in : Step (Option (Box (Turn R A E))) → Sat → ℕ → Sat → Type 0
   handed_in st me r me' = me' ≡ (hands_in st.first me.0, me.1)
 
-  abbrev pub drew : Step (Option (Turn R A E)) → Sat → ℕ → Sat → Type 0
+  abbrev pub drew : Step (Option (Box (Turn R A E))) → Sat → ℕ → Sat → Type 0
   drew st me r me' = me' ≡ (draws st.first me.0, me.1)
 
-  abbrev pub stopped : HubState → Step (Option (Turn R A E)) → Sat → ℕ → Sat → Type 0
+  abbrev pub stopped : HubState → Step (Option (Box (Turn R A E))) → Sat → ℕ → Sat → Type 0
   stopped h st me r me' = me' ≡ (stops h me.0, me.1)

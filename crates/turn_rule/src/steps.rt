@@ -10,9 +10,9 @@ use atomic_table::{Badge, Join, Play, Split, TableRule};
 use hub_table::Turn;
 use std::marker::PhantomData;
 
-/// What the slot holds.
+/// What the slot holds. The value lies in a box, so that no step moves more than a pointer.
 pub type Slot<L> = Option<
-    Turn<<L as Revision>::Runner, <L as Revision>::AtJoin, <L as Revision>::End>,
+    Box<Turn<<L as Revision>::Runner, <L as Revision>::AtJoin, <L as Revision>::End>>,
 >;
 
 /// One seat has the turn. The key is a badge whose view has the start and the number of seats.
@@ -21,7 +21,7 @@ pub struct OneHolder<L: Revision> {
 }
 
 impl<L: Revision> TableRule<
-    Option<Turn<L::Runner, L::AtJoin, L::End>>,
+    Option<Box<Turn<L::Runner, L::AtJoin, L::End>>>,
     View<L::State>,
     Badge<View<L::State>>,
 > for OneHolder<L> {
@@ -34,7 +34,8 @@ pub struct Take<L: Revision> {
     of: PhantomData<L>,
 }
 
-impl<L: Revision> Play<Option<Turn<L::Runner, L::AtJoin, L::End>>, View<L::State>> for Take<L> {
+impl<L: Revision> Play<Option<Box<Turn<L::Runner, L::AtJoin, L::End>>>, View<L::State>>
+    for Take<L> {
     ghost then = { took L.machine L.ends };
 }
 
@@ -42,7 +43,8 @@ pub struct Give<L: Revision> {
     of: PhantomData<L>,
 }
 
-impl<L: Revision> Play<Option<Turn<L::Runner, L::AtJoin, L::End>>, View<L::State>> for Give<L> {
+impl<L: Revision> Play<Option<Box<Turn<L::Runner, L::AtJoin, L::End>>>, View<L::State>>
+    for Give<L> {
     ghost then = { gave L.machine L.ends };
 }
 
@@ -51,7 +53,8 @@ pub struct Commit<L: Revision> {
     of: PhantomData<L>,
 }
 
-impl<L: Revision> Play<Option<Turn<L::Runner, L::AtJoin, L::End>>, View<L::State>> for Commit<L> {
+impl<L: Revision> Play<Option<Box<Turn<L::Runner, L::AtJoin, L::End>>>, View<L::State>>
+    for Commit<L> {
     ghost then = { committed L.machine L.ends };
 }
 
@@ -59,7 +62,8 @@ pub struct HandIn<L: Revision> {
     of: PhantomData<L>,
 }
 
-impl<L: Revision> Play<Option<Turn<L::Runner, L::AtJoin, L::End>>, View<L::State>> for HandIn<L> {
+impl<L: Revision> Play<Option<Box<Turn<L::Runner, L::AtJoin, L::End>>>, View<L::State>>
+    for HandIn<L> {
     ghost then = { handed_in L.machine L.ends };
 }
 
@@ -67,7 +71,8 @@ pub struct Draw<L: Revision> {
     of: PhantomData<L>,
 }
 
-impl<L: Revision> Play<Option<Turn<L::Runner, L::AtJoin, L::End>>, View<L::State>> for Draw<L> {
+impl<L: Revision> Play<Option<Box<Turn<L::Runner, L::AtJoin, L::End>>>, View<L::State>>
+    for Draw<L> {
     ghost then = { drew L.machine L.ends };
 }
 
@@ -75,7 +80,7 @@ pub struct StopTwice<L: Revision> {
     of: PhantomData<L>,
 }
 
-impl<L: Revision> Play<Option<Turn<L::Runner, L::AtJoin, L::End>>, View<L::State>>
+impl<L: Revision> Play<Option<Box<Turn<L::Runner, L::AtJoin, L::End>>>, View<L::State>>
     for StopTwice<L> {
     ghost then = { stopped L.machine L.ends state.Twice };
 }
@@ -84,7 +89,7 @@ pub struct StopNoMemory<L: Revision> {
     of: PhantomData<L>,
 }
 
-impl<L: Revision> Play<Option<Turn<L::Runner, L::AtJoin, L::End>>, View<L::State>>
+impl<L: Revision> Play<Option<Box<Turn<L::Runner, L::AtJoin, L::End>>>, View<L::State>>
     for StopNoMemory<L> {
     ghost then = { stopped L.machine L.ends state.NoMemory };
 }

@@ -3,6 +3,7 @@ use Rattle.revision_machine.specs.Numbered.{at_number}
 use Rattle.hub_table.specs.declared.state.HubState.TheVariants.{All}
 use Rattle.hub_table.specs.Found.{ended_here}
 use Rattle.turn_rule.specs.Views.{rests, stops, or_no_memory}
+use Rattle.turn_rule.proofs.Turns.{told_at}
 use Rattle.turn_hub.proofs.Says.{waited, now_halted}
 use Rattle.turn_hub.proofs.Drawing.{same_found}
 use Rattle.turn_hub.proofs.hub.TurnHub.join.Goals as goal
@@ -14,14 +15,14 @@ pub join_in-requires-clause-group : goal.join_in-requires-clause-group
 join_in-requires-clause-group g c = c.requires.group ∙ sym c.enter-turn.ensures.told.group
 
 pub keep_in-requires-clause-told : goal.keep_in-requires-clause-told
-keep_in-requires-clause-told g c = (c.args.seat.now.place.me.0, c.enter-turn.ensures.told, c.requires.event)
+keep_in-requires-clause-told g c = (c.args.seat.now.place.me.0, (told_at _ _ _ _ _ _ c.deref_mut.ensures.value c.enter-turn.ensures.told), c.requires.event)
 
 pub keep_in-requires-clause-group : goal.keep_in-requires-clause-group
 keep_in-requires-clause-group g c = c.requires.group ∙ sym c.enter-turn.ensures.told.group
 
 pub keep_in-requires-clause-waits : goal.keep_in-requires-clause-waits
 keep_in-requires-clause-waits g c =
-    let not_ended : ended_here (at_number c.enter-turn.result.revisions.slots.items (g.L.Revision.machine.on c.args.at)) ≡ false = search rules in not_ended
+    let not_ended : ended_here (at_number c.deref_mut.result.now.revisions.slots.items (g.L.Revision.machine.on c.args.at)) ≡ false = search rules in not_ended
 
 pub returns-then-has_ended-clause-answer : goal.returns-then-has_ended-clause-answer
 returns-then-has_ended-clause-answer g c =
@@ -31,14 +32,15 @@ returns-then-has_ended-clause-answer g c =
 
 pub returns-in-Ok-clause-answer : goal.returns-in-Ok-clause-answer
 returns-in-Ok-clause-answer g c =
-    let none : c.enter-turn.result.state ≡ All = search rules in
-    let not_ended : ended_here (at_number c.enter-turn.result.revisions.slots.items (g.L.Revision.machine.on c.args.at)) ≡ false = search rules in
-    waited _ _ _ _ _ c.enter-turn.result _ _ c.enter-turn.ensures.told none not_ended (ap (λ m. m.0) c.put_home.ensures.rests ∙ ap rests c.in-Ok.ensures.ok.0)
+    let opened : c.enter-turn.result.value.state ≡ All = search rules in
+    let none : c.deref_mut.result.now.state ≡ All = ap (λ t. t.state) c.deref_mut.ensures.value ∙ opened in
+    let not_ended : ended_here (at_number c.deref_mut.result.now.revisions.slots.items (g.L.Revision.machine.on c.args.at)) ≡ false = search rules in
+    waited _ _ _ _ _ c.deref_mut.result.now _ _ (told_at _ _ _ _ _ _ c.deref_mut.ensures.value c.enter-turn.ensures.told) none not_ended (ap (λ m. m.0) c.put_home.ensures.rests ∙ ap rests c.in-Ok.ensures.ok.0)
 
 pub returns-in-Err-clause-answer : goal.returns-in-Err-clause-answer
 returns-in-Err-clause-answer g c =
     let is = c.in-Err.ensures.err in
-    (is.0, now_halted _ _ _ _ _ c.enter-turn.result c.enter-turn.ensures.told (ap (λ m. m.0) c.put_home_halted-in-Err.ensures.rests ∙ ap (λ v. rests (stops (or_no_memory v.halt) v)) is.1))
+    (is.0, now_halted _ _ _ _ _ c.enter-turn.result.value c.enter-turn.ensures.told (ap (λ m. m.0) c.put_home_halted-in-Err.ensures.rests ∙ ap (λ v. rests (stops (or_no_memory v.halt) v)) is.1))
 
 pub returns-then-is_some-clause-answer : goal.returns-then-is_some-clause-answer
-returns-then-is_some-clause-answer g c = (refl, now_halted _ _ _ _ _ c.enter-turn.result c.enter-turn.ensures.told (ap (λ m. m.0) c.put_home_halted.ensures.rests))
+returns-then-is_some-clause-answer g c = (refl, now_halted _ _ _ _ _ c.enter-turn.result.value c.enter-turn.ensures.told (ap (λ m. m.0) c.put_home_halted.ensures.rests))

@@ -1,4 +1,4 @@
-use Rattle.std.proofs.Common.{rules, ◌≡◌, ◌≢◌, ap, ◌∙◌}
+use Rattle.std.proofs.Common.{rules, ◌≡◌, ◌≢◌, sym, ap, ◌∙◌}
 use Rattle.hub_table.specs.declared.state.HubState.TheVariants.{All}
 use Rattle.hub_table.proofs.Queues.{queue_over, queue_open}
 use Rattle.turn_hub.proofs.Says.{ran_after, retried_after, idle_now, finished, was_halted}
@@ -6,27 +6,27 @@ use Rattle.turn_hub.proofs.hub.TurnHub.take.Goals as goal
 
 pub take_next-requires-clause-free : goal.take_next-requires-clause-free
 take_next-requires-clause-free g c =
-    let none : c.enter-turn.result.state ≡ All = search rules in (none, c.enter-turn.ensures.told.entered ∙ none)
+    let none : c.enter-turn.result.value.state ≡ All = search rules in (none, c.enter-turn.ensures.told.entered ∙ none)
 
 pub returns-in-Run-clause-answer : goal.returns-in-Run-clause-answer
-returns-in-Run-clause-answer g c = ran_after _ _ _ _ _ c.enter-turn.result _ _ c.enter-turn.ensures.told c.take_next.ensures.turn c.in-Run.ensures.answer
+returns-in-Run-clause-answer g c = ran_after _ _ _ _ _ c.enter-turn.result.value _ _ c.enter-turn.ensures.told c.take_next.ensures.turn c.in-Run.ensures.answer
 
 pub returns-in-Retry-clause-answer : goal.returns-in-Retry-clause-answer
-returns-in-Retry-clause-answer g c = retried_after _ _ _ _ _ c.enter-turn.result _ _ c.enter-turn.ensures.told c.take_next.ensures.turn c.in-Retry.ensures.answer
+returns-in-Retry-clause-answer g c = retried_after _ _ _ _ _ c.enter-turn.result.value _ _ c.enter-turn.ensures.told c.take_next.ensures.turn c.in-Retry.ensures.answer
 
 pub returns-then-over-clause-answer : goal.returns-then-over-clause-answer
 returns-then-over-clause-answer g c =
-    let none : c.enter-turn.result.state ≡ All = search rules in
+    let none : c.enter-turn.result.value.state ≡ All = search rules in
     let told = c.enter-turn.ensures.told in
-    let zero : c.enter-turn.result.revisions.queue.unfinished ≡ 0 = search rules in
-    finished _ _ _ _ _ c.enter-turn.result told none (queue_over g.L.Revision.machine _ _ told.hand.holds.queued zero) c.take_next.ensures.turn c.in-Nothing.ensures.answer
+    let zero : c.enter-turn.result.value.revisions.queue.unfinished ≡ 0 = search rules in
+    finished _ _ _ _ _ c.enter-turn.result.value told none (queue_over g.L.Revision.machine _ _ told.hand.holds.queued zero) c.take_next.ensures.turn c.in-Nothing.ensures.answer
 
 pub returns-else-over-clause-answer : goal.returns-else-over-clause-answer
 returns-else-over-clause-answer g c =
     let told = c.enter-turn.ensures.told in
-    let some : c.enter-turn.result.revisions.queue.unfinished ≢ 0 = search rules in
-    idle_now _ _ _ _ _ c.enter-turn.result told (queue_open g.L.Revision.machine _ _ told.hand.holds.queued some) c.take_next.ensures.turn c.in-Nothing.ensures.answer
+    let some : c.enter-turn.result.value.revisions.queue.unfinished ≢ 0 = search rules in
+    idle_now _ _ _ _ _ c.enter-turn.result.value told (queue_open g.L.Revision.machine _ _ told.hand.holds.queued some) c.take_next.ensures.turn c.in-Nothing.ensures.answer
 
 pub returns-in-Some-clause-answer : goal.returns-in-Some-clause-answer
 returns-in-Some-clause-answer g c =
-    was_halted _ _ _ _ _ c.enter-turn.result _ c.enter-turn.ensures.told c.in-Some.ensures (ap (λ m. m.0) c.put_home.ensures.rests)
+    was_halted _ _ _ _ _ c.enter-turn.result.value _ c.enter-turn.ensures.told (ap (λ t. t.state) (sym c.deref.ensures) ∙ c.in-Some.ensures) (ap (λ m. m.0) c.put_home.ensures.rests)

@@ -1,4 +1,6 @@
-use Rattle.std.proofs.Common.{ap, ◌∙◌}
+use Rattle.std.proofs.Common.{ap, ◌∙◌, subst}
+use Rattle.turn_rule.specs.Rule.{says}
+use Rattle.turn_hub.specs.Answers.{OnwardSays}
 use Rattle.turn_hub.proofs.Drawing.{turn_rests, onward_rests}
 use Rattle.turn_hub.proofs.hub.TurnHub.take_next.Goals as goal
 
@@ -9,4 +11,6 @@ pub returns-clause-turn : goal.returns-clause-turn
 returns-clause-turn g c = turn_rests _ _ _ c.draw_next-next.ensures.turn (ap (λ m. m.0) c.put_home.ensures.rests)
 
 pub returns-clause-answer : goal.returns-clause-answer
-returns-clause-answer g c = onward_rests _ _ _ _ _ _ _ c.draw_next-next.ensures.answer (ap (λ m. m.0) c.put_home.ensures.rests)
+returns-clause-answer g c =
+    subst (λ t. OnwardSays g.L.Revision.machine g.L.Revision.ends (says g.L.Revision.machine g.L.Revision.ends t.revisions.slots.items) c.args.place.now.me.0 c.put_home.new.place.me.0 c.draw_next-next.result) c.deref_mut.ensures.value
+    (onward_rests _ _ _ _ _ _ _ c.draw_next-next.ensures.answer (ap (λ m. m.0) c.put_home.ensures.rests))

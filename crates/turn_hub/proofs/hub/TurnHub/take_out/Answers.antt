@@ -18,5 +18,5 @@ unwrap-requires g c = let f = c.close_with-closed.ensures.values.2 in let seen =
 pub returns : goal.returns
 returns g c = let f = c.close_with-closed.ensures.values.2 in let seen = f.1 in let t = home_at_end _ _ _ f.0 seen.0 _ _ seen.1 c.requires.own.1.0 c.requires.own.1.2 c.requires.every in
     let is : c.take-value.result ≡ Some t.value = m.some-injective _ _ (sym c.take-value.ensures.value ∙ f.4 0 (Some t.value) t.home) in
-    let same = ap (value_or t.value) (sym is ∙ c.unwrap.ensures) in
+    let same = ap (λ o. (value_or t.value o).value) (sym is ∙ c.unwrap.ensures) ∙ sym c.into_inner.ensures in
     subst (ClosedTurn g.L.Revision.machine g.L.Revision.ends (first_of c.args.self.turn.shared.key.views) c.args.place.me.0) same (closes _ _ _ _ _ t c.requires.over)
