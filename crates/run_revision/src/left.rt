@@ -8,11 +8,12 @@ use leg_run::CodeSetting;
 use std::marker::Model;
 use version_map::{EndValue, Finish};
 
-/// What a revision leaves, with what it ran under. Contracts see its end.
+/// What a revision leaves, with what it ran under. It lies in a box, so that it is small to move.
+/// Contracts see its end.
 #[derive(Drop)]
 pub struct CodeEnd<'a> {
     pub(crate) setting: &'a CodeSetting,
-    pub(crate) value: EndValue,
+    pub(crate) value: Box<EndValue>,
 }
 
 impl<'a> Model for CodeEnd<'a> {
@@ -26,11 +27,11 @@ impl<'a> Model for CodeEnd<'a> {
 
     ghost view = { λ e. record {
       run = run_under e.setting.now;
-      left = end_for (run_under e.setting.now) e.value;
+      left = end_for (run_under e.setting.now) e.value.value;
     } };
 
     ghost invariant = { λ e. IsEnd (run_under e.setting.now)
-        (end_for (run_under e.setting.now) e.value) e.value };
+        (end_for (run_under e.setting.now) e.value.value) e.value.value };
 }
 
 impl<'a> CodeEnd<'a> {
@@ -38,7 +39,7 @@ impl<'a> CodeEnd<'a> {
     pub fn value(&self) -> &EndValue
         ensures { IsEnd self.now.run self.now.left result.now }
     {
-        &self.value
+        &*self.value
     }
 
     /// Whether it ended by a trap.

@@ -1,5 +1,5 @@
 //! The legs of revisions of code, between the calls of a hub.
-ghost use Rattle.std.specs.Prelude.{◌≡◌, ◌≢◌, IfSome};
+ghost use Rattle.std.specs.Prelude.{◌≡◌, ◌≢◌, IfOk, IfSome};
 ghost use Rattle.version_map.specs.declared.end.Finish.TheVariants.{Done, Trapped};
 ghost use Rattle.hub_workers.specs.Legs.{IsSameHand};
 ghost use Rattle.rev_vm.specs.Meaning.{IsEnd};
@@ -17,7 +17,7 @@ use crate::runner::CodeRunner;
 use hub_workers::{Event, Legs, Settled};
 use leg_run::CodeSetting;
 use rev_vm::{Event as VmEvent, Settled as VmSettled, Stopped, retire, run_leg, settle};
-use std::alloc::AllocError;
+use std::alloc::{AllocError, Global};
 use version_map::{CodeTrap, EndValue, Finish, MergeBy, Snapshot};
 
 /// The trap with which a revision ended.
@@ -31,11 +31,45 @@ fn trap_of(value: &EndValue) -> CodeTrap
     }
 }
 
-/// What a revision left, whose snapshot is given back.
+/// What a revision left, in a box. Where memory is wanting for the box, it is let go of.
+fn in_box<'a>(
+    alloc: Global,
+    setting: &'a CodeSetting,
+    value: EndValue,
+) -> Result<CodeEnd<'a>, AllocError>
+    requires { IsEnd (run_under setting.now) (end_for (run_under setting.now) value) value }
+    ensures run { IfOk result (λ e. e.run ≡ run_under setting.entry.now) }
+    ensures left { IfOk result (λ e. e.left ≡ end_for (run_under setting.entry.now) value) }
+{
+    let value = Box::new(alloc, value)?;
+    Ok(CodeEnd { setting, value })
+}
+
+/// What a revision left, whose snapshot is given back, also where memory is wanting.
 fn leave<'a, P: Snapshot, M: MergeBy, K: Keeper<P>>(
     hand: &mut CodeHand<'a, P, M, K>,
     setting: &'a CodeSetting,
     stopped: Stopped<P>,
+) -> Result<CodeEnd<'a>, AllocError>
+    requires end { IsEnd (run_under setting.now)
+        (end_for (run_under setting.now) stopped.end) stopped.end }
+    requires group { P.group stopped.snapshot ≡ hand.old.group }
+    ensures run { IfOk result (λ e. e.run ≡ run_under setting.entry.now) }
+    ensures left { IfOk result
+        (λ e. e.left ≡ end_for (run_under setting.entry.now) stopped.end) }
+    ensures hand { IsSameHand hands.begins (λ h. h.group) hand.old hand.new }
+{
+    let (value, spent) = retire(stopped);
+    hand.keeper.keep(spent);
+    in_box(hand.alloc, setting, value)
+}
+
+/// The same in a box that is there already, so that no memory can be wanting.
+fn leave_in<'a, P: Snapshot, M: MergeBy, K: Keeper<P>>(
+    hand: &mut CodeHand<'a, P, M, K>,
+    setting: &'a CodeSetting,
+    stopped: Stopped<P>,
+    mut place: Box<EndValue>,
 ) -> CodeEnd<'a>
     requires end { IsEnd (run_under setting.now)
         (end_for (run_under setting.now) stopped.end) stopped.end }
@@ -46,7 +80,11 @@ fn leave<'a, P: Snapshot, M: MergeBy, K: Keeper<P>>(
 {
     let (value, spent) = retire(stopped);
     hand.keeper.keep(spent);
-    CodeEnd { setting, value }
+    *place = value;
+    CodeEnd {
+        setting,
+        value: place,
+    }
 }
 
 /// Keeps what is left of the snapshot of a child, where it had one.
@@ -89,8 +127,8 @@ impl<'a, P: Snapshot, M: MergeBy, K: Keeper<P>> Legs for CodeRevisions<'a, P, M,
         match run_leg(hand.alloc, runner, setting) {
             Ok(VmEvent::Fork(at)) => Ok(Event::Fork(CodeFork { setting, at })),
             Ok(VmEvent::Join(at)) => Ok(Event::Join(CodeJoiner { setting, at })),
-            Ok(VmEvent::End(stopped)) => Ok(Event::End(leave(hand, setting, stopped))),
-            Ok(VmEvent::Trap(stopped)) => Ok(Event::End(leave(hand, setting, stopped))),
+            Ok(VmEvent::End(stopped)) => Ok(Event::End(leave(hand, setting, stopped)?)),
+            Ok(VmEvent::Trap(stopped)) => Ok(Event::End(leave(hand, setting, stopped)?)),
             Err(broken) => {
                 hand.keeper.keep(broken.give_up());
                 Err(AllocError)
@@ -135,9 +173,10 @@ impl<'a, P: Snapshot, M: MergeBy, K: Keeper<P>> Legs for CodeRevisions<'a, P, M,
         let JoinedBy { at, end } = claimed;
         let CodeJoiner { setting, at } = at;
         let CodeEnd { setting: _, value } = end;
-        match settle(hand.alloc, at.claim(value), &mut hand.merges) {
+        let left = Box::into_inner(value);
+        match settle(hand.alloc, at.claim(left), &mut hand.merges) {
             Ok(VmSettled::Run(runner)) => Ok(Settled::Run(CodeRunner { setting, runner })),
-            Ok(VmSettled::Trap(stopped)) => Ok(Settled::Trap(leave(hand, setting, stopped))),
+            Ok(VmSettled::Trap(stopped)) => Ok(Settled::Trap(leave(hand, setting, stopped)?)),
             Err(broken) => {
                 hand.keeper.keep(broken.give_up());
                 Err(AllocError)
@@ -148,8 +187,9 @@ impl<'a, P: Snapshot, M: MergeBy, K: Keeper<P>> Legs for CodeRevisions<'a, P, M,
     fn retire(hand: &mut CodeHand<'a, P, M, K>, stopped: Ended<'a, P>) -> CodeEnd<'a> {
         let Ended { at, end } = stopped;
         let CodeJoiner { setting, at } = at;
-        let trap = trap_of(&end.value);
-        leave(hand, setting, at.trapped(trap))
+        let CodeEnd { setting: _, value } = end;
+        let trap = trap_of(&*value);
+        leave_in(hand, setting, at.trapped(trap), value)
     }
 
     fn dropped(at: CodeJoiner<'a, P>) -> CodeRunner<'a, P> {

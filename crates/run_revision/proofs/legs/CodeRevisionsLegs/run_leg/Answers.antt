@@ -53,14 +53,14 @@ returns-in-Ok-Join-clause-event g c =
     joins_here own (runner_state own c.runner.inside.runner) e.0 a c.args.runner.state (ap (λ x. x.state) c.runner.view_is) refl
     (one_joining own at.revision.value.run at.revision.value.memory.delta (g.P.Snapshot.base at.revision.value.memory.snapshot) at.revision.value.memory.first.roots at.written at.is_try at.on e.0 e.2) e.1
 
-pub returns-in-Ok-End-clause-event : goal.returns-in-Ok-End-clause-event
-returns-in-Ok-End-clause-event g c =
+pub returns-in_ok-leave-in-Ok-End-clause-event : goal.returns-in_ok-leave-in-Ok-End-clause-event
+returns-in_ok-leave-in-Ok-End-clause-event g c =
     let own = run_under c.runner.inside.setting.now in
     let e = rw c.in-Ok-End.field-0-is at (c.in-Ok-End.ensures.event (runner_state own c.runner.inside.runner) c.runner.invariant.1) in
-    ends_here forker child own (runner_state own c.runner.inside.runner) e.0 e.1 c.in-Ok-End.stopped.end c.args.runner.state c.leave.result (ap (λ x. x.state) c.runner.view_is) e.2 e.3 (rw c.in-Ok-End.field-0-is at c.in-Ok-End.ensures.own) c.leave.ensures.run c.leave.ensures.left
+    ends_here forker child own (runner_state own c.runner.inside.runner) e.0 e.1 c.in-Ok-End.stopped.end c.args.runner.state c.in_ok-leave-in-Ok-End.field-0 (ap (λ x. x.state) c.runner.view_is) e.2 e.3 (rw c.in-Ok-End.field-0-is at c.in-Ok-End.ensures.own) c.in_ok-leave-in-Ok-End.ensures.run c.in_ok-leave-in-Ok-End.ensures.left
 
-pub returns-in-Ok-Trap-clause-event : goal.returns-in-Ok-Trap-clause-event
-returns-in-Ok-Trap-clause-event g c =
+pub returns-in_ok-leave-in-Ok-Trap-clause-event : goal.returns-in_ok-leave-in-Ok-Trap-clause-event
+returns-in_ok-leave-in-Ok-Trap-clause-event g c =
     let own = run_under c.runner.inside.setting.now in
     let e = rw c.in-Ok-Trap.field-0-is at (c.in-Ok-Trap.ensures.event (runner_state own c.runner.inside.runner) c.runner.invariant.1) in
-    traps_here forker child own (runner_state own c.runner.inside.runner) e.0 e.1 c.in-Ok-Trap.stopped.end c.args.runner.state c.leave-in-Ok-Trap.result (ap (λ x. x.state) c.runner.view_is) e.2 e.3 (rw c.in-Ok-Trap.field-0-is at c.in-Ok-Trap.ensures.own) c.leave-in-Ok-Trap.ensures.run c.leave-in-Ok-Trap.ensures.left
+    traps_here forker child own (runner_state own c.runner.inside.runner) e.0 e.1 c.in-Ok-Trap.stopped.end c.args.runner.state c.in_ok-leave-in-Ok-Trap.field-0 (ap (λ x. x.state) c.runner.view_is) e.2 e.3 (rw c.in-Ok-Trap.field-0-is at c.in-Ok-Trap.ensures.own) c.in_ok-leave-in-Ok-Trap.ensures.run c.in_ok-leave-in-Ok-Trap.ensures.left

@@ -1,4 +1,4 @@
-use Rattle.std.proofs.Common.{◌≡◌, refl, ℕ, ◌+◌, ◌<◌, true, false, sym, ap, ◌∙◌, subst}
+use Rattle.std.proofs.Common.{◌≡◌, refl, ℕ, ◌+◌, ◌<◌, ◌^◌, true, false, sym, ap, ◌∙◌, subst}
 use Rattle.block_merges.specs.Merging.{AreMergesOf}
 use Rattle.block_run.specs.Area.{count}
 use Rattle.code_machine.specs.Local.{at_work, end_of, End}
@@ -25,7 +25,8 @@ claim-requires g c =
     let its = run_under c.end.inside.setting.now in
     let mine = run_under c.hand.inside.setting.now in
     let s = joiner_state own c.at.inside.at in
-    fuels own its mine s c.at.inside.at.is_try c.at.inside.at.on (joiner_group c.at.inside.at) c.end.inside.value c.args.hand.now q.0 q.1 (c.at.view_is ∙ q.2.0) (c.end.view_is ∙ q.2.1) (ap (λ z. z.run) c.hand.view_is) q.4
+    subst (λ v. s.fuel + v.fuel < 2 ^ 64) (sym c.into_inner-left.ensures)
+    (fuels own its mine s c.at.inside.at.is_try c.at.inside.at.on (joiner_group c.at.inside.at) c.end.inside.value.value c.args.hand.now q.0 q.1 (c.at.view_is ∙ q.2.0) (c.end.view_is ∙ q.2.1) (ap (λ z. z.run) c.hand.view_is) q.4)
 
 pub settle-requires : goal.settle-requires
 settle-requires g c =
@@ -34,18 +35,18 @@ settle-requires g c =
     let its = run_under c.end.inside.setting.now in
     let mine = run_under c.hand.inside.setting.now in
     let s = joiner_state own c.at.inside.at in
-    let j : End ℕ = end_for own c.end.inside.value in
-    let same = same_hand own its mine s c.at.inside.at.is_try c.at.inside.at.on (joiner_group c.at.inside.at) c.end.inside.value c.args.hand.now q.0 q.1 (c.at.view_is ∙ q.2.0) (c.end.view_is ∙ q.2.1) (ap (λ z. z.run) c.hand.view_is) q.4 in
-    let alike = same_end own its mine s c.at.inside.at.is_try c.at.inside.at.on (joiner_group c.at.inside.at) c.end.inside.value c.args.hand.now q.0 q.1 (c.at.view_is ∙ q.2.0) (c.end.view_is ∙ q.2.1) (ap (λ z. z.run) c.hand.view_is) q.4 in
+    let j : End ℕ = end_for own c.end.inside.value.value in
+    let same = same_hand own its mine s c.at.inside.at.is_try c.at.inside.at.on (joiner_group c.at.inside.at) c.end.inside.value.value c.args.hand.now q.0 q.1 (c.at.view_is ∙ q.2.0) (c.end.view_is ∙ q.2.1) (ap (λ z. z.run) c.hand.view_is) q.4 in
+    let alike = same_end own its mine s c.at.inside.at.is_try c.at.inside.at.on (joiner_group c.at.inside.at) c.end.inside.value.value c.args.hand.now q.0 q.1 (c.at.view_is ∙ q.2.0) (c.end.view_is ∙ q.2.1) (ap (λ z. z.run) c.hand.view_is) q.4 in
     let at = c.at.inside.at in
-    let has : IsClaimed own at.revision.value.run at.revision.value.memory.delta (g.P.Snapshot.base at.revision.value.memory.snapshot) at.revision.value.memory.first.roots at.written at.is_try at.on c.end.inside.value s j = record {
+    let has : IsClaimed own at.revision.value.run at.revision.value.memory.delta (g.P.Snapshot.base at.revision.value.memory.snapshot) at.revision.value.memory.first.roots at.written at.is_try at.on c.end.inside.value.value s j = record {
       joiner = c.at.invariant.1;
-      joinee = subst (λ z. IsEnd z (end_for z c.end.inside.value) c.end.inside.value) alike c.end.invariant;
-      done = is_done own its mine s c.at.inside.at.is_try c.at.inside.at.on (joiner_group c.at.inside.at) c.end.inside.value c.args.hand.now q.0 q.1 (c.at.view_is ∙ q.2.0) (c.end.view_is ∙ q.2.1) (ap (λ z. z.run) c.hand.view_is) q.4 q.3;
+      joinee = subst (λ z. IsEnd z (end_for z c.end.inside.value.value) c.end.inside.value.value) alike c.end.invariant;
+      done = is_done own its mine s c.at.inside.at.is_try c.at.inside.at.on (joiner_group c.at.inside.at) c.end.inside.value.value c.args.hand.now q.0 q.1 (c.at.view_is ∙ q.2.0) (c.end.view_is ∙ q.2.1) (ap (λ z. z.run) c.hand.view_is) q.4 q.3;
     } in
     let given : IsClaimed own c.claim.result.at.revision.value.run c.claim.result.at.revision.value.memory.delta (g.P.Snapshot.base c.claim.result.at.revision.value.memory.snapshot) c.claim.result.at.revision.value.memory.first.roots c.claim.result.at.written c.claim.result.at.is_try c.claim.result.at.on c.claim.result.end s j =
-    subst (λ v. IsClaimed own c.claim.result.at.revision.value.run c.claim.result.at.revision.value.memory.delta (g.P.Snapshot.base c.claim.result.at.revision.value.memory.snapshot) c.claim.result.at.revision.value.memory.first.roots c.claim.result.at.written c.claim.result.at.is_try c.claim.result.at.on v s j) (sym c.claim.ensures.end)
-    (subst (λ k. IsClaimed own k.revision.value.run k.revision.value.memory.delta (g.P.Snapshot.base k.revision.value.memory.snapshot) k.revision.value.memory.first.roots k.written k.is_try k.on c.end.inside.value s j) (sym c.claim.ensures.at) has) in
+    subst (λ v. IsClaimed own c.claim.result.at.revision.value.run c.claim.result.at.revision.value.memory.delta (g.P.Snapshot.base c.claim.result.at.revision.value.memory.snapshot) c.claim.result.at.revision.value.memory.first.roots c.claim.result.at.written c.claim.result.at.is_try c.claim.result.at.on v s j) (sym (c.claim.ensures.end ∙ c.into_inner-left.ensures))
+    (subst (λ k. IsClaimed own k.revision.value.run k.revision.value.memory.delta (g.P.Snapshot.base k.revision.value.memory.snapshot) k.revision.value.memory.first.roots k.written k.is_try k.on c.end.inside.value.value s j) (sym c.claim.ensures.at) has) in
     let merges : AreMergesOf own (g.M.MergeBy.merges c.hand.inside.merges) = subst (λ z. AreMergesOf z (g.M.MergeBy.merges c.hand.inside.merges)) (sym same) c.hand.invariant.2 in
     (own, s, j, given, c.hand.invariant.1 ∙ ap (λ z. count z.code.vars) (sym same))
 
@@ -56,18 +57,18 @@ invariant_of-result g c =
     let its = run_under c.end.inside.setting.now in
     let mine = run_under c.hand.inside.setting.now in
     let s = joiner_state own c.at.inside.at in
-    let j : End ℕ = end_for own c.end.inside.value in
-    let same = same_hand own its mine s c.at.inside.at.is_try c.at.inside.at.on (joiner_group c.at.inside.at) c.end.inside.value c.args.hand.now q.0 q.1 (c.at.view_is ∙ q.2.0) (c.end.view_is ∙ q.2.1) (ap (λ z. z.run) c.hand.view_is) q.4 in
-    let alike = same_end own its mine s c.at.inside.at.is_try c.at.inside.at.on (joiner_group c.at.inside.at) c.end.inside.value c.args.hand.now q.0 q.1 (c.at.view_is ∙ q.2.0) (c.end.view_is ∙ q.2.1) (ap (λ z. z.run) c.hand.view_is) q.4 in
+    let j : End ℕ = end_for own c.end.inside.value.value in
+    let same = same_hand own its mine s c.at.inside.at.is_try c.at.inside.at.on (joiner_group c.at.inside.at) c.end.inside.value.value c.args.hand.now q.0 q.1 (c.at.view_is ∙ q.2.0) (c.end.view_is ∙ q.2.1) (ap (λ z. z.run) c.hand.view_is) q.4 in
+    let alike = same_end own its mine s c.at.inside.at.is_try c.at.inside.at.on (joiner_group c.at.inside.at) c.end.inside.value.value c.args.hand.now q.0 q.1 (c.at.view_is ∙ q.2.0) (c.end.view_is ∙ q.2.1) (ap (λ z. z.run) c.hand.view_is) q.4 in
     let at = c.at.inside.at in
-    let has : IsClaimed own at.revision.value.run at.revision.value.memory.delta (g.P.Snapshot.base at.revision.value.memory.snapshot) at.revision.value.memory.first.roots at.written at.is_try at.on c.end.inside.value s j = record {
+    let has : IsClaimed own at.revision.value.run at.revision.value.memory.delta (g.P.Snapshot.base at.revision.value.memory.snapshot) at.revision.value.memory.first.roots at.written at.is_try at.on c.end.inside.value.value s j = record {
       joiner = c.at.invariant.1;
-      joinee = subst (λ z. IsEnd z (end_for z c.end.inside.value) c.end.inside.value) alike c.end.invariant;
-      done = is_done own its mine s c.at.inside.at.is_try c.at.inside.at.on (joiner_group c.at.inside.at) c.end.inside.value c.args.hand.now q.0 q.1 (c.at.view_is ∙ q.2.0) (c.end.view_is ∙ q.2.1) (ap (λ z. z.run) c.hand.view_is) q.4 q.3;
+      joinee = subst (λ z. IsEnd z (end_for z c.end.inside.value.value) c.end.inside.value.value) alike c.end.invariant;
+      done = is_done own its mine s c.at.inside.at.is_try c.at.inside.at.on (joiner_group c.at.inside.at) c.end.inside.value.value c.args.hand.now q.0 q.1 (c.at.view_is ∙ q.2.0) (c.end.view_is ∙ q.2.1) (ap (λ z. z.run) c.hand.view_is) q.4 q.3;
     } in
     let given : IsClaimed own c.claim.result.at.revision.value.run c.claim.result.at.revision.value.memory.delta (g.P.Snapshot.base c.claim.result.at.revision.value.memory.snapshot) c.claim.result.at.revision.value.memory.first.roots c.claim.result.at.written c.claim.result.at.is_try c.claim.result.at.on c.claim.result.end s j =
-    subst (λ v. IsClaimed own c.claim.result.at.revision.value.run c.claim.result.at.revision.value.memory.delta (g.P.Snapshot.base c.claim.result.at.revision.value.memory.snapshot) c.claim.result.at.revision.value.memory.first.roots c.claim.result.at.written c.claim.result.at.is_try c.claim.result.at.on v s j) (sym c.claim.ensures.end)
-    (subst (λ k. IsClaimed own k.revision.value.run k.revision.value.memory.delta (g.P.Snapshot.base k.revision.value.memory.snapshot) k.revision.value.memory.first.roots k.written k.is_try k.on c.end.inside.value s j) (sym c.claim.ensures.at) has) in
+    subst (λ v. IsClaimed own c.claim.result.at.revision.value.run c.claim.result.at.revision.value.memory.delta (g.P.Snapshot.base c.claim.result.at.revision.value.memory.snapshot) c.claim.result.at.revision.value.memory.first.roots c.claim.result.at.written c.claim.result.at.is_try c.claim.result.at.on v s j) (sym (c.claim.ensures.end ∙ c.into_inner-left.ensures))
+    (subst (λ k. IsClaimed own k.revision.value.run k.revision.value.memory.delta (g.P.Snapshot.base k.revision.value.memory.snapshot) k.revision.value.memory.first.roots k.written k.is_try k.on c.end.inside.value.value s j) (sym c.claim.ensures.at) has) in
     let merges : AreMergesOf own (g.M.MergeBy.merges c.hand.inside.merges) = subst (λ z. AreMergesOf z (g.M.MergeBy.merges c.hand.inside.merges)) (sym same) c.hand.invariant.2 in
     let r = rw c.in-Ok-Run.field-0-is at (c.in-Ok-Run.ensures.settled own s j given merges) in
     (c.at.invariant.0, at_own own _ _ _ _ _ r.2)
@@ -100,18 +101,18 @@ leave-requires-clause-end g c =
     let its = run_under c.end.inside.setting.now in
     let mine = run_under c.hand.inside.setting.now in
     let s = joiner_state own c.at.inside.at in
-    let j : End ℕ = end_for own c.end.inside.value in
-    let same = same_hand own its mine s c.at.inside.at.is_try c.at.inside.at.on (joiner_group c.at.inside.at) c.end.inside.value c.args.hand.now q.0 q.1 (c.at.view_is ∙ q.2.0) (c.end.view_is ∙ q.2.1) (ap (λ z. z.run) c.hand.view_is) q.4 in
-    let alike = same_end own its mine s c.at.inside.at.is_try c.at.inside.at.on (joiner_group c.at.inside.at) c.end.inside.value c.args.hand.now q.0 q.1 (c.at.view_is ∙ q.2.0) (c.end.view_is ∙ q.2.1) (ap (λ z. z.run) c.hand.view_is) q.4 in
+    let j : End ℕ = end_for own c.end.inside.value.value in
+    let same = same_hand own its mine s c.at.inside.at.is_try c.at.inside.at.on (joiner_group c.at.inside.at) c.end.inside.value.value c.args.hand.now q.0 q.1 (c.at.view_is ∙ q.2.0) (c.end.view_is ∙ q.2.1) (ap (λ z. z.run) c.hand.view_is) q.4 in
+    let alike = same_end own its mine s c.at.inside.at.is_try c.at.inside.at.on (joiner_group c.at.inside.at) c.end.inside.value.value c.args.hand.now q.0 q.1 (c.at.view_is ∙ q.2.0) (c.end.view_is ∙ q.2.1) (ap (λ z. z.run) c.hand.view_is) q.4 in
     let at = c.at.inside.at in
-    let has : IsClaimed own at.revision.value.run at.revision.value.memory.delta (g.P.Snapshot.base at.revision.value.memory.snapshot) at.revision.value.memory.first.roots at.written at.is_try at.on c.end.inside.value s j = record {
+    let has : IsClaimed own at.revision.value.run at.revision.value.memory.delta (g.P.Snapshot.base at.revision.value.memory.snapshot) at.revision.value.memory.first.roots at.written at.is_try at.on c.end.inside.value.value s j = record {
       joiner = c.at.invariant.1;
-      joinee = subst (λ z. IsEnd z (end_for z c.end.inside.value) c.end.inside.value) alike c.end.invariant;
-      done = is_done own its mine s c.at.inside.at.is_try c.at.inside.at.on (joiner_group c.at.inside.at) c.end.inside.value c.args.hand.now q.0 q.1 (c.at.view_is ∙ q.2.0) (c.end.view_is ∙ q.2.1) (ap (λ z. z.run) c.hand.view_is) q.4 q.3;
+      joinee = subst (λ z. IsEnd z (end_for z c.end.inside.value.value) c.end.inside.value.value) alike c.end.invariant;
+      done = is_done own its mine s c.at.inside.at.is_try c.at.inside.at.on (joiner_group c.at.inside.at) c.end.inside.value.value c.args.hand.now q.0 q.1 (c.at.view_is ∙ q.2.0) (c.end.view_is ∙ q.2.1) (ap (λ z. z.run) c.hand.view_is) q.4 q.3;
     } in
     let given : IsClaimed own c.claim.result.at.revision.value.run c.claim.result.at.revision.value.memory.delta (g.P.Snapshot.base c.claim.result.at.revision.value.memory.snapshot) c.claim.result.at.revision.value.memory.first.roots c.claim.result.at.written c.claim.result.at.is_try c.claim.result.at.on c.claim.result.end s j =
-    subst (λ v. IsClaimed own c.claim.result.at.revision.value.run c.claim.result.at.revision.value.memory.delta (g.P.Snapshot.base c.claim.result.at.revision.value.memory.snapshot) c.claim.result.at.revision.value.memory.first.roots c.claim.result.at.written c.claim.result.at.is_try c.claim.result.at.on v s j) (sym c.claim.ensures.end)
-    (subst (λ k. IsClaimed own k.revision.value.run k.revision.value.memory.delta (g.P.Snapshot.base k.revision.value.memory.snapshot) k.revision.value.memory.first.roots k.written k.is_try k.on c.end.inside.value s j) (sym c.claim.ensures.at) has) in
+    subst (λ v. IsClaimed own c.claim.result.at.revision.value.run c.claim.result.at.revision.value.memory.delta (g.P.Snapshot.base c.claim.result.at.revision.value.memory.snapshot) c.claim.result.at.revision.value.memory.first.roots c.claim.result.at.written c.claim.result.at.is_try c.claim.result.at.on v s j) (sym (c.claim.ensures.end ∙ c.into_inner-left.ensures))
+    (subst (λ k. IsClaimed own k.revision.value.run k.revision.value.memory.delta (g.P.Snapshot.base k.revision.value.memory.snapshot) k.revision.value.memory.first.roots k.written k.is_try k.on c.end.inside.value.value s j) (sym c.claim.ensures.at) has) in
     let merges : AreMergesOf own (g.M.MergeBy.merges c.hand.inside.merges) = subst (λ z. AreMergesOf z (g.M.MergeBy.merges c.hand.inside.merges)) (sym same) c.hand.invariant.2 in
     end_own own _ c.in-Ok-Trap.stopped.end (rw c.in-Ok-Trap.field-0-is at (c.in-Ok-Trap.ensures.settled own s j given merges))
 
@@ -121,18 +122,18 @@ returns-in-Ok-Run-clause-state g c a e is none met =
     let its = run_under c.end.inside.setting.now in
     let mine = run_under c.hand.inside.setting.now in
     let s = joiner_state own c.at.inside.at in
-    let j : End ℕ = end_for own c.end.inside.value in
-    let same = same_hand own its mine s c.at.inside.at.is_try c.at.inside.at.on (joiner_group c.at.inside.at) c.end.inside.value c.args.hand.now a e (c.at.view_is ∙ is.0) (c.end.view_is ∙ is.1) (ap (λ z. z.run) c.hand.view_is) met in
-    let alike = same_end own its mine s c.at.inside.at.is_try c.at.inside.at.on (joiner_group c.at.inside.at) c.end.inside.value c.args.hand.now a e (c.at.view_is ∙ is.0) (c.end.view_is ∙ is.1) (ap (λ z. z.run) c.hand.view_is) met in
+    let j : End ℕ = end_for own c.end.inside.value.value in
+    let same = same_hand own its mine s c.at.inside.at.is_try c.at.inside.at.on (joiner_group c.at.inside.at) c.end.inside.value.value c.args.hand.now a e (c.at.view_is ∙ is.0) (c.end.view_is ∙ is.1) (ap (λ z. z.run) c.hand.view_is) met in
+    let alike = same_end own its mine s c.at.inside.at.is_try c.at.inside.at.on (joiner_group c.at.inside.at) c.end.inside.value.value c.args.hand.now a e (c.at.view_is ∙ is.0) (c.end.view_is ∙ is.1) (ap (λ z. z.run) c.hand.view_is) met in
     let at = c.at.inside.at in
-    let has : IsClaimed own at.revision.value.run at.revision.value.memory.delta (g.P.Snapshot.base at.revision.value.memory.snapshot) at.revision.value.memory.first.roots at.written at.is_try at.on c.end.inside.value s j = record {
+    let has : IsClaimed own at.revision.value.run at.revision.value.memory.delta (g.P.Snapshot.base at.revision.value.memory.snapshot) at.revision.value.memory.first.roots at.written at.is_try at.on c.end.inside.value.value s j = record {
       joiner = c.at.invariant.1;
-      joinee = subst (λ z. IsEnd z (end_for z c.end.inside.value) c.end.inside.value) alike c.end.invariant;
-      done = is_done own its mine s c.at.inside.at.is_try c.at.inside.at.on (joiner_group c.at.inside.at) c.end.inside.value c.args.hand.now a e (c.at.view_is ∙ is.0) (c.end.view_is ∙ is.1) (ap (λ z. z.run) c.hand.view_is) met none;
+      joinee = subst (λ z. IsEnd z (end_for z c.end.inside.value.value) c.end.inside.value.value) alike c.end.invariant;
+      done = is_done own its mine s c.at.inside.at.is_try c.at.inside.at.on (joiner_group c.at.inside.at) c.end.inside.value.value c.args.hand.now a e (c.at.view_is ∙ is.0) (c.end.view_is ∙ is.1) (ap (λ z. z.run) c.hand.view_is) met none;
     } in
     let given : IsClaimed own c.claim.result.at.revision.value.run c.claim.result.at.revision.value.memory.delta (g.P.Snapshot.base c.claim.result.at.revision.value.memory.snapshot) c.claim.result.at.revision.value.memory.first.roots c.claim.result.at.written c.claim.result.at.is_try c.claim.result.at.on c.claim.result.end s j =
-    subst (λ v. IsClaimed own c.claim.result.at.revision.value.run c.claim.result.at.revision.value.memory.delta (g.P.Snapshot.base c.claim.result.at.revision.value.memory.snapshot) c.claim.result.at.revision.value.memory.first.roots c.claim.result.at.written c.claim.result.at.is_try c.claim.result.at.on v s j) (sym c.claim.ensures.end)
-    (subst (λ k. IsClaimed own k.revision.value.run k.revision.value.memory.delta (g.P.Snapshot.base k.revision.value.memory.snapshot) k.revision.value.memory.first.roots k.written k.is_try k.on c.end.inside.value s j) (sym c.claim.ensures.at) has) in
+    subst (λ v. IsClaimed own c.claim.result.at.revision.value.run c.claim.result.at.revision.value.memory.delta (g.P.Snapshot.base c.claim.result.at.revision.value.memory.snapshot) c.claim.result.at.revision.value.memory.first.roots c.claim.result.at.written c.claim.result.at.is_try c.claim.result.at.on v s j) (sym (c.claim.ensures.end ∙ c.into_inner-left.ensures))
+    (subst (λ k. IsClaimed own k.revision.value.run k.revision.value.memory.delta (g.P.Snapshot.base k.revision.value.memory.snapshot) k.revision.value.memory.first.roots k.written k.is_try k.on c.end.inside.value.value s j) (sym c.claim.ensures.at) has) in
     let merges : AreMergesOf own (g.M.MergeBy.merges c.hand.inside.merges) = subst (λ z. AreMergesOf z (g.M.MergeBy.merges c.hand.inside.merges)) (sym same) c.hand.invariant.2 in
     let r = rw c.in-Ok-Run.field-0-is at (c.in-Ok-Run.ensures.settled own s j given merges) in
     let run = c.in-Ok-Run.runner.revision.value in
@@ -140,33 +141,37 @@ returns-in-Ok-Run-clause-state g c a e is none met =
     ap (λ z. state_of own (at_work z)) (sym one)
     ∙ (ap (state_of own) (sym r.1)
     ∙ (ap (λ k. state_of own (join_in own s k.is_try k.on j j.phase)) c.claim.ensures.at
-    ∙ sym (joined_is own its mine s c.at.inside.at.is_try c.at.inside.at.on (joiner_group c.at.inside.at) c.end.inside.value c.args.hand.now a e (c.at.view_is ∙ is.0) (c.end.view_is ∙ is.1) (ap (λ z. z.run) c.hand.view_is) met)))
+    ∙ sym (joined_is own its mine s c.at.inside.at.is_try c.at.inside.at.on (joiner_group c.at.inside.at) c.end.inside.value.value c.args.hand.now a e (c.at.view_is ∙ is.0) (c.end.view_is ∙ is.1) (ap (λ z. z.run) c.hand.view_is) met)))
 
-pub returns-in-Ok-Trap-clause-state : goal.returns-in-Ok-Trap-clause-state
-returns-in-Ok-Trap-clause-state g c a e is none met =
+pub returns-in_ok-leave-in-Ok-Trap-clause-state : goal.returns-in_ok-leave-in-Ok-Trap-clause-state
+returns-in_ok-leave-in-Ok-Trap-clause-state g c a e is none met =
     let own = run_under c.at.inside.setting.now in
     let its = run_under c.end.inside.setting.now in
     let mine = run_under c.hand.inside.setting.now in
     let s = joiner_state own c.at.inside.at in
-    let j : End ℕ = end_for own c.end.inside.value in
-    let same = same_hand own its mine s c.at.inside.at.is_try c.at.inside.at.on (joiner_group c.at.inside.at) c.end.inside.value c.args.hand.now a e (c.at.view_is ∙ is.0) (c.end.view_is ∙ is.1) (ap (λ z. z.run) c.hand.view_is) met in
-    let alike = same_end own its mine s c.at.inside.at.is_try c.at.inside.at.on (joiner_group c.at.inside.at) c.end.inside.value c.args.hand.now a e (c.at.view_is ∙ is.0) (c.end.view_is ∙ is.1) (ap (λ z. z.run) c.hand.view_is) met in
+    let j : End ℕ = end_for own c.end.inside.value.value in
+    let same = same_hand own its mine s c.at.inside.at.is_try c.at.inside.at.on (joiner_group c.at.inside.at) c.end.inside.value.value c.args.hand.now a e (c.at.view_is ∙ is.0) (c.end.view_is ∙ is.1) (ap (λ z. z.run) c.hand.view_is) met in
+    let alike = same_end own its mine s c.at.inside.at.is_try c.at.inside.at.on (joiner_group c.at.inside.at) c.end.inside.value.value c.args.hand.now a e (c.at.view_is ∙ is.0) (c.end.view_is ∙ is.1) (ap (λ z. z.run) c.hand.view_is) met in
     let at = c.at.inside.at in
-    let has : IsClaimed own at.revision.value.run at.revision.value.memory.delta (g.P.Snapshot.base at.revision.value.memory.snapshot) at.revision.value.memory.first.roots at.written at.is_try at.on c.end.inside.value s j = record {
+    let has : IsClaimed own at.revision.value.run at.revision.value.memory.delta (g.P.Snapshot.base at.revision.value.memory.snapshot) at.revision.value.memory.first.roots at.written at.is_try at.on c.end.inside.value.value s j = record {
       joiner = c.at.invariant.1;
-      joinee = subst (λ z. IsEnd z (end_for z c.end.inside.value) c.end.inside.value) alike c.end.invariant;
-      done = is_done own its mine s c.at.inside.at.is_try c.at.inside.at.on (joiner_group c.at.inside.at) c.end.inside.value c.args.hand.now a e (c.at.view_is ∙ is.0) (c.end.view_is ∙ is.1) (ap (λ z. z.run) c.hand.view_is) met none;
+      joinee = subst (λ z. IsEnd z (end_for z c.end.inside.value.value) c.end.inside.value.value) alike c.end.invariant;
+      done = is_done own its mine s c.at.inside.at.is_try c.at.inside.at.on (joiner_group c.at.inside.at) c.end.inside.value.value c.args.hand.now a e (c.at.view_is ∙ is.0) (c.end.view_is ∙ is.1) (ap (λ z. z.run) c.hand.view_is) met none;
     } in
     let given : IsClaimed own c.claim.result.at.revision.value.run c.claim.result.at.revision.value.memory.delta (g.P.Snapshot.base c.claim.result.at.revision.value.memory.snapshot) c.claim.result.at.revision.value.memory.first.roots c.claim.result.at.written c.claim.result.at.is_try c.claim.result.at.on c.claim.result.end s j =
-    subst (λ v. IsClaimed own c.claim.result.at.revision.value.run c.claim.result.at.revision.value.memory.delta (g.P.Snapshot.base c.claim.result.at.revision.value.memory.snapshot) c.claim.result.at.revision.value.memory.first.roots c.claim.result.at.written c.claim.result.at.is_try c.claim.result.at.on v s j) (sym c.claim.ensures.end)
-    (subst (λ k. IsClaimed own k.revision.value.run k.revision.value.memory.delta (g.P.Snapshot.base k.revision.value.memory.snapshot) k.revision.value.memory.first.roots k.written k.is_try k.on c.end.inside.value s j) (sym c.claim.ensures.at) has) in
+    subst (λ v. IsClaimed own c.claim.result.at.revision.value.run c.claim.result.at.revision.value.memory.delta (g.P.Snapshot.base c.claim.result.at.revision.value.memory.snapshot) c.claim.result.at.revision.value.memory.first.roots c.claim.result.at.written c.claim.result.at.is_try c.claim.result.at.on v s j) (sym (c.claim.ensures.end ∙ c.into_inner-left.ensures))
+    (subst (λ k. IsClaimed own k.revision.value.run k.revision.value.memory.delta (g.P.Snapshot.base k.revision.value.memory.snapshot) k.revision.value.memory.first.roots k.written k.is_try k.on c.end.inside.value.value s j) (sym c.claim.ensures.at) has) in
     let merges : AreMergesOf own (g.M.MergeBy.merges c.hand.inside.merges) = subst (λ z. AreMergesOf z (g.M.MergeBy.merges c.hand.inside.merges)) (sym same) c.hand.invariant.2 in
     let end = rw c.in-Ok-Trap.field-0-is at (c.in-Ok-Trap.ensures.settled own s j given merges) in
     let l = join_in own s c.claim.result.at.is_try c.claim.result.at.on j j.phase in
-    let there : joined a e ≡ state_of own l = joined_is own its mine s c.at.inside.at.is_try c.at.inside.at.on (joiner_group c.at.inside.at) c.end.inside.value c.args.hand.now a e (c.at.view_is ∙ is.0) (c.end.view_is ∙ is.1) (ap (λ z. z.run) c.hand.view_is) met ∙ ap (λ k. state_of own (join_in own s k.is_try k.on j j.phase)) (sym c.claim.ensures.at) in
-    subst (λ z. IsEndBy code_hub is_end (λ (x : LeftValue). made_by_join x.left.phase) true c.leave.result z) (sym there)
-    ((end_stops own l c.in-Ok-Trap.stopped.end end, (sym c.leave.ensures.run, one_end own (end_of l) c.in-Ok-Trap.stopped.end end ∙ sym c.leave.ensures.left)), ap (λ (x : End ℕ). made_by_join x.phase) c.leave.ensures.left ∙ (by_phase c.in-Ok-Trap.stopped.end.finish ∙ (rw c.in-Ok-Trap.field-0-is at c.in-Ok-Trap.ensures.by_join)))
+    let there : joined a e ≡ state_of own l = joined_is own its mine s c.at.inside.at.is_try c.at.inside.at.on (joiner_group c.at.inside.at) c.end.inside.value.value c.args.hand.now a e (c.at.view_is ∙ is.0) (c.end.view_is ∙ is.1) (ap (λ z. z.run) c.hand.view_is) met ∙ ap (λ k. state_of own (join_in own s k.is_try k.on j j.phase)) (sym c.claim.ensures.at) in
+    subst (λ z. IsEndBy code_hub is_end (λ (x : LeftValue). made_by_join x.left.phase) true c.in_ok-leave-in-Ok-Trap.field-0 z) (sym there)
+    ((end_stops own l c.in-Ok-Trap.stopped.end end, (sym c.in_ok-leave-in-Ok-Trap.ensures.run, one_end own (end_of l) c.in-Ok-Trap.stopped.end end ∙ sym c.in_ok-leave-in-Ok-Trap.ensures.left)), ap (λ (x : End ℕ). made_by_join x.phase) c.in_ok-leave-in-Ok-Trap.ensures.left ∙ (by_phase c.in-Ok-Trap.stopped.end.finish ∙ (rw c.in-Ok-Trap.field-0-is at c.in-Ok-Trap.ensures.by_join)))
 
-pub returns-in-Ok-Trap-clause-hand : goal.returns-in-Ok-Trap-clause-hand
-returns-in-Ok-Trap-clause-hand g c =
-    (c.leave.ensures.hand.0 ∙ ap (λ h. h.group) c.hand.view_is, λ l b. c.leave.ensures.hand.1 l (subst (λ h. begins h l) (sym c.hand.view_is) b))
+pub returns-in_ok-leave-in-Ok-Trap-clause-hand : goal.returns-in_ok-leave-in-Ok-Trap-clause-hand
+returns-in_ok-leave-in-Ok-Trap-clause-hand g c =
+    (c.in_ok-leave-in-Ok-Trap.ensures.hand.0 ∙ ap (λ h. h.group) c.hand.view_is, λ l b. c.in_ok-leave-in-Ok-Trap.ensures.hand.1 l (subst (λ h. begins h l) (sym c.hand.view_is) b))
+
+pub returns-in_err-leave-in-Ok-Trap-clause-hand : goal.returns-in_err-leave-in-Ok-Trap-clause-hand
+returns-in_err-leave-in-Ok-Trap-clause-hand g c =
+    (c.in_err-leave-in-Ok-Trap.ensures.hand.0 ∙ ap (λ h. h.group) c.hand.view_is, λ l b. c.in_err-leave-in-Ok-Trap.ensures.hand.1 l (subst (λ h. begins h l) (sym c.hand.view_is) b))
