@@ -75,7 +75,7 @@ impl<L: Revision> TurnHub<L> {
         self.turn.shared.peek(0) == 0 && self.take_turn(place)
     }
 
-    // Looks after this wait and each longer one. A thread that finds the turn taken does not write,
+    // Looks after this wait and each behind it. A thread that finds the turn taken does not write,
     // and looks more and more seldom, so that it does not delay who has it: a thread that takes the
     // turn again soon finds what lies in the slot in its cache.
     fn keep_looking(&self, place: &mut Place<L>, first: u32) -> bool

@@ -5,12 +5,12 @@ use std::sync::atomic::{AtomicU64, Ordering};
 // So many steps, a tenth of a microsecond, are the shortest wait.
 const FIRST_PAUSE: u32 = 16;
 
-/// A thread looks until it has waited so many times in a row, each time twice as long as before,
-/// and then sleeps. The last wait takes some sixty microseconds.
-pub const WAITS: u32 = 10;
+// The number of the longest wait, which takes 2^9 times as long: some sixty microseconds.
+const LONGEST: u32 = 9;
 
-// The longest of the first waits, as a power of two: some eight microseconds.
-const MOST_PATIENT: u32 = 6;
+/// A thread looks until it has made the waits up to this number, each twice as long as the one
+/// before up to the longest, and then sleeps. They take less than half a millisecond.
+pub const WAITS: u32 = 16;
 
 // A turn that was found taken counts as so many that were found free.
 const RISE: u32 = 4;
@@ -22,9 +22,9 @@ const EACH_POWER: u32 = 32;
 ///
 /// Where several threads do little but take the turn, each move of it from one processor to
 /// another takes longer than what is done in it. There a thread that finds the turn taken waits
-/// for long, so that another goes on with what lies in its cache, for some rounds. Where a thread
-/// mostly finds the turn free it waits for a tenth of a microsecond at first, since a turn is held
-/// for less than one.
+/// for as long as some fifty rounds take, so that another goes on with what lies in its cache.
+/// Where a thread mostly finds the turn free it waits for a tenth of a microsecond at first, since
+/// a turn is held for less than one.
 #[derive(Clone, Copy, Drop)]
 pub struct Patience {
     taken: u32,
@@ -42,23 +42,21 @@ impl Patience {
 
     /// The turn was found taken.
     pub fn found_taken(&mut self) {
-        self.taken = self
-            .taken
-            .saturating_add(RISE)
-            .min(MOST_PATIENT * EACH_POWER);
+        self.taken = self.taken.saturating_add(RISE).min(LONGEST * EACH_POWER);
     }
 
-    /// The number of the first wait, of which each takes twice as long as the one before.
+    /// The number of the first wait.
     pub fn first_wait(&self) -> u32 {
-        (self.taken / EACH_POWER).min(MOST_PATIENT)
+        (self.taken / EACH_POWER).min(LONGEST)
     }
 }
 
-/// The wait of this number. A step takes some nanoseconds: it is an addition to a word that no
-/// other thread sees. `spin_loop` has no body here, so that nothing is left of a loop over it.
+/// The wait of this number. Each takes twice as long as the one before, up to the longest. A step
+/// takes some nanoseconds: it is an addition to a word that no other thread sees. `spin_loop` has no
+/// body here, so that nothing is left of a loop over it.
 pub fn pause(number: u32) {
     let own = AtomicU64::new(0);
-    for _ in 0..FIRST_PAUSE << number.min(WAITS) {
+    for _ in 0..FIRST_PAUSE << number.min(LONGEST) {
         own.fetch_add(1, Ordering::SeqCst);
     }
 }
