@@ -1,0 +1,136 @@
+//! Calls over sources and sinks in memory.
+
+use crate::meeting::Meeting;
+use hub_workers::{Gate, OpenGate};
+use rev_io::{CalmSink, CalmSource, MemSink, MemSource, Sink, Source};
+use rev_top::rev_main;
+use std::alloc::{AllocError, Global};
+use std::sync::Wait;
+use std::thread::Threads;
+use thread_runs::Ran;
+
+/// What a call answers, and what it leaves.
+#[derive(Drop)]
+pub struct Answer {
+    pub status: u8,
+    pub out: Vec<u8>,
+    pub err: Vec<u8>,
+    pub ran: Option<Ran>,
+    /// Whether the call of the source that fails is still to come.
+    pub is_unread: bool,
+    /// Whether all revisions that were to meet have met.
+    pub has_met: bool,
+}
+
+/// The status of a call, and its run.
+fn called<R: AllocGlobal + Threads + Wait + Sync, S: Source, O: Sink, E: Sink, G: Gate + Sync>(
+    rt: &R,
+    words: &[String],
+    source: &mut S,
+    out: &mut O,
+    err: &mut E,
+    gate: &G,
+) -> (u8, Option<Ran>) {
+    let mut ran = None;
+    let status = rev_main(rt, words, source, out, err, gate, &mut ran);
+    (status, ran)
+}
+
+/// An answer with these bytes.
+fn answer_of(
+    alloc: Global,
+    call: (u8, Option<Ran>),
+    out: &[u8],
+    err: &[u8],
+) -> Result<Answer, AllocError> {
+    let (status, ran) = call;
+    Ok(Answer {
+        status,
+        out: Vec::from_slice(alloc, out)?,
+        err: Vec::from_slice(alloc, err)?,
+        ran,
+        is_unread: false,
+        has_met: true,
+    })
+}
+
+/// What a call answers whose outputs never fail.
+fn answer_behind<R: AllocGlobal + Threads + Wait + Sync, S: Source, G: Gate + Sync>(
+    rt: &R,
+    words: &[String],
+    source: &mut S,
+    gate: &G,
+) -> Result<Answer, AllocError> {
+    let mut out = CalmSink::new(rt.alloc());
+    let mut err = CalmSink::new(rt.alloc());
+    let call = called(rt, words, source, &mut out, &mut err, gate);
+    answer_of(rt.alloc(), call, out.bytes(), err.bytes())
+}
+
+/// What a call answers.
+pub fn calm_answer<R: AllocGlobal + Threads + Wait + Sync>(
+    rt: &R,
+    words: &[String],
+    source: Vec<u8>,
+) -> Result<Answer, AllocError> {
+    let mut source = CalmSource::new(source);
+    answer_behind(rt, words, &mut source, &OpenGate)
+}
+
+/// What a call answers whose source gives so many bytes at a time, and fails at this call.
+pub fn answer_reading<R: AllocGlobal + Threads + Wait + Sync>(
+    rt: &R,
+    words: &[String],
+    source: Vec<u8>,
+    step: usize,
+    fails: u64,
+) -> Result<Answer, AllocError> {
+    let mut source = MemSource::new(source, step.max(1), vec![in rt.alloc(); fails]?);
+    let mut answer = answer_behind(rt, words, &mut source, &OpenGate)?;
+    answer.is_unread = source.read(&mut [0; 4]).is_err();
+    Ok(answer)
+}
+
+/// What a call answers both of whose outputs take so many bytes at a time, and fail at this call.
+pub fn answer_writing<R: AllocGlobal + Threads + Wait + Sync>(
+    rt: &R,
+    words: &[String],
+    source: Vec<u8>,
+    step: usize,
+    fails: u64,
+) -> Result<Answer, AllocError> {
+    let mut source = CalmSource::new(source);
+    let mut out = MemSink::new(rt.alloc(), step.max(1), vec![in rt.alloc(); fails]?);
+    let mut err = MemSink::new(rt.alloc(), step.max(1), vec![in rt.alloc(); fails]?);
+    let call = called(rt, words, &mut source, &mut out, &mut err, &OpenGate);
+    answer_of(rt.alloc(), call, out.bytes(), err.bytes())
+}
+
+/// What a call answers whose standard output takes so many bytes at a time, and fails at this call.
+pub fn answer_printing<R: AllocGlobal + Threads + Wait + Sync>(
+    rt: &R,
+    words: &[String],
+    source: Vec<u8>,
+    step: usize,
+    fails: u64,
+) -> Result<Answer, AllocError> {
+    let mut source = CalmSource::new(source);
+    let mut out = MemSink::new(rt.alloc(), step.max(1), vec![in rt.alloc(); fails]?);
+    let mut err = CalmSink::new(rt.alloc());
+    let call = called(rt, words, &mut source, &mut out, &mut err, &OpenGate);
+    answer_of(rt.alloc(), call, out.bytes(), err.bytes())
+}
+
+/// What a call answers in which revisions wait for one another.
+pub fn answer_meeting<R: AllocGlobal + Threads + Wait + Sync>(
+    rt: &R,
+    words: &[String],
+    source: Vec<u8>,
+    pairs: [(u32, u32); 2],
+) -> Result<Answer, AllocError> {
+    let mut source = CalmSource::new(source);
+    let gate = Meeting::new(pairs);
+    let mut answer = answer_behind(rt, words, &mut source, &gate)?;
+    answer.has_met = gate.has_met();
+    Ok(answer)
+}

@@ -1,0 +1,227 @@
+//! The rows of the table.
+
+use crate::call::{
+    Answer, answer_meeting, answer_printing, answer_reading, answer_writing, calm_answer,
+};
+use crate::faults::{is_refused, is_sound};
+use crate::merges::merges;
+use crate::tally::Tally;
+use crate::wanted::is_wanted;
+use case_tables::{CaseFault, Pieces, Rounds, behind, field, has, has_only, number_of, numbers_of};
+use std::alloc::Global;
+use std::io;
+use std::sync::Wait;
+use std::thread::Threads;
+
+/// The marks that a line may have.
+const MARKS: &[&str] = &[
+    "#", ":", "let", "*", "$", "|", "first", "byte", "behind", "reads", "unread", "writes",
+    "prints", "meet", ">", "!", "=", "any", "begins", "keep", "ran", "copies", "third", "merge",
+    "gives", "?", "@", "+",
+];
+
+/// The words of a row.
+fn words_of(alloc: Global, pieces: &Pieces, row: &str) -> Result<Vec<String>, CaseFault> {
+    let line = pieces.text_of(alloc, field(row, "$").unwrap_or(""))?;
+    let mut words = Vec::new(alloc);
+    for word in line.as_str().split_whitespace() {
+        words.push(String::from_str(alloc, word)?)?;
+    }
+    Ok(words)
+}
+
+/// A number for lengths and steps.
+fn size(number: u64) -> usize {
+    usize::try_from(number).unwrap_or(usize::MAX)
+}
+
+/// Two numbers behind a mark of the row, if it has the mark.
+fn pair_of(
+    alloc: Global,
+    pieces: &Pieces,
+    row: &str,
+    mark: &str,
+) -> Result<Option<(u64, u64)>, CaseFault> {
+    let Some(text) = field(row, mark) else {
+        return Ok(None);
+    };
+    let text = pieces.text_of(alloc, text)?;
+    let numbers = numbers_of(alloc, text.as_str())?;
+    match numbers.as_slice() {
+        [first, second] => Ok(Some((*first, *second))),
+        _ => Err(CaseFault::Malformed),
+    }
+}
+
+/// Puts another byte at the place that the row names.
+fn change_byte(
+    alloc: Global,
+    pieces: &Pieces,
+    row: &str,
+    source: &mut Vec<u8>,
+) -> Result<(), CaseFault> {
+    let Some((at, byte)) = pair_of(alloc, pieces, row, "byte")? else {
+        return Ok(());
+    };
+    let Some(place) = source.get_mut(size(at)) else {
+        return Err(CaseFault::Malformed);
+    };
+    *place = u8::try_from(byte).unwrap_or(0);
+    Ok(())
+}
+
+/// The source of a row.
+fn source_of(alloc: Global, pieces: &Pieces, row: &str) -> Result<Vec<u8>, CaseFault> {
+    let mut source = pieces.body(alloc, row, "|")?;
+    if let Some(text) = field(row, "first") {
+        let text = pieces.text_of(alloc, text)?;
+        source.truncate(size(number_of(text.as_str())?));
+    }
+    change_byte(alloc, pieces, row, &mut source)?;
+    if let Some((count, byte)) = pair_of(alloc, pieces, row, "behind")? {
+        let byte = u8::try_from(byte).unwrap_or(0);
+        for _ in 0..count {
+            source.push(byte)?;
+        }
+    }
+    Ok(source)
+}
+
+/// Who waits for whom, by the numbers of a row.
+fn pairs_of(alloc: Global, text: &str) -> Result<[(u32, u32); 2], CaseFault> {
+    let numbers = numbers_of(alloc, text)?;
+    let [a, b, c, d] = numbers.as_slice() else {
+        return Err(CaseFault::Malformed);
+    };
+    let number = |n: u64| u32::try_from(n).unwrap_or(u32::MAX);
+    Ok([(number(*a), number(*b)), (number(*c), number(*d))])
+}
+
+/// What the call of a row answers.
+fn answer_to<R: AllocGlobal + Threads + Wait + Sync>(
+    rt: &R,
+    pieces: &Pieces,
+    row: &str,
+) -> Result<Answer, CaseFault> {
+    let words = words_of(rt.alloc(), pieces, row)?;
+    let source = source_of(rt.alloc(), pieces, row)?;
+    if let Some((step, call)) = pair_of(rt.alloc(), pieces, row, "reads")? {
+        return Ok(answer_reading(rt, words.as_slice(), source, size(step), call)?);
+    }
+    if let Some((step, call)) = pair_of(rt.alloc(), pieces, row, "writes")? {
+        return Ok(answer_writing(rt, words.as_slice(), source, size(step), call)?);
+    }
+    if let Some((step, call)) = pair_of(rt.alloc(), pieces, row, "prints")? {
+        return Ok(answer_printing(rt, words.as_slice(), source, size(step), call)?);
+    }
+    if let Some(text) = field(row, "meet") {
+        let pairs = pairs_of(rt.alloc(), text)?;
+        return Ok(answer_meeting(rt, words.as_slice(), source, pairs)?);
+    }
+    Ok(calm_answer(rt, words.as_slice(), source)?)
+}
+
+/// Whether a call answers what its row wants. What it printed is kept as a piece, without its last
+/// line end, where the row names that.
+fn is_good<R: AllocGlobal + Threads + Wait + Sync>(
+    rt: &R,
+    pieces: &mut Pieces,
+    row: &str,
+) -> Result<bool, CaseFault> {
+    if let Some(numbers) = field(row, "merge") {
+        return merges(rt.alloc(), pieces, row, numbers);
+    }
+    let answer = answer_to(rt, pieces, row)?;
+    let good = is_wanted(rt.alloc(), pieces, row, &answer)?;
+    if let Some(name) = field(row, "keep") {
+        let mut printed = answer.out;
+        printed.pop();
+        pieces.add(rt.alloc(), name, printed)?;
+    }
+    Ok(good)
+}
+
+/// Whether a round of a row is good.
+fn is_good_round<R: AllocGlobal + Threads + Wait + Sync>(
+    rt: &R,
+    pieces: &mut Pieces,
+    row: &str,
+    rounds: &Rounds,
+    round: usize,
+) -> Result<bool, CaseFault> {
+    rounds.add_to(rt.alloc(), pieces, round)?;
+    pieces.add_lets(rt.alloc(), row)?;
+    is_good(rt, pieces, row)
+}
+
+/// Plays the rounds of a row of one call. What its names stand for is forgotten behind each, but
+/// for what was printed and is kept.
+fn play_rounds<R: AllocGlobal + Print + Threads + Wait + Sync>(
+    rt: &R,
+    pieces: &mut Pieces,
+    tally: &mut Tally,
+    row: &str,
+) -> io::Result<()> {
+    let rounds = match Rounds::of(rt.alloc(), row) {
+        Ok(rounds) => rounds,
+        Err(fault) => return tally.count(rt, row, Err(fault)),
+    };
+    let outer = pieces.count();
+    for round in 0..rounds.count() {
+        let good = is_good_round(rt, pieces, row, &rounds, round);
+        tally.count(rt, row, good)?;
+        if !has(row, "keep") {
+            pieces.keep(outer);
+        }
+    }
+    Ok(())
+}
+
+/// Plays a row whose lines are texts: faulty ones behind `@`, with one fault, and sound ones behind
+/// `+`.
+fn play_texts<R: AllocGlobal + Print + Threads + Wait + Sync>(
+    rt: &R,
+    pieces: &mut Pieces,
+    tally: &mut Tally,
+    row: &str,
+) -> io::Result<()> {
+    let fault = field(row, "?").unwrap_or("");
+    for line in row.split('\n') {
+        if let Some(marked) = behind(line, "@") {
+            tally.count(rt, line, is_refused(rt, pieces, marked, fault))?;
+        }
+        if let Some(text) = behind(line, "+") {
+            tally.count(rt, line, is_sound(rt, pieces, text))?;
+        }
+    }
+    Ok(())
+}
+
+/// Adds the pieces that a row without calls defines.
+fn define(alloc: Global, pieces: &mut Pieces, row: &str) -> Result<(), CaseFault> {
+    pieces.add_lets(alloc, row)?;
+    if let Some(name) = field(row, ":") {
+        let text = pieces.body(alloc, row, "|")?;
+        pieces.add(alloc, name, text)?;
+    }
+    Ok(())
+}
+
+/// Plays a row of the table.
+pub fn play<R: AllocGlobal + Print + Threads + Wait + Sync>(
+    rt: &R,
+    pieces: &mut Pieces,
+    tally: &mut Tally,
+    row: &str,
+) -> io::Result<()> {
+    if !has_only(row, MARKS) {
+        return tally.count(rt, row, Err(CaseFault::Malformed));
+    }
+    if has(row, "$") || has(row, "merge") {
+        return play_rounds(rt, pieces, tally, row);
+    }
+    match define(rt.alloc(), pieces, row) {
+        Ok(()) => play_texts(rt, pieces, tally, row),
+        Err(fault) => tally.count(rt, row, Err(fault)),
+    }
+}
