@@ -7,12 +7,10 @@ mod faults;
 mod meeting;
 mod merges;
 mod rows;
-mod tally;
 mod wanted;
 
-use case_tables::Pieces;
+use case_tables::{Pieces, Tally};
 use std::io;
-use tally::Tally;
 
 fn main(rt: HostRuntime) -> io::Result<()> {
     let table = io::read_to_string(rt.alloc(), rt.stdin())?;

@@ -5,9 +5,10 @@ use crate::call::{
 };
 use crate::faults::{is_refused, is_sound};
 use crate::merges::merges;
-use crate::tally::Tally;
 use crate::wanted::is_wanted;
-use case_tables::{CaseFault, Pieces, Rounds, behind, field, has, has_only, number_of, numbers_of};
+use case_tables::{
+    CaseFault, Pieces, Rounds, Tally, behind, field, has, has_only, number_of, numbers_of,
+};
 use std::alloc::Global;
 use std::io;
 use std::sync::Wait;

@@ -1,6 +1,6 @@
 //! How many cases were played, and which of them are wrong.
 
-use case_tables::CaseFault;
+use crate::fault::CaseFault;
 use std::io;
 
 /// How many cases were played, and how many of them are wrong.
