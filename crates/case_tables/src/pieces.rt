@@ -156,6 +156,19 @@ impl Pieces {
         Ok(out)
     }
 
+    /// What a text says without its first `@`, and how many bytes stand before that.
+    pub fn marked(&self, alloc: Global, text: &str) -> Result<(Vec<u8>, usize), CaseFault> {
+        let mut bytes = self.bytes_of(alloc, text)?;
+        let before = bytes
+            .iter()
+            .position(|byte| *byte == b'@')
+            .unwrap_or(bytes.len());
+        if before < bytes.len() {
+            bytes.remove(before);
+        }
+        Ok((bytes, before))
+    }
+
     /// What a text says, as a text.
     pub fn text_of(&self, alloc: Global, text: &str) -> Result<String, CaseFault> {
         let bytes = self.bytes_of(alloc, text)?;

@@ -2,26 +2,11 @@
 
 use crate::answers::answer_of;
 use case_tables::{CaseFault, Pieces, Tally, behind, field, has, has_only, number_of};
-use std::alloc::{AllocError, Global};
+use std::alloc::Global;
 use std::io;
 
 /// The marks that a line may have.
 const MARKS: &[&str] = &["#", ":", "let", "$", "|", "first", ">", "?", "@", "+"];
-
-/// A text without its mark, and how many bytes stand before that.
-fn unmarked(alloc: Global, marked: &[u8]) -> Result<(Vec<u8>, usize), AllocError> {
-    let before = marked
-        .iter()
-        .position(|byte| *byte == b'@')
-        .unwrap_or(marked.len());
-    let mut text = Vec::new(alloc);
-    for (at, byte) in marked.iter().enumerate() {
-        if at != before {
-            text.push(*byte)?;
-        }
-    }
-    Ok((text, before))
-}
 
 /// Whether the call finds this fault at the mark of a text.
 fn has_fault(
@@ -31,8 +16,7 @@ fn has_fault(
     marked: &str,
     fault: &str,
 ) -> Result<bool, CaseFault> {
-    let marked = pieces.bytes_of(alloc, marked)?;
-    let (text, before) = unmarked(alloc, marked.as_slice())?;
+    let (text, before) = pieces.marked(alloc, marked)?;
     let want = format!(in alloc; "{fault} at {before}\n")?;
     let answer = answer_of(alloc, call, text.as_slice())?;
     Ok(answer.as_slice() == want.as_bytes())
