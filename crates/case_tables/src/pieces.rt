@@ -1,7 +1,7 @@
 //! Named pieces of text, and texts in which they stand.
 
 use crate::fault::CaseFault;
-use crate::marked::{behind, number_of};
+use crate::marked::{behind, field, number_of};
 use std::alloc::{AllocError, Global};
 
 #[derive(Drop)]
@@ -229,6 +229,16 @@ impl Pieces {
             if let Some(rest) = behind(line, "let") {
                 self.add_let(alloc, rest)?;
             }
+        }
+        Ok(())
+    }
+
+    /// Adds the pieces of a row: those of its lines `let`, and by a line `: NAME` its text.
+    pub fn define(&mut self, alloc: Global, row: &str) -> Result<(), CaseFault> {
+        self.add_lets(alloc, row)?;
+        if let Some(name) = field(row, ":") {
+            let text = self.body(alloc, row, "|")?;
+            self.add(alloc, name, text)?;
         }
         Ok(())
     }
