@@ -5,4 +5,3 @@ pub mod Inside
 pub mod Naming
 pub mod BlockRules
 pub mod Merges
-pub mod BlockPlaces

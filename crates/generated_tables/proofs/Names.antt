@@ -10,7 +10,10 @@ use Rattle.rev_syntax.specs.Words as word
 use Rattle.rev_syntax.specs.Bytes as byte
 use Rattle.rev_kinds.proofs.Lists.{and_parts}
 use Rattle.code_rules.specs.Tables as table
-use Rattle.code_generation.proofs.BlockRules.{both}
+
+pub both : (d q : Bool) → d ≡ true → q ≡ true → d && q ≡ true
+both true q h e = e
+both false q h e = absurd (true≢false (sym h))
 
 -- ---- lists
 

@@ -2,4 +2,3 @@ pub mod PostOrder
 pub mod Decimals
 pub mod Dots
 pub mod Division
-pub mod Lists

@@ -14,4 +14,3 @@ pub mod StatementsFaults
 pub mod StatementsSound
 pub mod StatementsWithin
 pub mod Weights
-pub mod MergeParams
