@@ -1,5 +1,5 @@
 -- The merge blocks of code.
-use Rattle.std.proofs.Common.{◌≡◌, ◌∙◌, ℕ, zero, suc, ◌+◌, ◌<◌, ◌≤◌, ◌^◌, ◌-◌, Bool, true, false, ◌&&◌, not, ℤ, pos, negsuc, List, [], ◌∷◌, ◌++◌, take, length, set, Option, Some, None, refl, sym, ap, subst, arith, true≢false}
+use Rattle.std.proofs.Common.{◌≡◌, ◌∙◌, ℕ, zero, suc, ◌+◌, ◌<◌, ◌≤◌, ◌^◌, ◌-◌, Bool, true, false, ◌&&◌, not, pos, negsuc, List, [], ◌∷◌, ◌++◌, take, length, set, Option, Some, None, refl, sym, ap, subst, arith, true≢false}
 use Rattle.std.specs.Prelude.{Result, Ok, Err, slice_get, nat_eq, nat_lt, replicate, if◌then◌else◌}
 use Rattle.std.proofs.lemmas.Bool.Decides.{nat_tests}
 use Rattle.rev_num.specs.declared.value.NumFault.{NumFault}
@@ -14,10 +14,10 @@ use Rattle.rev_code.specs.declared.code.Code.{Code}
 use Rattle.rev_code.specs.declared.code.CodeBlock.{CodeBlock}
 use Rattle.rev_code.specs.declared.code.CodeVar.{CodeVar}
 use Rattle.rev_code.specs.Words.{Word, int, bool, rev, kind_of, same_kind}
-use Rattle.rev_code.specs.Step.{params, value_at, cause_of}
+use Rattle.rev_code.specs.Step.{params, cause_of}
 use Rattle.rev_code.specs.Funs.{values}
-use Rattle.code_rules.specs.Pass.{is_value_class, most_need}
-use Rattle.code_rules.specs.Tables.{is_name, has_cells, is_start, is_var, merges_well, is_merge_class, is_int_merge, is_int_result, are_three_ints, no_merge}
+use Rattle.code_rules.specs.Pass.{is_value_class}
+use Rattle.code_rules.specs.Tables.{is_name, has_cells, is_start, merges_well, is_merge_class, is_int_merge, is_int_result, are_three_ints, no_merge}
 use Rattle.code_rules.specs.Verdict.{first_fault}
 use Rattle.code_soundness.specs.Typed.{location_kinds}
 use Rattle.code_soundness.specs.Whole.{IsAccepted, notes_of}
@@ -29,10 +29,11 @@ use Rattle.plain_words.proofs.Numbers as numbers
 use Rattle.block_run.specs.Area.{count}
 use Rattle.block_run.specs.Standing.{IsOfValue}
 use Rattle.fun_run.specs.Values.{HasRoom, IsArgs, IsValue}
-use Rattle.code_machine.specs.Local.{CodeRun, IsVerified}
+use Rattle.leg_run.specs.Rooms.{AreRooms}
+use Rattle.code_machine.specs.Local.{CodeRun}
 use Rattle.code_machine.specs.Joining as joining
 use Rattle.code_machine.specs.Joining.{merge_in, merges_of, merged_by, merged_there, merges, fault_of}
-use Rattle.block_merges.specs.Merging.{word_for, word_or_fault, int_word, merged_words, word_merges, HasShortNumbers, IsOfKind, IsMerged, IsShort, AreMergesOf, BlocksGiveTheMerges}
+use Rattle.block_merges.specs.Merging.{word_for, word_or_fault, int_word, merged_words, word_merges, ServesMerges, HasShortNumbers, IsMerged, IsShort, AreMergesOf, BlocksGiveTheMerges}
 use Rattle.block_merges.proofs.Short.{Fits, merge_fits, short_word}
 
 -- ---- the variable of a location with a merge block
@@ -127,11 +128,23 @@ module _ (code : Code) (ok : IsAccepted code (notes_of code)) where
       let m = block_of l n e in
       record { body = m.body; is = m.is; kinds = sym m.three; words = subst (AreWords (int_word u ∷ int_word v ∷ int_word w ∷ [])) (sym is) ((a, refl), ((b, refl), ((c, refl), tt))) }
 
-pub has_room : (code : Code) → first_fault code ≡ None → (l n size : ℕ) → IsMergeBlock code n → most_need ≤ size → HasRoom code n 0 size
-has_room code ok l n size b room =
+-- what is no less than each room serves each fun and merge
+pub serves : (code : Code) (rooms : List ℕ) → AreRooms code rooms → (size : ℕ)
+    → ((n room : ℕ) → slice_get rooms n ≡ Some room → room ≤ size) → ServesMerges code size
+serves code rooms are size each n costs cost v of is =
+    let room = are n v.0 v.1 in
+    let need = room.enough.need v.2 costs of cost is in
+    let small = each n room.room room.is in
+    omega (arith, need, small)
+
+-- the area has what the block needs
+pub has_room : (code : Code) → first_fault code ≡ None → (n size : ℕ) → IsOfValue code n → ServesMerges code size
+    → HasRoom code n 0 size
+has_room code ok n size v serve =
     let costs = no_fault_costs code ok in
-    let is = costs.1.each n b.body b.is in
-    record { costs = costs.0; are = costs.1; cost = _; is = is; room = (let m = costs.1.need n _ is in omega (arith, m, room)) }
+    let is = costs.1.each n v.0 v.1 in
+    let need = serve n costs.0 _ v costs.1 is in
+    record { costs = costs.0; are = costs.1; cost = _; is = is; room = omega (arith, need) }
 
 -- ---- values
 

@@ -1,15 +1,12 @@
 -- Compositions on words stand for those on words of kinds.
-use Rattle.std.proofs.Common.{◌≡◌, ◌∙◌, ℕ, List, [], ◌∷◌, Option, Some, None, refl, sym, ap, subst}
-use Rattle.std.specs.Prelude.{Result, Ok, Err, slice_get}
+use Rattle.std.proofs.Common.{◌≡◌, ℕ, [], ◌∷◌, sym, subst}
+use Rattle.std.specs.Prelude.{Result, Ok, Err}
 use Rattle.rev_num.specs.declared.value.NumFault.{NumFault}
-use Rattle.rev_num.specs.declared.value.ValueKind.{ValueKind}
 use Rattle.rev_code.specs.Words.{Word}
-use Rattle.code_soundness.specs.Typed.{location_kinds}
-use Rattle.plain_words.specs.Agreement.{IsWord, AreWords}
-use Rattle.version_map.specs.Composing.{Entry, Merges, Composition, before_later, and_later, composed}
-use Rattle.code_machine.specs.Local.{CodeRun}
+use Rattle.plain_words.specs.Agreement.{IsWord}
+use Rattle.version_map.specs.Composing.{Composition, before_later, and_later, composed}
 use Rattle.code_machine.specs.Joining.{merges}
-use Rattle.block_merges.specs.Merging.{AreMergesOf, AreJoined, IsJoined, IsMerged, IsComposedAs, ComposesAlike}
+use Rattle.block_merges.specs.Merging.{IsMerged, IsComposedAs, ComposesAlike}
 
 before : (x : Word ℕ) (w : ℕ) → IsWord x w → (c : Composition (Word ℕ)) (d : Composition ℕ) → IsComposedAs c d → IsComposedAs (before_later x c) (before_later w d)
 before x w h (Ok xs) (Ok ws) k = (h, k)

@@ -2,7 +2,7 @@
 --   IsShortState   all words of a state, of its frames and of its locations are short
 --   step_short     so are they behind an instruction
 --   values_short   and the values of funs and merges
-use Rattle.std.proofs.Common.{◌≡◌, ◌∙◌, ℕ, zero, suc, ◌+◌, ◌<◌, ◌≤◌, ◌^◌, Bool, true, false, cond, not, ℤ, pos, negsuc, List, [], ◌∷◌, ◌++◌, length, map, take, drop, reverse, set, Option, Some, None, Result, Ok, Err, refl, sym, ap, subst, arith}
+use Rattle.std.proofs.Common.{◌≡◌, ◌∙◌, ℕ, zero, suc, ◌+◌, ◌<◌, Bool, true, false, cond, not, ℤ, pos, negsuc, List, [], ◌∷◌, ◌++◌, length, map, take, drop, reverse, Option, Some, None, Result, Ok, Err, refl, sym, ap, subst, arith}
 use Rattle.std.specs.Prelude.{slice_get, slice_set, nat_lt, int_lt, int_le, if◌then◌else◌}
 use Rattle.std.proofs.lemmas.Bool.Decides.{nat_tests}
 use Rattle.std.proofs.lemmas.List.{reverse-append}
@@ -10,7 +10,6 @@ use Rattle.rev_num.specs.Arith.{fits_i64, sum_of, difference_of, product_of, quo
 use Rattle.rev_num.specs.declared.value.ValueKind.{ValueKind}
 use Rattle.rev_num.specs.declared.value.ValueKind.TheVariants as k
 use Rattle.rev_num.specs.declared.value.NumFault.{NumFault}
-use Rattle.rev_num.specs.declared.value.NumFault.TheVariants as fault
 use Rattle.rev_num.specs.declared.outcome.Cause.{Cause}
 use Rattle.rev_num.specs.declared.outcome.Cause.TheVariants as cause
 use Rattle.rev_code.specs.declared.code.Code.{Code}
@@ -25,7 +24,7 @@ use Rattle.rev_code.specs.Printing.{printed_kinds}
 use Rattle.rev_code.specs.Funs.{answer, fun_start, setting_of_fun, value_of, values, values_from}
 use Rattle.rev_code.specs.Step as r
 use Rattle.rev_code.specs.Step.{Comes, goes, traps, forks, joins, ends, stuck, act, act_at, act_in, step, only, is_fun, is_procedure, onward, reach}
-use Rattle.code_soundness.proofs.Lists.{some_eq, some_within, none_some}
+use Rattle.code_soundness.proofs.Lists.{some_eq, none_some}
 use Rattle.plain_words.specs.Agreement.{IsWord, PushesInt}
 use Rattle.plain_words.proofs.Numbers.{Fit, sums, differences, products, quotients, remainders, negations, int_fits}
 use Rattle.code_machine.specs.Joining as joining

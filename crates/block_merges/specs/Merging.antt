@@ -2,6 +2,7 @@
 --   word_for       the word that stands for a word of a kind
 --   word_merges    the merge of each location: the joinee's word, or what its merge block gives for
 --                  the numbers that the three words stand for
+--   ServesMerges   so many words serve each fun and merge, with all funs that it applies
 --   IsOfKind       a word stands for a word of this kind
 --   IsMerged       what a merge gives on words stands for what it gives on words of kinds
 --   AreMergesOf    merges on words stand for those of the code
@@ -9,7 +10,7 @@
 --   HasShortNumbers   each number in the code has 64 bits
 --   AreJoined      what a joinee wrote, and a joiner's view there, on words
 --   IsComposedAs   new words stand for new words of kinds, or both have one fault
-use Rattle.std.specs.Prelude.{ℕ, ◌≡◌, true, List, [], ◌∷◌, Option, Some, None, Result, Ok, Err, slice_get}
+use Rattle.std.specs.Prelude.{ℕ, ◌≡◌, ◌≤◌, true, List, [], ◌∷◌, Option, Some, None, Result, Ok, Err, slice_get}
 use Rattle.rev_num.specs.declared.value.NumFault.{NumFault}
 use Rattle.rev_num.specs.declared.value.ValueKind.{ValueKind}
 use Rattle.rev_num.specs.Arith.{fits_i64}
@@ -19,10 +20,13 @@ use Rattle.rev_code.specs.declared.code.CodeBlock.{CodeBlock}
 use Rattle.rev_code.specs.declared.code.Instr.{Instr}
 use Rattle.rev_code.specs.Words.{Word, int, bool, rev, kind_of}
 use Rattle.rev_code.specs.Funs.{values}
+use Rattle.code_rules.specs.declared.Cost.{Cost}
+use Rattle.code_soundness.specs.Whole.{AreCosts}
 use Rattle.code_soundness.specs.Typed.{location_kinds}
 use Rattle.plain_words.specs.Plain.{flag}
 use Rattle.plain_words.specs.Agreement.{handle, IsWord, AreWords, PushesInt}
 use Rattle.version_map.specs.Composing.{Entry, Merges, Composition, composed}
+use Rattle.block_run.specs.Standing.{IsOfValue}
 use Rattle.code_machine.specs.Local.{CodeRun, IsVerified}
 use Rattle.code_machine.specs.Joining.{merges_of, merged_by, merges}
 
@@ -50,6 +54,11 @@ merged_words code (Some (Some n)) main join root =
 
 abbrev pub word_merges : Code → Merges ℕ
 word_merges code l = merged_words code (slice_get (merges_of code.vars) l)
+
+abbrev pub ServesMerges : Code → (size : ℕ) → Type 0
+ServesMerges code size =
+    (n : ℕ) (costs : List Cost) (cost : Cost) → IsOfValue code n → AreCosts code costs
+    → slice_get costs n ≡ Some cost → cost.need ≤ size
 
 -- ---- what they stand for
 

@@ -1,28 +1,26 @@
 //! The merges of all locations.
 
 ghost use Rattle.std.specs.Prelude.{◌≡◌, ◌≤◌, ◌<◌, ◌^◌, ℕ, IfOk, vec_len};
-ghost use Rattle.code_rules.specs.Pass.{most_need};
 ghost use Rattle.code_soundness.specs.Whole.{notes_of, IsAccepted};
 ghost use Rattle.code_verifier.specs.Verdicts.{KeepsRules};
 ghost use Rattle.code_machine.specs.Joining.{merges_of};
 ghost use Rattle.block_run.specs.Area.{count, table_from};
+ghost use Rattle.block_merges.specs.Merging.{ServesMerges};
 
 use crate::numbers::note_numbers;
-use crate::room::{blank_memory, merge_blocks, put_three};
+use crate::room::{blank_memory, merge_blocks, most_room, put_three};
 use block_run::{Memory, Variable, table_of};
 use code_verifier::Verified;
 use fun_run::evaluate;
+use leg_run::rooms_of;
 use rev_code::Code;
 use rev_num::NumFault;
 use std::alloc::{AllocError, Global};
 use version_map::{MergeBy, Whole};
 
-/// How many words serve each merge, with all funs that it applies.
-const MOST_NEED: usize = 65_536;
-
 /// The merges of all locations: that of a versioned location gives the joined word, that of a
-/// cumulative one the value of its merge block. The words for a block's frame are made once, and no
-/// merge takes memory.
+/// cumulative one the value of its merge block. The words for a block's frame are made once, as
+/// many as the code may need, and no merge takes memory.
 #[derive(Drop)]
 pub struct BlockMerges<'a> {
     code: &'a Code,
@@ -34,7 +32,8 @@ pub struct BlockMerges<'a> {
     ghost accepted: { IsAccepted code.now (notes_of code.now) },
     ghost variables: { table.items ≡ table_from 0 code.now.vars },
     ghost listed: { blocks.items ≡ merges_of code.now.vars },
-    ghost room: { most_need ≤ vec_len words },
+    ghost three: { 3 ≤ vec_len words },
+    ghost room: { ServesMerges code.now (vec_len words) },
     ghost locations: { vec_len memory.snapshot.words ≡ count code.now.vars },
 }
 
@@ -64,11 +63,13 @@ impl<'a> BlockMerges<'a> {
         let table = table_of(alloc, code)?;
         let blocks = merge_blocks(alloc, code)?;
         let memory = blank_memory(alloc, blocks.len() as u32)?;
+        let rooms = rooms_of(alloc, code)?;
+        let most = most_room(rooms.as_slice());
         Ok(BlockMerges {
             code,
             table,
             blocks,
-            words: vec![in alloc; 0; MOST_NEED]?,
+            words: vec![in alloc; 0; most as usize]?,
             memory,
         })
     }

@@ -1,7 +1,7 @@
 //! What merges need once: the merge block of each location, a memory of zeros, and the three words.
 
 ghost use Rattle.std.specs.Prelude.{◌≡◌, ◌+◌, ◌∷◌, [], ◌++◌, ◌≤◌, ◌^◌, ◌<◌, IfOk, length};
-ghost use Rattle.std.specs.Prelude.{vec_len, replicate, take, drop};
+ghost use Rattle.std.specs.Prelude.{ℕ, Some, vec_len, replicate, slice_get, take, drop};
 ghost use Rattle.code_machine.specs.Joining.{merge_in, merges_of};
 ghost use Rattle.block_run.specs.Area.{count};
 
@@ -50,6 +50,18 @@ pub fn blank_memory(alloc: Global, locations: u32) -> Result<Memory<Whole>, Allo
         first: First::new(alloc, locations)?,
         snapshot: Whole::new(vec![in alloc; 0; locations as usize]?),
     })
+}
+
+/// The greatest of these rooms, and at least three, for the words that a merge takes.
+pub fn most_room(rooms: &[u32]) -> u32
+    ensures three { 3 ≤ result }
+    ensures each { (n room : ℕ) → slice_get rooms.now n ≡ Some room → room ≤ result }
+{
+    let mut most = 3;
+    for n in 0..rooms.len() {
+        most = u32::max(most, rooms[n]);
+    }
+    most
 }
 
 /// Puts three words at the front.

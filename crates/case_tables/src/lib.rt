@@ -5,10 +5,12 @@ mod fault;
 mod marked;
 mod pieces;
 mod rounds;
+mod table;
 mod tally;
 
 pub use fault::CaseFault;
-pub use marked::{behind, field, has, has_only, number_of, numbers_of};
+pub use marked::{behind, field, has, number_of, numbers_of};
 pub use pieces::Pieces;
 pub use rounds::Rounds;
+pub use table::play_table;
 pub use tally::Tally;

@@ -1,7 +1,7 @@
 //! Named pieces of text, and texts in which they stand.
 
 use crate::fault::CaseFault;
-use crate::marked::{behind, number_of};
+use crate::marked::{behind, field, number_of};
 use std::alloc::{AllocError, Global};
 
 #[derive(Drop)]
@@ -156,6 +156,19 @@ impl Pieces {
         Ok(out)
     }
 
+    /// What a text says without its first `@`, and how many bytes stand before that.
+    pub fn marked(&self, alloc: Global, text: &str) -> Result<(Vec<u8>, usize), CaseFault> {
+        let mut bytes = self.bytes_of(alloc, text)?;
+        let before = bytes
+            .iter()
+            .position(|byte| *byte == b'@')
+            .unwrap_or(bytes.len());
+        if before < bytes.len() {
+            bytes.remove(before);
+        }
+        Ok((bytes, before))
+    }
+
     /// What a text says, as a text.
     pub fn text_of(&self, alloc: Global, text: &str) -> Result<String, CaseFault> {
         let bytes = self.bytes_of(alloc, text)?;
@@ -216,6 +229,16 @@ impl Pieces {
             if let Some(rest) = behind(line, "let") {
                 self.add_let(alloc, rest)?;
             }
+        }
+        Ok(())
+    }
+
+    /// Adds the pieces of a row: those of its lines `let`, and by a line `: NAME` its text.
+    pub fn define(&mut self, alloc: Global, row: &str) -> Result<(), CaseFault> {
+        self.add_lets(alloc, row)?;
+        if let Some(name) = field(row, ":") {
+            let text = self.body(alloc, row, "|")?;
+            self.add(alloc, name, text)?;
         }
         Ok(())
     }

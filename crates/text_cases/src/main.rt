@@ -6,15 +6,12 @@ mod answers;
 mod programs;
 mod rows;
 
-use case_tables::{Pieces, Tally};
+use case_tables::{Pieces, Tally, play_table};
+use rows::{MARKS, play};
 use std::io;
 
 fn main(rt: HostRuntime) -> io::Result<()> {
     let table = io::read_to_string(rt.alloc(), rt.stdin())?;
-    let mut pieces = Pieces::new(rt.alloc());
-    let mut tally = Tally::new();
-    for row in table.trim_end().split("\n\n") {
-        rows::play(&rt, &mut pieces, &mut tally, row)?;
-    }
-    tally.print(&rt)
+    let play = |pieces: &mut Pieces, tally: &mut Tally, row: &str| play(&rt, pieces, tally, row);
+    play_table(&rt, MARKS, table.as_str(), play)
 }

@@ -1,27 +1,12 @@
 //! The rows of the table.
 
 use crate::answers::answer_of;
-use case_tables::{CaseFault, Pieces, Tally, behind, field, has, has_only, number_of};
-use std::alloc::{AllocError, Global};
+use case_tables::{CaseFault, Pieces, Tally, behind, field, has, number_of};
+use std::alloc::Global;
 use std::io;
 
 /// The marks that a line may have.
-const MARKS: &[&str] = &["#", ":", "let", "$", "|", "first", ">", "?", "@", "+"];
-
-/// A text without its mark, and how many bytes stand before that.
-fn unmarked(alloc: Global, marked: &[u8]) -> Result<(Vec<u8>, usize), AllocError> {
-    let before = marked
-        .iter()
-        .position(|byte| *byte == b'@')
-        .unwrap_or(marked.len());
-    let mut text = Vec::new(alloc);
-    for (at, byte) in marked.iter().enumerate() {
-        if at != before {
-            text.push(*byte)?;
-        }
-    }
-    Ok((text, before))
-}
+pub const MARKS: &[&str] = &["#", ":", "let", "$", "|", "first", ">", "?", "@", "+"];
 
 /// Whether the call finds this fault at the mark of a text.
 fn has_fault(
@@ -31,8 +16,7 @@ fn has_fault(
     marked: &str,
     fault: &str,
 ) -> Result<bool, CaseFault> {
-    let marked = pieces.bytes_of(alloc, marked)?;
-    let (text, before) = unmarked(alloc, marked.as_slice())?;
+    let (text, before) = pieces.marked(alloc, marked)?;
     let want = format!(in alloc; "{fault} at {before}\n")?;
     let answer = answer_of(alloc, call, text.as_slice())?;
     Ok(answer.as_slice() == want.as_bytes())
@@ -63,16 +47,6 @@ fn is_answered(alloc: Global, pieces: &Pieces, call: &str, row: &str) -> Result<
     Ok(answer.as_slice() == want.as_slice())
 }
 
-/// Adds the pieces that a row defines.
-fn define(alloc: Global, pieces: &mut Pieces, row: &str) -> Result<(), CaseFault> {
-    pieces.add_lets(alloc, row)?;
-    if let Some(name) = field(row, ":") {
-        let text = pieces.body(alloc, row, "|")?;
-        pieces.add(alloc, name, text)?;
-    }
-    Ok(())
-}
-
 /// Plays the texts of a row, each behind its mark, and the text of the row, if it wants an answer.
 fn play_texts<R: AllocGlobal + Print>(
     rt: &R,
@@ -97,17 +71,14 @@ fn play_texts<R: AllocGlobal + Print>(
     tally.count(rt, row, is_answered(alloc, pieces, call, row))
 }
 
-/// Plays a row of the table. Without a call it defines pieces.
+/// Plays a row by the call that it names. Without a call it defines pieces.
 pub fn play<R: AllocGlobal + Print>(
     rt: &R,
     pieces: &mut Pieces,
     tally: &mut Tally,
     row: &str,
 ) -> io::Result<()> {
-    if !has_only(row, MARKS) {
-        return tally.count(rt, row, Err(CaseFault::Malformed));
-    }
-    if let Err(fault) = define(rt.alloc(), pieces, row) {
+    if let Err(fault) = pieces.define(rt.alloc(), row) {
         return tally.count(rt, row, Err(fault));
     }
     match field(row, "$") {

@@ -91,32 +91,28 @@ pub fn answer_reading<R: AllocGlobal + Threads + Wait + Sync>(
     Ok(answer)
 }
 
-/// What a call answers both of whose outputs take so many bytes at a time, and fail at this call.
+/// A sink that takes so many bytes at a time, and fails at this call, if one is named.
+fn sink_of(alloc: Global, step: usize, fails: Option<u64>) -> Result<MemSink, AllocError> {
+    let fails = match fails {
+        Some(call) => vec![in alloc; call]?,
+        None => Vec::new(alloc),
+    };
+    Ok(MemSink::new(alloc, step.max(1), fails))
+}
+
+/// What a call answers whose outputs, the standard one first, take so many bytes at a time, and
+/// fail at these calls.
 pub fn answer_writing<R: AllocGlobal + Threads + Wait + Sync>(
     rt: &R,
     words: &[String],
     source: Vec<u8>,
     step: usize,
-    fails: u64,
+    fails: [Option<u64>; 2],
 ) -> Result<Answer, AllocError> {
     let mut source = CalmSource::new(source);
-    let mut out = MemSink::new(rt.alloc(), step.max(1), vec![in rt.alloc(); fails]?);
-    let mut err = MemSink::new(rt.alloc(), step.max(1), vec![in rt.alloc(); fails]?);
-    let call = called(rt, words, &mut source, &mut out, &mut err, &OpenGate);
-    answer_of(rt.alloc(), call, out.bytes(), err.bytes())
-}
-
-/// What a call answers whose standard output takes so many bytes at a time, and fails at this call.
-pub fn answer_printing<R: AllocGlobal + Threads + Wait + Sync>(
-    rt: &R,
-    words: &[String],
-    source: Vec<u8>,
-    step: usize,
-    fails: u64,
-) -> Result<Answer, AllocError> {
-    let mut source = CalmSource::new(source);
-    let mut out = MemSink::new(rt.alloc(), step.max(1), vec![in rt.alloc(); fails]?);
-    let mut err = CalmSink::new(rt.alloc());
+    let [out, err] = fails;
+    let mut out = sink_of(rt.alloc(), step, out)?;
+    let mut err = sink_of(rt.alloc(), step, err)?;
     let call = called(rt, words, &mut source, &mut out, &mut err, &OpenGate);
     answer_of(rt.alloc(), call, out.bytes(), err.bytes())
 }

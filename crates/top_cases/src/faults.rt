@@ -29,21 +29,6 @@ fn answers<R: AllocGlobal + Threads + Wait + Sync>(
     Ok(is_written && answer.status == status)
 }
 
-/// A text without its mark, and how many bytes stand before that.
-fn unmarked(alloc: Global, marked: &[u8]) -> Result<(Vec<u8>, usize), AllocError> {
-    let before = marked
-        .iter()
-        .position(|byte| *byte == b'@')
-        .unwrap_or(marked.len());
-    let mut text = Vec::new(alloc);
-    for (at, byte) in marked.iter().enumerate() {
-        if at != before {
-            text.push(*byte)?;
-        }
-    }
-    Ok((text, before))
-}
-
 /// Whether the text is refused at the mark, which stands in its first line, with this fault.
 pub fn is_refused<R: AllocGlobal + Threads + Wait + Sync>(
     rt: &R,
@@ -51,8 +36,7 @@ pub fn is_refused<R: AllocGlobal + Threads + Wait + Sync>(
     marked: &str,
     fault: &str,
 ) -> Result<bool, CaseFault> {
-    let marked = pieces.bytes_of(rt.alloc(), marked)?;
-    let (text, before) = unmarked(rt.alloc(), marked.as_slice())?;
+    let (text, before) = pieces.marked(rt.alloc(), marked)?;
     let column = before.saturating_add(1);
     let message = format!(in rt.alloc(); "error: line 1 column {column}: {fault}\n")?;
     Ok(answers(rt, "run", text, b"", message.as_bytes(), 2)?)

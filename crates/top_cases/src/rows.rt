@@ -1,21 +1,17 @@
 //! The rows of the table.
 
-use crate::call::{
-    Answer, answer_meeting, answer_printing, answer_reading, answer_writing, calm_answer,
-};
+use crate::call::{Answer, answer_meeting, answer_reading, answer_writing, calm_answer};
 use crate::faults::{is_refused, is_sound};
 use crate::merges::merges;
 use crate::wanted::is_wanted;
-use case_tables::{
-    CaseFault, Pieces, Rounds, Tally, behind, field, has, has_only, number_of, numbers_of,
-};
+use case_tables::{CaseFault, Pieces, Rounds, Tally, behind, field, has, number_of, numbers_of};
 use std::alloc::Global;
 use std::io;
 use std::sync::Wait;
 use std::thread::Threads;
 
 /// The marks that a line may have.
-const MARKS: &[&str] = &[
+pub const MARKS: &[&str] = &[
     "#", ":", "let", "*", "$", "|", "first", "byte", "behind", "reads", "unread", "writes",
     "prints", "meet", ">", "!", "=", "any", "begins", "keep", "ran", "copies", "third", "merge",
     "gives", "?", "@", "+",
@@ -110,10 +106,12 @@ fn answer_to<R: AllocGlobal + Threads + Wait + Sync>(
         return Ok(answer_reading(rt, words.as_slice(), source, size(step), call)?);
     }
     if let Some((step, call)) = pair_of(rt.alloc(), pieces, row, "writes")? {
-        return Ok(answer_writing(rt, words.as_slice(), source, size(step), call)?);
+        let fails = [Some(call), Some(call)];
+        return Ok(answer_writing(rt, words.as_slice(), source, size(step), fails)?);
     }
     if let Some((step, call)) = pair_of(rt.alloc(), pieces, row, "prints")? {
-        return Ok(answer_printing(rt, words.as_slice(), source, size(step), call)?);
+        let fails = [Some(call), None];
+        return Ok(answer_writing(rt, words.as_slice(), source, size(step), fails)?);
     }
     if let Some(text) = field(row, "meet") {
         let pairs = pairs_of(rt.alloc(), text)?;
@@ -198,30 +196,17 @@ fn play_texts<R: AllocGlobal + Print + Threads + Wait + Sync>(
     Ok(())
 }
 
-/// Adds the pieces that a row without calls defines.
-fn define(alloc: Global, pieces: &mut Pieces, row: &str) -> Result<(), CaseFault> {
-    pieces.add_lets(alloc, row)?;
-    if let Some(name) = field(row, ":") {
-        let text = pieces.body(alloc, row, "|")?;
-        pieces.add(alloc, name, text)?;
-    }
-    Ok(())
-}
-
-/// Plays a row of the table.
+/// Plays a row: by whole calls of the program where it has words, by a merge, or by its texts.
 pub fn play<R: AllocGlobal + Print + Threads + Wait + Sync>(
     rt: &R,
     pieces: &mut Pieces,
     tally: &mut Tally,
     row: &str,
 ) -> io::Result<()> {
-    if !has_only(row, MARKS) {
-        return tally.count(rt, row, Err(CaseFault::Malformed));
-    }
     if has(row, "$") || has(row, "merge") {
         return play_rounds(rt, pieces, tally, row);
     }
-    match define(rt.alloc(), pieces, row) {
+    match pieces.define(rt.alloc(), row) {
         Ok(()) => play_texts(rt, pieces, tally, row),
         Err(fault) => tally.count(rt, row, Err(fault)),
     }

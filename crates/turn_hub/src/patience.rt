@@ -52,8 +52,8 @@ impl Patience {
 }
 
 /// The wait of this number. Each takes twice as long as the one before, up to the longest. A step
-/// takes some nanoseconds: it is an addition to a word that no other thread sees. `spin_loop` has no
-/// body here, so that nothing is left of a loop over it.
+/// takes some nanoseconds: it is an addition to a word that no other thread sees. `spin_loop` has
+/// no body here, so that nothing is left of a loop over it.
 pub fn pause(number: u32) {
     let own = AtomicU64::new(0);
     for _ in 0..FIRST_PAUSE << number.min(LONGEST) {

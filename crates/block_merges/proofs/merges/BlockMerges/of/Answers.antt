@@ -1,7 +1,8 @@
-use Rattle.std.proofs.Common.{◌≡◌, ◌∙◌, length, sym, ap, arith}
+use Rattle.std.proofs.Common.{◌∙◌, length, ap, arith}
+use Rattle.std.specs.Prelude.{slice_get}
 use Rattle.code_soundness.proofs.Accepting.{no_fault_accepted}
 use Rattle.block_run.proofs.Tables.{few_locations}
-use Rattle.block_merges.proofs.Blocks.{given_for, merges_many}
+use Rattle.block_merges.proofs.Blocks.{given_for, merges_many, serves}
 use Rattle.block_merges.proofs.merges.BlockMerges.of.Goals as goal
 
 pub overflow_cast-len : goal.overflow_cast-len
@@ -18,7 +19,12 @@ invariant_of-result c = record {
   accepted = no_fault_accepted c.args.code.now c.requires;
   variables = c.in_ok-table.ensures.listed;
   listed = c.in_ok-blocks.ensures;
-  room = (let l = c.in_ok-vec.ensures.len in omega (arith, l));
+  three = (let l = c.in_ok-vec.ensures.len in let t = c.most_room-most.ensures.three in omega (arith, l, t));
+  room =
+      serves c.args.code.now c.in_ok-rooms.rooms.items c.in_ok-rooms.ensures _ (λ n room is.
+      let l = c.in_ok-vec.ensures.len in
+      let r = c.most_room-most.ensures.each n room (ap (λ xs. slice_get xs n) c.as_slice.ensures.value ∙ is) in
+      omega (arith, l, r));
   locations = (
       let many = merges_many c.args.code.now.vars in
       let listed = ap length c.in_ok-blocks.ensures in

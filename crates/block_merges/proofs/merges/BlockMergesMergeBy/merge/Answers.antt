@@ -1,13 +1,11 @@
-use Rattle.std.proofs.Common.{◌≡◌, ◌∙◌, ◌<◌, ◌≤◌, ℕ, List, [], ◌∷◌, Option, Some, None, length, sym, ap, subst, arith}
+use Rattle.std.proofs.Common.{◌∙◌, ◌<◌, [], ◌∷◌, Some, length, sym, ap, subst, arith}
 use Rattle.std.specs.Prelude.{slice_get}
 use Rattle.rev_code.specs.Step.{value_at}
 use Rattle.rev_code.specs.Funs.{values}
 use Rattle.code_verifier.proofs.Tries.{get_or_some}
-use Rattle.code_machine.specs.Joining.{merges_of}
-use Rattle.block_run.specs.Area.{count}
 use Rattle.block_run.proofs.Tables.{table_law}
-use Rattle.block_merges.specs.Merging.{int_word, merged_words}
-use Rattle.block_merges.proofs.Blocks.{answer_is, block_of, has_room, merges_many, of_value, three_words}
+use Rattle.block_merges.specs.Merging.{ServesMerges, int_word, merged_words}
+use Rattle.block_merges.proofs.Blocks.{answer_is, has_room, merges_many, of_value, three_words}
 use Rattle.block_merges.proofs.merges.BlockMergesMergeBy.merge.Goals as goal
 
 pub index-requires : goal.index-requires
@@ -39,11 +37,10 @@ evaluate-requires-clause-room c =
     let listed = ap length c.args.self.now.listed in omega (arith, few, many, listed)
     ) in
     let there = ap (λ xs. slice_get xs c.args.location) (sym c.args.self.now.listed) ∙ get_or_some c.args.self.now.blocks.items c.args.location c.index.result.now within c.index.ensures ∙ ap Some c.in-Some.is in
-    let room = c.args.self.now.room in
-    let kept = c.put_three.auto.words in
-    let lent = c.as_mut_slice-words.ensures.len in
-    has_room c.args.self.now.code.now c.args.self.now.sound c.args.location c.in-Some.n (length c.put_three.new.words) (block_of c.args.self.now.code.now c.args.self.now.accepted c.args.location c.in-Some.n there)
-    (omega (arith, room, kept, lent))
+    let value = of_value c.args.self.now.code.now c.args.self.now.accepted c.args.location c.in-Some.n there in
+    let same = c.put_three.auto.words ∙ c.as_mut_slice-words.ensures.len in
+    has_room c.args.self.now.code.now c.args.self.now.sound c.in-Some.n (length c.put_three.new.words) value
+    (subst (ServesMerges c.args.self.now.code.now) (sym same) c.args.self.now.room)
 
 pub evaluate-requires-clause-args : goal.evaluate-requires-clause-args
 evaluate-requires-clause-args c =
