@@ -37,6 +37,7 @@ use Rattle.audit_rules.proofs.Noted.{Lists, event_lists, join_noted}
 use Rattle.audit_rules.proofs.Told.{told_same, told_ended, true_fits, takes_shown}
 use Rattle.audit_rules.proofs.Apart.{places_apart}
 use Rattle.audit_rules.proofs.Theorem.{Audits, yes_law, trace_law, computed_law, verdict_law}
+use Rattle.revision_calculus.proofs.Placed.{values_count}
 
 -- ---- lists of joins
 
@@ -58,30 +59,9 @@ events_join (joined p k ∷ es) = ap (λ x. p ∷ x) (events_join es)
 
 -- ---- places
 
-cells_count : (name : Name) (ls : List Location) (base cell count : ℕ) → length (show_cells name ls base cell count) ≡ count
-cells_count name ls base cell zero = refl
-cells_count name ls base cell (suc n) = ap suc (cells_count name ls base (suc cell) n)
-
-variable_count : (laid : List Declaration) (ls : List Location) (x : SharedDeclaration) → length (show_variable ls (variable_behind laid x) (variable_behind laid x).info.array) ≡ cells_of x.size
-variable_count laid ls x = by x.size
-  where
-    by : (size : Option ArraySize) → length (show_variable ls (variable_behind laid (record x { size = size })) (variable_behind laid (record x { size = size })).info.array) ≡ cells_of size
-    by None = refl
-    by (Some y) = cells_count x.name.text ls (cells laid) 0 (cells_of (Some y))
-
-shown_length : (laid es : List Declaration) (ls : List Location) → length (show_all (variables_behind laid es) ls) ≡ cells es
-shown_length laid [] ls = refl
-shown_length laid (fun w ps r body ∷ es) ls = shown_length (laid ++ fun w ps r body ∷ []) es ls
-shown_length laid (merge w m j r body ∷ es) ls = shown_length (laid ++ merge w m j r body ∷ []) es ls
-shown_length laid (proc w ps r body ∷ es) ls = shown_length (laid ++ proc w ps r body ∷ []) es ls
-shown_length laid (shared x ∷ es) ls =
-    let first : List Shown = show_variable ls (variable_behind laid x) (variable_behind laid x).info.array in
-    let rest : List Shown = show_all (variables_behind (laid ++ shared x ∷ []) es) ls in
-    length-append first rest ∙ ap (λ n. n + length rest) (variable_count laid ls x) ∙ ap (λ n. cells_of x.size + n) (shown_length (laid ++ shared x ∷ []) es ls)
-
 module _ (s : Setting) where
   pub places_length : length (places s) ≡ location_count s
-  places_length = length-map (show_all (variables s.program) []) _ ∙ shown_length [] s.program.declarations []
+  places_length = length-map (show_all (variables s.program) []) _ ∙ values_count [] s.program.declarations []
 
   -- what every revision keeps
   abbrev pub IsFit : Path → Local → Type 0

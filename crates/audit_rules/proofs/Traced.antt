@@ -42,7 +42,7 @@ at_tail : (p : Part) (ps : List Part) (r : Path) → p.path ≢ r → part_at (p
 at_tail p ps r apart = ap (λ b. cond b (Some p) (part_at ps r)) (apart-same p.path r apart)
 
 -- what is found has the path, and is one of them
-found : (ps : List Part) (r : Path) (p : Part) → part_at ps r ≡ Some p → Among ps p × (p.path ≡ r)
+pub found : (ps : List Part) (r : Path) (p : Part) → part_at ps r ≡ Some p → Among ps p × (p.path ≡ r)
 found [] r p e = none_some e
 found (q ∷ ps) r p e = go (same q.path r) refl (λ f. found ps r p f) e
   where

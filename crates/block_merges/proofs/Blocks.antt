@@ -22,7 +22,7 @@ use Rattle.code_rules.specs.Verdict.{first_fault}
 use Rattle.code_soundness.specs.Typed.{location_kinds}
 use Rattle.code_soundness.specs.Whole.{IsAccepted, notes_of}
 use Rattle.code_soundness.proofs.Accepting.{no_fault_accepted, no_fault_costs}
-use Rattle.code_soundness.proofs.Evaluating.{var_well, merge_kind}
+use Rattle.code_soundness.proofs.Evaluating.{var_well, merge_kind, three_ints, merge_evaluates}
 use Rattle.code_soundness.proofs.Lists.{and_parts, kind_is, none_some, some_eq}
 use Rattle.plain_words.specs.Agreement.{IsWord, AreWords}
 use Rattle.plain_words.proofs.Numbers as numbers
@@ -35,6 +35,7 @@ use Rattle.code_machine.specs.Joining as joining
 use Rattle.code_machine.specs.Joining.{merge_in, merges_of, merged_by, merged_there, merges, fault_of}
 use Rattle.block_merges.specs.Merging.{word_for, word_or_fault, int_word, merged_words, word_merges, ServesMerges, HasShortNumbers, IsMerged, IsShort, AreMergesOf, BlocksGiveTheMerges}
 use Rattle.block_merges.proofs.Short.{Fits, merge_fits, short_word}
+use Rattle.code_machine.proofs.Typing.{merged_var}
 
 -- ---- the variable of a location with a merge block
 
@@ -46,13 +47,6 @@ record IsOfVariable (vs : List CodeVar) (block l : ℕ) : Type 0 where
   merge : var.merge ≡ block
   kind : slice_get (location_kinds vs) l ≡ Some var.kind
 
-cumulative_var : (v : CodeVar) (block : ℕ) → merge_in v ≡ Some block → (v.cumulative ≡ true) × (v.merge ≡ block)
-cumulative_var v block e = by v.cumulative refl e
-  where
-    by : (d : Bool) → v.cumulative ≡ d → (if d then Some v.merge else None) ≡ Some block → (v.cumulative ≡ true) × (v.merge ≡ block)
-    by true is e = (is, some_eq e)
-    by false is e = absurd (none_some e)
-
 variable_of : (vs : List CodeVar) (l block : ℕ) → slice_get (merges_of vs) l ≡ Some (Some block) → IsOfVariable vs block l
 variable_of [] l block e = absurd (none_some e)
 variable_of (v ∷ vs) l block e =
@@ -63,7 +57,7 @@ variable_of (v ∷ vs) l block e =
         → slice_get (replicate cells (merge_in v) ++ merges_of vs) m ≡ Some (Some block)
         → (number : ℕ) × (var : CodeVar) × (slice_get (v ∷ vs) number ≡ Some var) × (var.cumulative ≡ true) × (var.merge ≡ block) × (slice_get (replicate cells v.kind ++ location_kinds vs) m ≡ Some var.kind)
     by zero m rec e = let r = rec m e in (suc r.number, r.var, r.is, r.cumulative, r.merge, r.kind)
-    by (suc cells) zero rec e = let p = cumulative_var v block (some_eq e) in (zero, v, refl, p.0, p.1, refl)
+    by (suc cells) zero rec e = let p = merged_var v block (some_eq e) in (zero, v, refl, p.0, p.1, refl)
     by (suc cells) (suc m) rec e = by cells m rec e
 
 -- ---- the block
@@ -73,23 +67,6 @@ pub record IsMergeBlock (code : Code) (n : ℕ) : Type 0 where
   pub is : slice_get code.blocks n ≡ Some body
   pub class : is_value_class body.class ≡ true
   pub three : params body ≡ k.Int ∷ k.Int ∷ k.Int ∷ []
-
-three_ints : (kinds : List ValueKind) → are_three_ints kinds ≡ true → take 3 kinds ≡ k.Int ∷ k.Int ∷ k.Int ∷ []
-three_ints [] h = absurd (true≢false (sym h))
-three_ints (x ∷ []) h = absurd (true≢false (sym h))
-three_ints (x ∷ y ∷ []) h = absurd (true≢false (sym h))
-three_ints (x ∷ y ∷ z ∷ kinds) h =
-    let p = and_parts (same_kind x k.Int && same_kind y k.Int) (same_kind z k.Int) h in
-    let q = and_parts (same_kind x k.Int) (same_kind y k.Int) p.0 in
-    let a = kind_is x k.Int q.0 in
-    let b = kind_is y k.Int q.1 in
-    let c = kind_is z k.Int p.1 in λ j. a j ∷ b j ∷ c j ∷ []
-
-merge_evaluates : (x : BlockClass) → is_merge_class x ≡ true → is_value_class x ≡ true
-merge_evaluates class.Merge h = refl
-merge_evaluates class.Fun h = absurd (true≢false (sym h))
-merge_evaluates class.Proc h = absurd (true≢false (sym h))
-merge_evaluates class.Main h = absurd (true≢false (sym h))
 
 block_in : (code : Code) (n : ℕ) (o : Option CodeBlock) → slice_get code.blocks n ≡ o → is_int_merge o ≡ true → IsMergeBlock code n
 block_in code n None e h = absurd (true≢false (sym h))

@@ -4,6 +4,7 @@
 mod fault;
 mod marked;
 mod pieces;
+mod programs;
 mod rounds;
 mod table;
 mod tally;
@@ -11,6 +12,7 @@ mod tally;
 pub use fault::CaseFault;
 pub use marked::{behind, field, has, number_of, numbers_of};
 pub use pieces::Pieces;
+pub use programs::{MEGABYTE, typed_of};
 pub use rounds::Rounds;
 pub use table::play_table;
 pub use tally::Tally;

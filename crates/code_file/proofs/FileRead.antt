@@ -42,7 +42,7 @@ use Rattle.code_file.proofs.FieldRead.{Counts, InstrParts, LayoutGood, LongText,
 
 -- ---- blocks
 
-one_byte : (xs : List ValueKind) → flat_map (λ k. kind_byte k ∷ []) xs ≡ map kind_byte xs
+pub one_byte : (xs : List ValueKind) → flat_map (λ k. kind_byte k ∷ []) xs ≡ map kind_byte xs
 one_byte [] = refl
 one_byte (x ∷ xs) = ap (λ l. kind_byte x ∷ l) (one_byte xs)
 

@@ -29,6 +29,7 @@ use Rattle.code_file.specs.Files.{flag_byte, kind_byte, result_byte, class_byte,
 use Rattle.code_file.specs.Laws.{IsVar, IsText, IsItem, IsInstr, IsBlock, HasFile}
 use Rattle.code_file.specs.Reads.{magic, as_version, version as version_field, name, var, vars, location_count, text, texts, item_of, layout_item, layout, layouts, with_operand, instr, instrs, locals, block, blocks, try_total, code_of, at_end, file, reading}
 use Rattle.code_file.proofs.Written.{Reads, bytes_read, read_8, read_16, read_32, read_64, give_read, tested_read, then_read, more_read}
+use Rattle.code_file.proofs.FileRead.{one_byte}
 
 -- ---- single bytes
 
@@ -252,10 +253,6 @@ instrs_read words tries' xs is few may =
     (λ without. let a = inside_sum try_count xs pre x post e in let b = may without in omega arith))
 
 -- ---- blocks
-
-one_byte : (xs : List ValueKind) → flat_map (λ k. kind_byte k ∷ []) xs ≡ map kind_byte xs
-one_byte [] = refl
-one_byte (x ∷ xs) = ap (λ l. kind_byte x ∷ l) (one_byte xs)
 
 locals_read : (xs : List ValueKind) → Reads locals xs (length xs ∷ map kind_byte xs)
 unfolding locals

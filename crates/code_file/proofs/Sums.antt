@@ -19,7 +19,7 @@ tries_in_more xs n d h = sum_by-drop_more try_count xs n d h
 pub tries_more : (xs : List CodeBlock) (n : ℕ) (d : CodeBlock) → n < length xs → tries (drop n xs) ≡ tries_in (get_or xs n d).instrs + tries (drop (n + 1) xs)
 tries_more xs n d h = sum_by-drop_more (λ (b : CodeBlock). tries_in b.instrs) xs n d h
 
-past : {A : Type 0} (xs : List A) (n : ℕ) → length xs ≤ n → drop n xs ≡ []
+pub past : {A : Type 0} (xs : List A) (n : ℕ) → length xs ≤ n → drop n xs ≡ []
 past [] zero h = refl
 past [] (suc n) h = refl
 past (x ∷ xs) zero h = absurd (omega (arith, h))

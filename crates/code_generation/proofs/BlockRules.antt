@@ -18,7 +18,7 @@ use Rattle.code_generation.specs.Sizes.{statements_prints}
 use Rattle.code_generation.specs.Prints.{statements_kinds}
 use Rattle.code_generation.specs.Generated.{kinds_of, body_locals, fun_block, merge_block, proc_block, main_block, value_blocks, body_blocks, code_of}
 
-both : (d q : Bool) → d ≡ true → q ≡ true → d && q ≡ true
+pub both : (d q : Bool) → d ≡ true → q ≡ true → d && q ≡ true
 both true q h e = e
 both false q h e = absurd (true≢false (sym h))
 
@@ -44,7 +44,7 @@ blocks_end n (proc w ps r body ∷ es) bs h = blocks_end n es bs h
 
 -- ---- each block fits its class
 
-kinds_length : (ps : List Parameter) → length (kinds_of ps) ≡ length ps
+pub kinds_length : (ps : List Parameter) → length (kinds_of ps) ≡ length ps
 kinds_length [] = refl
 kinds_length (p ∷ ps) = ap suc (kinds_length ps)
 

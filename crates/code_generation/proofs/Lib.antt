@@ -5,3 +5,4 @@ pub mod Inside
 pub mod Naming
 pub mod BlockRules
 pub mod Merges
+pub mod BlockPlaces

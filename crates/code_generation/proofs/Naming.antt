@@ -18,7 +18,7 @@ use Rattle.code_generation.specs.Sizes.{statements_prints}
 use Rattle.code_generation.specs.Generated.{var_of, fun_block, merge_block, proc_block, value_blocks, body_blocks, code_of}
 use Rattle.code_generation.specs.Named.{FunStands, ProcStands, MergeStands}
 
-get_left : {A : Type 0} (xs ys : List A) (n : ℕ) (x : A) → slice_get xs n ≡ Some x → slice_get (xs ++ ys) n ≡ Some x
+pub get_left : {A : Type 0} (xs ys : List A) (n : ℕ) (x : A) → slice_get xs n ≡ Some x → slice_get (xs ++ ys) n ≡ Some x
 get_left [] ys n x h = absurd (let z : None ≡ Some x = h in cc)
 get_left (y ∷ xs) ys zero x h = h
 get_left (y ∷ xs) ys (suc n) x h = get_left xs ys n x h

@@ -1,8 +1,3 @@
 -- What several calls have appended, one after another.
 use Rattle.std.proofs.Common.{◌≡◌, ◌∙◌, ℕ, List, ◌++◌, ap, append_assoc}
-
-pub two : (o a b x y : List ℕ) → a ≡ o ++ x → b ≡ a ++ y → b ≡ o ++ (x ++ y)
-two o a b x y p q = q ∙ ap (λ l. l ++ y) p ∙ append_assoc o x y
-
-pub three : (o a b c x y z : List ℕ) → a ≡ o ++ x → b ≡ a ++ y → c ≡ b ++ z → c ≡ o ++ (x ++ (y ++ z))
-three o a b c x y z p q r = two o a c x (y ++ z) p (two a b c y z q r)
+use Rattle.code_file.proofs.Joined.{three, two}

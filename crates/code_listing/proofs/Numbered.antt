@@ -2,12 +2,7 @@
 use Rattle.std.proofs.Common.{◌≡◌, ◌∙◌, ℕ, zero, suc, ◌+◌, ◌<◌, ◌≤◌, List, [], ◌∷◌, ◌++◌, length, drop, get_or, refl, ap, arith}
 use Rattle.std.proofs.Math.Seq.{drop-cons}
 use Rattle.code_listing.specs.Listing.{numbered}
-
-past : {A : Type 0} (xs : List A) (n : ℕ) → length xs ≤ n → drop n xs ≡ []
-past [] zero h = refl
-past [] (suc n) h = refl
-past (x ∷ xs) zero h = absurd (omega (arith, h))
-past (x ∷ xs) (suc n) h = past xs n (omega (arith, h))
+use Rattle.code_file.proofs.Sums.{past}
 
 pub numbered_more : {A : Type 0} (lines : ℕ → A → List ℕ) (xs : List A) (n : ℕ) (d : A) → n < length xs →
     numbered lines n (drop n xs) ≡ lines n (get_or xs n d) ++ numbered lines (n + 1) (drop (n + 1) xs)

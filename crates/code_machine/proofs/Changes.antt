@@ -30,12 +30,12 @@ module _ {A : Type 0} where
   put_here (z ∷ xs) zero x y e = refl
   put_here (z ∷ xs) (suc n) x y e = put_here xs n x y e
 
-  put_twice : (xs : List A) (n : ℕ) (x y : A) → put_number (put_number xs n x) n y ≡ put_number xs n y
+  pub put_twice : (xs : List A) (n : ℕ) (x y : A) → put_number (put_number xs n x) n y ≡ put_number xs n y
   put_twice [] n x y = refl
   put_twice (z ∷ xs) zero x y = refl
   put_twice (z ∷ xs) (suc n) x y = ap (λ k. z ∷ k) (put_twice xs n x y)
 
-  put_length : (xs : List A) (n : ℕ) (x : A) → length (put_number xs n x) ≡ length xs
+  pub put_length : (xs : List A) (n : ℕ) (x : A) → length (put_number xs n x) ≡ length xs
   put_length [] n x = refl
   put_length (z ∷ xs) zero x = refl
   put_length (z ∷ xs) (suc n) x = ap suc (put_length xs n x)

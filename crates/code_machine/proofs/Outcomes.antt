@@ -85,7 +85,7 @@ module _ (t : List Path) where
   back : Path → Path
   back q = or_path (at_number t (number_of t q)) []
 
-  all_back : (hs : List Path) → ((q : Path) → IsIn q hs → IsIn q t) → AllFixed (λ q. or_path (at_number t (number_of t q)) []) hs
+  pub all_back : (hs : List Path) → ((q : Path) → IsIn q hs → IsIn q t) → AllFixed (λ q. or_path (at_number t (number_of t q)) []) hs
   all_back [] known = tt
   all_back (h ∷ hs) known = (ap (λ x. or_path x []) (number_back t h (known h (inl refl))), all_back hs (λ q i. known q (inr i)))
 

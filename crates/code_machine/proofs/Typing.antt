@@ -54,7 +54,7 @@ record IsMerged (vs : List CodeVar) (block : ℕ) (kind : ValueKind) : Type 0 wh
   merge : var.merge ≡ block
   same : var.kind ≡ kind
 
-merged_var : (v : CodeVar) (block : ℕ) → merge_in v ≡ Some block → (v.cumulative ≡ true) × (v.merge ≡ block)
+pub merged_var : (v : CodeVar) (block : ℕ) → merge_in v ≡ Some block → (v.cumulative ≡ true) × (v.merge ≡ block)
 merged_var v block e = by v.cumulative refl e
   where
     by : (d : Bool) → v.cumulative ≡ d → (if d then Some v.merge else None) ≡ Some block → (v.cumulative ≡ true) × (v.merge ≡ block)

@@ -28,7 +28,7 @@ use Rattle.code_machine.specs.Outcome.{outcome}
 -- ---- codes
 
 -- with these parameters and locals
-abbrev block : BlockClass → ℕ → Option ValueKind → List ValueKind → List Instr → CodeBlock
+abbrev pub block : BlockClass → ℕ → Option ValueKind → List ValueKind → List Instr → CodeBlock
 block class' params' result' locals' instrs' = record {
   class = class';
   params = params';
@@ -258,11 +258,11 @@ WaitingHasNone = after grandchildren 3 fork_two (0 ∷ 0 ∷ 0 ∷ []) ≡ None
 
 -- ---- merges
 
-abbrev sum : CodeBlock
+abbrev pub sum : CodeBlock
 sum = block class.Merge 3 (Some k.Int) (k.Int ∷ k.Int ∷ k.Int ∷ []) (
     i.LoadLocal 0 ∷ i.LoadLocal 1 ∷ i.Add ∷ i.LoadLocal 2 ∷ i.Sub ∷ i.Return ∷ [])
 
-abbrev add_one : CodeBlock
+abbrev pub add_one : CodeBlock
 add_one = procedure (
     i.Charge 3 ∷ i.LoadShared 0 ∷ i.PushInt (pos 1) ∷ i.Add ∷ i.StoreShared 0 ∷ i.Return ∷ [])
 

@@ -219,7 +219,7 @@ module _ {H : Type 0} (code : Code) (notes : ℕ → ℕ → Note) (ok : IsAccep
 
 -- ---- merges
 
-three_ints : (kinds : List ValueKind) → are_three_ints kinds ≡ true → take 3 kinds ≡ k.Int ∷ k.Int ∷ k.Int ∷ []
+pub three_ints : (kinds : List ValueKind) → are_three_ints kinds ≡ true → take 3 kinds ≡ k.Int ∷ k.Int ∷ k.Int ∷ []
 three_ints [] h = absurd (true≢false (sym h))
 three_ints (x ∷ []) h = absurd (true≢false (sym h))
 three_ints (x ∷ y ∷ []) h = absurd (true≢false (sym h))
@@ -230,7 +230,7 @@ three_ints (x ∷ y ∷ z ∷ kinds) h =
     let b = kind_is y k.Int q.1 in
     let c = kind_is z k.Int p.1 in λ j. a j ∷ b j ∷ c j ∷ []
 
-merge_evaluates : (x : BlockClass) → is_merge_class x ≡ true → is_value_class x ≡ true
+pub merge_evaluates : (x : BlockClass) → is_merge_class x ≡ true → is_value_class x ≡ true
 merge_evaluates class.Merge h = refl
 merge_evaluates class.Fun h = absurd (true≢false (sym h))
 merge_evaluates class.Proc h = absurd (true≢false (sym h))

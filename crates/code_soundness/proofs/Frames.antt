@@ -20,11 +20,12 @@ use Rattle.code_rules.specs.Pass.{Note, has_class, is_value_class}
 use Rattle.code_soundness.specs.Typed.{kinds_of, IsFrame, IsWaiting, AllWaiting, AreLocations, location_kinds, IsOfProgram, IsRevision}
 use Rattle.code_soundness.specs.Whole.{IsAccepted}
 use Rattle.code_soundness.specs.Funs.{kind_of_result}
-use Rattle.code_soundness.proofs.Lists.{same_self, some_eq, drop_whole, begins_all, kinds_drop, kinds_length, first_kinds, Taken, taken}
+use Rattle.code_soundness.proofs.Lists.{some_eq, drop_whole, begins_all, kinds_drop, kinds_length, first_kinds, Taken, taken}
 use Rattle.code_soundness.proofs.Variables.{view_kinds}
 use Rattle.code_soundness.proofs.Well.{Stands, Well, GoesWell, JoinsWell}
 use Rattle.code_soundness.proofs.Cases.{procedure_runs, no_fun, if_true}
 use Rattle.code_soundness.proofs.Places.{operand_good, found, bare, named, impure, next_inside, next_shape, onto}
+use Rattle.rev_code.proofs.SameKinds.{same_kind_self}
 
 -- ---- the begin of a block
 
@@ -197,4 +198,4 @@ module _ {H : Type 0} (s : Setting H) (notes : ℕ → ℕ → Note) (ok : IsAcc
         by (Some x) [] e h = absurd (let z : [] ≡ x ∷ [] = h in cc)
         by (Some x) (w ∷ rest) e h =
             let z : kind_of w ≡ x = cc in
-            if_true s notes c b (same_kind x (kind_of w)) (r.leave c c.below (Some w)) stuck (ap (same_kind x) z ∙ same_self x) (leave_case c.below (Some w) refl (ap Some z ∙ sym e))
+            if_true s notes c b (same_kind x (kind_of w)) (r.leave c c.below (Some w)) stuck (ap (same_kind x) z ∙ same_kind_self x) (leave_case c.below (Some w) refl (ap Some z ∙ sym e))

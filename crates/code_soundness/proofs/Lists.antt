@@ -10,13 +10,9 @@ use Rattle.rev_code.specs.Step as step
 use Rattle.code_rules.specs.Shapes.{begins}
 pub use Rattle.code_certificate.proofs.Basics.{or_parts, not_true, and_false, append_length, kind_is, and_parts, not_false, none_some, some_eq, some_within, within_some}
 use Rattle.code_soundness.specs.Typed.{kinds_of}
+use Rattle.rev_code.proofs.SameKinds.{same_kind_self}
 
 -- ---- tests
-
-pub same_self : (x : ValueKind) → same_kind x x ≡ true
-same_self k.Int = refl
-same_self k.Bool = refl
-same_self k.Rev = refl
 
 -- ---- lists
 
@@ -139,7 +135,7 @@ module _ {H : Type 0} where
   fits_kinds (x ∷ kinds) (w ∷ ws) e =
       let z : kind_of w ≡ x = cc in
       let q : kinds_of ws ≡ kinds = cc in
-      ap (λ y. same_kind x y && fits kinds ws) z ∙ ap (λ d. d && fits kinds ws) (same_self x) ∙ fits_kinds kinds ws q
+      ap (λ y. same_kind x y && fits kinds ws) z ∙ ap (λ d. d && fits kinds ws) (same_kind_self x) ∙ fits_kinds kinds ws q
 
   -- the uppermost words, where the stack begins with their kinds
   pub record Taken (kinds : List ValueKind) (ws : List (Word H)) : Type 0 where

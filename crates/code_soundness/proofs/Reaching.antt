@@ -30,7 +30,7 @@ use Rattle.code_soundness.proofs.Places.{found}
 use Rattle.code_soundness.proofs.Frames.{started}
 use Rattle.code_soundness.proofs.Evaluating.{block_well, values_known}
 
-main_runs : (x : BlockClass) → is_main x ≡ true → is_value_class x ≡ false
+pub main_runs : (x : BlockClass) → is_main x ≡ true → is_value_class x ≡ false
 main_runs class.Main h = refl
 main_runs class.Fun h = absurd (true≢false (sym h))
 main_runs class.Merge h = absurd (true≢false (sym h))

@@ -5,26 +5,13 @@ use Rattle.rev_code.specs.declared.code.CodeBlock.{CodeBlock}
 use Rattle.rev_code.specs.declared.code.CodeVar.{CodeVar}
 use Rattle.rev_code.specs.declared.code.BlockClass.{BlockClass}
 use Rattle.code_rules.specs.Tables as tables
-
-next_suc : {A : Type 0} (xs : List A) (n : ℕ) (d : A) → n < length xs → drop n xs ≡ get_or xs n d ∷ drop (suc n) xs
-next_suc [] n d h = absurd (omega (arith, h))
-next_suc (x ∷ xs) zero d h = refl
-next_suc (x ∷ xs) (suc n) d h = next_suc xs n d (omega (arith, h))
-
-next : {A : Type 0} (xs : List A) (n : ℕ) (d : A) → n < length xs → drop n xs ≡ get_or xs n d ∷ drop (n + 1) xs
-next xs n d h = next_suc xs n d h ∙ ap (λ y. get_or xs n d ∷ drop y xs) (let z : suc n ≡ n + 1 = omega arith in z)
-
-pub all_more : {A : Type 0} (f : A → Bool) (xs : List A) (n : ℕ) (d : A) → n < length xs → f (get_or xs n d) ≡ true → list_all f (drop n xs) ≡ list_all f (drop (n + 1) xs)
-all_more f xs n d h e = ap (list_all f) (next xs n d h) ∙ ap (λ y. y && list_all f (drop (n + 1) xs)) e
-
-pub all_none : {A : Type 0} (f : A → Bool) (xs : List A) (n : ℕ) (d : A) → n < length xs → f (get_or xs n d) ≡ false → list_all f (drop n xs) ≡ false
-all_none f xs n d h e = ap (list_all f) (next xs n d h) ∙ ap (λ y. y && list_all f (drop (n + 1) xs)) e
+use Rattle.std.proofs.lemmas.List.{drop_more}
 
 pub count_more : (f : BlockClass → Bool) (xs : List CodeBlock) (n : ℕ) (d : CodeBlock) → n < length xs → f (get_or xs n d).class ≡ true → tables.count_class f (drop n xs) ≡ suc (tables.count_class f (drop (n + 1) xs))
-count_more f xs n d h e = ap (tables.count_class f) (next xs n d h) ∙ ap (λ y. cond y (suc (tables.count_class f (drop (n + 1) xs))) (tables.count_class f (drop (n + 1) xs))) e
+count_more f xs n d h e = ap (tables.count_class f) (drop_more xs n d h) ∙ ap (λ y. cond y (suc (tables.count_class f (drop (n + 1) xs))) (tables.count_class f (drop (n + 1) xs))) e
 
 pub count_same : (f : BlockClass → Bool) (xs : List CodeBlock) (n : ℕ) (d : CodeBlock) → n < length xs → f (get_or xs n d).class ≡ false → tables.count_class f (drop n xs) ≡ tables.count_class f (drop (n + 1) xs)
-count_same f xs n d h e = ap (tables.count_class f) (next xs n d h) ∙ ap (λ y. cond y (suc (tables.count_class f (drop (n + 1) xs))) (tables.count_class f (drop (n + 1) xs))) e
+count_same f xs n d h e = ap (tables.count_class f) (drop_more xs n d h) ∙ ap (λ y. cond y (suc (tables.count_class f (drop (n + 1) xs))) (tables.count_class f (drop (n + 1) xs))) e
 
 fold_from : (xs : List ℕ) (n : ℕ) → fold ◌+◌ n xs ≡ n + fold ◌+◌ 0 xs
 fold_from [] n = omega arith
@@ -36,19 +23,19 @@ fold_from (x ∷ xs) n =
 
 pub locations_more : (xs : List CodeVar) (n : ℕ) (d : CodeVar) → n < length xs → tables.locations (drop n xs) ≡ (get_or xs n d).cells + tables.locations (drop (n + 1) xs)
 locations_more xs n d h =
-    ap tables.locations (next xs n d h)
+    ap tables.locations (drop_more xs n d h)
     ∙ fold_from (map (λ v. v.cells) (drop (n + 1) xs)) (0 + (get_or xs n d).cells)
     ∙ ap (λ y. y + tables.locations (drop (n + 1) xs)) (let z : 0 + (get_or xs n d).cells ≡ (get_or xs n d).cells = omega arith in z)
 
 pub main_later : (xs : List CodeBlock) (n : ℕ) (d : CodeBlock) → n + 1 < length xs → tables.ends_in_main (drop n xs) ≡ not (tables.is_main (get_or xs n d).class) && tables.ends_in_main (drop (n + 1) xs)
 main_later xs n d h =
-    ap tables.ends_in_main (next xs n d (omega (arith, h)))
-    ∙ ap (λ y. tables.ends_in_main (get_or xs n d ∷ y)) (next xs (n + 1) d h)
-    ∙ ap (λ y. not (tables.is_main (get_or xs n d).class) && tables.ends_in_main y) (sym (next xs (n + 1) d h))
+    ap tables.ends_in_main (drop_more xs n d (omega (arith, h)))
+    ∙ ap (λ y. tables.ends_in_main (get_or xs n d ∷ y)) (drop_more xs (n + 1) d h)
+    ∙ ap (λ y. not (tables.is_main (get_or xs n d).class) && tables.ends_in_main y) (sym (drop_more xs (n + 1) d h))
 
 pub main_last : (xs : List CodeBlock) (n : ℕ) (d : CodeBlock) → length xs ≡ n + 1 → tables.ends_in_main (drop n xs) ≡ tables.is_main (get_or xs n d).class
 main_last xs n d h =
-    ap tables.ends_in_main (next xs n d (omega (arith, h)))
+    ap tables.ends_in_main (drop_more xs n d (omega (arith, h)))
     ∙ ap (λ y. tables.ends_in_main (get_or xs n d ∷ y)) (past xs (n + 1) (omega (arith, h)))
   where
     past : (xs : List CodeBlock) (n : ℕ) → length xs ≤ n → drop n xs ≡ []

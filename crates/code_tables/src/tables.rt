@@ -45,7 +45,7 @@ fn is_block(block: &CodeBlock) -> bool
     fits && block.params as usize <= block.locals.as_slice().len()
 }
 
-#[tactic(auto, using(crate::proofs::Drops::all_more, crate::proofs::Drops::all_none))]
+#[tactic(auto, using(rev_num::proofs::Lists::all_more, rev_num::proofs::Lists::all_none))]
 fn all_blocks(blocks: &[CodeBlock]) -> bool
     ensures { result ≡ list_all tables.is_block blocks.now }
 {
@@ -76,7 +76,7 @@ fn is_text_byte(c: u8) -> bool
 }
 
 /// Whether each byte can stand in a text.
-#[tactic(auto, using(crate::proofs::Drops::all_more, crate::proofs::Drops::all_none))]
+#[tactic(auto, using(rev_num::proofs::Lists::all_more, rev_num::proofs::Lists::all_none))]
 pub fn is_text(text: &[u8]) -> bool
     ensures { result ≡ list_all tables.is_text_byte text.now }
 {
@@ -88,7 +88,7 @@ pub fn is_text(text: &[u8]) -> bool
     true
 }
 
-#[tactic(auto, using(crate::proofs::Drops::all_more, crate::proofs::Drops::all_none))]
+#[tactic(auto, using(rev_num::proofs::Lists::all_more, rev_num::proofs::Lists::all_none))]
 fn all_texts(texts: &[Bytes]) -> bool
     ensures { result ≡ list_all (list_all tables.is_text_byte) texts.now }
 {
@@ -110,7 +110,7 @@ fn is_item(texts: usize, item: LayoutItem) -> bool
     }
 }
 
-#[tactic(auto, using(crate::proofs::Drops::all_more, crate::proofs::Drops::all_none))]
+#[tactic(auto, using(rev_num::proofs::Lists::all_more, rev_num::proofs::Lists::all_none))]
 fn is_layout(texts: usize, items: &[LayoutItem]) -> bool
     ensures { result ≡ list_all (tables.is_item texts) items.now }
 {
@@ -122,7 +122,7 @@ fn is_layout(texts: usize, items: &[LayoutItem]) -> bool
     true
 }
 
-#[tactic(auto, using(crate::proofs::Drops::all_more, crate::proofs::Drops::all_none))]
+#[tactic(auto, using(rev_num::proofs::Lists::all_more, rev_num::proofs::Lists::all_none))]
 fn all_layouts(texts: usize, layouts: &[Items<LayoutItem>]) -> bool
     ensures { result ≡ list_all (list_all (tables.is_item texts)) layouts.now }
 {
@@ -140,7 +140,7 @@ fn is_name_byte(c: u8) -> bool
     is_letter(c) || is_digit(c)
 }
 
-#[tactic(auto, using(crate::proofs::Drops::all_more, crate::proofs::Drops::all_none))]
+#[tactic(auto, using(rev_num::proofs::Lists::all_more, rev_num::proofs::Lists::all_none))]
 fn are_name_bytes(bytes: &[u8]) -> bool
     ensures { result ≡ list_all tables.is_name_byte bytes.now }
 {
@@ -299,7 +299,7 @@ fn is_var(code: &Code, var: &CodeVar) -> bool
         && merges_well(code, var)
 }
 
-#[tactic(auto, using(crate::proofs::Drops::all_more, crate::proofs::Drops::all_none))]
+#[tactic(auto, using(rev_num::proofs::Lists::all_more, rev_num::proofs::Lists::all_none))]
 fn all_vars(code: &Code) -> bool
     ensures { result ≡ list_all (tables.is_var code.now) code.now.vars }
 {
@@ -380,7 +380,7 @@ fn is_small_block(block: &CodeBlock) -> bool
         && block.instrs.as_slice().len() <= 4_294_967_295
 }
 
-#[tactic(auto, using(crate::proofs::Drops::all_more, crate::proofs::Drops::all_none))]
+#[tactic(auto, using(rev_num::proofs::Lists::all_more, rev_num::proofs::Lists::all_none))]
 fn all_small_blocks(blocks: &[CodeBlock]) -> bool
     ensures { result ≡ list_all tables.is_small_block blocks.now }
 {
@@ -398,7 +398,7 @@ fn is_small_layout(items: &Items<LayoutItem>) -> bool
     items.as_slice().len() <= 64
 }
 
-#[tactic(auto, using(crate::proofs::Drops::all_more, crate::proofs::Drops::all_none))]
+#[tactic(auto, using(rev_num::proofs::Lists::all_more, rev_num::proofs::Lists::all_none))]
 fn all_small_layouts(layouts: &[Items<LayoutItem>]) -> bool
     ensures { result ≡ list_all tables.is_small_layout layouts.now }
 {
@@ -416,7 +416,7 @@ fn is_small_text(text: &Bytes) -> bool
     text.as_slice().len() <= 4_294_967_295
 }
 
-#[tactic(auto, using(crate::proofs::Drops::all_more, crate::proofs::Drops::all_none))]
+#[tactic(auto, using(rev_num::proofs::Lists::all_more, rev_num::proofs::Lists::all_none))]
 fn all_small_texts(texts: &[Bytes]) -> bool
     ensures { result ≡ list_all tables.is_small_text texts.now }
 {
@@ -434,7 +434,7 @@ fn has_small_name(var: &CodeVar) -> bool
     is_small_text(&var.name)
 }
 
-#[tactic(auto, using(crate::proofs::Drops::all_more, crate::proofs::Drops::all_none))]
+#[tactic(auto, using(rev_num::proofs::Lists::all_more, rev_num::proofs::Lists::all_none))]
 fn all_small_names(vars: &[CodeVar]) -> bool
     ensures { result ≡ list_all tables.has_small_name vars.now }
 {

@@ -16,7 +16,7 @@ use Rattle.rev_vm.proofs.Values.{one_end}
 use Rattle.code_soundness.specs.Typed.{location_kinds}
 use Rattle.code_machine.specs.Local.{CodeRun, Local, end_of}
 use Rattle.code_machine.specs.Proper.{IsOver}
-use Rattle.code_world.proofs.Rows.{none_some, some_same, at_below, below_at}
+use Rattle.code_world.proofs.Rows.{none_some, some_same, at_below, below_at, more_length}
 use Rattle.audit_rules.specs.Traces as calculus_traces
 use Rattle.trace_making.specs.Made.{is_sooner}
 use Rattle.trace_making.proofs.InOrder.{AreOnce, contains_among, among_contains, distinct_once, in_order, once_moved}
@@ -115,10 +115,6 @@ module _ {A : Type 0} where
   take_one [] n x e = none_some e
   take_one (y ∷ xs) zero x e = ap (λ v. v ∷ []) (some_same e)
   take_one (y ∷ xs) (suc n) x e = ap (λ v. y ∷ v) (take_one xs n x e)
-
-  pub more_long : (xs : List A) (x : A) → length (xs ++ x ∷ []) ≡ suc (length xs)
-  more_long [] x = refl
-  more_long (y ∷ xs) x = ap suc (more_long xs x)
 
 module _ (g : CodeRun) (w : Entries (Local ℕ)) where
   pub none_yet : (out : List Part) (k : ℕ) → out ≡ [] → length w ≤ k → IsPermutation (world_parts g w) (out ++ take k (world_parts g w))

@@ -8,9 +8,11 @@ use Rattle.code_rules.specs.declared.Cost.{Cost}
 use Rattle.code_rules.specs.declared.Rule.{Rule}
 use Rattle.code_rules.specs.Pass.{block_fault, blocks_fault, fault_or}
 use Rattle.code_verifier.specs.Spending.{AllCheap, IsCheap}
-use Rattle.code_verifier.proofs.Tries.{get_or_some, get_append, get_last, some_within}
+use Rattle.code_verifier.proofs.Tries.{get_or_some, get_last}
+use Rattle.code_certificate.proofs.Basics.{some_within}
+use Rattle.rev_num.proofs.Lists.{get_append}
 
-drop_suc : {A : Type 0} (xs : List A) (n : ℕ) (x : A) → slice_get xs n ≡ Some x → drop n xs ≡ x ∷ drop (suc n) xs
+pub drop_suc : {A : Type 0} (xs : List A) (n : ℕ) (x : A) → slice_get xs n ≡ Some x → drop n xs ≡ x ∷ drop (suc n) xs
 drop_suc [] n x h = absurd (let z : None ≡ Some x = h in cc)
 drop_suc (y ∷ xs) zero x h = (let e : y ≡ x = cc in ap (λ z. z ∷ xs) e)
 drop_suc (y ∷ xs) (suc n) x h = drop_suc xs n x h

@@ -22,22 +22,12 @@ use Rattle.code_verifier.specs.Effects.{IsEffect}
 use Rattle.code_verifier.specs.Marking.{met, clashes_at, leap, IsMark, Marks, Stands}
 use Rattle.code_verifier.specs.Spending.{spend, is_over, AllCheap, IsCheap, IsSpent}
 use Rattle.code_verifier.specs.Passing.{rule_of, shape_faulty, IsReady, Arrived, IsStep}
-use Rattle.code_verifier.proofs.Tries.{some_within, get_or_some}
+use Rattle.code_verifier.proofs.Tries.{get_or_some}
 use Rattle.code_verifier.proofs.Bridge.{meets, clash_is, stands_next, stands_more}
+use Rattle.code_certificate.proofs.Basics.{take_some, gone_snoc, before_next, some_within}
+use Rattle.code_verifier.proofs.Blocks.{drop_suc}
 
 -- ---- the instructions before a place
-
-take_some : {A : Type 0} (xs : List A) (n : ℕ) (x : A) → slice_get xs n ≡ Some x → take (suc n) xs ≡ take n xs ++ x ∷ []
-take_some [] n x h = absurd (let z : None ≡ Some x = h in cc)
-take_some (y ∷ xs) zero x h = let e : y ≡ x = cc in ap (λ z. z ∷ []) e
-take_some (y ∷ xs) (suc n) x h = ap (λ z. y ∷ z) (take_some xs n x h)
-
-gone_snoc : (code : Code) (b : CodeBlock) (done : List Passed) (xs : List Instr) (x : Instr) → gone code b done (xs ++ x ∷ []) ≡ passed code b (gone code b done xs) x ∷ gone code b done xs
-gone_snoc code b done [] x = refl
-gone_snoc code b done (y ∷ xs) x = gone_snoc code b (passed code b done y ∷ done) xs x
-
-pub before_next : (code : Code) (b : CodeBlock) (at : ℕ) (x : Instr) → slice_get b.instrs at ≡ Some x → before code b (suc at) ≡ passed code b (before code b at) x ∷ before code b at
-before_next code b at x h = ap (gone code b []) (take_some b.instrs at x h) ∙ gone_snoc code b [] (take at b.instrs) x
 
 pub none_or_some : {A : Type 0} (d : Bool) (r : A) (o : Option A) → (if d then Some r else o) ≡ None → (d ≡ false) × (o ≡ None)
 none_or_some true r o h = absurd (let z : Some r ≡ None = h in cc)
@@ -256,11 +246,6 @@ pub not_none : {A : Type 0} (r : Option A) (d : Bool) → is_some r ≡ not d �
 not_none r d e f g = true≢false (sym (e ∙ ap not f) ∙ ap is_some g)
 
 -- ---- the whole pass
-
-drop_suc : {A : Type 0} (xs : List A) (n : ℕ) (x : A) → slice_get xs n ≡ Some x → drop n xs ≡ x ∷ drop (suc n) xs
-drop_suc [] n x h = absurd (let z : None ≡ Some x = h in cc)
-drop_suc (y ∷ xs) zero x h = (let e : y ≡ x = cc in ap (λ z. z ∷ xs) e)
-drop_suc (y ∷ xs) (suc n) x h = drop_suc xs n x h
 
 drop_some : {A : Type 0} (xs : List A) (n : ℕ) (x : A) → slice_get xs n ≡ Some x → drop n xs ≡ x ∷ drop (n + 1) xs
 drop_some xs n x h = drop_suc xs n x h ∙ ap (λ y. x ∷ drop y xs) (let z : suc n ≡ n + 1 = omega arith in z)

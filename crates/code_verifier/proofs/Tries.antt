@@ -5,11 +5,13 @@ use Rattle.std.proofs.lemmas.Bool.Decides.{nat_tests}
 use Rattle.rev_num.specs.declared.value.ValueKind.{ValueKind}
 use Rattle.rev_num.specs.declared.value.ValueKind.TheVariants as k
 use Rattle.rev_code.specs.Words.{same_kind}
-use Rattle.code_certificate.proofs.Basics.{kind_is, same_is}
+use Rattle.code_certificate.proofs.Basics.{kind_is, same_is, some_within, within_some}
 use Rattle.code_rules.specs.Shapes.{Shape, same_shape}
 use Rattle.code_verifier.specs.declared.node.Node.{Node}
 use Rattle.code_verifier.specs.Kept.{shape_at, first, rest, Extends}
 use Rattle.code_verifier.specs.Trie.{shape_on, grown, shapes_of, above_at, IsTrie}
+use Rattle.rev_num.proofs.Lists.{get_append, get_set_other}
+use Rattle.rev_code.proofs.SameKinds.{same_kind_self}
 
 -- ---- lists
 
@@ -17,11 +19,6 @@ pub get_or_some : {A : Type 0} (xs : List A) (n : ℕ) (x : A) → n < length xs
 get_or_some [] n x h e = absurd (omega (arith, h))
 get_or_some (y ∷ xs) zero x h e = ap Some (sym e)
 get_or_some (y ∷ xs) (suc n) x h e = get_or_some xs n x (omega (arith, h)) e
-
-pub get_append : {A : Type 0} (xs ys : List A) (n : ℕ) → n < length xs → slice_get (xs ++ ys) n ≡ slice_get xs n
-get_append [] ys n h = absurd (omega (arith, h))
-get_append (x ∷ xs) ys zero h = refl
-get_append (x ∷ xs) ys (suc n) h = get_append xs ys n (omega (arith, h))
 
 pub get_last : {A : Type 0} (xs : List A) (x : A) → slice_get (xs ++ x ∷ []) (length xs) ≡ Some x
 get_last [] x = refl
@@ -32,27 +29,10 @@ get_set [] n x h = absurd (omega (arith, h))
 get_set (z ∷ xs) zero x h = refl
 get_set (z ∷ xs) (suc n) x h = get_set xs n x (omega (arith, h))
 
-pub get_set_other : {A : Type 0} (xs : List A) (m n : ℕ) (x : A) → m ≢ n → slice_get (slice_set xs n x) m ≡ slice_get xs m
-get_set_other [] m n x d = refl
-get_set_other (z ∷ xs) zero zero x d = absurd (d refl)
-get_set_other (z ∷ xs) zero (suc n) x d = refl
-get_set_other (z ∷ xs) (suc m) zero x d = refl
-get_set_other (z ∷ xs) (suc m) (suc n) x d = get_set_other xs m n x (λ e. d (ap suc e))
-
 pub length_set : {A : Type 0} (xs : List A) (n : ℕ) (x : A) → length (slice_set xs n x) ≡ length xs
 length_set [] n x = refl
 length_set (z ∷ xs) zero x = refl
 length_set (z ∷ xs) (suc n) x = ap suc (length_set xs n x)
-
-pub some_within : {A : Type 0} (xs : List A) (n : ℕ) (x : A) → slice_get xs n ≡ Some x → n < length xs
-some_within [] n x h = absurd (let z : None ≡ Some x = h in cc)
-some_within (y ∷ xs) zero x h = omega arith
-some_within (y ∷ xs) (suc n) x h = let r = some_within xs n x h in omega (arith, r)
-
-pub within_some : {A : Type 0} (xs : List A) (n : ℕ) → n < length xs → (x : A) × (slice_get xs n ≡ Some x)
-within_some [] n h = absurd (omega (arith, h))
-within_some (y ∷ xs) zero h = (y, refl)
-within_some (y ∷ xs) (suc n) h = within_some xs n (omega (arith, h))
 
 -- ---- growth
 
@@ -91,11 +71,6 @@ pub shape_extends : (old new : List Shape) (id : ℕ) → Extends old new → id
 shape_extends old new id e h = ap (λ o. elim o as (λ _. Shape) [ None ↦ [] | Some s ↦ s ]) (e.kept id h)
 
 -- ---- equal shapes have one number
-
-pub same_kind_self : (x : ValueKind) → same_kind x x ≡ true
-same_kind_self k.Int = refl
-same_kind_self k.Bool = refl
-same_kind_self k.Rev = refl
 
 pub same_self : (xs : Shape) → same_shape xs xs ≡ true
 same_self [] = refl

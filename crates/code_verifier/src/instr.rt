@@ -1,23 +1,10 @@
 //! What the rules ask of one instruction.
 
 ghost use Rattle.std.specs.Prelude.{◌≡◌};
-ghost use Rattle.rev_code.specs.Words as words;
 ghost use Rattle.rev_code.specs.Step as meaning;
 ghost use Rattle.code_rules.specs.Pass as pass;
 
 use rev_code::{BlockClass, Instr};
-use rev_num::ValueKind;
-
-pub(crate) fn same_kind(a: ValueKind, b: ValueKind) -> bool
-    ensures { result ≡ words.same_kind a b }
-{
-    match (a, b) {
-        (ValueKind::Int, ValueKind::Int) => true,
-        (ValueKind::Bool, ValueKind::Bool) => true,
-        (ValueKind::Rev, ValueKind::Rev) => true,
-        _ => false,
-    }
-}
 
 /// Where it jumps to.
 pub(crate) fn target(x: Instr) -> Option<u32>

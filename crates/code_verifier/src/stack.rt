@@ -5,9 +5,9 @@ ghost use Rattle.code_rules.specs.Shapes.{begins};
 ghost use Rattle.code_verifier.specs.Kept.{shape_at};
 ghost use Rattle.code_verifier.specs.Effects.{IsEffect};
 
-use crate::instr::same_kind;
 use crate::operands::{gives, takes};
 use crate::shapes::Shapes;
+use code_tables::same_kind;
 use rev_code::{Code, CodeBlock, Instr};
 use rev_num::ValueKind;
 use std::alloc::{AllocError, Global};

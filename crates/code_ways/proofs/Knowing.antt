@@ -18,6 +18,7 @@ use Rattle.code_certificate.proofs.Basics.{and_parts, same_is, not_false, some_e
 use Rattle.code_certificate.proofs.Meeting.{meet_now, meet_mark, leads_self, leads_is}
 use Rattle.code_certificate.proofs.Accepted.{Whole}
 use Rattle.code_ways.specs.Ways.{IsStart, first, behind, Arrives, starts, falls_on, jumps_on, Way, begins, goes_on, jumps}
+use Rattle.rev_code.proofs.SameKinds.{same_kind_self}
 
 -- an instruction pays, uses up a payment, or keeps it
 pub after_paid : (x : Instr) (p d : Bool) → (is_charge (Some x) ≡ false → p ≡ true → d ≡ true) → paid_after p x ≡ true → paid_after d x ≡ true
@@ -33,14 +34,9 @@ or_true false = refl
 suc_eq : (m n : ℕ) → suc m ≡ suc n → m ≡ n
 suc_eq m n h = omega (arith, h)
 
-kind_self : (x : ValueKind) → same_kind x x ≡ true
-kind_self k.Int = refl
-kind_self k.Bool = refl
-kind_self k.Rev = refl
-
 pub same_self : (s : Shape) → same_shape s s ≡ true
 same_self [] = refl
-same_self (x ∷ s) = ap (λ d. d && same_shape s s) (kind_self x) ∙ same_self s
+same_self (x ∷ s) = ap (λ d. d && same_shape s s) (same_kind_self x) ∙ same_self s
 
 module _ (code : Code) (costs : List Cost) (n : ℕ) (b : CodeBlock) where
   -- no rule is broken before this place

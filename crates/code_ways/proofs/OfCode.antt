@@ -18,16 +18,12 @@ use Rattle.code_ways.specs.Breaks.{IsDeepest, cost_upto}
 use Rattle.code_ways.specs.OfCode.{IsCost, IsFine, AreFine, AllFine, IsBlockFault, IsInstrFault, IsFirst}
 use Rattle.code_ways.proofs.Depths.{cost_before, deepest}
 use Rattle.code_ways.proofs.Exact.{err_eq, ok_err, finds, accepts, same_fault, known_whole}
+use Rattle.rev_num.proofs.Lists.{get_append}
 
 take_left : {A : Type 0} (xs ys : List A) (n : ℕ) → n ≤ length xs → take n (xs ++ ys) ≡ take n xs
 take_left xs ys zero h = refl
 take_left [] ys (suc n) h = absurd (omega (arith, h))
 take_left (x ∷ xs) ys (suc n) h = ap (λ z. x ∷ z) (take_left xs ys n (omega (arith, h)))
-
-get_left : {A : Type 0} (xs ys : List A) (n : ℕ) → n < length xs → slice_get (xs ++ ys) n ≡ slice_get xs n
-get_left [] ys n h = absurd (omega (arith, h))
-get_left (x ∷ xs) ys zero h = refl
-get_left (x ∷ xs) ys (suc n) h = get_left xs ys n (omega (arith, h))
 
 -- ---- one block
 
@@ -110,7 +106,7 @@ module _ (code : Code) where
       by true e =
           let less : j < n = grind (arith, nat_tests, e) in
           subst (λ l. IsFine code l j b' c') (sym (take_left costs (c ∷ []) j (omega (arith, less, len))))
-          (fine j b' c' is_b (sym (get_left costs (c ∷ []) j (omega (arith, less, len))) ∙ is_c))
+          (fine j b' c' is_b (sym (get_append costs (c ∷ []) j (omega (arith, less, len))) ∙ is_c))
       by false e =
           let i = some_within (costs ++ c ∷ []) j c' is_c in
           let l = append_length costs (c ∷ []) in

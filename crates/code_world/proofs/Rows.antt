@@ -10,6 +10,7 @@ use Rattle.code_world.specs.declared.table.Birth.{Birth}
 use Rattle.code_world.specs.Slots.{IsEntry}
 use Rattle.code_world.specs.Tables.{AreSlots, AreForks, HasPath, AreNamed, forks_of}
 use Rattle.code_world.specs.Turns.{born, forked_once}
+use Rattle.code_machine.proofs.Changes.{put_twice, put_length}
 
 -- ---- lists
 
@@ -50,11 +51,6 @@ module _ {A : Type 0} where
   below_at (y ∷ xs) zero h = (y, refl)
   below_at (y ∷ xs) (suc n) h = below_at xs n (omega (arith, h))
 
-  pub put_twice : (xs : List A) (n : ℕ) (x y : A) → put_number (put_number xs n x) n y ≡ put_number xs n y
-  put_twice [] n x y = refl
-  put_twice (z ∷ xs) zero x y = refl
-  put_twice (z ∷ xs) (suc n) x y = ap (λ k. z ∷ k) (put_twice xs n x y)
-
   -- writes at two places
   pub put_both : (xs : List A) (n m : ℕ) (x y : A) → n ≢ m → put_number (put_number xs n x) m y ≡ put_number (put_number xs m y) n x
   put_both [] n m x y h = refl
@@ -62,11 +58,6 @@ module _ {A : Type 0} where
   put_both (z ∷ xs) zero (suc m) x y h = refl
   put_both (z ∷ xs) (suc n) zero x y h = refl
   put_both (z ∷ xs) (suc n) (suc m) x y h = ap (λ k. z ∷ k) (put_both xs n m x y (λ e. h (ap suc e)))
-
-  pub put_length : (xs : List A) (n : ℕ) (x : A) → length (put_number xs n x) ≡ length xs
-  put_length [] n x = refl
-  put_length (z ∷ xs) zero x = refl
-  put_length (z ∷ xs) (suc n) x = ap suc (put_length xs n x)
 
   pub more_length : (xs : List A) (x : A) → length (xs ++ x ∷ []) ≡ suc (length xs)
   more_length [] x = refl

@@ -14,7 +14,7 @@ use Rattle.code_machine.specs.Local.{CodeRun, IsVerified, Phase, running, done, 
 use Rattle.code_machine.specs.Joining.{merges, mains, absorb, join_in, join_end, join}
 use Rattle.code_machine.specs.Machines.{act, numbered}
 use Rattle.code_machine.specs.Worlds.{Joins, WaitsOn}
-use Rattle.code_machine.proofs.Changes.{put_other, put_here}
+use Rattle.code_machine.proofs.Changes.{put_other, put_here, put_twice, put_length}
 use Rattle.code_machine.proofs.Meeting.{named_counts}
 use Rattle.code_machine.proofs.Paying.{BearOk, ActOk, act_ok, join_keeps_forks}
 use Rattle.code_machine.proofs.Typing.{bears_act}
@@ -33,7 +33,7 @@ use Rattle.code_world.specs.Slots.{WholeRunner, WholeJoin, IsSlot}
 use Rattle.code_world.specs.Tables.{AreSlots, AreForks, AreNamed, forks_of, IsTable}
 use Rattle.code_world.specs.Turns.{IsGood, born, forked_once, behind, ends_with, Settles}
 use Rattle.code_world.proofs.Finding.{StandsThere, standing_at, EndedThere, ended_at, joined_at, RunsAt, running_at, end_stops, stands_wants, works_on, joinee_number}
-use Rattle.code_world.proofs.Rows.{none_some, some_same, slots_put, slots_more, slots_many, births_many, forks_at, forks_kept, forks_put, forks_more, sum_put, sum_more, sum_one, named_born, put_twice, put_both, put_length, more_length, at_below, at_front, paths_put, paths_more}
+use Rattle.code_world.proofs.Rows.{none_some, some_same, slots_put, slots_more, slots_many, births_many, forks_at, forks_kept, forks_put, forks_more, sum_put, sum_more, sum_one, named_born, put_both, more_length, at_below, at_front, paths_put, paths_more}
 
 module _ (g : CodeRun) (ok : IsVerified g) (t : Table) (w : Entries (Local ℕ)) (h : IsTable g t w) (n : ℕ) (p : Path) (l : Local ℕ) (there : at_number w n ≡ Some (p, Plain l)) where
   -- a revision that goes on or ends by itself

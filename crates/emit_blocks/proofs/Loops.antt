@@ -15,11 +15,7 @@ use Rattle.code_generation.specs.Sizes.{statements_size}
 use Rattle.code_generation.specs.Statements.{Spot, in_arm, behind_block, statements_code, statement_form_code}
 use Rattle.code_generation.proofs.Lengths.{expression_length, statements_length}
 use Rattle.emit_blocks.specs.Bodies.{closed, leap_or, leap_long, arm_code}
-
-skipped : (c e f : List Instr) (x m : Instr) → slice_set (((c ++ x ∷ []) ++ e) ++ f) (length c) m ≡ c ++ m ∷ (e ++ f)
-skipped c e f x m =
-    let flat : ((c ++ x ∷ []) ++ e) ++ f ≡ c ++ x ∷ (e ++ f) = simp append_assoc in
-    ap (λ l. slice_set l (length c) m) flat ∙ set-append_seam c x (e ++ f) m
+use Rattle.emit_expressions.proofs.Forms.{skipped}
 
 -- a test with its jump, a block and what stands behind, where the jump gets its target at the end
 armed : (c t b l c1 c2 c3 c4 : List Instr) (test to : ℕ) → c1 ≡ c ++ t → test ≡ length c1 → c2 ≡ c1 ++ i.JumpIfFalse 0 ∷ [] → c3 ≡ c2 ++ b → c4 ≡ c3 ++ l

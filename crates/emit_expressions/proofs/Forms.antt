@@ -41,7 +41,7 @@ picked c a e f x y m j =
     ∙ set-append_seam (c1 ++ m ∷ e) y f j
     ∙ (let last : ((c ++ a) ++ m ∷ e) ++ j ∷ f ≡ c ++ ((a ++ m ∷ e) ++ j ∷ f) = simp append_assoc in last)
 
-skipped : (c e f : List Instr) (x m : Instr) → slice_set (((c ++ x ∷ []) ++ e) ++ f) (length c) m ≡ c ++ m ∷ (e ++ f)
+pub skipped : (c e f : List Instr) (x m : Instr) → slice_set (((c ++ x ∷ []) ++ e) ++ f) (length c) m ≡ c ++ m ∷ (e ++ f)
 skipped c e f x m =
     let flat : ((c ++ x ∷ []) ++ e) ++ f ≡ c ++ x ∷ (e ++ f) = simp append_assoc in
     ap (λ l. slice_set l (length c) m) flat ∙ set-append_seam c x (e ++ f) m

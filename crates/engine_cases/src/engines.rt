@@ -1,35 +1,20 @@
 //! The outcomes and the traces of a program by both engines.
 
 use crate::programs;
+use case_tables::typed_of;
 use code_runs::run_code;
 use code_traces::trace_code;
 use codegen::generate;
-use merge_decl::expand_funs;
 use plain_runner::run_plain;
 use rev_num::Outcome;
-use rev_parse::parse;
-use rev_syntax::tokens;
-use rev_types::{Typed, check};
+use rev_types::Typed;
 use std::alloc::{AllocError, Global};
 use std::test::Fail;
 use trace_diagram::{Trace, print_trace};
 use trace_making::trace_of;
 
-const LIMIT: usize = 1_048_576;
-
 /// The most fuel that a fork gives.
 const SHARE: u64 = 1_000_000;
-
-/// The program of a text, if that is well typed.
-fn typed_of(alloc: Global, text: &[u8]) -> Option<Typed> {
-    if text.len() > LIMIT {
-        return None;
-    }
-    let tokens = tokens(alloc, text).ok()?;
-    let program = parse(alloc, text, tokens.as_slice()).ok()?;
-    let expanded = expand_funs(alloc, program).ok()?;
-    check(alloc, expanded).ok()
-}
 
 /// The outcome of the program by its statements.
 fn by_statements(

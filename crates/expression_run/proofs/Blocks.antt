@@ -32,20 +32,17 @@ use Rattle.expression_run.specs.Agrees as g
 use Rattle.expression_run.specs.Agrees.{word, coded, IsOfKind, ArgsAre, kinds_of, FunReads, Reads, at_with, Gives, Onward}
 use Rattle.expression_run.specs.Blocks.{IsBody, BlockGives, merge_params}
 use Rattle.expression_run.proofs.Typing.{typed}
-use Rattle.expression_run.proofs.Words.{args_fit, same_self, word_kind}
+use Rattle.expression_run.proofs.Words.{args_fit, word_kind}
 use Rattle.expression_run.proofs.Runs.{expression_runs}
 use Rattle.expression_run.proofs.Params.{Known, params_known}
+use Rattle.code_generation.proofs.Naming.{get_left}
+use Rattle.rev_code.proofs.SameKinds.{same_kind_self}
 
 pub take_all : {A : Type 0} (xs : List A) (n : ℕ) → n ≡ length xs → take n xs ≡ xs
 take_all [] zero h = refl
 take_all [] (suc n) h = absurd (omega (arith, h))
 take_all (x ∷ xs) zero h = absurd (omega (arith, h))
 take_all (x ∷ xs) (suc n) h = ap (λ z. x ∷ z) (take_all xs n (omega (arith, h)))
-
-get_left : {A : Type 0} (xs ys : List A) (n : ℕ) (x : A) → slice_get xs n ≡ Some x → slice_get (xs ++ ys) n ≡ Some x
-get_left [] ys n x h = absurd (let z : None ≡ Some x = h in cc)
-get_left (y ∷ xs) ys zero x h = h
-get_left (y ∷ xs) ys (suc n) x h = get_left xs ys n x h
 
 pub kinds_length : (ps : List Parameter) → length ps ≡ length (kinds_of ps)
 kinds_length [] = refl
@@ -125,7 +122,7 @@ module _ (code : Code) (before : List (Fun Path)) (at : ℕ) (n : Numbers) (c : 
         ap (act_in s (at_with a (0 + size) (word x ∷ []))) here
         ∙ ap (act_at s b (at_with a (0 + size) (word x ∷ []))) stands.1.0
         ∙ ap (λ o. r.return (at_with a (0 + size) (word x ∷ [])) o (word x ∷ [])) result
-        ∙ ap (λ d. if d then ends (at_with a (0 + size) (word x ∷ [])) (Some (word x)) else r.stuck) (ap (same_kind r') (word_kind x ∙ kx) ∙ same_self r')
+        ∙ ap (λ d. if d then ends (at_with a (0 + size) (word x ∷ [])) (Some (word x)) else r.stuck) (ap (same_kind r') (word_kind x ∙ kx) ∙ same_kind_self r')
 
     by_answer : (o : Answer) → Gives s a 0 [] (0 + size) [] r' o → (answer (reach s (length b.instrs) a) ≡ Some (coded o)) × IsOfKind r' o
     by_answer (Ok x) h = (ap answer (reached s a (at_with a (0 + size) (word x ∷ [])) (ends (at_with a (0 + size) (word x ∷ [])) (Some (word x))) (length b.instrs) h.1 (returns x h.0) (λ f. refl) (let z = long in omega (arith, z))), h.0)

@@ -53,30 +53,3 @@ module _ (c : Names) (Can : Name → Callee → Type 0) (n : ℕ) where
     links_apply : (ls : Links) → OfUses Use_can (links_uses n ls) → LinksApply c Can ls
     links_apply no_links h = tt
     links_apply (link op x rest) h = let g = split Use_can (expression_uses n x) (links_uses n rest) h in (applies x g.0, links_apply rest g.1)
-
--- the number of a declaration is none of those before
-pub first_from : (d n : ℕ) (es : List Declaration) (name : Name) (h : FunHead) → first_fun d n es name ≡ Some h → d ≤ h.decl
-first_from d n [] name h e = absurd cc
-first_from d n (fun w ps r body ∷ es) name h e = by (same name w.text) (first_from (d + 1) (n + 1) es name h) e
-  where
-    by : (x : Bool) → (first_fun (d + 1) (n + 1) es name ≡ Some h → d + 1 ≤ h.decl) → cond x (Some (head d n (length ps))) (first_fun (d + 1) (n + 1) es name) ≡ Some h → d ≤ h.decl
-    by true later q = let is : head d n (length ps) ≡ h = cc in let at : d ≡ h.decl = ap (λ y. y.decl) is in omega arith
-    by false later q = let more : d + 1 ≤ h.decl = later q in omega arith
-first_from d n (merge w m j r body ∷ es) name h e = let more : d + 1 ≤ h.decl = first_from (d + 1) n es name h e in omega arith
-first_from d n (shared x ∷ es) name h e = let more : d + 1 ≤ h.decl = first_from (d + 1) n es name h e in omega arith
-first_from d n (proc w ps r body ∷ es) name h e = let more : d + 1 ≤ h.decl = first_from (d + 1) n es name h e in omega arith
-
-pub merge_new : (c : Names) → ((name : Name) → c.shared name ≡ None) → (m j r : PlacedName) → (m.text ≢ j.text) × (m.text ≢ r.text) × (j.text ≢ r.text) → ParamsNew c [] (merge_params m j r)
-merge_new c closed m j r differ = ((refl, closed m.text), ((j_new, closed j.text), ((r_new, closed r.text), tt)))
-  where
-    first : Locals
-    first = added [] m.text (Some k.Int)
-
-    j_new : find j.text first ≡ None
-    j_new = added_unknown j.text m.text (Some k.Int) [] refl (λ e. differ.0 (sym e))
-
-    r_first : find r.text first ≡ None
-    r_first = added_unknown r.text m.text (Some k.Int) [] refl (λ e. differ.1 (sym e))
-
-    r_new : find r.text (added first j.text (Some k.Int)) ≡ None
-    r_new = added_unknown r.text j.text (Some k.Int) first r_first (λ e. differ.2 (sym e))

@@ -29,6 +29,7 @@ use Rattle.rev_code.specs.Step as r
 use Rattle.rev_code.specs.Step.{Comes, on, traps, act, arguments}
 use Rattle.code_generation.specs.Expressions.{unary_code}
 use Rattle.expression_run.specs.Agrees.{word, IsOfKind, ArgsAre, kinds_of, pushed}
+use Rattle.rev_code.proofs.SameKinds.{same_kind_self}
 
 pub as_int : (x : Value) → kind_of x ≡ k.Int → (z : ℤ) × (x ≡ v.Int z)
 as_int (v.Int z) h = (z, refl)
@@ -190,11 +191,6 @@ args_length [] (x ∷ xs) h = absurd h
 args_length (p ∷ ps) [] h = absurd h
 args_length (p ∷ ps) (x ∷ xs) h = ap suc (args_length ps xs h.1)
 
-pub same_self : (x : ValueKind) → same_kind x x ≡ true
-same_self k.Int = refl
-same_self k.Bool = refl
-same_self k.Rev = refl
-
 pub word_kind : (x : Value) → w.kind_of (word x) ≡ kind_of x
 word_kind (v.Int z) = refl
 word_kind (v.Bool z) = refl
@@ -208,7 +204,7 @@ pub args_fit : (ps : List Parameter) (xs : List Value) → ArgsAre ps xs → fit
 args_fit [] [] h = refl
 args_fit [] (x ∷ xs) h = absurd h
 args_fit (p ∷ ps) [] h = absurd h
-args_fit (p ∷ ps) (x ∷ xs) h = both (same_kind p.kind (w.kind_of (word x))) (fits (kinds_of ps) (map word xs)) (ap (same_kind p.kind) (word_kind x ∙ h.0) ∙ same_self p.kind) (args_fit ps xs h.1)
+args_fit (p ∷ ps) (x ∷ xs) h = both (same_kind p.kind (w.kind_of (word x))) (fits (kinds_of ps) (map word xs)) (ap (same_kind p.kind) (word_kind x ∙ h.0) ∙ same_kind_self p.kind) (args_fit ps xs h.1)
 
 -- the arguments are found, in the order in which they were pushed
 pub found : (ps : List Parameter) (xs : List Value) (stack : List (Word Path)) → ArgsAre ps xs → arguments (kinds_of ps) (pushed xs stack) ≡ Some (map word xs)

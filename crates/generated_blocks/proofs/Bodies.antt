@@ -40,11 +40,11 @@ use Rattle.generated_certificate.proofs.Places.{pure_fine, pushes, gives_back}
 use Rattle.generated_certificate.proofs.Expressions.{expression_kept}
 use Rattle.generated_statements.proofs.Bodies.{statements_kept, statements_first}
 use Rattle.generated_blocks.specs.Notes.{value_notes, end_notes, body_notes}
-use Rattle.generated_blocks.proofs.Certificates.{past}
+use Rattle.std.proofs.lemmas.Option.{slice_get_past}
 
 -- what stands behind all notes
 behind_all : (ns : List Note) (at : ℕ) → length ns ≤ at → Fits entry (noted ns at)
-behind_all ns at h = fits_eq entry (noted ns at) (ap Rattle.generated_certificate.specs.Items.note_or_entry (past ns at h))
+behind_all ns at h = fits_eq entry (noted ns at) (ap Rattle.generated_certificate.specs.Items.note_or_entry (slice_get_past ns at h))
 
 pub whole_have : {A : Type 0} (xs : List A) → HasItems xs 0 xs
 whole_have xs = all_have [] xs

@@ -18,13 +18,9 @@ use Rattle.code_ways.proofs.OfCode.{block_fine}
 use Rattle.generated_certificate.specs.Items.{noted}
 use Rattle.generated_certificate.specs.Kept.{IsKept, AllKept}
 use Rattle.generated_certificate.proofs.Parts.{each_kept}
+use Rattle.std.proofs.lemmas.Option.{slice_get_past}
 
 -- ---- ends of lists
-
-pub past : {A : Type 0} (xs : List A) (n : ℕ) → length xs ≤ n → slice_get xs n ≡ None
-past [] n h = refl
-past (x ∷ xs) zero h = absurd (omega (arith, h))
-past (x ∷ xs) (suc n) h = past xs n (omega (arith, h))
 
 pub last_is : {A : Type 0} (xs : List A) (y x : A) (at : ℕ) → slice_get (xs ++ y ∷ []) at ≡ Some x → suc at ≡ length (xs ++ y ∷ []) → x ≡ y
 last_is [] y x zero h e = (let z : Some y ≡ Some x = h in let q : y ≡ x = cc in sym q)

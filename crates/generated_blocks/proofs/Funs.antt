@@ -38,15 +38,19 @@ use Rattle.code_generation.proofs.Inside.{jumps_stay}
 use Rattle.expression_run.specs.Blocks.{merge_params}
 use Rattle.expression_run.proofs.Typed.{Typed}
 use Rattle.expression_run.proofs.Typing.{typed}
-use Rattle.expression_run.proofs.Uses.{OfUses, Use_can, applies, first_from, merge_new}
+use Rattle.merge_decl.proofs.Firsts.{first_from}
+use Rattle.rev_types.proofs.MergeParams.{merge_new}
+use Rattle.expression_run.proofs.Uses.{OfUses, Use_can, applies}
 use Rattle.generated_certificate.specs.Expressions.{expression_depth}
 use Rattle.generated_certificate.specs.Means.{FunMeans, NamesMean}
 use Rattle.generated_certificate.specs.Kept.{IsWithin}
 use Rattle.generated_blocks.specs.Notes.{value_notes}
 use Rattle.generated_blocks.proofs.Certificates.{returns_at_end, accepts, at_most}
 use Rattle.generated_blocks.proofs.Weights.{IsPaid, count_both, need_both, depth_within, costs_within}
-use Rattle.generated_blocks.proofs.Params.{params_mean, kinds_length, take_front}
+use Rattle.generated_blocks.proofs.Params.{params_mean, take_front}
 use Rattle.generated_blocks.proofs.Bodies.{value_kept, whole_have}
+use Rattle.code_generation.proofs.BlockRules.{kinds_length}
+use Rattle.code_generation.proofs.BlockPlaces.{Stand, first_stands, rest_stands}
 
 -- ---- lists
 
@@ -250,29 +254,14 @@ module _ (p : ProgramTree) where
 
   -- ---- all of them
 
-  pub Stand : ℕ → List CodeBlock → Type 0
-  Stand at bs = (j : ℕ) (b : CodeBlock) → slice_get bs j ≡ Some b → slice_get code.blocks (at + j) ≡ Some b
-
-  pub first_stands : (at : ℕ) (b : CodeBlock) (bs : List CodeBlock) → Stand at (b ∷ bs) → slice_get code.blocks at ≡ Some b
-  unfolding Stand
-  first_stands at b bs h = ap (slice_get code.blocks) (let z : at ≡ at + 0 = omega arith in z) ∙ h 0 b refl
-
-  pub rest_stands : (at : ℕ) (b : CodeBlock) (bs : List CodeBlock) → Stand at (b ∷ bs) → Stand (suc at) bs
-  unfolding Stand
-  rest_stands at b bs h j c e = ap (slice_get code.blocks) (let z : suc at + j ≡ at + suc j = omega arith in z) ∙ h (suc j) c e
-
-  pub all_stand : Stand 0 code.blocks
-  unfolding Stand
-  all_stand j b h = ap (slice_get code.blocks) (let z : 0 + j ≡ j = omega arith in z) ∙ h
-
   -- all funs are declared before what comes behind
   unfoldable pub AllBefore : ℕ → Type 0
   AllBefore at = (name : Name) (h : FunHead) → rule.fun_named p name ≡ Some h → n.fun name < at
 
   module _ (few : (name : Name) (f : Callee) → fun_named p.declarations name ≡ Some f → length f.params ≤ 8) (tail : List CodeBlock)
-      (later : (costs : List Cost) (at : ℕ) → length costs ≡ at → AllBefore at → Stand at tail → blocks_fault code costs at tail ≡ None) where
+      (later : (costs : List Cost) (at : ℕ) → length costs ≡ at → AllBefore at → Stand p at tail → blocks_fault code costs at tail ≡ None) where
     walk : (ws : Table ℕ) (costs : List Cost) (at d m all : ℕ) (passed rest : List Declaration) → Sofar ws costs at d m rest → at + funs rest ≤ 256 → DeclarationsTyped (outside p.declarations) inner passed rest → DeclarationsWithin ws rest
-        → broken_in (rule.fun_named p) (declarations_uses all d rest) ≡ [] → IsTrue (list_all declaration_small rest) → Stand at (value_blocks n rest ++ tail) → blocks_fault code costs at (value_blocks n rest ++ tail) ≡ None
+        → broken_in (rule.fun_named p) (declarations_uses all d rest) ≡ [] → IsTrue (list_all declaration_small rest) → Stand p at (value_blocks n rest ++ tail) → blocks_fault code costs at (value_blocks n rest ++ tail) ≡ None
     unfolding AllBefore
     walk ws costs at d m all passed [] sofar under typed' within' fine small stand = later costs at sofar.many before stand
       where
@@ -287,19 +276,19 @@ module _ (p : ProgramTree) where
         let smalls = and_parts (declaration_small (fun w ps r body)) (list_all declaration_small es) small in
         let small_body = (and_parts (name_formed w && list_all parameter_formed ps) (expression_small body) smalls.0).1 in
         let b : CodeBlock = fun_block n ps r body in
-        let here = first_stands at b (value_blocks n es ++ tail) stand in
+        let here = first_stands p at b (value_blocks n es ++ tail) stand in
         let acc = block_accepted few ws costs at d m (fun w ps r body ∷ es) sofar (omega (arith, under)) b ps r body typed'.0.params typed'.0.body small_body uses.0 within'.0.0 within'.0.1 here refl refl refl refl in
         ap (λ o. fault_or at o (λ cost. blocks_fault code (costs ++ cost ∷ []) (suc at) (value_blocks n es ++ tail))) acc.is
-        ∙ walk (added ws w.text (expression_weight ws body)) (costs ++ acc.cost ∷ []) (suc at) (d + 1) (m + 1) all (fun w ps r body ∷ passed) es (after_fun ws costs at d m w ps r body es sofar acc acc.cost acc.count acc.need) (omega (arith, under)) typed'.1 within'.1 uses.1 smalls.1 (rest_stands at b (value_blocks n es ++ tail) stand)
+        ∙ walk (added ws w.text (expression_weight ws body)) (costs ++ acc.cost ∷ []) (suc at) (d + 1) (m + 1) all (fun w ps r body ∷ passed) es (after_fun ws costs at d m w ps r body es sofar acc acc.cost acc.count acc.need) (omega (arith, under)) typed'.1 within'.1 uses.1 smalls.1 (rest_stands p at b (value_blocks n es ++ tail) stand)
     walk ws costs at d m all passed (merge w x j r body ∷ es) sofar under typed' within' fine small stand =
         let uses = broken_parts (rule.fun_named p) (expression_uses d body) (declarations_uses all (d + 1) es) fine in
         let smalls = and_parts (declaration_small (merge w x j r body)) (list_all declaration_small es) small in
         let small_body = (and_parts (name_formed w && name_formed x && name_formed j && name_formed r) (expression_small body) smalls.0).1 in
         let b : CodeBlock = merge_block n x j r body in
-        let here = first_stands at b (value_blocks n es ++ tail) stand in
+        let here = first_stands p at b (value_blocks n es ++ tail) stand in
         let acc = block_accepted few ws costs at d m (merge w x j r body ∷ es) sofar (omega (arith, under)) b (merge_params x j r) k.Int body (merge_new inner (λ name. refl) x j r typed'.0.params) typed'.0.body small_body uses.0 (omega arith) within'.0 here refl refl refl refl in
         ap (λ o. fault_or at o (λ cost. blocks_fault code (costs ++ cost ∷ []) (suc at) (value_blocks n es ++ tail))) acc.is
-        ∙ walk ws (costs ++ acc.cost ∷ []) (suc at) (d + 1) m all (merge w x j r body ∷ passed) es (after_merge ws costs at d m w x j r body es sofar acc.cost) (omega (arith, under)) typed'.1 within'.1 uses.1 smalls.1 (rest_stands at b (value_blocks n es ++ tail) stand)
+        ∙ walk ws (costs ++ acc.cost ∷ []) (suc at) (d + 1) m all (merge w x j r body ∷ passed) es (after_merge ws costs at d m w x j r body es sofar acc.cost) (omega (arith, under)) typed'.1 within'.1 uses.1 smalls.1 (rest_stands p at b (value_blocks n es ++ tail) stand)
     walk ws costs at d m all passed (shared x ∷ es) sofar under typed' within' fine small stand =
         let smalls = and_parts (declaration_small (shared x)) (list_all declaration_small es) small in
         walk ws costs at (d + 1) m all (shared x ∷ passed) es (after_other ws costs at d m (shared x) es (λ name. refl) (λ name. refl) sofar) under typed'.1 within'.1 fine smalls.1 stand
@@ -310,6 +299,6 @@ module _ (p : ProgramTree) where
 
     -- from the first declaration on
     pub funs_accepted : (all : ℕ) → funs p.declarations ≤ 256 → DeclarationsTyped (outside p.declarations) inner [] p.declarations → DeclarationsWithin [] p.declarations → broken_in (rule.fun_named p) (declarations_uses all 0 p.declarations) ≡ [] → IsTrue (list_all declaration_small p.declarations)
-        → Stand 0 (value_blocks n p.declarations ++ tail) → blocks_fault code [] 0 (value_blocks n p.declarations ++ tail) ≡ None
+        → Stand p 0 (value_blocks n p.declarations ++ tail) → blocks_fault code [] 0 (value_blocks n p.declarations ++ tail) ≡ None
     funs_accepted all under typed' within' fine small stand =
         walk [] [] 0 0 0 all [] p.declarations (record { many = refl; names = λ name h e. inr (record { first = e; number = (let z : fun_number name p.declarations ≡ 0 + fun_number name p.declarations = omega arith in z); free = refl }) }) (omega (arith, under)) typed' within' fine small stand

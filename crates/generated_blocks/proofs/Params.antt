@@ -13,15 +13,12 @@ use Rattle.code_generation.specs.Generated.{kinds_of}
 use Rattle.generated_certificate.specs.Items.{HasItems}
 use Rattle.generated_certificate.specs.Means.{NamesMean}
 use Rattle.generated_statements.proofs.Scopes.{name_bound}
+use Rattle.code_generation.proofs.BlockRules.{kinds_length}
 
 pub params_mean : (code : Code) (b : CodeBlock) (n : Numbers) (c : Names) (ps : List Parameter) (m : ℕ) (l : Locals) (scope : Scope) → ParamsNew c l ps → HasItems b.locals m (kinds_of ps) → NamesMean code b n c l scope → NamesMean code b n c (scopes.with_params l ps) (with_params scope m ps)
 params_mean code b n c [] m l scope new here means = means
 params_mean code b n c (p ∷ ps) m l scope new here means =
     params_mean code b n c ps (suc m) (added l p.name.text (Some p.kind)) (added scope p.name.text m) new.1 here.1 (name_bound code b n c l scope p.name.text p.kind m means new.0.0 here.0)
-
-pub kinds_length : (ps : List Parameter) → length (kinds_of ps) ≡ length ps
-kinds_length [] = refl
-kinds_length (p ∷ ps) = ap suc (kinds_length ps)
 
 -- the parameters of a body are the first locals
 pub take_front : (xs ys : List ValueKind) (m : ℕ) → length xs ≡ m → take m (xs ++ ys) ≡ xs

@@ -38,9 +38,11 @@ use Rattle.generated_certificate.specs.Kept.{IsWithin}
 use Rattle.generated_certificate.proofs.Parts.{parts_have}
 use Rattle.generated_blocks.specs.Notes.{body_notes}
 use Rattle.generated_blocks.proofs.Certificates.{returns_at_end, accepts}
-use Rattle.generated_blocks.proofs.Params.{params_mean, kinds_length, take_front}
+use Rattle.generated_blocks.proofs.Params.{params_mean, take_front}
 use Rattle.generated_blocks.proofs.Bodies.{body_kept, body_returns, whole_have}
-use Rattle.generated_blocks.proofs.Funs.{fun_means, first_stands, rest_stands, AllBefore, Stand}
+use Rattle.code_generation.proofs.BlockPlaces.{Stand, first_stands, rest_stands}
+use Rattle.generated_blocks.proofs.Funs.{fun_means, AllBefore}
+use Rattle.code_generation.proofs.BlockRules.{kinds_length}
 
 -- ---- shared variables
 

@@ -13,7 +13,8 @@ use Rattle.code_rules.specs.Pass.{blocks_fault}
 use Rattle.code_generation.specs.Numbers.{numbers}
 use Rattle.code_generation.specs.Generated.{body_blocks, layouts_of, code_of}
 use Rattle.generated_blocks.proofs.Bodies.{whole_have}
-use Rattle.generated_blocks.proofs.Funs.{AllBefore, Stand, all_stand, funs_accepted}
+use Rattle.code_generation.proofs.BlockPlaces.{Stand, all_stand}
+use Rattle.generated_blocks.proofs.Funs.{AllBefore, funs_accepted}
 use Rattle.generated_blocks.proofs.Procs.{few_of_fun, bodies_accepted}
 
 module _ (p : ProgramTree) (small : IsSmall p) (fine : fun_faults p ≡ []) (well : IsWellTyped p) where

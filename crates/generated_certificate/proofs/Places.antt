@@ -14,17 +14,13 @@ use Rattle.code_rules.specs.Pass.{Note, entry, target, falls, names, is_pure, is
 use Rattle.code_certificate.specs.Certificate.{Fits, IsJumped, leaves}
 use Rattle.generated_certificate.specs.Items.{noted, push}
 use Rattle.generated_certificate.specs.Kept.{IsWithin, IsKept}
-
-pub same_self : (t : ValueKind) → same_kind t t ≡ true
-same_self kind.Int = refl
-same_self kind.Bool = refl
-same_self kind.Rev = refl
+use Rattle.rev_code.proofs.SameKinds.{same_kind_self}
 
 pub begins_one : (t : ValueKind) (s : Shape) → begins (t ∷ []) (t ∷ s) ≡ true
-begins_one t s = ap (λ d. d && true) (same_self t)
+begins_one t s = ap (λ d. d && true) (same_kind_self t)
 
 pub begins_two : (t u : ValueKind) (s : Shape) → begins (t ∷ u ∷ []) (t ∷ u ∷ s) ≡ true
-begins_two t u s = λ j. same_self t j && (same_self u j && true)
+begins_two t u s = λ j. same_kind_self t j && (same_kind_self u j && true)
 
 pub no : {A : Type 0} → false ≡ true → A
 no h = absurd (true≢false (sym h))
@@ -43,7 +39,7 @@ turned t ts s = sym (append_assoc (reverse ts) (t ∷ []) s) ∙ ap (λ z. z ++ 
 
 begins_all : (xs s : Shape) → begins xs (xs ++ s) ≡ true
 begins_all [] s = refl
-begins_all (x ∷ xs) s = λ j. same_self x j && begins_all xs s j
+begins_all (x ∷ xs) s = λ j. same_kind_self x j && begins_all xs s j
 
 drop_all : (xs s : Shape) → drop (length xs) (xs ++ s) ≡ s
 drop_all [] s = refl

@@ -18,6 +18,7 @@ use Rattle.code_generation.specs.Statements.{statements_code}
 use Rattle.code_generation.specs.Generated.{zero_code, ends_in_return, end_code, body_code, fun_block, merge_block, proc_block, main_block, merge_scope, value_blocks, body_blocks, code_of}
 use Rattle.code_generation.proofs.Lengths.{expression_length, statements_length}
 use Rattle.generated_tables.proofs.Counts.{size_few, statements_few}
+use Rattle.generated_tables.proofs.Small.{end_few}
 
 -- ---- at most as many as instructions
 
@@ -47,14 +48,6 @@ value_few n scope e =
     let z = expression_length n scope e 0 in
     let r = size_few e in
     omega (arith, a, z, r)
-
-end_few : (r : Option ValueKind) (body : Statements) → length (end_code r body) ≤ 2
-end_few None body = omega arith
-end_few (Some kind) body = by (ends_in_return body)
-  where
-    by : (d : Bool) → length (if d then [] else zero_code kind ∷ i.Return ∷ []) ≤ 2
-    by true = omega arith
-    by false = omega arith
 
 body_few : (n : Numbers) (ps : List Parameter) (r : Option ValueKind) (body : Statements) (layout : ℕ) → length (body_code n ps r body layout) ≤ 5 * statements_count body + 2
 body_few n ps r body layout =

@@ -15,7 +15,8 @@ use Rattle.rev_types.specs.Scopes.{locals_after}
 use Rattle.rev_code.specs.declared.code.LayoutItem.{LayoutItem}
 use Rattle.code_rules.specs.Tables.{is_text_byte, is_item, is_small_text, is_small_layout}
 use Rattle.code_generation.specs.Prints.{value_item, layout_of, items_texts, statement_texts, statement_form_texts, statements_texts, arms_texts, statement_layouts, statement_form_layouts, statements_layouts, arms_layouts}
-use Rattle.generated_tables.proofs.Names.{both, all_both, text_well}
+use Rattle.generated_tables.proofs.Names.{all_both, text_well}
+use Rattle.code_generation.proofs.BlockRules.{both}
 
 -- ---- texts
 

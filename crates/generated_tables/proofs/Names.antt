@@ -10,10 +10,7 @@ use Rattle.rev_syntax.specs.Words as word
 use Rattle.rev_syntax.specs.Bytes as byte
 use Rattle.rev_kinds.proofs.Lists.{and_parts}
 use Rattle.code_rules.specs.Tables as table
-
-pub both : (d q : Bool) → d ≡ true → q ≡ true → d && q ≡ true
-both true q h e = e
-both false q h e = absurd (true≢false (sym h))
+use Rattle.code_generation.proofs.BlockRules.{both}
 
 -- ---- lists
 

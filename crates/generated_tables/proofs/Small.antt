@@ -27,8 +27,8 @@ use Rattle.code_generation.specs.Statements.{statements_code}
 use Rattle.code_generation.specs.Prints.{statements_kinds, statements_texts, statements_layouts}
 use Rattle.code_generation.specs.Generated.{kinds_of, var_of, zero_code, ends_in_return, end_code, body_code, body_locals, fun_block, merge_block, proc_block, main_block, merge_scope, value_blocks, body_blocks, texts_of, layouts_of, code_of}
 use Rattle.code_generation.proofs.Lengths.{expression_length, statements_length, statements_locals, statements_prints_length}
-use Rattle.code_generation.proofs.BlockRules.{blocks_are_well, blocks_are_counted}
-use Rattle.generated_tables.proofs.Names.{both, all_both}
+use Rattle.code_generation.proofs.BlockRules.{blocks_are_well, blocks_are_counted, both, kinds_length}
+use Rattle.generated_tables.proofs.Names.{all_both}
 use Rattle.generated_tables.proofs.Counts.{size_few, statements_few, prints_few, texts_few}
 use Rattle.generated_tables.proofs.Lines.{text_fits, layout_fits, texts_fit, layouts_fit}
 use Rattle.generated_tables.proofs.Variables.{vars_well, locations_are, vars_few}
@@ -48,10 +48,6 @@ at_most m n h = grind (arith, nat_tests, h)
 
 -- ---- blocks
 
-kinds_length : (ps : List Parameter) → length (kinds_of ps) ≡ length ps
-kinds_length [] = refl
-kinds_length (p ∷ ps) = ap suc (kinds_length ps)
-
 block_small : (b : CodeBlock) → b.params ≤ 8 → length b.locals ≤ 64 → length b.instrs ≤ 4294967295 → is_small_block b ≡ true
 block_small b p l s =
     let x = at_most b.params 8 p in
@@ -66,7 +62,7 @@ value_instrs n scope e h =
     let r = size_few e in
     omega (arith, a, z, r, h)
 
-end_few : (r : Option ValueKind) (body : Statements) → length (end_code r body) ≤ 2
+pub end_few : (r : Option ValueKind) (body : Statements) → length (end_code r body) ≤ 2
 end_few None body = omega arith
 end_few (Some kind) body = by (ends_in_return body)
   where

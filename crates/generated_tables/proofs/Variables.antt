@@ -28,7 +28,8 @@ use Rattle.code_rules.specs.Tables.{has_cells, is_start, is_int_merge, merges_we
 use Rattle.code_generation.specs.Numbers.{Numbers, merge_number}
 use Rattle.code_generation.specs.Generated.{value_word, merge_entry, var_of, merge_block, value_blocks}
 use Rattle.code_generation.proofs.Merges.{among_front, among_last, counted, merge_known}
-use Rattle.generated_tables.proofs.Names.{both, name_well}
+use Rattle.generated_tables.proofs.Names.{name_well}
+use Rattle.code_generation.proofs.BlockRules.{both}
 
 -- ---- cells and start values
 

@@ -6,7 +6,7 @@ use Rattle.rev_num.specs.Path.{Path, child}
 use Rattle.revision_machine.specs.Machine.{Entry, Plain, Joined}
 use Rattle.revision_machine.specs.Numbered.{Wish, Goes, Bears, Wants, Stops, Numbered, Entries, World, Both, Listing, at_number, put_number, join_stopped, join_number, leg_of, leg_at, leg, paths_of}
 use Rattle.revision_machine.proofs.Paths.{some_inj}
-use Rattle.revision_machine.proofs.Numbers.{none_some}
+use Rattle.revision_machine.proofs.Numbers.{none_some, paths_put}
 use Rattle.hub_algebra.specs.Forkers.{ForkersAre}
 use Rattle.hub_algebra.proofs.Replay.{at_more, at_end, put_other}
 
@@ -32,10 +32,6 @@ forkers_born ps fs k j r are here = record {
 }
 
 module _ {A : Type 0} where
-  paths_put : (w : List (Path × A)) (m : ℕ) (q : Path) (e f : A) → at_number w m ≡ Some (q, e) → paths_of (put_number w m (q, f)) ≡ paths_of w
-  paths_put [] m q e f g = refl
-  paths_put (x ∷ w) zero q e f g = ap (λ v. v.0 ∷ paths_of w) (sym (some_inj g))
-  paths_put (x ∷ w) (suc m) q e f g = ap (λ v. x.0 ∷ v) (paths_put w m q e f g)
 
   paths_more : (w : List (Path × A)) (x : Path × A) → paths_of (w ++ x ∷ []) ≡ paths_of w ++ x.0 ∷ []
   paths_more [] x = refl

@@ -2,12 +2,12 @@
 use Rattle.std.proofs.Common.{◌≡◌, ◌≢◌, ◌⊎◌, inl, inr, ◌∙◌, ℕ, zero, suc, ◌+◌, ◌<◌, ◌≤◌, Bool, true, false, cond, ◌==◌, List, [], ◌∷◌, ◌++◌, length, take, get_or, ◌^◌, Some, refl, sym, ap, subst, arith}
 use Rattle.std.proofs.lemmas.List.{length-take-le, take-append-le, take_all, take_at, take_more}
 use Rattle.revision_machine.specs.Numbered.{at_number, put_number}
-use Rattle.code_machine.proofs.Changes.{decide, put_other, put_here}
+use Rattle.code_machine.proofs.Changes.{decide, put_other, put_here, put_length}
 use Rattle.hub_table.specs.Counts.{is_at, times}
 use Rattle.hub_table.proofs.Lists.{total_snoc, is_at_same, is_at_other}
 use Rattle.code_world.specs.declared.table.Birth.{Birth}
 use Rattle.code_world.specs.Turns.{born, forked_once}
-use Rattle.code_world.proofs.Rows.{none_some, some_same, at_front, at_more, at_end, at_below, put_length, more_length}
+use Rattle.code_world.proofs.Rows.{none_some, some_same, at_front, at_more, at_end, at_below, more_length}
 use Rattle.hub_outcomes.specs.Births.{forks_by, IsBirth, AreBirths, AreEarlier}
 
 -- ---- counts

@@ -7,7 +7,7 @@ ghost use Rattle.rev_vm.specs.Starts.{run_under};
 ghost use Rattle.hub_outcomes.specs.Runs.{IsRunOf};
 
 use crate::births::births_of;
-use crate::ends::{copy_of, main_end};
+use crate::ends::main_end;
 use hub_table::HubState;
 use leg_run::CodeSetting;
 use rev_num::Outcome;
@@ -37,7 +37,7 @@ pub fn outcome_of_run<'a, L: Revision<End = CodeEnd<'a>>>(
         HubState::All => {
             let births = births_of(alloc, run.forkers())?;
             let left = main_end(run.ends());
-            let end = copy_of(alloc, left.value())?;
+            let end = left.value().copied(alloc)?;
             let outcome = outcome_of(alloc, setting, births.as_slice(), end)?;
             Ok(outcome)
         },

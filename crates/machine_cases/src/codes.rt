@@ -39,7 +39,14 @@ pub fn block(
 }
 
 /// A variable of so many cells. A cumulative one is merged by block 1.
-fn variable(alloc: Global, name: u8, cumulative: bool, cells: u32) -> Result<CodeVar, AllocError> {
+pub fn variable(
+    alloc: Global,
+    name: u8,
+    cumulative: bool,
+    cells: u32,
+) -> Result<CodeVar, AllocError>
+    ensures { IfOk result (λ v. v.cells ≡ cells) }
+{
     Ok(CodeVar {
         name: items(alloc, &[name])?,
         cumulative,
@@ -51,16 +58,10 @@ fn variable(alloc: Global, name: u8, cumulative: bool, cells: u32) -> Result<Cod
     })
 }
 
-/// Fun 0 gives its first number and the difference of the two others, merge 1 applies it, block 2
-/// is the child, with a local of each kind, and block 3 `main`, with the same.
-fn blocks_of(
-    alloc: Global,
-    child: &[Instr],
-    main: &[Instr],
-) -> Result<Items<CodeBlock>, AllocError> {
+/// Fun 0 gives its first number and the difference of the two others, and merge 1 applies it.
+pub fn fun_and_merge(alloc: Global) -> Result<Vec<CodeBlock>, AllocError> {
     let int = Some(ValueKind::Int);
     let three = [ValueKind::Int, ValueKind::Int, ValueKind::Int];
-    let kinds = [ValueKind::Int, ValueKind::Bool, ValueKind::Rev];
     let sum: &[Instr] = &[
         Instr::LoadLocal(0),
         Instr::LoadLocal(1),
@@ -79,6 +80,18 @@ fn blocks_of(
     let mut blocks = Vec::new(alloc);
     blocks.push(block(alloc, BlockClass::Fun, 3, int, three.as_slice(), sum)?)?;
     blocks.push(block(alloc, BlockClass::Merge, 3, int, three.as_slice(), applied)?)?;
+    Ok(blocks)
+}
+
+/// Behind the fun and the merge, block 2 is the child, with a local of each kind, and block 3
+/// `main`, with the same.
+fn blocks_of(
+    alloc: Global,
+    child: &[Instr],
+    main: &[Instr],
+) -> Result<Items<CodeBlock>, AllocError> {
+    let kinds = [ValueKind::Int, ValueKind::Bool, ValueKind::Rev];
+    let mut blocks = fun_and_merge(alloc)?;
     blocks.push(block(alloc, BlockClass::Proc, 0, None, kinds.as_slice(), child)?)?;
     blocks.push(block(alloc, BlockClass::Main, 0, None, kinds.as_slice(), main)?)?;
     Ok(Items::from_vec(blocks))

@@ -37,8 +37,11 @@ use Rattle.code_generation.specs.Generated.{fun_block, merge_block, value_blocks
 use Rattle.expression_run.specs.Applying.{AllApply, FormApplies, ArgsApply, LinksApply}
 use Rattle.expression_run.specs.Agrees.{word, coded, IsOfKind, kinds_of, FunReads}
 use Rattle.expression_run.specs.Blocks.{IsBody, merge_params}
-use Rattle.expression_run.proofs.Uses.{OfUses, Use_can, applies, first_from, merge_new}
+use Rattle.merge_decl.proofs.Firsts.{first_from}
+use Rattle.rev_types.proofs.MergeParams.{merge_new}
+use Rattle.expression_run.proofs.Uses.{OfUses, Use_can, applies}
 use Rattle.expression_run.proofs.Blocks.{fun_gives, merge_gives, take_all, kinds_length}
+use Rattle.code_generation.proofs.BlockPlaces.{Stand, first_stands, rest_stands, all_stand}
 
 -- ---- lists of values
 
@@ -200,19 +203,8 @@ module _ (p : ProgramTree) where
     funs : (name : Name) (f : Callee) → fun_named p.declarations name ≡ Some f → FunReads (setting_of_fun code vs) (n.fun name) f (funs_of fs name)
     merges : (k : ℕ) (dd : MergeDef) → slice_get ds k ≡ Some dd → (x y z : ℤ) → value_at (slice_get vs (at + merge_number k rest)) (wd.int x ∷ wd.int y ∷ wd.int z ∷ []) ≡ Some (coded (merged dd (v.Int x) (v.Int y) (v.Int z)))
 
-  Stand : ℕ → List CodeBlock → Type 0
-  Stand at bs = (j : ℕ) (b : CodeBlock) → slice_get bs j ≡ Some b → slice_get code.blocks (at + j) ≡ Some b
-
-  first_stands : (at : ℕ) (b : CodeBlock) (bs : List CodeBlock) → Stand at (b ∷ bs) → slice_get code.blocks at ≡ Some b
-  unfolding Stand
-  first_stands at b bs h = ap (slice_get code.blocks) (let z : at ≡ at + 0 = omega arith in z) ∙ h 0 b refl
-
-  rest_stands : (at : ℕ) (b : CodeBlock) (bs : List CodeBlock) → Stand at (b ∷ bs) → Stand (suc at) bs
-  unfolding Stand
-  rest_stands at b bs h j c e = ap (slice_get code.blocks) (let z : suc at + j ≡ at + suc j = omega arith in z) ∙ h (suc j) c e
-
   walk : (fs : List FunDef) (known : Name → Option Callee) (before : List (Fun Path)) (at d m all : ℕ) (passed rest : List Declaration) (tail : List CodeBlock) → Sofar fs known before at d m rest → DeclarationsTyped (outside p.declarations) inner passed rest
-      → broken_in (rule.fun_named p) (declarations_uses all d rest) ≡ [] → IsTrue (list_all declaration_small rest) → Stand at (value_blocks n rest ++ tail) → Done (funs_after fs rest) (merges_after fs rest) (values_from code before at (value_blocks n rest ++ tail)) at rest
+      → broken_in (rule.fun_named p) (declarations_uses all d rest) ≡ [] → IsTrue (list_all declaration_small rest) → Stand p at (value_blocks n rest ++ tail) → Done (funs_after fs rest) (merges_after fs rest) (values_from code before at (value_blocks n rest ++ tail)) at rest
   walk fs known before at d m all passed [] tail sofar typed fine small stand = record {
     funs = λ name f h. reads_by code before (values_from code before at tail) (n.fun name) f (funs_of fs name) (λ args o e. gives_from code before at tail (n.fun name) args o e) (fits_fun before name f (known name) (funs_of fs name) (sofar.fits name) (sym (sofar.all name ∙ or_else-none (known name)) ∙ h));
     merges = λ k dd h x y z. absurd (let q : None ≡ Some dd = h in cc);
@@ -221,10 +213,10 @@ module _ (p : ProgramTree) where
       let uses = broken_parts (rule.fun_named p) (expression_uses d body) (declarations_uses all (d + 1) es) fine in
       let smalls = and_parts (declaration_small (fun w ps r body)) (list_all declaration_small es) small in
       let formed = and_parts (name_formed w && list_all parameter_formed ps) (expression_small body) smalls.0 in
-      let here = first_stands at (fun_block n ps r body) (value_blocks n es ++ tail) stand in
+      let here = first_stands p at (fun_block n ps r body) (value_blocks n es ++ tail) stand in
       let can = applies inner (λ name f. FunReads (setting_of_fun code before) (n.fun name) f (funs_of fs name)) d body (can_apply fs known before at d m (fun w ps r body ∷ es) sofar (expression_uses d body) uses.0) in
       let is : IsBody code before n inner (funs_of fs) ps r body = record { closed = λ name. refl; inside = refl; params = typed.0.params; kind = typed.0.body; formed = small_formed body formed.1; applies = can } in
-      let later = walk (fun_def w ps body ∷ fs) _ (before ++ value_of code before at (fun_block n ps r body) ∷ []) (suc at) (d + 1) (m + 1) all (fun w ps r body ∷ passed) es tail (one_more fs known before at d m w ps r body es sofar is here) typed.1 uses.1 smalls.1 (rest_stands at (fun_block n ps r body) (value_blocks n es ++ tail) stand) in
+      let later = walk (fun_def w ps body ∷ fs) _ (before ++ value_of code before at (fun_block n ps r body) ∷ []) (suc at) (d + 1) (m + 1) all (fun w ps r body ∷ passed) es tail (one_more fs known before at d m w ps r body es sofar is here) typed.1 uses.1 smalls.1 (rest_stands p at (fun_block n ps r body) (value_blocks n es ++ tail) stand) in
       record {
         funs = later.funs;
         merges = λ k dd h x y z. ap (λ q. value_at (slice_get (values_from code before at (fun_block n ps r body ∷ value_blocks n es ++ tail)) q) (wd.int x ∷ wd.int y ∷ wd.int z ∷ [])) (let q : at + suc (merge_number k es) ≡ suc at + merge_number k es = omega arith in q) ∙ later.merges k dd h x y z;
@@ -235,7 +227,7 @@ module _ (p : ProgramTree) where
       let formed = and_parts (name_formed w && name_formed mm && name_formed j && name_formed r) (expression_small body) smalls.0 in
       let b : CodeBlock = merge_block n mm j r body in
       let new : Fun Path = value_of code before at b in
-      let here = first_stands at b (value_blocks n es ++ tail) stand in
+      let here = first_stands p at b (value_blocks n es ++ tail) stand in
       let can = applies inner (λ name f. FunReads (setting_of_fun code before) (n.fun name) f (funs_of fs name)) d body (can_apply fs known before at d m (merge w mm j r body ∷ es) sofar (expression_uses d body) uses.0) in
       let is : IsBody code before n inner (funs_of fs) (merge_params mm j r) k.Int body = record { closed = λ name. refl; inside = refl; params = merge_new inner (λ name. refl) mm j r typed.0.params; kind = typed.0.body; formed = small_formed body formed.1; applies = can } in
       let next : Sofar fs known (before ++ new ∷ []) (suc at) (d + 1) m es = record {
@@ -245,7 +237,7 @@ module _ (p : ProgramTree) where
         heads = sofar.heads;
         number = λ name h. sofar.number name h ∙ (let z : at + suc (fun_number name es) ≡ suc at + fun_number name es = omega arith in z);
       } in
-      let later = walk fs known (before ++ new ∷ []) (suc at) (d + 1) m all (merge w mm j r body ∷ passed) es tail next typed.1 uses.1 smalls.1 (rest_stands at b (value_blocks n es ++ tail) stand) in
+      let later = walk fs known (before ++ new ∷ []) (suc at) (d + 1) m all (merge w mm j r body ∷ passed) es tail next typed.1 uses.1 smalls.1 (rest_stands p at b (value_blocks n es ++ tail) stand) in
       record {
         funs = later.funs;
         merges = merges_by fs before at (merge w mm j r body) w mm j r body es tail is here sofar.many later.merges;
@@ -274,10 +266,6 @@ module _ (p : ProgramTree) where
       let later = walk fs known before at (d + 1) m all (proc w ps r body ∷ passed) es tail (record { many = sofar.many; fits = sofar.fits; all = sofar.all; heads = sofar.heads; number = sofar.number }) typed.1 uses.1 smalls.1 stand in
       record { funs = later.funs; merges = later.merges }
 
-  all_stand : Stand 0 code.blocks
-  unfolding Stand
-  all_stand j b h = ap (slice_get code.blocks) (let z : 0 + j ≡ j = omega arith in z) ∙ h
-
   module _ (well : IsAccepted p) where
     done : Done (funs_in p) (merges_in p) (values code) 0 p.declarations
     done =
@@ -285,7 +273,7 @@ module _ (p : ProgramTree) where
         let kept = program_typed p well.small well.funs well.rules in
         walk [] (λ name. None) [] 0 0 0 (length p.declarations) [] p.declarations (body_blocks n (outside p.declarations) p.declarations p.main 0)
         (record { many = refl; fits = λ name. tt; all = λ name. refl; heads = λ name h e. inr e; number = λ name h. (let z : fun_number name p.declarations ≡ 0 + fun_number name p.declarations = omega arith in z) })
-        kept.declarations uses.0 well.small.declarations all_stand
+        kept.declarations uses.0 well.small.declarations (all_stand p)
 
 pub program_funs : (p : ProgramTree) → IsAccepted p → (numbers_in : List ℤ) (share : ℕ) (name : Name) (f : Callee) → fun_named p.declarations name ≡ Some f → FunReads (setting (code_of p) numbers_in share) ((numbers p).fun name) f (funs_of (funs_in p) name)
 program_funs p well numbers_in share name f h =

@@ -30,6 +30,7 @@ use Rattle.join_agreement.specs.Related.{run_of, IsGiven, IsAtWork, IsSame, work
 use Rattle.join_agreement.proofs.Takes.{Keeps, few_kept}
 use Rattle.program_simulation.specs.Relation.{IsRelatedBy}
 use Rattle.program_simulation.specs.Agreement.{is_store, gives, instr_before, stores_given, settled_if, settled, compared, PhaseAgrees, Agrees, read, AgreesBy}
+use Rattle.code_machine.proofs.Outcomes.{all_back}
 
 some_same : {A : Type 0} (x y : A) → Some x ≡ Some y → x ≡ y
 some_same x y e = cc
@@ -186,15 +187,12 @@ module _ {H K L : Type 0} (f : H → K) (g : K → L) where
       }
 
 module _ (t : List Path) where
-  all_back : (hs : List Path) → ((q : Path) → IsIn q hs → IsIn q t) → AllFixed (λ q. or_path (at_number t (number_of t q)) []) hs
-  all_back [] known = tt
-  all_back (h ∷ hs) known = (ap (λ x. or_path x []) (number_back t h (known h (inl refl))), all_back hs (λ q i. known q (inr i)))
 
   pub read_back : (r : Path) (k : code.Local Path) (b : code.Local ℕ) → IsNumbered t r k b → read t b ≡ k
   read_back r k b is =
       ap (read t) is.is
       ∙ local_twice (number_of t) (λ n. or_path (at_number t n) []) k
-      ∙ local_fixed (λ q. or_path (at_number t (number_of t q)) []) k (all_back (handles k) is.known)
+      ∙ local_fixed (λ q. or_path (at_number t (number_of t q)) []) k (all_back t (handles k) is.known)
 
 pub related_agrees : (s : Setting) (t : List Path) (r : Path) (l : Local) (k : code.Local ℕ) → IsRelatedBy s t r l k → AgreesBy s t r l k
 related_agrees s t r l k rel = subst (Agrees s r l) (sym (read_back t r rel.0 k rel.2)) (same_agrees s r l rel.0 rel.1.0)

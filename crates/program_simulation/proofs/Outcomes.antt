@@ -31,7 +31,7 @@ same_path p = p
 
 -- ---- values
 
-value_back : (x : Value) → value_of (λ p. p) (word x) ≡ x
+pub value_back : (x : Value) → value_of (λ p. p) (word x) ≡ x
 value_back (v.Int n) = refl
 value_back (v.Bool b) = refl
 value_back (v.Rev None) = refl

@@ -25,6 +25,7 @@ use Rattle.rev_affine.specs.Live.{or, names_it, among, IsRev, Free, ExpressionFo
 use Rattle.rev_affine.specs.Owned.{hit}
 use Rattle.rev_affine.specs.Owned as n
 use Rattle.rev_affine.proofs.Counts.{hits, count_sub, count_use, or_right}
+use Rattle.revision_calculus.proofs.ValueKinds.{args_shift, either}
 
 -- what is no handle
 abbrev pub Plain : Value → Type 0
@@ -32,10 +33,6 @@ Plain x = (q : Path) → IsHandle x q → ⊥
 
 pub plain_others : OfOthers Plain
 plain_others = record { int = λ z q e. absurd cc; bool = λ x q e. absurd cc; none = λ q e. absurd cc }
-
-pub either : {A : Type 0} (P : A → Type 0) (d : Bool) (x y : A) → P x → P y → P (cond d x y)
-either P true x y p q = p
-either P false x y p q = q
 
 -- a handle is of this kind alone
 abbrev pub OfRev : ValueKind → Value → Type 0
@@ -59,10 +56,6 @@ pub record EnvRev (c : Names) (scope : Locals) (fs : Funs) (e : Env) : Type 0 wh
   pub shared : (name : Name) → OfShared Plain plain_others (e.shared name)
   pub funs : OfFuns Plain plain_others fs
   pub params : (name : Name) (f : Callee) → c.funs name ≡ Some f → PlainParams f.params
-
-pub args_shift : (c : Names) (scope : Locals) (p : Parameter) (ps : List Parameter) (n : ℕ) (ts : Expressions) → ArgsHave c scope (p ∷ ps) (suc n) ts → ArgsHave c scope ps n ts
-args_shift c scope p ps n no_expressions h = tt
-args_shift c scope p ps n (expression x xs) h = (h.0, args_shift c scope p ps (n + 1) xs (subst (λ m. ArgsHave c scope (p ∷ ps) m xs) (let e : suc n + 1 ≡ suc (n + 1) = omega arith in e) h.1))
 
 fit_plain : (ps : List Parameter) (xs : List Value) → PlainParams ps → length xs ≡ length ps → Fit ps xs → OfEach Plain plain_others xs
 fit_plain [] [] none same fit = tt

@@ -37,8 +37,9 @@ use Rattle.revision_calculus.proofs.ScopeKinds.{within_self}
 use Rattle.rev_affine.specs.Live.{or, names_it, among, right_side_uses, live, passes, statement_passes, arms_pass, live_statement, live_arms, PickFree, NameOnce, UseOnce, UsesOnce, RightSideOnce, NotStored, StatementsOnce, StatementOnce, ArmsOnce}
 use Rattle.rev_affine.specs.Owned.{hit, count, live_locals, frames_count, owned_at, owned, RestOnce, LocalsRev, FramesOwn, FramesOwnAt, IsOwned, UsesHandlesOnce}
 use Rattle.rev_affine.proofs.Counts.{hits, Sub, or_left, or_right, count_sub, count_absent, count_set, count_params}
-use Rattle.rev_affine.proofs.Readings.{Plain, plain_others, either, OfRev, FitAll, Fit, EnvRev, expression_rev, args_fit, plain_value, use_hits, args_hit}
+use Rattle.rev_affine.proofs.Readings.{Plain, plain_others, OfRev, FitAll, Fit, EnvRev, expression_rev, args_fit, plain_value, use_hits, args_hit}
 use Rattle.rev_affine.proofs.Scopes.{live_append, block_once, locals_wait, locals_within, locals_let, let_fits, locals_set, locals_shared, ProcOnce, proc_once, call_frame, fun_plain, none_waits}
+use Rattle.revision_calculus.proofs.ValueKinds.{either}
 
 -- no location has a handle
 abbrev pub NoHandles : List Location → Type 0

@@ -7,10 +7,7 @@ use Rattle.rev_syntax.proofs.Lists.{same-self}
 use Rattle.merge_decl.specs.Names.{Name, same}
 use Rattle.merge_decl.specs.Table.{Table, find, added}
 use Rattle.merge_decl.proofs.Tables.{or_else, find-added}
-
--- an element of a mapped list
-pub slice_get_mapped : {A B : Type 0} (f : A → B) (xs : List A) (i : ℕ) → slice_get (map f xs) i ≡ option_map f (slice_get xs i)
-slice_get_mapped f xs i = slice_get-map f xs i
+use Rattle.merge_decl.proofs.Declared.{slice_get_mapped}
 
 -- ---- lists with no element
 

@@ -2,3 +2,4 @@ pub mod PostOrder
 pub mod Decimals
 pub mod Dots
 pub mod Division
+pub mod Lists

@@ -15,7 +15,7 @@ pub use laws::{decimal_laws, division_laws, post_order_laws, word_laws};
 pub use number::{add, div, int_of_word, mul, neg, rem, sub, word_of_int};
 pub use outcome::{Cause, Outcome, Shown, Trap};
 pub use path::Path;
-pub use text::{append_decimal, append_path, read_decimal};
+pub use text::{append_decimal, append_path, fault_name, read_decimal};
 pub use value::{NumFault, Value, ValueKind};
 
 #[cfg(test)]

@@ -6,9 +6,10 @@ ghost use Rattle.std.specs.Fmt.{signed_decimal};
 ghost use Rattle.rev_num.specs.Arith.{fits_i64};
 ghost use Rattle.std.specs.List.{flat_map};
 ghost use Rattle.rev_num.specs.Decimal.{IsDecimal, decimal_in};
-ghost use Rattle.rev_num.specs.Text.{behind_dot, path_text};
+ghost use Rattle.rev_num.specs.Text.{behind_dot, fault_text, path_text};
 
 use crate::path::Path;
+use crate::value::NumFault;
 use itoa::Buffer;
 use std::alloc::AllocError;
 
@@ -75,4 +76,14 @@ fn append_behind_dots(text: &mut Vec<u8>, numbers: &[u32]) -> Result<(), AllocEr
         append_decimal(text, *number as i64)?;
     }
     Ok(())
+}
+
+/// How a fault of a number is written.
+pub fn fault_name(fault: NumFault) -> &'static [u8]
+    ensures { result.now ≡ fault_text fault }
+{
+    match fault {
+        NumFault::Overflow => b"overflow",
+        NumFault::ZeroDivisor => b"zero divisor",
+    }
 }

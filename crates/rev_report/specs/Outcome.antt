@@ -7,10 +7,10 @@ use Rattle.std.specs.Fmt.{decimal, signed_decimal}
 use Rattle.std.specs.List.{flat_map}
 use Rattle.rev_num.specs.Path.{Path}
 use Rattle.rev_num.specs.Text.{path_text}
+use Rattle.rev_num.specs.Text as texts
 use Rattle.rev_num.specs.declared.value.Value.{Value}
 use Rattle.rev_num.specs.declared.value.Value.TheVariants as v
 use Rattle.rev_num.specs.declared.value.NumFault.{NumFault}
-use Rattle.rev_num.specs.declared.value.NumFault.TheVariants as fault
 use Rattle.rev_num.specs.declared.outcome.Cause.{Cause}
 use Rattle.rev_num.specs.declared.outcome.Cause.TheVariants as cause
 use Rattle.rev_num.specs.declared.outcome.Trap.{Trap}
@@ -55,23 +55,16 @@ asked_lines false values = []
 
 -- ---- messages
 
-abbrev pub fault_text : NumFault → List ℕ
-fault_text fault.Overflow = codes "overflow"
-fault_text fault.ZeroDivisor = codes "zero divisor"
+-- the place of the location whose merge faulted
+abbrev pub merge_place : List Shown → Cause → List ℕ
+merge_place values (cause.Merge n f) = place_text (slice_get values n)
+merge_place values _ = []
 
--- the merge of the location of this number faulted, which is shown among these
 abbrev pub merge_text : List Shown → ℕ → NumFault → List ℕ
-merge_text values n f = codes "merge of " ++ (place_text (slice_get values n) ++ (codes ": " ++ fault_text f))
+merge_text values n f = texts.cause_text (cause.Merge n f) (place_text (slice_get values n))
 
 abbrev pub cause_text : List Shown → Cause → List ℕ
-cause_text values cause.Overflow = codes "overflow"
-cause_text values cause.ZeroDivisor = codes "zero divisor"
-cause_text values cause.Index = codes "index"
-cause_text values cause.Assert = codes "assert"
-cause_text values cause.JoinNone = codes "join of none"
-cause_text values cause.CallDepth = codes "call depth"
-cause_text values cause.Spent = codes "fuel spent"
-cause_text values (cause.Merge n f) = merge_text values n f
+cause_text values c = texts.cause_text c (merge_place values c)
 
 abbrev pub line_text : ℕ → List ℕ
 line_text line = codes " at line " ++ decimal line

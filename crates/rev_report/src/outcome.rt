@@ -6,7 +6,9 @@ ghost use Rattle.rev_report.specs.Outcome as spec;
 
 use crate::report::Report;
 use crate::status;
-use rev_num::{Cause, NumFault, Outcome, Path, Shown, Trap, Value, append_decimal, append_path};
+use rev_num::{
+    Cause, NumFault, Outcome, Path, Shown, Trap, Value, append_decimal, append_path, fault_name,
+};
 use std::alloc::{AllocError, Global};
 
 /// Appends a value as `print` and `--values` show it.
@@ -75,15 +77,6 @@ fn out_bytes(
     Ok(out)
 }
 
-fn name_of_fault(fault: NumFault) -> &'static [u8]
-    ensures { result.now ≡ spec.fault_text fault }
-{
-    match fault {
-        NumFault::Overflow => b"overflow",
-        NumFault::ZeroDivisor => b"zero divisor",
-    }
-}
-
 /// Appends the place of the location of this number, if it is one of these.
 fn append_location(text: &mut Vec<u8>, values: &[Shown], location: u32) -> Result<(), AllocError>
     ensures { OnOk result (text.new.items
@@ -108,7 +101,7 @@ fn append_merge(
     text.extend_from_slice(b"merge of ")?;
     append_location(text, values, location)?;
     text.extend_from_slice(b": ")?;
-    text.extend_from_slice(name_of_fault(fault))?;
+    text.extend_from_slice(fault_name(fault))?;
     Ok(())
 }
 

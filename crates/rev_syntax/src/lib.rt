@@ -15,7 +15,7 @@ mod tree;
 pub use laws::{one_fault, one_kind, one_list, some_reading};
 pub use lex::tokens;
 pub use place::line_column;
-pub use scan::LexFault;
+pub use scan::{LexFault, is_digit, is_letter, is_name_byte};
 pub use token::{Fixed, Token, TokenKind};
 pub use tree::{
     Arm, BinaryOp, Block, Const, Decl, Expr, Form, Item, Link, Name, Node, Param, Program, Rhs,

@@ -39,19 +39,22 @@ pub struct Cut {
     pub length: usize,
 }
 
-fn is_digit(byte: u8) -> bool
+/// Whether it is a digit, `0` to `9`.
+pub fn is_digit(byte: u8) -> bool
     ensures { result ≡ bytes.is_digit byte }
 {
     byte.is_ascii_digit()
 }
 
-fn is_letter(byte: u8) -> bool
+/// Whether a name may begin with it: a letter of ASCII, or `_`.
+pub fn is_letter(byte: u8) -> bool
     ensures { result ≡ bytes.is_letter byte }
 {
     byte.is_ascii_alphabetic() || byte == b'_'
 }
 
-fn is_name_byte(byte: u8) -> bool
+/// Whether it may stand in a name: a letter, a digit, or `_`.
+pub fn is_name_byte(byte: u8) -> bool
     ensures { result ≡ bytes.is_name_byte byte }
 {
     is_letter(byte) || is_digit(byte)

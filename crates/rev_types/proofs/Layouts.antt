@@ -26,7 +26,7 @@ length_behind : (before : List Declaration) (e : Declaration) → length (before
 length_behind [] e = omega arith
 length_behind (d ∷ before) e = let h = length_behind before e in omega arith
 
-cells_behind : (before : List Declaration) (e : Declaration) → cells (before ++ e ∷ []) ≡ cells before + cells (e ∷ [])
+pub cells_behind : (before : List Declaration) (e : Declaration) → cells (before ++ e ∷ []) ≡ cells before + cells (e ∷ [])
 cells_behind [] e = omega arith
 cells_behind (shared x ∷ before) e = let h = cells_behind before e in omega arith
 cells_behind (fun w ps r body ∷ before) e = cells_behind before e

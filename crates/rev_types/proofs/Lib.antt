@@ -14,3 +14,4 @@ pub mod StatementsFaults
 pub mod StatementsSound
 pub mod StatementsWithin
 pub mod Weights
+pub mod MergeParams

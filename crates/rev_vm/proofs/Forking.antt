@@ -22,7 +22,7 @@ use Rattle.block_run.specs.Remembering.{Kept}
 use Rattle.block_run.specs.Standing.{AreSeen}
 use Rattle.block_run.proofs.Onward.{kept_seen, words_length, stack_length}
 use Rattle.block_run.proofs.Stacks.{stack_push}
-use Rattle.fun_run.proofs.Running.{block_short}
+use Rattle.fun_run.proofs.Running.{block_short, stack_dropped}
 use Rattle.fun_run.proofs.Slices.{stack_slice, words_drop, words_reverse, words_take}
 use Rattle.version_map.specs.declared.delta.Delta.{Delta}
 use Rattle.version_map.specs.Deltas.{at, locations, IsEmpty}
@@ -61,12 +61,7 @@ long_enough zero xs h = omega arith
 long_enough (suc p) [] h = absurd (omega (arith, h))
 long_enough (suc p) (x ∷ xs) h = let r = long_enough p xs (omega (arith, h)) in omega (arith, r)
 
-stack_dropped : (ws : List ℕ) (l m p d : ℕ) → m ≡ p + d → drop p (stack_of ws l m) ≡ stack_of ws l d
-stack_dropped ws l m zero d e = ap (stack_of ws l) (omega (arith, e))
-stack_dropped ws l zero (suc p) d e = absurd (omega (arith, e))
-stack_dropped ws l (suc m) (suc p) d e = stack_dropped ws l m p d (omega (arith, e))
-
-one_listed : (xs : List (Listed ℕ)) (ms : List Meeting) (x : Listed ℕ) (m : Meeting) → x ≡ listed_as m → xs ≡ map listed_as ms → xs ++ x ∷ [] ≡ map listed_as (ms ++ m ∷ [])
+pub one_listed : (xs : List (Listed ℕ)) (ms : List Meeting) (x : Listed ℕ) (m : Meeting) → x ≡ listed_as m → xs ≡ map listed_as ms → xs ++ x ∷ [] ≡ map listed_as (ms ++ m ∷ [])
 one_listed xs ms x m e h = (λ i. h i ++ e i ∷ []) ∙ by ms
   where
     by : (ms : List Meeting) → map listed_as ms ++ listed_as m ∷ [] ≡ map listed_as (ms ++ m ∷ [])

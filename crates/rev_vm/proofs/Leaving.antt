@@ -13,11 +13,11 @@ use Rattle.version_map.specs.Composing.{Entry}
 use Rattle.code_machine.specs.Local.{with_entry, written_from}
 use Rattle.rev_vm.specs.Meaning.{AreWritten}
 
-append_none : {A : Type 0} (xs : List A) → xs ++ [] ≡ xs
+pub append_none : {A : Type 0} (xs : List A) → xs ++ [] ≡ xs
 append_none [] = refl
 append_none (x ∷ xs) = ap (λ ys. x ∷ ys) (append_none xs)
 
-append_three : {A : Type 0} (xs ys zs : List A) → (xs ++ ys) ++ zs ≡ xs ++ (ys ++ zs)
+pub append_three : {A : Type 0} (xs ys zs : List A) → (xs ++ ys) ++ zs ≡ xs ++ (ys ++ zs)
 append_three [] ys zs = refl
 append_three (x ∷ xs) ys zs = ap (λ us. x ∷ us) (append_three xs ys zs)
 

@@ -42,13 +42,7 @@ use Rattle.rev_vm.proofs.Firsts.{kinds_many}
 use Rattle.rev_vm.proofs.Frames.{IsAbove, nothing_new, OnStack, stays}
 use Rattle.rev_vm.proofs.Leaving.{written_as}
 use Rattle.rev_vm.proofs.Meets.{IsForking, IsJoining, Meets, meets}
-
-one_listed : (xs : List (Listed ℕ)) (ms : List Meeting) (x : Listed ℕ) (m : Meeting) → x ≡ listed_as m → xs ≡ map listed_as ms → xs ++ x ∷ [] ≡ map listed_as (ms ++ m ∷ [])
-one_listed xs ms x m e h = (λ i. h i ++ e i ∷ []) ∙ by ms
-  where
-    by : (ms : List Meeting) → map listed_as ms ++ listed_as m ∷ [] ≡ map listed_as (ms ++ m ∷ [])
-    by [] = refl
-    by (a ∷ ms) = ap (λ ys. listed_as a ∷ ys) (by ms)
+use Rattle.rev_vm.proofs.Forking.{one_listed}
 
 more_listed : (ms : List Meeting) (x : Meeting) → length (ms ++ x ∷ []) ≡ suc (length ms)
 more_listed [] x = refl

@@ -35,12 +35,10 @@ use Rattle.code_machine.specs.Local.{CodeRun, IsVerified}
 use Rattle.block_run.specs.Area.{count}
 use Rattle.rev_vm.specs.Opening.{AreShort, StartsWith, words_at_start}
 use Rattle.rev_vm.specs.Starts.{IsBase, IsCalled}
+use Rattle.rev_vm.proofs.Leaving.{append_three, append_none}
+use Rattle.code_soundness.proofs.Reaching.{main_runs}
 
 -- ---- words, one after another
-
-append_assoc : {A : Type 0} (xs ys zs : List A) → (xs ++ ys) ++ zs ≡ xs ++ (ys ++ zs)
-append_assoc [] ys zs = refl
-append_assoc (x ∷ xs) ys zs = ap (λ us. x ∷ us) (append_assoc xs ys zs)
 
 copies_end : (n w : ℕ) → replicate n w ++ w ∷ [] ≡ replicate (suc n) w
 copies_end zero w = refl
@@ -48,7 +46,7 @@ copies_end (suc n) w = ap (λ us. w ∷ us) (copies_end n w)
 
 pub more_copies : (xs : List ℕ) (n w : ℕ) → (xs ++ replicate n w) ++ w ∷ [] ≡ xs ++ replicate (n + 1) w
 more_copies xs n w =
-    append_assoc xs (replicate n w) (w ∷ [])
+    append_three xs (replicate n w) (w ∷ [])
     ∙ ap (λ us. xs ++ us) (copies_end n w ∙ (let e : suc n ≡ n + 1 = omega arith in ap (λ m. replicate m w) e))
 
 drop_more : (v : CodeVar) (vs : List CodeVar) (n : ℕ) → drop (n + 1) vs ≡ drop (suc n + 1) (v ∷ vs)
@@ -65,7 +63,7 @@ pub start_more : (vs : List CodeVar) (n : ℕ) (d : CodeVar) (ws ws' : List ℕ)
     → ws' ≡ ws ++ replicate (get_or vs n d).cells (get_or vs n d).start → ws' ++ words_at_start (drop (n + 1) vs) ≡ words_at_start vs
 start_more vs n d ws ws' h e more =
     ap (λ us. us ++ words_at_start (drop (n + 1) vs)) more
-    ∙ append_assoc ws (replicate (get_or vs n d).cells (get_or vs n d).start) (words_at_start (drop (n + 1) vs))
+    ∙ append_three ws (replicate (get_or vs n d).cells (get_or vs n d).start) (words_at_start (drop (n + 1) vs))
     ∙ ap (λ us. ws ++ us) (sym (start_drop vs n d h))
     ∙ e
 
@@ -74,10 +72,6 @@ drop_all [] zero h = refl
 drop_all [] (suc n) h = refl
 drop_all (v ∷ vs) zero h = absurd (omega (arith, h))
 drop_all (v ∷ vs) (suc n) h = drop_all vs n (omega (arith, h))
-
-pub append_none : {A : Type 0} (xs : List A) → xs ++ [] ≡ xs
-append_none [] = refl
-append_none (x ∷ xs) = ap (λ ys. x ∷ ys) (append_none xs)
 
 pub start_done : (vs : List CodeVar) (n : ℕ) (ws : List ℕ) → length vs ≤ n → ws ++ words_at_start (drop n vs) ≡ words_at_start vs → ws ≡ words_at_start vs
 start_done vs n ws h e = sym (append_none ws) ∙ ap (λ us. ws ++ words_at_start us) (sym (drop_all vs n h)) ∙ e
@@ -170,12 +164,6 @@ module _ (code : Code) (ok : first_fault code ≡ None) where
   main_bare class.Fun n has p h = absurd (true≢false (sym p))
   main_bare class.Merge n has p h = absurd (true≢false (sym p))
   main_bare class.Proc n has p h = absurd (true≢false (sym p))
-
-  main_runs : (x : BlockClass) → is_main x ≡ true → is_value_class x ≡ false
-  main_runs class.Main h = refl
-  main_runs class.Fun h = absurd (true≢false (sym h))
-  main_runs class.Merge h = absurd (true≢false (sym h))
-  main_runs class.Proc h = absurd (true≢false (sym h))
 
   no_params : (n : ℕ) (b : CodeBlock) → slice_get code.blocks n ≡ Some b → is_main b.class ≡ true → [] ≡ params b
   no_params n b is m =

@@ -27,6 +27,8 @@ use Rattle.rev_types.proofs.DeclsSound.{program_typed}
 use Rattle.revision_calculus.specs.Kinded.{IsAccepted, IsOf, IsSomeOf}
 use Rattle.revision_calculus.proofs.Values.{OfOk}
 use Rattle.revision_calculus.proofs.ValueKinds.{EnvIs, ArgsAre, FunIs, OfUses, uses_all, CanApply, value_is}
+use Rattle.merge_decl.proofs.Firsts.{first_from}
+use Rattle.rev_types.proofs.MergeParams.{merge_new}
 
 -- ---- parameters
 
@@ -82,20 +84,8 @@ module _ (c : Names) (closed : (name : Name) → c.shared name ≡ None) where
       let ps = int_param m ∷ int_param j ∷ int_param r ∷ [] in
       value_is c (merge_locals m j r) (funs_of fs) (inside (names_of ps) (x ∷ y ∷ z ∷ [])) (inside_is ps (x ∷ y ∷ z ∷ []) new (kx, (ky, (kz, tt)))) n body k.Int us formed has
     where
-      first : Locals
-      first = added [] m.text (Some k.Int)
-
-      j_new : find j.text first ≡ None
-      j_new = added_unknown j.text m.text (Some k.Int) [] refl (λ e. differ.0 (sym e))
-
-      r_first : find r.text first ≡ None
-      r_first = added_unknown r.text m.text (Some k.Int) [] refl (λ e. differ.1 (sym e))
-
-      r_new : find r.text (added first j.text (Some k.Int)) ≡ None
-      r_new = added_unknown r.text j.text (Some k.Int) first r_first (λ e. differ.2 (sym e))
-
       new : ParamsNew c [] (int_param m ∷ int_param j ∷ int_param r ∷ [])
-      new = ((refl, closed m.text), ((j_new, closed j.text), ((r_new, closed r.text), tt)))
+      new = merge_new c closed m j r differ
 
 -- ---- the declarations of a program, one after the other
 
@@ -116,18 +106,6 @@ fits_more None None false f g is more = tt
 fits_more None (Some h) d f g is more = absurd is
 fits_more (Some y) None d f g is more = absurd is
 fits_more (Some y) (Some h) d f g is more = is
-
--- the number of a declaration is none of those before
-first_from : (d n : ℕ) (es : List Declaration) (name : Name) (h : FunHead) → first_fun d n es name ≡ Some h → d ≤ h.decl
-first_from d n [] name h e = absurd cc
-first_from d n (fun w ps r body ∷ es) name h e = by (same name w.text) (first_from (d + 1) (n + 1) es name h) e
-  where
-    by : (x : Bool) → (first_fun (d + 1) (n + 1) es name ≡ Some h → d + 1 ≤ h.decl) → cond x (Some (head d n (length ps))) (first_fun (d + 1) (n + 1) es name) ≡ Some h → d ≤ h.decl
-    by true later q = let is : head d n (length ps) ≡ h = cc in let same : d ≡ h.decl = ap (λ y. y.decl) is in omega arith
-    by false later q = let more : d + 1 ≤ h.decl = later q in omega arith
-first_from d n (merge w m j r body ∷ es) name h e = let more : d + 1 ≤ h.decl = first_from (d + 1) n es name h e in omega arith
-first_from d n (shared x ∷ es) name h e = let more : d + 1 ≤ h.decl = first_from (d + 1) n es name h e in omega arith
-first_from d n (proc w ps r body ∷ es) name h e = let more : d + 1 ≤ h.decl = first_from (d + 1) n es name h e in omega arith
 
 abbrev AreMerges : List MergeDef → Type 0
 AreMerges [] = Unit {0}

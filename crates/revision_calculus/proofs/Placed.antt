@@ -29,7 +29,7 @@ variable_count before ls x = by x.size
     by None = refl
     by (Some y) = cells_count x.name.text ls (cells before) 0 (cells_of (Some y))
 
-values_count : (before es : List Declaration) (ls : List Location) → length (show_all (variables_behind before es) ls) ≡ cells es
+pub values_count : (before es : List Declaration) (ls : List Location) → length (show_all (variables_behind before es) ls) ≡ cells es
 values_count before [] ls = refl
 values_count before (fun w ps r body ∷ es) ls = values_count (before ++ fun w ps r body ∷ []) es ls
 values_count before (merge w m j r body ∷ es) ls = values_count (before ++ merge w m j r body ∷ []) es ls

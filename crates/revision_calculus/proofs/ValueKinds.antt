@@ -177,7 +177,7 @@ chain_binds op part (link o x more) h = (and_parts _ (all_bind (strength op) (li
 
 -- ---- arguments
 
-args_shift : (c : Names) (scope : Locals) (p : Parameter) (ps : List Parameter) (n : ℕ) (ts : Expressions) → ArgsHave c scope (p ∷ ps) (suc n) ts → ArgsHave c scope ps n ts
+pub args_shift : (c : Names) (scope : Locals) (p : Parameter) (ps : List Parameter) (n : ℕ) (ts : Expressions) → ArgsHave c scope (p ∷ ps) (suc n) ts → ArgsHave c scope ps n ts
 args_shift c scope p ps n no_expressions h = tt
 args_shift c scope p ps n (expression x xs) h = (h.0, args_shift c scope p ps (n + 1) xs (subst (λ m. ArgsHave c scope (p ∷ ps) m xs) (let e : suc n + 1 ≡ suc (n + 1) = omega arith in e) h.1))
 

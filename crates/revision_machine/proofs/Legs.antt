@@ -8,9 +8,10 @@ use Rattle.revision_machine.specs.Births.{offspring, AllKnown}
 use Rattle.revision_machine.specs.Simulation.{Simulates, Agrees, StepsTo}
 use Rattle.revision_machine.specs.Numbered.{Numbered, Entries, World, Both, Listing, at_number, leg, Replays, machine_by, paths_of, globe_of, shows, HasPaths, ReadsAs}
 use Rattle.revision_machine.specs.Schedules.{LegsAgree, LegLaw}
-use Rattle.revision_machine.proofs.Numbers.{none_some, at_paths, in_append, paths_with, LegIs}
+use Rattle.revision_machine.proofs.Numbers.{none_some, at_paths, paths_with, LegIs}
 use Rattle.revision_machine.proofs.Lift.{step_law, agree_put}
 use Rattle.revision_machine.proofs.Schedules.{leg_of_read, read_leg, begins}
+use Rattle.revision_machine.proofs.Bearing.{in_front}
 
 in_back : (ps qs : List Path) (p : Path) → IsIn p qs → IsIn p (ps ++ qs)
 in_back [] qs p i = i
@@ -31,7 +32,7 @@ module _ (A : Machine) (N : Numbered) (R : List Path → Path → A.Local → N.
     leg_steps w n v one t rest d e g agrees = step_law A (machine_by N t) (R t) (λ p. IsIn p t) (sim t) g (Live (globe_of w)) (shows v) one.path agrees (one.steps t rest d e) known
       where
         in_table : (c : Path) → IsIn c one.more → IsIn c t
-        in_table c i = subst (IsIn c) (sym (e ∙ ap (λ p. p ++ rest) one.grows)) (in_append (paths_of w ++ one.more) rest c (in_back (paths_of w) one.more c i))
+        in_table c i = subst (IsIn c) (sym (e ∙ ap (λ p. p ++ rest) one.grows)) (in_front (paths_of w ++ one.more) rest c (in_back (paths_of w) one.more c i))
 
         known : AllKnown (λ p. IsIn p t) (offspring (machine_by N t) (Live (globe_of w)) one.path)
         known c i = in_table c (subst (IsIn c) (one.bears t) i)

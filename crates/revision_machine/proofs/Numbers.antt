@@ -9,18 +9,14 @@ use Rattle.revision_machine.specs.Births.{offspring_of, offspring_at, offspring}
 use Rattle.revision_machine.proofs.Paths.{some_inj, apart-same, swap, overwrite, at_here, at_other}
 use Rattle.rev_num.proofs.PostOrder.{same_refl, same-eq}
 use Rattle.revision_machine.proofs.Way.{ended_apart}
+use Rattle.revision_machine.proofs.Bearing.{in_front}
 
 pub none_some : {P : Type 0} {A : Type 0} {a : A} → None ≡ Some a → P
 none_some e = absurd cc
 
-pub in_append : (ps qs : List Path) (p : Path) → IsIn p ps → IsIn p (ps ++ qs)
-in_append [] qs p none = absurd none
-in_append (x ∷ ps) qs p (inl e) = inl e
-in_append (x ∷ ps) qs p (inr h) = inr (in_append ps qs p h)
-
 pub distinct_front : (ps qs : List Path) → IsDistinct (ps ++ qs) → IsDistinct ps
 distinct_front [] qs d = tt
-distinct_front (p ∷ ps) qs d = (λ i. d.0 (in_append ps qs p i), distinct_front ps qs d.1)
+distinct_front (p ∷ ps) qs d = (λ i. d.0 (in_front ps qs p i), distinct_front ps qs d.1)
 
 pub in_at : (ps : List Path) (m : ℕ) (q : Path) → at_number ps m ≡ Some q → IsIn q ps
 in_at [] m q e = none_some e
@@ -77,7 +73,7 @@ module _ {A : Type 0} where
       let apart : q ≢ x.0 = λ h. d.0 (subst (λ v. IsIn v (paths_of w)) h (in_paths w m q e g)) in
       ap (λ v. with_at v x.0 x.1) (globe_put w m q e f d.1 g) ∙ swap (globe_of w) q x.0 f x.1 apart
 
-  paths_put : (w : List (Path × A)) (m : ℕ) (q : Path) (e f : A) → at_number w m ≡ Some (q, e) → paths_of (put_number w m (q, f)) ≡ paths_of w
+  pub paths_put : (w : List (Path × A)) (m : ℕ) (q : Path) (e f : A) → at_number w m ≡ Some (q, e) → paths_of (put_number w m (q, f)) ≡ paths_of w
   paths_put [] m q e f g = refl
   paths_put (x ∷ w) zero q e f g = ap (λ v. v.0 ∷ paths_of w) (sym (some_inj g))
   paths_put (x ∷ w) (suc m) q e f g = ap (λ v. x.0 ∷ v) (paths_put w m q e f g)

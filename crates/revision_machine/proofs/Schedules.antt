@@ -28,7 +28,7 @@ length-paths_at t [] = refl
 length-paths_at t (n ∷ ns) = ap suc (length-paths_at t ns)
 
 -- what stands at a path stands at a number
-numbered : {A : Type 0} (w : List (Path × A)) (p : Path) (e : A) → globe_of w p ≡ Some e → (n : ℕ) × (at_number w n ≡ Some (p, e))
+pub numbered : {A : Type 0} (w : List (Path × A)) (p : Path) (e : A) → globe_of w p ≡ Some e → (n : ℕ) × (at_number w n ≡ Some (p, e))
 numbered [] p e there = none_some there
 numbered {A} (x ∷ w) p e there = go (λ f. numbered w p e f) (same x.0 p) refl
   where

@@ -1,7 +1,7 @@
 //! One revision after another, each by itself: `main` forks a child, and joins it by what is told
 //! of it.
 
-use crate::orders::typed_of;
+use case_tables::typed_of;
 use rev_num::Value;
 use revision_alone::{
     Alone, AloneEnd, AloneWrite, LocalState, first_alone, join_alone, step_alone,

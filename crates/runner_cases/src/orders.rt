@@ -6,18 +6,13 @@ ghost use Rattle.revision_machine.specs.States.{global_of};
 ghost use Rattle.calculus_rules.specs.Rules.{rules_of};
 ghost use Rattle.plain_runner.specs.Views.{setting_of};
 
-use merge_decl::expand_funs;
+use case_tables::typed_of;
 use plain_runner::PlainLanguage;
 use rev_num::Path;
-use rev_parse::parse;
-use rev_syntax::tokens;
-use rev_types::{Typed, check};
 use revision_machine::{BothOrders, GlobalState};
 use revision_steps::Local;
 use std::alloc::{AllocError, Global};
 use std::test::Fail;
-
-const LIMIT: usize = 1_048_576;
 
 /// `main` forks a child and then two revisions that join it.
 const TEXT: &str = "versioned h: rev; proc child() { } proc joiner() { rjoin h; } \
@@ -29,17 +24,6 @@ enum Came {
     Same,
     Twice,
     NoPair,
-}
-
-/// The program of a text, if that is well typed.
-pub fn typed_of(alloc: Global, text: &[u8]) -> Option<Typed> {
-    if text.len() > LIMIT {
-        return None;
-    }
-    let tokens = tokens(alloc, text).ok()?;
-    let program = parse(alloc, text, tokens.as_slice()).ok()?;
-    let expanded = expand_funs(alloc, program).ok()?;
-    check(alloc, expanded).ok()
 }
 
 /// The state after a step of the revision at this path.

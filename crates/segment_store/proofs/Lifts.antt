@@ -22,12 +22,13 @@ use Rattle.segment_store.proofs.Keeps as keeps
 use Rattle.segment_store.proofs.Cuts as cuts
 use Rattle.segment_store.proofs.Opens.{one_view}
 use Rattle.segment_store.proofs.Opens as start
-use Rattle.segment_store.proofs.Ties.{at_new, inside_at, old_at, new_at, views_show, quiet_ties}
+use Rattle.segment_store.proofs.Ties.{inside_at, old_at, new_at, views_show, quiet_ties}
 use Rattle.segment_store.proofs.Ties.{claim_ties, put_ties, header_ties, publish_ties, share_ties}
 use Rattle.segment_store.proofs.Ties.{drop_ties, pop_ties, hand_on_ties, laid_mask}
 use Rattle.segment_store.proofs.Tying.{counted_first, none_listed_at, opens_show}
 use Rattle.segment_store.proofs.Traces.{M, mine, other, still_none, step_traces, quiet_traces}
 use Rattle.segment_store.proofs.Traces.{lifts, load_traces}
+use Rattle.seg_core.proofs.Bases.{at_new}
 
 view_is : (a : M) (w : View) (l : List (ℕ × Unit {0})) → a ≡ (w, l) → w ≡ a.0
 view_is a w l e = sym (ap (λ (z : M). z.0) e)

@@ -24,12 +24,7 @@ use Rattle.segment_store.specs.Shown.{SegShown, Shown, Shows}
 use Rattle.segment_store.proofs.Sums.{one_segment}
 use Rattle.segment_store.proofs.Fills.{look_here, look_else}
 use Rattle.segment_store.proofs.Keeps.{other_builds}
-
-pub at_new : {A : Type 0} (xs : List A) (i : ℕ) (v w : A) → get_elem? xs i ≡ m.some v
-    → get_elem? (set xs i w) i ≡ m.some w
-at_new [] i v w e = absurd (m.some-ne-none v (sym e))
-at_new (x ∷ xs) zero v w e = refl
-at_new (x ∷ xs) (suc i) v w e = at_new xs i v w e
+use Rattle.seg_core.proofs.Bases.{at_new}
 
 pub inside_at : {A : Type 0} (xs : List A) (i : ℕ) (x : A) → get_elem? xs i ≡ m.some x
     → i < length xs

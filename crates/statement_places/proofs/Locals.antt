@@ -25,6 +25,7 @@ use Rattle.expression_run.specs.Agrees.{word}
 use Rattle.expression_run.proofs.Words.{word_kind}
 use Rattle.statement_places.specs.Places.{IsWithin}
 use Rattle.statement_places.specs.States.{written_word, location_word, word_kinds, IsSame, AreLocals}
+use Rattle.rev_num.proofs.Lists.{get_set_other}
 
 -- ---- lists
 
@@ -32,13 +33,6 @@ pub get-set : {A : Type 0} (xs : List A) (n : ℕ) (x y : A) → slice_get xs n 
 get-set [] n x y e = absurd (let z : None ≡ Some y = e in cc)
 get-set (z ∷ xs) zero x y e = refl
 get-set (z ∷ xs) (suc n) x y e = get-set xs n x y e
-
-pub get-set-other : {A : Type 0} (xs : List A) (m n : ℕ) (x : A) → m ≢ n → slice_get (slice_set xs n x) m ≡ slice_get xs m
-get-set-other [] m n x d = refl
-get-set-other (z ∷ xs) zero zero x d = absurd (d refl)
-get-set-other (z ∷ xs) zero (suc n) x d = refl
-get-set-other (z ∷ xs) (suc m) zero x d = refl
-get-set-other (z ∷ xs) (suc m) (suc n) x d = get-set-other xs m n x (λ e. d (ap suc e))
 
 kinds-set : (ws : List (Word Path)) (n : ℕ) (w : Word Path) → slice_get (word_kinds ws) n ≡ Some (words.kind_of w) → word_kinds (slice_set ws n w) ≡ word_kinds ws
 kinds-set [] n w e = refl
@@ -97,7 +91,7 @@ locals_set ks scope w m x values ws are found kind apart =
             ap (slice_get (slice_set ws m (word x))) (sym mn) ∙ get-set ws m (word x) there.0 there.1
         by false e =
             let ne : n ≢ m = λ q. other_text name w (sym e) (apart name w m (h ∙ ap Some q) found) in
-            subst (IsSame (find name values)) (sym (get-set-other ws n m (word x) ne)) (are.same name n (λ q. other_text name w (sym e) (let z : w ≡ name = cc in sym z)) h)
+            subst (IsSame (find name values)) (sym (get_set_other ws n m (word x) ne)) (are.same name n (λ q. other_text name w (sym e) (let z : w ≡ name = cc in sym z)) h)
 
 -- where the name that waits is not in scope, all locals have their values
 pub locals_shared : (ks : List ValueKind) (scope : Scope) (w : Name) (values : Table Value) (ws : List (Word Path)) → find w scope ≡ None → AreLocals ks scope (Some w) values ws → AreLocals ks scope None values ws

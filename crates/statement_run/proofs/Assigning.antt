@@ -40,7 +40,7 @@ use Rattle.code_generation.specs.Expressions.{expression_size, expression_code, 
 use Rattle.code_generation.specs.Stands.{HasAt}
 use Rattle.code_generation.proofs.Standing.{around_stands}
 use Rattle.expression_run.specs.Agrees.{word, ArgsAre, at_with, pushed}
-use Rattle.expression_run.proofs.Words.{as_int, word_kind, same_self}
+use Rattle.expression_run.proofs.Words.{as_int, word_kind}
 use Rattle.statement_places.specs.Places.{Tables, AreNames, StatementStands, Follows}
 use Rattle.statement_places.specs.States.{location_word, IsSame, AreLocals, LeftBy, Behind}
 use Rattle.statement_run.proofs.Linked.{IsLinked}
@@ -59,6 +59,7 @@ use Rattle.statement_places.proofs.Locals.{locals_let, locals_wait, written_ther
 use Rattle.statement_places.proofs.Parts.{right_side_is, names_none, names_after}
 use Rattle.statement_run.proofs.Calls.{Comes_to, moved, did_on, trap, after_value, after_then, after_all, gave, joined}
 use Rattle.statement_run.proofs.Calls as runs
+use Rattle.rev_code.proofs.SameKinds.{same_kind_self}
 
 -- a new name has its number
 found_new : (scope : Scope) (w : Name) (m : ℕ) → find w scope ≡ None → find w (added scope w m) ≡ Some m
@@ -209,7 +210,7 @@ module _ (s : Setting) (g : Tables) (lk : IsLinked s g) (p : Path) where
         let a : State Path = at_with c m (word x ∷ words.int z ∷ []) in
         let c2 : State Path = record c { at = suc m; stack = []; locations = written_at c.locations n (word x) } in
         let l2 : Local = record l { locations = write_at l.locations n x } in
-        let kind : same_kind y.declared.holds (words.kind_of (word x)) ≡ true = ap (same_kind y.declared.holds) (word_kind x ∙ kx) ∙ same_self y.declared.holds in
+        let kind : same_kind y.declared.holds (words.kind_of (word x)) ≡ true = ap (same_kind y.declared.holds) (word_kind x ∙ kx) ∙ same_kind_self y.declared.holds in
         let goes_so : step g.setting a ≡ goes c2 =
         one s g b a (i.StoreCell (g.numbers.var w)) (goes c2) rd.is here
         (ap (λ o. r.into_cell a o (word x ∷ words.int z ∷ [])) (array_there s g lk w y named whole)

@@ -33,7 +33,7 @@ use Rattle.rev_code.specs.Step.{goes, act, step, Steps}
 use Rattle.rev_code.specs.Events as events
 use Rattle.code_generation.specs.Numbers.{Scope}
 use Rattle.expression_run.specs.Agrees.{word, ArgsAre, at_with, pushed, Gives, GiveAll}
-use Rattle.expression_run.proofs.Words.{word_kind, same_self, found, left_below}
+use Rattle.expression_run.proofs.Words.{word_kind, found, left_below}
 use Rattle.statement_places.specs.Places.{Tables}
 use Rattle.statement_places.specs.States.{entry, IsShared, Below, StandsAt, Behind, joined_kind, join_of}
 use Rattle.statement_places.proofs.Locals.{view_fresh}
@@ -41,6 +41,7 @@ use Rattle.statement_run.specs.Steps.{Carries, Walks, DidMove, Did}
 use Rattle.statement_run.proofs.Linked.{IsProc, IsLinked}
 use Rattle.statement_run.proofs.Reading.{Ready}
 use Rattle.statement_run.proofs.Resume.{goes_on, onward, one, Resumed, resume}
+use Rattle.rev_code.proofs.SameKinds.{same_kind_self}
 
 -- ---- depth
 
@@ -361,7 +362,7 @@ module _ (s : Setting) (g : Tables) (p : Path) where
     return_came (Some t) a None ws is = absurd is
     return_came (Some t) a (Some x) ws is = (
       Some (word x),
-      ap (r.return a (Some t)) is.0 ∙ ap (λ d. if d then r.leave a a.below (Some (word x)) else r.stuck) (ap (same_kind t) (word_kind x ∙ is.1) ∙ same_self t),
+      ap (r.return a (Some t)) is.0 ∙ ap (λ d. if d then r.leave a a.below (Some (word x)) else r.stuck) (ap (same_kind t) (word_kind x ∙ is.1) ∙ same_kind_self t),
     )
 
     pub returned : (b : CodeBlock) (l : Local) (f : Frame) (fs : List Frame) (c : State Path) (at : ℕ) (ws : List (Word Path)) (x : Option Value)

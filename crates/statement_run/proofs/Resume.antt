@@ -24,13 +24,14 @@ use Rattle.code_generation.specs.Numbers.{Scope}
 use Rattle.code_generation.specs.Generated.{var_of}
 use Rattle.expression_run.specs.Agrees.{word, at_with, Onward}
 use Rattle.expression_run.specs.Agrees as agrees
-use Rattle.expression_run.proofs.Words.{word_kind, same_self}
+use Rattle.expression_run.proofs.Words.{word_kind}
 use Rattle.statement_places.specs.Places.{Tables, Leads, Follows}
 use Rattle.statement_places.specs.States.{location_word, IsShared, AreLocals, LeftBy, Below, StandsAt, Behind}
 use Rattle.statement_places.proofs.Locals.{locals_set, locals_shared, written_there}
 use Rattle.statement_run.specs.Steps.{Carries, Takes, Few, nowhere, takes}
 use Rattle.statement_run.proofs.Linked.{IsLinked}
 use Rattle.statement_run.proofs.Reading.{scalar_there}
+use Rattle.rev_code.proofs.SameKinds.{same_kind_self}
 
 nothing : Unit {0}
 nothing = tt
@@ -82,7 +83,7 @@ module _ (s : Setting) (g : Tables) where
       let a : State Path = at_with c c.at (word x ∷ []) in
       let here : step g.setting a ≡ goes c' =
       one h.block a (i.StoreLocal m) (goes c') h.waits.is left.0
-      (ap (λ o. r.into_local a m o (word x ∷ [])) kn ∙ ap (λ d. if d then goes c' else r.stuck) (ap (same_kind (kind_of x)) (word_kind x) ∙ same_self (kind_of x))) in
+      (ap (λ o. r.into_local a m o (word x ∷ [])) kn ∙ ap (λ d. if d then goes c' else r.stuck) (ap (same_kind (kind_of x)) (word_kind x) ∙ same_kind_self (kind_of x))) in
       let st : StandsAt s g l' (at_with c' h.waits.to []) =
       stands l' (set_local f w x) fs c' h.block h.waits.scope h.waits.to h.shared (ap (on_top (λ k. set_local k w x)) h.frames) h.waits.is
       (locals_set h.block.locals h.waits.scope w m x f.locals c.locals h.waits.locals found kn h.waits.apart) h.waits.follows h.waits.returns h.below in
@@ -101,7 +102,7 @@ module _ (s : Setting) (g : Tables) where
         let e : set_named (Some y) l w x ≡ set s l w x = ap (λ o. set_named o l w x) (sym left.2) in
         let a : State Path = at_with c c.at (word x ∷ []) in
         let there : scalar g.setting.code.vars (g.numbers.var w) ≡ Some p = scalar_there s g lk w y left.2 left.3 in
-        let kind : same_kind y.declared.holds (words.kind_of (word x)) ≡ true = ap (same_kind y.declared.holds) (word_kind x ∙ of ∙ sym left.4) ∙ same_self y.declared.holds in
+        let kind : same_kind y.declared.holds (words.kind_of (word x)) ≡ true = ap (same_kind y.declared.holds) (word_kind x ∙ of ∙ sym left.4) ∙ same_kind_self y.declared.holds in
         let here : step g.setting a ≡ goes c' =
         one h.block a (i.StoreShared (g.numbers.var w)) (goes c') h.waits.is left.1
         (ap (λ o. r.into_scalar a o (word x ∷ [])) there ∙ ap (λ d. if d then goes c' else r.stuck) kind) in

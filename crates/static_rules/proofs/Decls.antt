@@ -11,6 +11,7 @@ use Rattle.rev_types.specs.Judgement.{name_of, IsMergeOf}
 use Rattle.rev_types.specs.Limits.{cells, procs, funs}
 use Rattle.rev_types.proofs.Weights.{Caps, none_caps, added_caps, expression_caps}
 use Rattle.static_rules.proofs.Blocks.{among_behind, further}
+use Rattle.rev_types.proofs.Layouts.{cells_behind}
 
 -- ---- lists
 
@@ -55,13 +56,6 @@ met_none = record {
   procs_left = refl;
   funs_left = refl;
 }
-
-cells_end : (before : List Declaration) (e : Declaration) → cells (before ++ e ∷ []) ≡ cells before + cells (e ∷ [])
-cells_end [] e = omega arith
-cells_end (shared x ∷ before) e = let h = cells_end before e in omega arith
-cells_end (fun w ps r body ∷ before) e = cells_end before e
-cells_end (merge w m j r body ∷ before) e = cells_end before e
-cells_end (proc w ps r body ∷ before) e = cells_end before e
 
 procs_end : (before : List Declaration) (e : Declaration) → procs (before ++ e ∷ []) ≡ procs before + procs (e ∷ [])
 procs_end [] e = omega arith
@@ -153,7 +147,7 @@ met_next q before e f = record {
     | inr b ↦ merge_new q e name (subst (λ z. IsMergeOf name z) (sym b) is)
   ];
   weights = subst (λ ws. Caps ws (d.passed_with q e).weights) (sym (weights_end [] before e)) (caps_with q (weights_after [] before) e f.weights);
-  located = located_with q (cells before) e f.located ∙ ap (λ n. min n 4097) (sym (cells_end before e));
+  located = located_with q (cells before) e f.located ∙ ap (λ n. min n 4097) (sym (cells_behind before e));
   procs_left = procs_with q (procs before) e f.procs_left ∙ ap (λ n. 257 - n) (sym (procs_end before e));
   funs_left = funs_with q (funs before) e f.funs_left ∙ ap (λ n. 257 - n) (sym (funs_end before e));
 }

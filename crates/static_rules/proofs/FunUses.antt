@@ -7,18 +7,13 @@ use Rattle.merge_decl.specs.Least.{Among}
 use Rattle.static_rules.specs.Places.{IsBehind, Declares, Site, ArmOf, first_arm, later_arm, Lies, in_proc, in_main, next, in_arm, in_else, Stands, expressions_of, link_expressions, parts_of, right_side_expressions, item_expressions, arm_expressions, statement_form_expressions, arms_of}
 use Rattle.static_rules.specs.Funs.{Inside, itself, deeper, Applies, of_fun, of_merge, of_statement}
 use Rattle.static_rules.proofs.Blocks.{among_at, behind_by, behind_of, further, longer, no_arm}
-use Rattle.static_rules.proofs.Decls.{++-nil}
+use Rattle.static_rules.proofs.Decls.{++-nil, in_front}
 
 -- ---- lists
 
 -- an item of a list
 pub record Has {A : Type 0} (xs : List A) (x : A) : Type 0 where
   pub it : Among xs x
-
-in_front : {A : Type 0} (xs ys : List A) (x : A) → Among xs x → Among (xs ++ ys) x
-in_front [] ys x m = absurd m
-in_front (y ∷ xs) ys x (inl is) = inl is
-in_front (y ∷ xs) ys x (inr m) = inr (in_front xs ys x m)
 
 at_end : {A : Type 0} (xs ys : List A) (x : A) → Among ys x → Among (xs ++ ys) x
 at_end [] ys x m = m

@@ -1,8 +1,8 @@
 //! What the calls answer, as texts.
 
-use crate::programs::{MEGABYTE, found, parsed, places};
+use crate::programs::{found, parsed, places};
 use affine_check::AffineFault;
-use case_tables::{CaseFault, number_of};
+use case_tables::{CaseFault, MEGABYTE, number_of};
 use rev_parse::SyntaxFault;
 use rev_syntax::{LexFault, Token, line_column, tokens};
 use std::alloc::{AllocError, Global};

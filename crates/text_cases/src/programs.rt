@@ -1,14 +1,10 @@
 //! The program of a text, and what the checker of the affine rule finds in it.
 
 use affine_check::{AffineFault, affine};
-use merge_decl::expand_funs;
+use case_tables::{MEGABYTE, typed_of};
 use rev_parse::{SyntaxFault, parse};
 use rev_syntax::{Form, Item, Node, Program, tokens};
-use rev_types::check;
 use std::alloc::Global;
-
-/// The longest text.
-pub const MEGABYTE: usize = 1_048_576;
 
 /// What the parser answers for a text.
 pub fn parsed(alloc: Global, text: &[u8]) -> Result<Program, SyntaxFault> {
@@ -23,17 +19,7 @@ pub fn parsed(alloc: Global, text: &[u8]) -> Result<Program, SyntaxFault> {
 
 /// What the checker finds in a text, if that is a well-typed program.
 pub fn found(alloc: Global, text: &[u8]) -> Option<Option<AffineFault>> {
-    if text.len() > MEGABYTE {
-        return None;
-    }
-    let Ok(tokens) = tokens(alloc, text) else {
-        return None;
-    };
-    let Ok(program) = parse(alloc, text, tokens.as_slice()) else {
-        return None;
-    };
-    let expanded = expand_funs(alloc, program).ok()?;
-    let typed = check(alloc, expanded).ok()?;
+    let typed = typed_of(alloc, text)?;
     Some(affine(alloc, &typed).err())
 }
 

@@ -1,25 +1,8 @@
 //! Merges of programs that keep all rules, on three numbers.
 
-use case_tables::{CaseFault, Pieces, field};
-use merge_decl::expand_funs;
+use case_tables::{CaseFault, Pieces, field, typed_of};
 use rev_num::NumFault;
-use rev_parse::parse;
-use rev_syntax::tokens;
-use rev_types::{Typed, check};
 use std::alloc::Global;
-
-const LIMIT: usize = 1_048_576;
-
-/// The program of a text, if that keeps all rules.
-fn typed_of(alloc: Global, text: &[u8]) -> Option<Typed> {
-    if text.len() > LIMIT {
-        return None;
-    }
-    let tokens = tokens(alloc, text).ok()?;
-    let program = parse(alloc, text, tokens.as_slice()).ok()?;
-    let expanded = expand_funs(alloc, program).ok()?;
-    check(alloc, expanded).ok()
-}
 
 /// What the last merge of the text gives for the joiner's value, the joinee's and the root's.
 fn merged(

@@ -68,7 +68,7 @@ trace_ended t = lines_ended first_line (flat_map part_lines t.parts)
 line_of : (rest : List ℕ) (h : HasLine rest) → rest ≡ ended h.line ++ h.more
 line_of rest h = h.cut.is ∙ sym (append_assoc h.line (10 ∷ []) h.more)
 
-append_nothing : (xs : List ℕ) → xs ++ [] ≡ xs
+pub append_nothing : (xs : List ℕ) → xs ++ [] ≡ xs
 append_nothing [] = refl
 append_nothing (x ∷ xs) = ap (λ t. x ∷ t) (append_nothing xs)
 

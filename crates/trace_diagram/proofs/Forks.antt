@@ -69,7 +69,7 @@ record Split (front more : List ℕ) (j : ℕ) (r : Path) : Type 0 where
 pub wide : (j : ℕ) → j < 2 ^ 32 → j < 2 ^ 64
 wide j small = omega arith
 
-no_dot : (j : ℕ) → j < 2 ^ 32 → IsWithout 46 (decimal j)
+pub no_dot : (j : ℕ) → j < 2 ^ 32 → IsWithout 46 (decimal j)
 no_dot j small = decimal_without 46 j (λ digit. omega (arith, digit)) (wide j small)
 
 split : (front more : List ℕ) (j : ℕ) (r : Path) → IsWithout 46 front → FitsPath (j ∷ r) → path_text (j ∷ r) ≡ front ++ 46 ∷ more → Split front more j r

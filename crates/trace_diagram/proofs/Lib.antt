@@ -2,7 +2,6 @@ pub mod Cutting
 pub mod Faults
 pub mod TextLines
 pub mod Spelling
-pub mod Drops
 pub mod PlaceForms
 pub mod LineForms
 pub mod EndForms

@@ -36,6 +36,7 @@ use Rattle.trace_diagram.proofs.EndForms.{cause_once, Kind, kind, merge, plain}
 use Rattle.trace_diagram.proofs.Forks.{wide}
 use Rattle.trace_diagram.proofs.LineForms.{behind_colon, line_without, merge_split, no_colon, no_space}
 use Rattle.trace_diagram.proofs.Stages.{event_no_end, head_injective, path_injective}
+use Rattle.trace_diagram.proofs.Faults.{append_nothing}
 
 -- ---- forks and joins
 
@@ -164,10 +165,6 @@ faults_same fault.Overflow fault.Overflow e = refl
 faults_same fault.ZeroDivisor fault.ZeroDivisor e = refl
 faults_same fault.Overflow fault.ZeroDivisor e = absurd (let k = ap (λ b. get_or b 1 0) e in omega (arith, k))
 faults_same fault.ZeroDivisor fault.Overflow e = absurd (let k = ap (λ b. get_or b 1 0) e in omega (arith, k))
-
-nothing_more : (xs : List ℕ) → xs ++ [] ≡ xs
-nothing_more [] = refl
-nothing_more (x ∷ xs) = ap (λ t. x ∷ t) (nothing_more xs)
 
 abbrev SameCause : Cause → List ℕ → Cause → List ℕ → Type 0
 SameCause c p d q = (cause_shown c ≡ cause_shown d) × (p ≡ q)

@@ -4,7 +4,8 @@ use Rattle.std.specs.Prelude.{IsTrue, MatchBool, not, ◌==◌}
 use Rattle.std.specs.List.{list_all}
 use Rattle.std.proofs.lemmas.Bool.{and_parts, true≢false}
 use Rattle.trace_diagram.specs.Cuts.{IsCut, IsWithout}
-use Rattle.trace_diagram.specs.Places.{HasCell, IsPlace, is_digit, is_letter, is_name, is_name_byte, is_plain, is_reserved, is_word}
+use Rattle.rev_syntax.specs.Bytes.{is_digit, is_letter, is_name_byte, is_word}
+use Rattle.trace_diagram.specs.Places.{HasCell, IsPlace, is_name, is_plain, is_reserved}
 use Rattle.trace_diagram.proofs.Cutting.{cut_once, not_without, without-append}
 
 -- ---- bytes that names and numbers don't have

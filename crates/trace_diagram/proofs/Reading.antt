@@ -11,7 +11,7 @@ use Rattle.trace_diagram.specs.Reading.{LacksPrefix}
 use Rattle.trace_diagram.specs.Traces.{BeginsTraceText, GoesWrong, IsFirstFault, IsOneLine, IsTextOf, IsTrace, IsTraceText, IsWholeLines, ended, first_line, part_lines, trace_text}
 use Rattle.trace_diagram.specs.declared.diagram.Trace.{Trace}
 use Rattle.trace_diagram.proofs.Cutting.{append_cancel, cut_once, not_without}
-use Rattle.trace_diagram.proofs.Faults.{lines_ended}
+use Rattle.trace_diagram.proofs.Faults.{lines_ended, append_nothing}
 use Rattle.trace_diagram.proofs.Going.{flat_append, least_form, least_trace, partial_begins, trace_goes}
 use Rattle.trace_diagram.proofs.OneLines.{follows_line, goes_lines}
 use Rattle.trace_diagram.proofs.Partials.{all_more_one, begun}
@@ -23,7 +23,7 @@ use Rattle.trace_diagram.proofs.PlaceForms.{all_without}
 behind_line : (line rest more : List ℕ) → (ended line ++ rest) ++ more ≡ line ++ 10 ∷ (rest ++ more)
 behind_line line rest more = append_assoc (ended line) rest more ∙ append_assoc line (10 ∷ []) (rest ++ more)
 
-no_line : (line more : List ℕ) → [] ≡ line ++ 10 ∷ more → ⊥
+pub no_line : (line more : List ℕ) → [] ≡ line ++ 10 ∷ more → ⊥
 no_line [] more is = cc
 no_line (b ∷ line) more is = cc
 
@@ -54,10 +54,6 @@ of_trace t read s rest form leads is =
     let h = split_lines read lines rest leads.one_line (goes_lines no_part lines goes) behind in
     (h.more, leads.goes h.more (subst (Goes no_part) h.is goes), h.text)
 
-nothing_more : (xs : List ℕ) → xs ++ [] ≡ xs
-nothing_more [] = refl
-nothing_more (x ∷ xs) = ap (λ t. x ∷ t) (nothing_more xs)
-
 stops_here : (s : Stage) (more : List (List ℕ)) → Goes s more → flat_map ended more ≡ [] → Stops s
 stops_here s [] goes is = goes
 stops_here s (l ∷ ls) goes is = absurd (no_line l (flat_map ended ls) (sym is ∙ append_assoc l (10 ∷ []) (flat_map ended ls)))
@@ -77,7 +73,7 @@ goes_wrong read s rest leads no_stop no_next = record { at_end = at_end; in_line
 
     at_end : rest ≡ [] → IsTraceText (flat_map ended (first_line ∷ read)) → ⊥
     at_end none text =
-        let h = of_trace text.0 read s [] text.1.form leads (sym text.1.text ∙ sym (nothing_more (flat_map ended (first_line ∷ read)))) in
+        let h = of_trace text.0 read s [] text.1.form leads (sym text.1.text ∙ sym (append_nothing (flat_map ended (first_line ∷ read)))) in
         no_stop none (stops_here s h.0 h.1 h.2)
 
     in_line : (line more : List ℕ) → IsOneLine line → rest ≡ ended line ++ more → BeginsTraceText (flat_map ended (first_line ∷ read) ++ ended line) → ⊥
@@ -151,7 +147,7 @@ text_more : (read : List (List ℕ)) (line behind : List ℕ) → flat_map ended
 text_more read line behind =
     ap (λ t. t ++ behind) (flat_append ended (first_line ∷ read) (line ∷ []))
     ∙ append_assoc (flat_map ended (first_line ∷ read)) (flat_map ended (line ∷ [])) behind
-    ∙ ap (λ t. flat_map ended (first_line ∷ read) ++ t) (ap (λ t. t ++ behind) (nothing_more (ended line)) ∙ append_assoc line (10 ∷ []) behind)
+    ∙ ap (λ t. flat_map ended (first_line ∷ read) ++ t) (ap (λ t. t ++ behind) (append_nothing (ended line)) ∙ append_assoc line (10 ∷ []) behind)
 
 pub has_more : (bytes : List ℕ) (p q : PartialTrace) (rest line behind : List ℕ) → HasRead bytes p rest → IsCut 10 rest line behind → IsLonger line p q → HasRead bytes q behind
 has_more bytes p q rest line behind h cut longer = record {
@@ -165,7 +161,7 @@ has_more bytes p q rest line behind h cut longer = record {
 pub is_text : (bytes : List ℕ) (p : PartialTrace) (rest : List ℕ) (t : Trace) → HasRead bytes p rest → rest ≡ [] → IsFinished p t → IsTextOf bytes t
 is_text bytes p rest t h none f = record {
   form = f.form;
-  text = h.is ∙ ap (λ r. flat_map ended (first_line ∷ partial_lines p) ++ r) none ∙ nothing_more _ ∙ ap (λ ls. flat_map ended (first_line ∷ ls)) (sym f.lines);
+  text = h.is ∙ ap (λ r. flat_map ended (first_line ∷ partial_lines p) ++ r) none ∙ append_nothing _ ∙ ap (λ ls. flat_map ended (first_line ∷ ls)) (sym f.lines);
 }
 
 -- ---- the first lines

@@ -13,7 +13,7 @@ use Rattle.trace_diagram.specs.declared.diagram.TraceEvent.TheVariants as event
 use Rattle.trace_diagram.specs.declared.diagram.PartEnd.{PartEnd}
 use Rattle.trace_diagram.specs.declared.diagram.PartEnd.TheVariants as part_end
 use Rattle.trace_diagram.proofs.Cutting.{append_cancel, cut_once, not_without, without-append}
-use Rattle.trace_diagram.proofs.Forks.{decimal_without, wide}
+use Rattle.trace_diagram.proofs.Forks.{decimal_without, wide, no_dot}
 
 -- ---- a path is known from its text
 
@@ -26,18 +26,15 @@ letterless k (j ∷ r) fit =
 first_digit : (k : ℕ) (r : Path) → FitsPath (k ∷ r) → codes "main" ≡ path_text (k ∷ r) → ⊥
 first_digit k r fit is = let none : IsWithout 109 (codes "main") = subst (IsWithout 109) (sym is) (letterless k r fit) in none.0 refl
 
-dot : (j : ℕ) → j < 2 ^ 32 → IsWithout 46 (decimal j)
-dot j small = decimal_without 46 j (λ digit. omega (arith, digit)) (wide j small)
-
 pub path_injective : (p q : Path) → FitsPath p → FitsPath q → path_text p ≡ path_text q → p ≡ q
 path_injective [] [] f g is = refl
 path_injective [] (k ∷ q) f g is = absurd (first_digit k q g is)
 path_injective (j ∷ p) [] f g is = absurd (first_digit j p f (sym is))
 path_injective (j ∷ []) (k ∷ []) f g is = ap (λ n. n ∷ []) (decimal_injective j k (wide j f.0) (wide k g.0) is)
-path_injective (j ∷ []) (k ∷ i ∷ q) f g is = absurd (not_without 46 (decimal k) (path_text (i ∷ q)) (subst (IsWithout 46) is (dot j f.0)))
-path_injective (j ∷ h ∷ p) (k ∷ []) f g is = absurd (not_without 46 (decimal j) (path_text (h ∷ p)) (subst (IsWithout 46) (sym is) (dot k g.0)))
+path_injective (j ∷ []) (k ∷ i ∷ q) f g is = absurd (not_without 46 (decimal k) (path_text (i ∷ q)) (subst (IsWithout 46) is (no_dot j f.0)))
+path_injective (j ∷ h ∷ p) (k ∷ []) f g is = absurd (not_without 46 (decimal j) (path_text (h ∷ p)) (subst (IsWithout 46) (sym is) (no_dot k g.0)))
 path_injective (j ∷ h ∷ p) (k ∷ i ∷ q) f g is =
-    let both = cut_once 46 (decimal j) (path_text (h ∷ p)) (decimal k) (path_text (i ∷ q)) (dot j f.0) (dot k g.0) is in
+    let both = cut_once 46 (decimal j) (path_text (h ∷ p)) (decimal k) (path_text (i ∷ q)) (no_dot j f.0) (no_dot k g.0) is in
     let heads = decimal_injective j k (wide j f.0) (wide k g.0) both.0 in
     let tails = path_injective (h ∷ p) (i ∷ q) f.1 g.1 both.1 in
     λ x. heads x ∷ tails x

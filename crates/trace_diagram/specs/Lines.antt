@@ -10,6 +10,7 @@ use Rattle.std.specs.List.{AllByRecursion}
 use Rattle.rev_num.specs.Arith.{fits_i64}
 use Rattle.rev_num.specs.Path.{Path}
 use Rattle.rev_num.specs.Text.{path_text}
+pub use Rattle.rev_num.specs.Text.{cause_text, fault_text}
 use Rattle.rev_num.specs.declared.outcome.Cause.{Cause}
 use Rattle.rev_num.specs.declared.outcome.Cause.TheVariants as cause
 use Rattle.rev_num.specs.declared.value.NumFault.{NumFault}
@@ -54,21 +55,6 @@ FitsEvent (event.Forked child line) = FitsPath child × (line < 2 ^ 32)
 FitsEvent (event.Joined on line) = FitsPath on × (line < 2 ^ 32)
 
 -- ---- ends
-
-abbrev pub fault_text : NumFault → List ℕ
-fault_text fault.Overflow = codes "overflow"
-fault_text fault.ZeroDivisor = codes "zero divisor"
-
--- the cause of a trap; place is that of the location whose merge faulted
-abbrev pub cause_text : Cause → List ℕ → List ℕ
-cause_text cause.Overflow place = codes "overflow"
-cause_text cause.ZeroDivisor place = codes "zero divisor"
-cause_text cause.Index place = codes "index"
-cause_text cause.Assert place = codes "assert"
-cause_text cause.JoinNone place = codes "join of none"
-cause_text cause.CallDepth place = codes "call depth"
-cause_text cause.Spent place = codes "fuel spent"
-cause_text (cause.Merge location fault) place = codes "merge of " ++ (place ++ (codes ": " ++ fault_text fault))
 
 -- what the end says of a trap is what a run's message says of it
 abbrev pub end_text : PartEnd → List ℕ

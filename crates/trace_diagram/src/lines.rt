@@ -248,7 +248,7 @@ pub(crate) fn read_change(alloc: Global, line: &[u8]) -> Result<Option<Change>, 
     Ok(Some(Change { place, value, root }))
 }
 
-#[tactic(auto, using(crate::proofs::Drops::all_more, crate::proofs::Drops::all_none))]
+#[tactic(auto, using(rev_num::proofs::Lists::all_more, rev_num::proofs::Lists::all_none))]
 fn are_printable(bytes: &[u8]) -> bool
     ensures { result ≡ list_all is_printable bytes.now }
 {

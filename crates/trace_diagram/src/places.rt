@@ -2,32 +2,16 @@
 
 ghost use Rattle.std.specs.Prelude.{◌≡◌, MatchBool};
 ghost use Rattle.std.specs.List.{list_all};
+ghost use Rattle.rev_syntax.specs.Bytes as names;
 ghost use Rattle.trace_diagram.specs.Places as spec;
 ghost use Rattle.trace_diagram.specs.Places.{HasCell, IsPlace};
 
 use crate::cut::cut;
+use rev_syntax::{is_digit, is_letter, is_name_byte};
 
-fn is_digit(b: u8) -> bool
-    ensures { result ≡ spec.is_digit b }
-{
-    b'0' <= b && b <= b'9'
-}
-
-fn is_letter(b: u8) -> bool
-    ensures { result ≡ spec.is_letter b }
-{
-    b'A' <= b && b <= b'Z' || b'a' <= b && b <= b'z' || b == b'_'
-}
-
-fn is_name_byte(b: u8) -> bool
-    ensures { result ≡ spec.is_name_byte b }
-{
-    is_letter(b) || is_digit(b)
-}
-
-#[tactic(auto, using(crate::proofs::Drops::all_more, crate::proofs::Drops::all_none))]
+#[tactic(auto, using(rev_num::proofs::Lists::all_more, rev_num::proofs::Lists::all_none))]
 fn are_name_bytes(bytes: &[u8]) -> bool
-    ensures { result ≡ list_all spec.is_name_byte bytes.now }
+    ensures { result ≡ list_all names.is_name_byte bytes.now }
 {
     for b in bytes {
         if !is_name_byte(*b) {
@@ -37,9 +21,9 @@ fn are_name_bytes(bytes: &[u8]) -> bool
     true
 }
 
-#[tactic(auto, using(crate::proofs::Drops::all_more, crate::proofs::Drops::all_none))]
+#[tactic(auto, using(rev_num::proofs::Lists::all_more, rev_num::proofs::Lists::all_none))]
 fn are_digits(bytes: &[u8]) -> bool
-    ensures { result ≡ list_all spec.is_digit bytes.now }
+    ensures { result ≡ list_all names.is_digit bytes.now }
 {
     for b in bytes {
         if !is_digit(*b) {
@@ -50,7 +34,7 @@ fn are_digits(bytes: &[u8]) -> bool
 }
 
 fn is_word(bytes: &[u8]) -> bool
-    ensures { result ≡ spec.is_word bytes.now }
+    ensures { result ≡ names.is_word bytes.now }
 {
     match bytes {
         [] => false,

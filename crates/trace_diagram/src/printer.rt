@@ -3,7 +3,7 @@ ghost use Rattle.std.specs.Prelude.{◌≡◌, ◌++◌, OnOk, IfOk, codes, map}
 ghost use Rattle.std.specs.Fmt.{decimal};
 ghost use Rattle.std.specs.List.{flat_map};
 ghost use Rattle.trace_diagram.specs.Lines.{cause_text, change_text, end_text, event_text};
-ghost use Rattle.trace_diagram.specs.Lines.{fault_text, fuel_text, head_text, quoted, value_text};
+ghost use Rattle.trace_diagram.specs.Lines.{fuel_text, head_text, quoted, value_text};
 ghost use Rattle.trace_diagram.specs.Traces.{IsTextOf, IsTrace, ended, part_lines};
 ghost use Rattle.trace_diagram.specs.Traces.{text_lines, trace_text};
 ghost use Rattle.trace_diagram.specs.Cuts.{IsWithout};
@@ -12,7 +12,7 @@ ghost use Rattle.rev_num.specs.Text.{path_text};
 use crate::cut::cut;
 use crate::diagram::{Change, Part, PartEnd, Trace, TraceEvent};
 use itoa::Buffer;
-use rev_num::{Cause, NumFault, Path, Trap, Value, append_decimal, append_path};
+use rev_num::{Cause, Path, Trap, Value, append_decimal, append_path, fault_name};
 use std::alloc::{AllocError, Global};
 
 /// Appends a number in decimal.
@@ -68,15 +68,6 @@ fn append_event(text: &mut Vec<u8>, event: &TraceEvent) -> Result<(), AllocError
     Ok(())
 }
 
-fn fault_text(fault: NumFault) -> &'static [u8]
-    ensures { result.now ≡ fault_text fault }
-{
-    match fault {
-        NumFault::Overflow => b"overflow",
-        NumFault::ZeroDivisor => b"zero divisor",
-    }
-}
-
 /// Appends the cause of a trap.
 fn append_cause(text: &mut Vec<u8>, cause: Cause, place: &[u8]) -> Result<(), AllocError>
     ensures { OnOk result (text.new.items ≡ text.old.items ++ cause_text cause place.now) }
@@ -93,7 +84,7 @@ fn append_cause(text: &mut Vec<u8>, cause: Cause, place: &[u8]) -> Result<(), Al
             text.extend_from_slice(b"merge of ")?;
             text.extend_from_slice(place)?;
             text.extend_from_slice(b": ")?;
-            text.extend_from_slice(fault_text(fault))
+            text.extend_from_slice(fault_name(fault))
         }
     }
 }

@@ -17,12 +17,9 @@ use Rattle.trace_diagram.proofs.Going.{behind_head, trace_goes}
 use Rattle.trace_diagram.proofs.OneLines.{goes_lines}
 use Rattle.trace_diagram.proofs.OneText.{parts_are_told}
 use Rattle.trace_verdicts.specs.Verdicts.{TextsHaveOneTrace}
+use Rattle.trace_diagram.proofs.Reading.{no_line}
 
 -- ---- bytes are cut into lines in one way
-
-no_line : (line more : List ℕ) → [] ≡ line ++ 10 ∷ more → ⊥
-no_line [] more is = cc
-no_line (b ∷ line) more is = cc
 
 line_first : (line : List ℕ) (lines : List (List ℕ)) → flat_map ended (line ∷ lines) ≡ line ++ 10 ∷ flat_map ended lines
 line_first line lines = append_assoc line (10 ∷ []) (flat_map ended lines)

@@ -1,9 +1,10 @@
 //! What a revision leaves when it has ended.
 
-ghost use Rattle.std.specs.Prelude.{◌≡◌};
+ghost use Rattle.std.specs.Prelude.{◌≡◌, IfOk};
 ghost use Rattle.version_map.specs.Endings.{of_join};
 
 use rev_num::{Bytes, Cause, Items};
+use std::alloc::{AllocError, Global};
 
 /// A location that a revision wrote: the word that it has there, and the word that was there when
 /// the revision was forked.
@@ -47,4 +48,20 @@ pub struct EndValue {
     pub text: Bytes,
     pub fuel: u64,
     pub finish: Finish,
+}
+
+impl EndValue {
+    /// The same once more, with a text of its own. Want of memory is the one error.
+    pub fn copied(&self, alloc: Global) -> Result<EndValue, AllocError>
+        ensures { IfOk result (λ v. v ≡ self.now) }
+    {
+        let written = Vec::from_slice(alloc, self.written.as_slice())?;
+        let text = Vec::from_slice(alloc, self.text.as_slice())?;
+        Ok(EndValue {
+            written: Items::from_vec(written),
+            text: Items::from_vec(text),
+            fuel: self.fuel,
+            finish: self.finish,
+        })
+    }
 }

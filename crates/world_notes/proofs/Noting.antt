@@ -16,7 +16,7 @@ use Rattle.code_machine.specs.Leg.{leg}
 use Rattle.code_machine.specs.Local.{CodeRun, IsVerified, Phase, running, done, trapped, Local, end_of}
 use Rattle.code_machine.specs.Machines.{numbered}
 use Rattle.code_machine.specs.Proper.{IsOver}
-use Rattle.code_machine.proofs.Changes.{decide, put_other, put_here}
+use Rattle.code_machine.proofs.Changes.{decide, put_other, put_here, put_length}
 use Rattle.code_world.specs.declared.answer.LegAnswer.{LegAnswer}
 use Rattle.code_world.specs.declared.answer.LegAnswer.TheVariants as answer
 use Rattle.code_world.specs.declared.world.World as rust
@@ -24,7 +24,7 @@ use Rattle.code_world.specs.Answers.{IsInPhase, LegAnswers}
 use Rattle.code_world.specs.Endings.{IsEndAt}
 use Rattle.code_world.specs.Meetings as told
 use Rattle.code_world.specs.Meetings.{HasMeeting, MeetingOf}
-use Rattle.code_world.proofs.Rows.{some_same, at_more, at_below, put_length, more_length}
+use Rattle.code_world.proofs.Rows.{some_same, at_more, at_below, more_length}
 use Rattle.reached_worlds.specs.Reached.{IsReached}
 use Rattle.world_notes.specs.declared.noted.Noted.{Noted}
 use Rattle.world_notes.specs.Changes.{IsChanged, entries_of, HasAdded, IsBorn, IsOverNow, HasNoted, listed_by}

@@ -11,7 +11,6 @@ ghost use Rattle.world_notes.specs.Changes.{IsEndIn, IsOverNow};
 use crate::noted::Noted;
 use code_world::{LegAnswer, NotedLeg, World};
 use leg_run::Meeting;
-use rev_num::Items;
 use std::alloc::{AllocError, Global};
 use version_map::EndValue;
 
@@ -38,27 +37,13 @@ fn set_end(notes: &mut Vec<Noted>, number: usize, end: Option<EndValue>)
     notes[number].end_with(end);
 }
 
-/// A copy of what a revision left.
-fn copy_end(alloc: Global, end: &EndValue) -> Result<EndValue, AllocError>
-    ensures { IfOk result (λ v. v ≡ end.now) }
-{
-    let written = Vec::from_slice(alloc, end.written.as_slice())?;
-    let text = Vec::from_slice(alloc, end.text.as_slice())?;
-    Ok(EndValue {
-        written: Items::from_vec(written),
-        text: Items::from_vec(text),
-        fuel: end.fuel,
-        finish: end.finish,
-    })
-}
-
 /// A copy of what the revision of this number left, where it has ended.
 fn end_copied(alloc: Global, world: &World, number: u32) -> Result<Option<EndValue>, AllocError>
     ensures { IfOk result (λ o. IsEndIn world.now number o) }
 {
     match world.end_of(number) {
         Some(end) => {
-            let copy = copy_end(alloc, end)?;
+            let copy = end.copied(alloc)?;
             Ok(Some(copy))
         },
         None => Ok(None),

@@ -16,10 +16,7 @@ use Rattle.code_machine.specs.Outcome.{value_of, value_at, show_cells, show_vari
 use Rattle.leg_run.specs.Standing.{word_as}
 use Rattle.world_outcomes.specs.Words.{cell_shown, cells_shown, variables_shown}
 use Rattle.world_outcomes.proofs.Starting.{IsGood, AreGood}
-
-append_assoc : {A : Type 0} (xs ys zs : List A) → (xs ++ ys) ++ zs ≡ xs ++ (ys ++ zs)
-append_assoc [] ys zs = refl
-append_assoc (x ∷ xs) ys zs = ap (λ us. x ∷ us) (append_assoc xs ys zs)
+use Rattle.rev_vm.proofs.Leaving.{append_three}
 
 -- ---- one after another
 
@@ -31,7 +28,7 @@ module _ (path : ℕ → Path) where
       let next : suc cell ≡ cell + 1 = omega arith in
       let split : cells_shown path x cell (drop cell ws) ≡ one ∷ rest =
       ap (cells_shown path x cell) (drop_more ws cell 0 less) ∙ (λ i. sym made i ∷ cells_shown path x (next i) (drop (cell + 1) ws)) in
-      ap (λ l. l ++ rest) pushed ∙ append_assoc out (one ∷ []) rest ∙ ap (λ l. out ++ l) (sym split) ∙ so_far
+      ap (λ l. l ++ rest) pushed ∙ append_three out (one ∷ []) rest ∙ ap (λ l. out ++ l) (sym split) ∙ so_far
 
   pub cells_all : (x : CodeVar) (ws : List ℕ) (cell : ℕ) (out whole : List Shown) → length ws ≤ cell → out ++ cells_shown path x cell (drop cell ws) ≡ whole → out ≡ whole
   cells_all x ws cell out whole few so_far =
@@ -50,7 +47,7 @@ module _ (path : ℕ → Path) where
       let later : List Shown = variables_shown path (drop (n + 1) vs) behind in
       let split : variables_shown path (drop n vs) rest ≡ cells_shown path v 0 own ++ later =
       ap (λ l. variables_shown path l rest) (front vs n v less is) ∙ (λ i. cells_shown path v 0 (sym first i) ++ variables_shown path (drop (n + 1) vs) (sym last i)) in
-      ap (λ l. l ++ later) pushed ∙ append_assoc out (cells_shown path v 0 own) later ∙ ap (λ l. out ++ l) (sym split) ∙ so_far
+      ap (λ l. l ++ later) pushed ∙ append_three out (cells_shown path v 0 own) later ∙ ap (λ l. out ++ l) (sym split) ∙ so_far
 
   pub variables_all : (vs : List CodeVar) (rest : List ℕ) (n : ℕ) (out whole : List Shown) → length vs ≤ n → out ++ variables_shown path (drop n vs) rest ≡ whole → out ≡ whole
   variables_all vs rest n out whole few so_far =

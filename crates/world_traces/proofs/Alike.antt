@@ -20,14 +20,9 @@ use Rattle.audit_rules.specs.Parts.{place_at, cause_place, part_of}
 use Rattle.world_traces.specs.Parts.{places, event_of, origin_at, end_at, change_of, part_by, path_in, part_in}
 use Rattle.world_traces.proofs.Readings.{part_read}
 use Rattle.world_traces.proofs.Places.{same_places}
+use Rattle.program_simulation.proofs.Outcomes.{value_back}
 
 -- ---- by paths
-
-value_back : (x : Value) → value_of (λ p. p) (word x) ≡ x
-value_back (v.Int n) = refl
-value_back (v.Bool b) = refl
-value_back (v.Rev None) = refl
-value_back (v.Rev (Some q)) = refl
 
 event_same : (x : source.Noted) → event_of (λ p. p) (entry x) ≡ calculus_parts.event_of x
 event_same (source.forked q line) = refl

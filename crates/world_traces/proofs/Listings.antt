@@ -26,6 +26,8 @@ use Rattle.code_machine.specs.Machines.{numbered}
 use Rattle.world_traces.specs.Parts.{part_in}
 use Rattle.world_traces.specs.Traces.{IsListing, IsTheOnly}
 use Rattle.world_traces.proofs.Lists.{same_list, sorted, sorted_only, sorted_all, sorted_order}
+use Rattle.audit_rules.proofs.Traced.{found}
+use Rattle.revision_machine.proofs.Schedules as schedules
 
 -- ---- by paths
 
@@ -72,18 +74,6 @@ module _ (g : CodeRun) (w : Entries (Local ℕ)) where
     only = λ ps a. same_list ps listing a.order (listed d).order (inside ps listing a (listed d)) (inside listing ps (listed d) a);
   }
 
--- what stands at a path stands at a number
-number_at : {A : Type 0} (w : List (Path × A)) (p : Path) (e : A) → globe_of w p ≡ Some e → (n : ℕ) × (at_number w n ≡ Some (p, e))
-number_at [] p e there = none_some there
-number_at {A} (x ∷ w) p e there = go (λ f. number_at w p e f) (same x.0 p) refl
-  where
-    go : (globe_of w p ≡ Some e → (n : ℕ) × (at_number w n ≡ Some (p, e))) → (b : Bool) → same x.0 p ≡ b → (n : ℕ) × (at_number (x ∷ w) n ≡ Some (p, e))
-    go later true f =
-        let path : x.0 ≡ p = same-eq x.0 p f in
-        let entry : x.1 ≡ e = some_inj (sym (ap (λ b. cond b (Some x.1) (globe_of w p)) f) ∙ there) in
-        (0, λ i. Some (path i, entry i))
-    go later false f = let n = later (sym (ap (λ b. cond b (Some x.1) (globe_of w p)) f) ∙ there) in (suc n.0, n.1)
-
 -- ---- a world and a state that agree
 
 module _ (A : Machine) (part : Path → A.Local → Part) (R : Path → A.Local → Local ℕ → Type 0) (g : CodeRun) (t : List Path) (w : Entries (Local ℕ)) (revs : PathMap (Entry A.Local)) where
@@ -118,7 +108,7 @@ module _ (A : Machine) (part : Path → A.Local → Part) (R : Path → A.Local 
     all_shown : (ps : List Part) → IsListing g w ps → (r : Path) (f : Entry A.Local) → revs r ≡ Some f → Among ps (part r (local_of f))
     all_shown ps l r f stands =
         let b = back r f (globe_of w r) (subst (λ v. EntryAgrees A (machine_by (numbered g) t) R r v (globe_of w r)) stands (agrees r)) in
-        let n = number_at w r b.entry b.is in
+        let n = schedules.numbered w r b.entry b.is in
         subst (Among ps) (alike n.0 r b.entry f n.1 stands b.related) (l.all n.0 r b.entry n.1)
 
     only_shown : (ps : List Part) → IsListing g w ps → (p : Part) → Among ps p → IsShown part revs p
@@ -132,15 +122,6 @@ module _ (A : Machine) (part : Path → A.Local → Part) (R : Path → A.Local 
     world_lists ps l = record { order = l.order; all = all_shown ps l; only = only_shown ps l }
 
 -- ---- traces of the calculus
-
--- what is found has the path, and is one of them
-found : (ps : List Part) (r : Path) (p : Part) → part_at ps r ≡ Some p → Among ps p × (p.path ≡ r)
-found [] r p e = none_some e
-found (q ∷ ps) r p e = go (same q.path r) refl (λ f. found ps r p f) e
-  where
-    go : (b : Bool) → same q.path r ≡ b → (part_at ps r ≡ Some p → Among ps p × (p.path ≡ r)) → cond b (Some q) (part_at ps r) ≡ Some p → Among (q ∷ ps) p × (p.path ≡ r)
-    go true f later e = let is : q ≡ p = some_inj e in (inl is, subst (λ v. v.path ≡ r) is (same-eq q.path r f))
-    go false f later e = let h = later e in (inr h.0, h.1)
 
 -- each is found at its path
 at_own : (ps : List Part) → InPostOrder ps → (p : Part) → Among ps p → part_at ps p.path ≡ Some p

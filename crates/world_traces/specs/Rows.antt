@@ -31,17 +31,10 @@ use Rattle.code_machine.specs.Local.{CodeRun, IsVerified, Local}
 use Rattle.code_machine.specs.Machines.{numbered, start_in}
 use Rattle.code_machine.specs.Worlds.{replay}
 use Rattle.world_traces.specs.Traces.{IsTraceOf, IsTheOnly}
+use Rattle.code_machine.specs.Rows.{block, sum, add_one}
 
 -- ---- codes
 
--- with these parameters and locals
-abbrev block : BlockClass → ℕ → Option ValueKind → List ValueKind → List Instr → CodeBlock
-block class' params' result' locals' instrs' = record {
-  class = class';
-  params = params';
-  result = result';
-  locals = locals';
-  instrs = instrs';
 }
 
 abbrev main : List Instr → CodeBlock
@@ -49,11 +42,6 @@ main instrs' = block class.Main 0 None (k.Rev ∷ []) instrs'
 
 abbrev procedure : List Instr → CodeBlock
 procedure instrs' = block class.Proc 0 None [] instrs'
-
--- of three ints the sum of the first two less the third
-abbrev sum : CodeBlock
-sum = block class.Merge 3 (Some k.Int) (k.Int ∷ k.Int ∷ k.Int ∷ []) (
-    i.LoadLocal 0 ∷ i.LoadLocal 1 ∷ i.Add ∷ i.LoadLocal 2 ∷ i.Sub ∷ i.Return ∷ [])
 
 -- that prints an int by layout 0
 abbrev code_of : List CodeVar → List CodeBlock → Code
@@ -108,10 +96,6 @@ pub record HasTrace
   pub text : lines_of parts ≡ lines
 
 -- ---- two revisions add to one variable
-
-abbrev add_one : CodeBlock
-add_one = procedure (
-    i.Charge 3 ∷ i.LoadShared 0 ∷ i.PushInt (pos 1) ∷ i.Add ∷ i.StoreShared 0 ∷ i.Return ∷ [])
 
 -- x is 5 at the fork, and then becomes this in the joiner, which prints what comes of the join
 abbrev summing : ℕ → CodeBlock

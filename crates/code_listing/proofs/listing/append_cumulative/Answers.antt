@@ -1,7 +1,7 @@
 use Rattle.std.proofs.Common.{◌∙◌, ◌++◌, ap}
 use Rattle.code_listing.specs.Listing.{cumulative_text}
-use Rattle.code_listing.proofs.Joined.{three}
 use Rattle.code_listing.proofs.listing.append_cumulative.Goals as goal
+use Rattle.code_file.proofs.Joined.{three}
 
 pub returns : goal.returns
 unfolding cumulative_text

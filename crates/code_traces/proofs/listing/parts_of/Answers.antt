@@ -6,8 +6,9 @@ use Rattle.code_soundness.specs.Typed.{location_kinds}
 use Rattle.revision_machine.specs.Numbered.{paths_of}
 use Rattle.world_traces.specs.Parts.{places}
 use Rattle.code_traces.specs.Made.{noted_part, world_parts}
-use Rattle.code_traces.proofs.Making.{is_the_part, last_of, more_long, none_left, none_yet, one_more}
+use Rattle.code_traces.proofs.Making.{is_the_part, last_of, none_left, none_yet, one_more}
 use Rattle.code_traces.proofs.listing.parts_of.Goals as goal
+use Rattle.code_world.proofs.Rows.{more_length}
 
 pub loop-noted-init : goal.loop-noted-init
 loop-noted-init c = record {
@@ -39,7 +40,7 @@ loop-noted-preserved c =
           let made = c.in_ok-part.ensures (paths_of w) ended.0 names ended.1
           ∙ (λ i. noted_part ((c.deref.ensures.value ∙ c.in_ok-places.ensures ∙ ap places c.as_slice.ensures) i) ((c.deref-in-Some.ensures.value ∙ c.in_ok-kinds.ensures ∙ ap location_kinds c.as_slice-2.ensures) i) (paths_of w) (number i) c.in-Some.noted.meetings.items ended.0) ∙ k.3 in
           one_more g w c.loop-noted.parts.items (length c.pop.new.self.items) k.0 k.1 c.in_ok-part.part c.push.new.self.items k.2 made (c.in_ok-push.ensures).items
-          (subst (λ n. IsPermutation (world_parts g w) (c.loop-noted.parts.items ++ take n (world_parts g w))) (ap length c.in-Some.ensures.items ∙ more_long c.pop.new.self.items c.in-Some.noted) (c.loop-noted.invariant.parts w names noted over));
+          (subst (λ n. IsPermutation (world_parts g w) (c.loop-noted.parts.items ++ take n (world_parts g w))) (ap length c.in-Some.ensures.items ∙ more_length c.pop.new.self.items c.in-Some.noted) (c.loop-noted.invariant.parts w names noted over));
     }
 
 pub returns : goal.returns

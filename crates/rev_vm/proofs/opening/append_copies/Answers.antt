@@ -1,7 +1,8 @@
 use Rattle.std.proofs.Common.{◌∙◌, ◌++◌, ◌∷◌, [], sym, ap, subst}
 use Rattle.rev_vm.specs.Opening.{AreShort}
-use Rattle.rev_vm.proofs.Mains.{append_none, more_copies, short_more}
+use Rattle.rev_vm.proofs.Mains.{more_copies, short_more}
 use Rattle.rev_vm.proofs.opening.append_copies.Goals as goal
+use Rattle.rev_vm.proofs.Leaving.{append_none}
 
 pub loop-done-init : goal.loop-done-init
 loop-done-init c = record { words = sym (append_none c.args.words.now.items); short = c.requires }

@@ -1,6 +1,6 @@
 use Rattle.std.proofs.Common.{◌≡◌, drop}
 use Rattle.std.specs.List.{list_all}
-use Rattle.trace_diagram.specs.Places.{is_digit}
+use Rattle.rev_syntax.specs.Bytes.{is_digit}
 use Rattle.trace_diagram.proofs.places.are_digits.Given as goal
 
 abbrev pub invariant-loop-b : goal.invariant-loop-b

@@ -1,0 +1,21 @@
+//! The program of a text.
+
+use merge_decl::expand_funs;
+use rev_parse::parse;
+use rev_syntax::tokens;
+use rev_types::{Typed, check};
+use std::alloc::Global;
+
+/// The longest text of a program.
+pub const MEGABYTE: usize = 1_048_576;
+
+/// The program of a text, if that keeps all rules.
+pub fn typed_of(alloc: Global, text: &[u8]) -> Option<Typed> {
+    if text.len() > MEGABYTE {
+        return None;
+    }
+    let tokens = tokens(alloc, text).ok()?;
+    let program = parse(alloc, text, tokens.as_slice()).ok()?;
+    let expanded = expand_funs(alloc, program).ok()?;
+    check(alloc, expanded).ok()
+}

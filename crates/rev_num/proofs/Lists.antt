@@ -1,0 +1,34 @@
+-- Places of lists, and conjunctions, for the crates above.
+use Rattle.std.proofs.Common.{◌≡◌, ◌≢◌, ◌∙◌, ℕ, zero, suc, ◌+◌, ◌<◌, Bool, true, false, ◌&&◌, List, [], ◌∷◌, ◌++◌, length, drop, refl, ap, arith, get_or, sym, true≢false}
+use Rattle.std.specs.Prelude.{slice_get, slice_set}
+use Rattle.std.specs.List.{list_all}
+use Rattle.std.proofs.lemmas.List.{drop_more}
+
+-- a list from a place on, by what stands there
+pub all_more : {A : Type 0} (f : A → Bool) (xs : List A) (n : ℕ) (d : A) → n < length xs → f (get_or xs n d) ≡ true → list_all f (drop n xs) ≡ list_all f (drop (n + 1) xs)
+all_more f xs n d h e = ap (list_all f) (drop_more xs n d h) ∙ ap (λ y. y && list_all f (drop (n + 1) xs)) e
+
+pub all_none : {A : Type 0} (f : A → Bool) (xs : List A) (n : ℕ) (d : A) → n < length xs → f (get_or xs n d) ≡ false → list_all f (drop n xs) ≡ false
+all_none f xs n d h e = ap (list_all f) (drop_more xs n d h) ∙ ap (λ y. y && list_all f (drop (n + 1) xs)) e
+
+-- what is appended, or set at another place, changes nothing at a place
+pub get_append : {A : Type 0} (xs ys : List A) (n : ℕ) → n < length xs → slice_get (xs ++ ys) n ≡ slice_get xs n
+get_append [] ys n h = absurd (omega (arith, h))
+get_append (x ∷ xs) ys zero h = refl
+get_append (x ∷ xs) ys (suc n) h = get_append xs ys n (omega (arith, h))
+
+pub get_set_other : {A : Type 0} (xs : List A) (m n : ℕ) (x : A) → m ≢ n → slice_get (slice_set xs n x) m ≡ slice_get xs m
+get_set_other [] m n x d = refl
+get_set_other (z ∷ xs) zero zero x d = absurd (d refl)
+get_set_other (z ∷ xs) zero (suc n) x d = refl
+get_set_other (z ∷ xs) (suc m) zero x d = refl
+get_set_other (z ∷ xs) (suc m) (suc n) x d = get_set_other xs m n x (λ e. d (ap suc e))
+
+-- of two that both hold
+pub and_left : (a b : Bool) → a && b ≡ true → a ≡ true
+and_left true b h = refl
+and_left false b h = h
+
+pub and_right : (a b : Bool) → a && b ≡ true → b ≡ true
+and_right true b h = h
+and_right false b h = absurd (true≢false (sym h))
