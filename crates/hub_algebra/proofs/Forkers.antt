@@ -32,7 +32,6 @@ forkers_born ps fs k j r are here = record {
 }
 
 module _ {A : Type 0} where
-
   paths_more : (w : List (Path × A)) (x : Path × A) → paths_of (w ++ x ∷ []) ≡ paths_of w ++ x.0 ∷ []
   paths_more [] x = refl
   paths_more (y ∷ w) x = ap (λ v. y.0 ∷ v) (paths_more w x)

@@ -187,7 +187,6 @@ module _ {H K L : Type 0} (f : H → K) (g : K → L) where
       }
 
 module _ (t : List Path) where
-
   pub read_back : (r : Path) (k : code.Local Path) (b : code.Local ℕ) → IsNumbered t r k b → read t b ≡ k
   read_back r k b is =
       ap (read t) is.is

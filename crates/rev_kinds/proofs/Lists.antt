@@ -7,7 +7,6 @@ use Rattle.rev_syntax.proofs.Lists.{same-self}
 use Rattle.merge_decl.specs.Names.{Name, same}
 use Rattle.merge_decl.specs.Table.{Table, find, added}
 use Rattle.merge_decl.proofs.Tables.{or_else, find-added}
-use Rattle.merge_decl.proofs.Declared.{slice_get_mapped}
 
 -- ---- lists with no element
 

@@ -34,7 +34,7 @@ impl Seen {
 }
 
 /// The parameter of this number.
-#[tactic(auto, using(crate::proofs::Lists::slice_get_mapped))]
+#[tactic(auto, using(merge_decl::proofs::Declared::slice_get_mapped))]
 fn param_at(params: &[Param], i: usize) -> Option<&Param>
     ensures { option_map parameter (option_copied result) ≡ slice_get (map parameter params.now) i }
 {

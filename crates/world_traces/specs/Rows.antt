@@ -35,8 +35,6 @@ use Rattle.code_machine.specs.Rows.{block, sum, add_one}
 
 -- ---- codes
 
-}
-
 abbrev main : List Instr → CodeBlock
 main instrs' = block class.Main 0 None (k.Rev ∷ []) instrs'
 
