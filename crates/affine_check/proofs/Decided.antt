@@ -13,10 +13,10 @@ use Rattle.rev_kinds.specs.Walk.{names_of}
 use Rattle.rev_types.specs.Tables.{shared_table, proc_table, fun_table, callees}
 use Rattle.rev_types.proofs.Named.{outer_names}
 use Rattle.rev_types.specs.Judgement.{StatementTyped, StatementsTyped, ArmsTyped, DeclarationsTyped, ProgramTyped}
-use Rattle.rev_types.specs.Scopes.{outside, within, with_params, bound}
+use Rattle.rev_types.specs.Scopes.{locals_after, outside, within, with_params, bound}
 use Rattle.rev_affine.specs.Affine.{Breach, copied, stored, used_twice, in_loop, number, Breaks, IsAffine, IsFirstBroken}
 use Rattle.rev_affine.specs.Live.{statement_passes}
-use Rattle.rev_affine.specs.SecondUses.{ahead, statement_scope, twice, statement_twice, arms_twice}
+use Rattle.rev_affine.specs.SecondUses.{ahead, twice, statement_twice, arms_twice}
 use Rattle.rev_affine.specs.Places.{copies, stores, loop_uses, statement_loop_uses, arms_loop_uses, outer_uses, body_places, declarations_places, places}
 use Rattle.rev_affine.proofs.Places.{places_found, places_sound}
 use Rattle.affine_check.specs.declared.fault.AffineFault.{AffineFault}
@@ -45,8 +45,8 @@ module _ (last_place last_rank : ℕ) (c : Names) where
   -- a second use or a use in a loop, in a statement or in those behind it
   abbrev InTrail : Locals → Bool → Statement → Statements → (Name → List ℕ) → Type 0
   InTrail l first x rest K =
-      (Twice first (statement_twice c l x (λ n. ahead n rest (K n))) ⊎ (Holds first × Holds (statement_passes x) × Holds (twice_in last_place last_rank (twice c (statement_scope c l x) rest K))))
-      ⊎ (Loops (statement_loop_uses c l x) ⊎ Loops (loop_uses c (statement_scope c l x) rest))
+      (Twice first (statement_twice c l x (λ n. ahead n rest (K n))) ⊎ (Holds first × Holds (statement_passes x) × Holds (twice_in last_place last_rank (twice c (locals_after c l x) rest K))))
+      ⊎ (Loops (statement_loop_uses c l x) ⊎ Loops (loop_uses c (locals_after c l x) rest))
 
   nested : {A B Q R : Type 0} → A ⊎ B → (A ⊎ Q) ⊎ (B ⊎ R)
   nested (inl t) = inl (inl t)
@@ -67,13 +67,13 @@ module _ (last_place last_rank : ℕ) (c : Names) where
       by (inr i) = inr (g i)
 
   behind_first : (l : Locals) (first : Bool) (x : Statement) (rest : Statements) (K : Name → List ℕ) → InTrail l first x rest K → Twice first (twice c l (statements x rest) K) ⊎ Loops (loop_uses c l (statements x rest))
-  behind_first l first x rest K (inl (inl t)) = inl (t.0, twice_left last_place last_rank (statement_twice c l x (λ n. ahead n rest (K n))) (cond (statement_passes x) (twice c (statement_scope c l x) rest K) []) t.1)
+  behind_first l first x rest K (inl (inl t)) = inl (t.0, twice_left last_place last_rank (statement_twice c l x (λ n. ahead n rest (K n))) (cond (statement_passes x) (twice c (locals_after c l x) rest K) []) t.1)
   behind_first l first x rest K (inl (inr t)) =
-      inl (t.0, twice_right last_place last_rank (statement_twice c l x (λ n. ahead n rest (K n))) (cond (statement_passes x) (twice c (statement_scope c l x) rest K) []) (pass last_place last_rank c (statement_passes x) (twice c (statement_scope c l x) rest K) t.1 t.2))
-  behind_first l first x rest K (inr (inl u)) = inr (loops_left last_place last_rank (statement_loop_uses c l x) (loop_uses c (statement_scope c l x) rest) u)
-  behind_first l first x rest K (inr (inr u)) = inr (loops_behind last_place last_rank (statement_loop_uses c l x) (loop_uses c (statement_scope c l x) rest) u)
+      inl (t.0, twice_right last_place last_rank (statement_twice c l x (λ n. ahead n rest (K n))) (cond (statement_passes x) (twice c (locals_after c l x) rest K) []) (pass last_place last_rank c (statement_passes x) (twice c (locals_after c l x) rest K) t.1 t.2))
+  behind_first l first x rest K (inr (inl u)) = inr (loops_left last_place last_rank (statement_loop_uses c l x) (loop_uses c (locals_after c l x) rest) u)
+  behind_first l first x rest K (inr (inr u)) = inr (loops_behind last_place last_rank (statement_loop_uses c l x) (loop_uses c (locals_after c l x) rest) u)
 
-  behind_rest : (l : Locals) (first : Bool) (x : Statement) (rest : Statements) (K : Name → List ℕ) → Twice (first && statement_passes x) (twice c (statement_scope c l x) rest K) ⊎ Loops (loop_uses c (statement_scope c l x) rest) → InTrail l first x rest K
+  behind_rest : (l : Locals) (first : Bool) (x : Statement) (rest : Statements) (K : Name → List ℕ) → Twice (first && statement_passes x) (twice c (locals_after c l x) rest K) ⊎ Loops (loop_uses c (locals_after c l x) rest) → InTrail l first x rest K
   behind_rest l first x rest K (inl t) = let q = both_hold first (statement_passes x) t.0 in inl (inr (q.0, q.1, t.1))
   behind_rest l first x rest K (inr u) = inr (inr u)
 
@@ -102,9 +102,9 @@ module _ (last_place last_rank : ℕ) (c : Names) where
     trails_sound : (result : Option ValueKind) (l : Locals) (xs : Statements) (first : Bool) (K : Name → List ℕ) → StatementsTyped c result l xs → Closed last_place last_rank c l K → Holds (trails last_place last_rank c l first xs) → Twice first (twice c l xs K) ⊎ Loops (loop_uses c l xs)
     trails_sound result l no_statements first K typed closed h = never h
     trails_sound result l (statements x rest) first K typed closed h =
-        behind_first l first x rest K (arm_both (either (trails_of last_place last_rank c l first rest x) (trails last_place last_rank c (statement_scope c l x) (first && statement_passes x) rest) h)
+        behind_first l first x rest K (arm_both (either (trails_of last_place last_rank c l first rest x) (trails last_place last_rank c (locals_after c l x) (first && statement_passes x) rest) h)
         (λ i. statement_sound result l typed.0 x rest first K typed.1 (λ n free. closed n free) (λ e n free. free_ahead last_place last_rank c n result typed.0 rest (K n) typed.2 (ap (λ m. find n m) e ∙ free.0, free.1) (closed n free)) i)
-        (λ i. behind_rest l first x rest K (trails_sound result (statement_scope c l x) rest (first && statement_passes x) K (subst (λ m. StatementsTyped c result m rest) (scope_of c result x l typed.0 typed.1) typed.2) (λ n free. closed n (scope_free c l x n free.0, free.1)) i)))
+        (λ i. behind_rest l first x rest K (trails_sound result (locals_after c l x) rest (first && statement_passes x) K (subst (λ m. StatementsTyped c result m rest) (scope_of c result x l typed.0 typed.1) typed.2) (λ n free. closed n (scope_free c l x n free.0, free.1)) i)))
 
     statement_sound : (result : Option ValueKind) (l l' : Locals) (x : Statement) (rest : Statements) (first : Bool) (K : Name → List ℕ) → StatementTyped c result l x l' → Closed last_place last_rank c l K → (l' ≡ l → Closed last_place last_rank c l (λ n. ahead n rest (K n)))
         → Holds (trails_of last_place last_rank c l first rest x) → InTrail l first x rest K

@@ -6,9 +6,9 @@ use Rattle.rev_syntax.specs.Trees.{PlacedName, Expression, placed, ExpressionFor
 use Rattle.merge_decl.specs.Table.{find}
 use Rattle.rev_kinds.specs.declared.names.Holder.{Holder}
 use Rattle.rev_kinds.specs.Kinds.{Names, Locals}
-use Rattle.rev_types.specs.Scopes.{bound}
+use Rattle.rev_types.specs.Scopes.{locals_after, bound}
 use Rattle.rev_affine.specs.Live.{statement_passes}
-use Rattle.rev_affine.specs.SecondUses.{if_rev, statement_scope}
+use Rattle.rev_affine.specs.SecondUses.{if_rev}
 use Rattle.rev_affine.specs.Places.{if_stores, names_in, expression_form_names, expressions_names, links_names, pick_names, expression_form_pick_names, expressions_pick_names, links_pick_names, right_side_copies, items_copies, value_copies, copies, statement_copies, statement_form_copies, arms_copies, name_stores, stores, statement_stores, statement_form_stores, arms_stores}
 use Rattle.affine_check.specs.declared.fault.AffineFault.TheVariants.{Copied, Stored}
 use Rattle.affine_check.specs.Walk.{Fault, both, when, is_handle, copied, copied_form, copied_args, copied_links, copied_right, copied_value, copied_items, stored_in, stored, misused, broken_statement, broken_form, broken_in, broken_arms}
@@ -137,7 +137,7 @@ module _ (last_place last_rank : ℕ) where
   abbrev mutual
     pub handles : Names → Locals → Bool → Statements → Bool
     handles c l first no_statements = false
-    handles c l first (statements x rest) = handles_statement c l first rest x || handles c (statement_scope c l x) (first && statement_passes x) rest
+    handles c l first (statements x rest) = handles_statement c l first rest x || handles c (locals_after c l x) (first && statement_passes x) rest
 
     pub handles_statement : Names → Locals → Bool → Statements → Statement → Bool
     handles_statement c l first rest (statement at line form) = handles_form c l first rest form
@@ -174,10 +174,10 @@ module _ (last_place last_rank : ℕ) where
     pub broken_is : (c : Names) (l : Locals) (first : Bool) (f : Fault) (xs : Statements) → found_at (broken_in c l first f xs) ≡ (found_at f || ((copy (copies c l xs) || store (stores c xs)) || handles c l first xs))
     broken_is c l first f no_statements = sym (or-false (found_at f))
     broken_is c l first f (statements x rest) =
-        broken_is c (statement_scope c l x) (first && statement_passes x) (both f (broken_statement c l first rest x)) rest
-        ∙ ap (λ b. b || ((copy (copies c (statement_scope c l x) rest) || store (stores c rest)) || handles c (statement_scope c l x) (first && statement_passes x) rest)) (found_both f (broken_statement c l first rest x) ∙ ap (λ b. found_at f || b) (statement_is c l first rest x))
-        ∙ behind (found_at f) (copy (statement_copies c l x)) (store (statement_stores c x)) (handles_statement c l first rest x) (copy (copies c (statement_scope c l x) rest)) (store (stores c rest)) (handles c (statement_scope c l x) (first && statement_passes x) rest)
-        ∙ (λ i. found_at f || ((sym (copy-append (statement_copies c l x) (copies c (statement_scope c l x) rest)) i || sym (store-append (statement_stores c x) (stores c rest)) i) || (handles_statement c l first rest x || handles c (statement_scope c l x) (first && statement_passes x) rest)))
+        broken_is c (locals_after c l x) (first && statement_passes x) (both f (broken_statement c l first rest x)) rest
+        ∙ ap (λ b. b || ((copy (copies c (locals_after c l x) rest) || store (stores c rest)) || handles c (locals_after c l x) (first && statement_passes x) rest)) (found_both f (broken_statement c l first rest x) ∙ ap (λ b. found_at f || b) (statement_is c l first rest x))
+        ∙ behind (found_at f) (copy (statement_copies c l x)) (store (statement_stores c x)) (handles_statement c l first rest x) (copy (copies c (locals_after c l x) rest)) (store (stores c rest)) (handles c (locals_after c l x) (first && statement_passes x) rest)
+        ∙ (λ i. found_at f || ((sym (copy-append (statement_copies c l x) (copies c (locals_after c l x) rest)) i || sym (store-append (statement_stores c x) (stores c rest)) i) || (handles_statement c l first rest x || handles c (locals_after c l x) (first && statement_passes x) rest)))
 
     statement_is : (c : Names) (l : Locals) (first : Bool) (rest : Statements) (x : Statement) → found_at (broken_statement c l first rest x) ≡ ((copy (statement_copies c l x) || store (statement_stores c x)) || handles_statement c l first rest x)
     statement_is c l first rest (statement at line form) = form_is c l first rest form

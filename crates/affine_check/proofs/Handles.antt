@@ -12,9 +12,9 @@ use Rattle.rev_kinds.specs.declared.names.Holder.{Holder}
 use Rattle.rev_kinds.specs.Kinds.{Names, Locals, right_side_kind}
 use Rattle.rev_kinds.specs.Typing.{HasKind, ScalarHas, ArgsHave}
 use Rattle.rev_types.specs.Judgement.{RightSideHas, ReturnTyped, StatementTyped, StatementFormTyped, StatementsTyped, ArmsTyped}
-use Rattle.rev_types.specs.Scopes.{bound}
+use Rattle.rev_types.specs.Scopes.{locals_after, bound}
 use Rattle.rev_affine.specs.Live.{statement_passes}
-use Rattle.rev_affine.specs.SecondUses.{expression_places, expressions_places, right_side_places, value_places, ahead, statement_ahead, statement_form_ahead, arms_ahead, if_rev, expression_twice, expressions_twice, right_side_twice, value_twice, statement_scope, twice, statement_twice, statement_form_twice, arms_twice}
+use Rattle.rev_affine.specs.SecondUses.{expression_places, expressions_places, right_side_places, value_places, ahead, statement_ahead, statement_form_ahead, arms_ahead, if_rev, expression_twice, expressions_twice, right_side_twice, value_twice, twice, statement_twice, statement_form_twice, arms_twice}
 use Rattle.rev_affine.proofs.Places.{scope_behind, typed_behind}
 use Rattle.rev_affine.proofs.Meaning.{kept, still_free}
 use Rattle.affine_check.specs.declared.fault.AffineFault.TheVariants.{UsedTwice}
@@ -106,7 +106,7 @@ Binds (statement at line (join handle)) n = ⊥
 Binds (statement at line (print items)) n = ⊥
 Binds (statement at line (assert test)) n = ⊥
 
-pub scope_handle : (c : Names) (l : Locals) (x : Statement) (n : Name) → IsHandle l n → IsHandle (statement_scope c l x) n
+pub scope_handle : (c : Names) (l : Locals) (x : Statement) (n : Name) → IsHandle l n → IsHandle (locals_after c l x) n
 scope_handle c l (statement at line (bind w r)) n h = kept n w.text l (right_side_kind c l r) (Some k.Rev) h
 scope_handle c l (statement at line (assign w r)) n h = h
 scope_handle c l (statement at line (assign_cell w index e)) n h = h
@@ -120,7 +120,7 @@ scope_handle c l (statement at line (join handle)) n h = h
 scope_handle c l (statement at line (print items)) n h = h
 scope_handle c l (statement at line (assert test)) n h = h
 
-pub scope_free : (c : Names) (l : Locals) (x : Statement) (n : Name) → find n (statement_scope c l x) ≡ None → find n l ≡ None
+pub scope_free : (c : Names) (l : Locals) (x : Statement) (n : Name) → find n (locals_after c l x) ≡ None → find n l ≡ None
 scope_free c l (statement at line (bind w r)) n h = was_free n w.text l (right_side_kind c l r) h
 scope_free c l (statement at line (assign w r)) n h = h
 scope_free c l (statement at line (assign_cell w index e)) n h = h
@@ -134,7 +134,7 @@ scope_free c l (statement at line (join handle)) n h = h
 scope_free c l (statement at line (print items)) n h = h
 scope_free c l (statement at line (assert test)) n h = h
 
-pub scope_was : (c : Names) (l : Locals) (x : Statement) (n : Name) → IsHandle (statement_scope c l x) n → IsHandle l n ⊎ Binds x n
+pub scope_was : (c : Names) (l : Locals) (x : Statement) (n : Name) → IsHandle (locals_after c l x) n → IsHandle l n ⊎ Binds x n
 scope_was c l (statement at line (bind w r)) n h = was_handle n w.text l (right_side_kind c l r) h
 scope_was c l (statement at line (assign w r)) n h = inl h
 scope_was c l (statement at line (assign_cell w index e)) n h = inl h
@@ -162,7 +162,7 @@ binds_free c result l l' (statement at line (join handle)) n typed e = absurd e
 binds_free c result l l' (statement at line (print items)) n typed e = absurd e
 binds_free c result l l' (statement at line (assert test)) n typed e = absurd e
 
-pub scope_of : (c : Names) (result : Option ValueKind) (x : Statement) (l l' : Locals) → StatementTyped c result l x l' → l' ≡ statement_scope c l x
+pub scope_of : (c : Names) (result : Option ValueKind) (x : Statement) (l l' : Locals) → StatementTyped c result l x l' → l' ≡ locals_after c l x
 scope_of c result x l l' typed = scope_behind c x l l' (typed_behind c result x l l' typed)
 
 module _ (last_place last_rank : ℕ) where
@@ -370,7 +370,7 @@ module _ (last_place last_rank : ℕ) where
         by true i = refl
         by false i = never i
 
-    pub bound_trail : (first : Bool) (l : Locals) (rest : Statements) (x : Statement) (n : Name) (later : List ℕ) → Binds x n → IsHandle (statement_scope c l x) n → twice_in later ≡ false → Holds (looped n false rest || (first && follows n rest later)) → Holds (trails_of l first rest x)
+    pub bound_trail : (first : Bool) (l : Locals) (rest : Statements) (x : Statement) (n : Name) (later : List ℕ) → Binds x n → IsHandle (locals_after c l x) n → twice_in later ≡ false → Holds (looped n false rest || (first && follows n rest later)) → Holds (trails_of l first rest x)
     bound_trail first l rest (statement at line (bind w r)) n later e is none h =
         misuse_is first (find w.text (bound c l w r)) w.text rest later (ap (λ m. find m (bound c l w r)) (sym e) ∙ is) none ∙ subst (λ m. Holds (looped m false rest || (first && follows m rest later))) e h
     bound_trail first l rest (statement at line (assign w r)) n later e is none h = absurd e
@@ -415,25 +415,25 @@ module _ (last_place last_rank : ℕ) where
     -- a statement, and those behind it
     complete_both : (l : Locals) (x : Statement) (rest : Statements) (K : Name → List ℕ) → ((n : Name) → Binds x n → twice_in (K n) ≡ false)
         → (Holds (twice_in (statement_twice c l x (λ n. ahead n rest (K n)))) → SomeHandle l (λ n. follows_statement n x (ahead n rest (K n))) ⊎ Holds (trails_of l true rest x))
-        → (Holds (twice_in (twice c (statement_scope c l x) rest K)) → SomeHandle (statement_scope c l x) (λ n. follows n rest (K n)) ⊎ Holds (trails (statement_scope c l x) true rest))
+        → (Holds (twice_in (twice c (locals_after c l x) rest K)) → SomeHandle (locals_after c l x) (λ n. follows n rest (K n)) ⊎ Holds (trails (locals_after c l x) true rest))
         → Holds (twice_in (twice c l (statements x rest) K)) → InStatements l x rest K
-    complete_both l x rest K none first behind h = by (twice_either (statement_twice c l x (λ n. ahead n rest (K n))) (cond (statement_passes x) (twice c (statement_scope c l x) rest K) []) h)
+    complete_both l x rest K none first behind h = by (twice_either (statement_twice c l x (λ n. ahead n rest (K n))) (cond (statement_passes x) (twice c (locals_after c l x) rest K) []) h)
       where
         here : SomeHandle l (λ n. follows_statement n x (ahead n rest (K n))) ⊎ Holds (trails_of l true rest x) → InStatements l x rest K
         here (inl u) = inl (u.0, u.1, left (follows_statement u.0 x (ahead u.0 rest (K u.0))) (statement_passes x && follows u.0 rest (K u.0)) u.2)
-        here (inr t) = inr (left (trails_of l true rest x) (trails (statement_scope c l x) (statement_passes x) rest) t)
+        here (inr t) = inr (left (trails_of l true rest x) (trails (locals_after c l x) (statement_passes x) rest) t)
 
-        of_name : (n : Name) → Holds (statement_passes x) → IsHandle (statement_scope c l x) n → Holds (follows n rest (K n)) → IsHandle l n ⊎ Binds x n → InStatements l x rest K
+        of_name : (n : Name) → Holds (statement_passes x) → IsHandle (locals_after c l x) n → Holds (follows n rest (K n)) → IsHandle l n ⊎ Binds x n → InStatements l x rest K
         of_name n p is f (inl old) = inl (n, old, right (follows_statement n x (ahead n rest (K n))) (statement_passes x && follows n rest (K n)) (hold (statement_passes x) (follows n rest (K n)) p f))
-        of_name n p is f (inr b) = inr (left (trails_of l true rest x) (trails (statement_scope c l x) (statement_passes x) rest) (bound_trail true l rest x n (K n) b is (none n b) (right (looped n false rest) (follows n rest (K n)) f)))
+        of_name n p is f (inr b) = inr (left (trails_of l true rest x) (trails (locals_after c l x) (statement_passes x) rest) (bound_trail true l rest x n (K n) b is (none n b) (right (looped n false rest) (follows n rest (K n)) f)))
 
-        there : Holds (statement_passes x) → SomeHandle (statement_scope c l x) (λ n. follows n rest (K n)) ⊎ Holds (trails (statement_scope c l x) true rest) → InStatements l x rest K
+        there : Holds (statement_passes x) → SomeHandle (locals_after c l x) (λ n. follows n rest (K n)) ⊎ Holds (trails (locals_after c l x) true rest) → InStatements l x rest K
         there p (inl u) = of_name u.0 p u.1 u.2 (scope_was c l x u.0 u.1)
-        there p (inr t) = inr (right (trails_of l true rest x) (trails (statement_scope c l x) (statement_passes x) rest) (subst (λ d. Holds (trails (statement_scope c l x) d rest)) (sym p) t))
+        there p (inr t) = inr (right (trails_of l true rest x) (trails (locals_after c l x) (statement_passes x) rest) (subst (λ d. Holds (trails (locals_after c l x) d rest)) (sym p) t))
 
-        by : Holds (twice_in (statement_twice c l x (λ n. ahead n rest (K n)))) ⊎ Holds (twice_in (cond (statement_passes x) (twice c (statement_scope c l x) rest K) [])) → InStatements l x rest K
+        by : Holds (twice_in (statement_twice c l x (λ n. ahead n rest (K n)))) ⊎ Holds (twice_in (cond (statement_passes x) (twice c (locals_after c l x) rest K) [])) → InStatements l x rest K
         by (inl i) = here (first i)
-        by (inr i) = let q = passed (statement_passes x) (twice c (statement_scope c l x) rest K) i in there q.0 (behind q.1)
+        by (inr i) = let q = passed (statement_passes x) (twice c (locals_after c l x) rest K) i in there q.0 (behind q.1)
 
     arms_both : (l : Locals) (body : Statements) (rest : Arms) (others : Name → Bool) (K : Name → List ℕ)
         → (Holds (twice_in (twice c l body K)) → SomeHandle l (λ n. follows n body (K n)) ⊎ Holds (trails l true body))
@@ -477,7 +477,7 @@ module _ (last_place last_rank : ℕ) where
       complete result l (statements x rest) K typed closed h =
           complete_both l x rest K (λ n b. closed n (binds_free c result l typed.0 x n typed.1 b))
           (λ i. complete_statement result l typed.0 x rest (λ n. ahead n rest (K n)) typed.1 (λ e n free. free_ahead n result typed.0 rest (K n) typed.2 (ap (λ m. find n m) e ∙ free.0, free.1) (closed n free)) i)
-          (λ i. complete result (statement_scope c l x) rest K (subst (λ m. StatementsTyped c result m rest) (scope_of c result x l typed.0 typed.1) typed.2) (λ n free. closed n (scope_free c l x n free.0, free.1)) i)
+          (λ i. complete result (locals_after c l x) rest K (subst (λ m. StatementsTyped c result m rest) (scope_of c result x l typed.0 typed.1) typed.2) (λ n free. closed n (scope_free c l x n free.0, free.1)) i)
           h
 
       complete_statement : (result : Option ValueKind) (l l' : Locals) (x : Statement) (rest : Statements) (K : Name → List ℕ) → StatementTyped c result l x l' → (l' ≡ l → Closed l K) → Holds (twice_in (statement_twice c l x K)) → SomeHandle l (λ n. follows_statement n x (K n)) ⊎ Holds (trails_of l true rest x)
@@ -506,12 +506,12 @@ module _ (last_place last_rank : ℕ) where
 
     sound_both : (l : Locals) (x : Statement) (rest : Statements) (K : Name → List ℕ) (n : Name) → Holds (follows_statement n x (ahead n rest (K n))) ⊎ Holds (statement_passes x && follows n rest (K n))
         → (Holds (follows_statement n x (ahead n rest (K n))) → Holds (twice_in (statement_twice c l x (λ m. ahead m rest (K m)))))
-        → (Holds (follows n rest (K n)) → Holds (twice_in (twice c (statement_scope c l x) rest K)))
+        → (Holds (follows n rest (K n)) → Holds (twice_in (twice c (locals_after c l x) rest K)))
         → Holds (twice_in (twice c l (statements x rest) K))
-    sound_both l x rest K n (inl i) first behind = twice_left (statement_twice c l x (λ m. ahead m rest (K m))) (cond (statement_passes x) (twice c (statement_scope c l x) rest K) []) (first i)
+    sound_both l x rest K n (inl i) first behind = twice_left (statement_twice c l x (λ m. ahead m rest (K m))) (cond (statement_passes x) (twice c (locals_after c l x) rest K) []) (first i)
     sound_both l x rest K n (inr i) first behind =
         let q = both_hold (statement_passes x) (follows n rest (K n)) i in
-        twice_right (statement_twice c l x (λ m. ahead m rest (K m))) (cond (statement_passes x) (twice c (statement_scope c l x) rest K) []) (pass (statement_passes x) (twice c (statement_scope c l x) rest K) q.0 (behind q.1))
+        twice_right (statement_twice c l x (λ m. ahead m rest (K m))) (cond (statement_passes x) (twice c (locals_after c l x) rest K) []) (pass (statement_passes x) (twice c (locals_after c l x) rest K) q.0 (behind q.1))
 
     of_arms : {P Q R : Type 0} (xs ys : List ℕ) → P ⊎ Q → (P → Holds (twice_in xs)) → (Q → Holds (twice_in ys) ⊎ R) → Holds (twice_in (xs ++ ys)) ⊎ R
     of_arms xs ys (inl i) f g = inl (twice_left xs ys (f i))
@@ -526,7 +526,7 @@ module _ (last_place last_rank : ℕ) where
       sound l no_statements K n is h = never h
       sound l (statements x rest) K n is h =
           sound_both l x rest K n (either (follows_statement n x (ahead n rest (K n))) (statement_passes x && follows n rest (K n)) h)
-          (λ i. sound_statement l x (λ m. ahead m rest (K m)) n is i) (λ i. sound (statement_scope c l x) rest K n (scope_handle c l x n is) i)
+          (λ i. sound_statement l x (λ m. ahead m rest (K m)) n is i) (λ i. sound (locals_after c l x) rest K n (scope_handle c l x n is) i)
 
       sound_statement : (l : Locals) (x : Statement) (K : Name → List ℕ) (n : Name) → IsHandle l n → Holds (follows_statement n x (K n)) → Holds (twice_in (statement_twice c l x K))
       sound_statement l (statement at line form) K n is h = sound_form l form K n is h

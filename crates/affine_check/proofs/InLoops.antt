@@ -9,8 +9,9 @@ use Rattle.merge_decl.specs.Names.{Name, same}
 use Rattle.merge_decl.specs.Table.{find}
 use Rattle.merge_decl.proofs.Tables.{same_equal}
 use Rattle.rev_kinds.specs.Kinds.{Names, Locals}
+use Rattle.rev_types.specs.Scopes.{locals_after}
 use Rattle.rev_affine.specs.Live.{statement_passes}
-use Rattle.rev_affine.specs.SecondUses.{if_rev, statement_scope}
+use Rattle.rev_affine.specs.SecondUses.{if_rev}
 use Rattle.rev_affine.specs.Places.{use_places, uses_places, right_side_use_places, value_use_places, outer_uses, statement_outer_uses, statement_form_outer_uses, arms_outer_uses, loop_uses, statement_loop_uses, statement_form_loop_uses, arms_loop_uses}
 use Rattle.affine_check.specs.declared.fault.AffineFault.TheVariants.{InLoop}
 use Rattle.affine_check.specs.Walk.{named}
@@ -249,19 +250,19 @@ module _ (last_place last_rank : ℕ) where
     both_trails l P Q a b (inr (inl u)) = inl (merged l P Q (inr u))
     both_trails l P Q a b (inr (inr t)) = inr (right a b t)
 
-    scope_trails : (l : Locals) (first : Bool) (x : Statement) (rest : Statements) → InTrails (statement_scope c l x) (λ n. loops last_place last_rank n false rest) (trails last_place last_rank c (statement_scope c l x) (first && statement_passes x) rest)
+    scope_trails : (l : Locals) (first : Bool) (x : Statement) (rest : Statements) → InTrails (locals_after c l x) (λ n. loops last_place last_rank n false rest) (trails last_place last_rank c (locals_after c l x) (first && statement_passes x) rest)
         → InTrails l (λ n. loops last_place last_rank n false (statements x rest)) (trails last_place last_rank c l first (statements x rest))
-    scope_trails l first x rest (inr t) = inr (right (trails_of last_place last_rank c l first rest x) (trails last_place last_rank c (statement_scope c l x) (first && statement_passes x) rest) t)
+    scope_trails l first x rest (inr t) = inr (right (trails_of last_place last_rank c l first rest x) (trails last_place last_rank c (locals_after c l x) (first && statement_passes x) rest) t)
     scope_trails l first x rest (inl u) = by (scope_was c l x u.0 u.1)
       where
         by : IsHandle l u.0 ⊎ Binds x u.0 → InTrails l (λ n. loops last_place last_rank n false (statements x rest)) (trails last_place last_rank c l first (statements x rest))
         by (inl old) = inl (u.0, old, right (loops_statement last_place last_rank u.0 false x) (loops last_place last_rank u.0 false rest) u.2)
-        by (inr b) = inr (left (trails_of last_place last_rank c l first rest x) (trails last_place last_rank c (statement_scope c l x) (first && statement_passes x) rest) (bound_trail last_place last_rank c first l rest x u.0 [] b u.1 refl (left (loops last_place last_rank u.0 false rest) (first && follows last_place last_rank u.0 rest []) u.2)))
+        by (inr b) = inr (left (trails_of last_place last_rank c l first rest x) (trails last_place last_rank c (locals_after c l x) (first && statement_passes x) rest) (bound_trail last_place last_rank c first l rest x u.0 [] b u.1 refl (left (loops last_place last_rank u.0 false rest) (first && follows last_place last_rank u.0 rest []) u.2)))
 
     first_trails : (l : Locals) (first : Bool) (x : Statement) (rest : Statements) → InTrails l (λ n. loops_statement last_place last_rank n false x) (trails_of last_place last_rank c l first rest x)
         → InTrails l (λ n. loops last_place last_rank n false (statements x rest)) (trails last_place last_rank c l first (statements x rest))
     first_trails l first x rest (inl u) = inl (u.0, u.1, left (loops_statement last_place last_rank u.0 false x) (loops last_place last_rank u.0 false rest) u.2)
-    first_trails l first x rest (inr t) = inr (left (trails_of last_place last_rank c l first rest x) (trails last_place last_rank c (statement_scope c l x) (first && statement_passes x) rest) t)
+    first_trails l first x rest (inr t) = inr (left (trails_of last_place last_rank c l first rest x) (trails last_place last_rank c (locals_after c l x) (first && statement_passes x) rest) t)
 
     turn_trails : (l : Locals) (body : Statements) (a : Bool) → SomeHandle l (λ n. loops last_place last_rank n true body) ⊎ InTrails l (λ n. loops last_place last_rank n false body) a → InTrails l (λ n. loops last_place last_rank n true body) a
     turn_trails l body a (inl u) = inl u
@@ -279,7 +280,7 @@ module _ (last_place last_rank : ℕ) where
       pub loops_complete : (l : Locals) (xs : Statements) (first : Bool) → Holds (loops_in (loop_uses c l xs)) → InTrails l (λ n. loops last_place last_rank n false xs) (trails last_place last_rank c l first xs)
       loops_complete l no_statements first h = never h
       loops_complete l (statements x rest) first h =
-          arm_both (each_loop (statement_loop_uses c l x) (loop_uses c (statement_scope c l x) rest) (λ i. loops_statement_complete l x rest first i) (λ i. loops_complete (statement_scope c l x) rest (first && statement_passes x) i) h)
+          arm_both (each_loop (statement_loop_uses c l x) (loop_uses c (locals_after c l x) rest) (λ i. loops_statement_complete l x rest first i) (λ i. loops_complete (locals_after c l x) rest (first && statement_passes x) i) h)
           (first_trails l first x rest) (scope_trails l first x rest)
 
       loops_statement_complete : (l : Locals) (x : Statement) (rest : Statements) (first : Bool) → Holds (loops_in (statement_loop_uses c l x)) → InTrails l (λ n. loops_statement last_place last_rank n false x) (trails_of last_place last_rank c l first rest x)
@@ -312,7 +313,7 @@ module _ (last_place last_rank : ℕ) where
       pub loops_sound : (l : Locals) (xs : Statements) (n : Name) → IsHandle l n → Holds (loops last_place last_rank n false xs) → Holds (loops_in (loop_uses c l xs))
       loops_sound l no_statements n is h = never h
       loops_sound l (statements x rest) n is h =
-          either_loop (statement_loop_uses c l x) (loop_uses c (statement_scope c l x) rest) (loops_statement last_place last_rank n false x) (loops last_place last_rank n false rest) (loops_statement_sound l x n is) (loops_sound (statement_scope c l x) rest n (scope_handle c l x n is)) h
+          either_loop (statement_loop_uses c l x) (loop_uses c (locals_after c l x) rest) (loops_statement last_place last_rank n false x) (loops last_place last_rank n false rest) (loops_statement_sound l x n is) (loops_sound (locals_after c l x) rest n (scope_handle c l x n is)) h
 
       loops_statement_sound : (l : Locals) (x : Statement) (n : Name) → IsHandle l n → Holds (loops_statement last_place last_rank n false x) → Holds (loops_in (statement_loop_uses c l x))
       loops_statement_sound l (statement at line form) n is h = loops_form_sound l form n is h

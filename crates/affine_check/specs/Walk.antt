@@ -11,9 +11,9 @@ use Rattle.merge_decl.specs.Names.{Name, same}
 use Rattle.merge_decl.specs.Table.{find}
 use Rattle.rev_kinds.specs.declared.names.Holder.{Holder}
 use Rattle.rev_kinds.specs.Kinds.{Names, Locals, same_kind}
-use Rattle.rev_types.specs.Scopes.{outside, with_params, bound}
+use Rattle.rev_types.specs.Scopes.{locals_after, outside, with_params, bound}
 use Rattle.rev_affine.specs.Live.{statement_passes}
-use Rattle.rev_affine.specs.SecondUses.{statement_scope}
+use Rattle.rev_affine.specs.SecondUses.{locals_after}
 use Rattle.affine_check.specs.declared.fault.AffineFault.{AffineFault}
 use Rattle.affine_check.specs.declared.fault.AffineFault.TheVariants.{Copied, Stored, UsedTwice, InLoop}
 use Rattle.affine_check.specs.declared.trail.Trail.{Trail}
@@ -235,7 +235,7 @@ abbrev mutual
   -- after this one
   pub broken_in : Names → Locals → Bool → Fault → Statements → Fault
   broken_in c l reached found no_statements = found
-  broken_in c l reached found (statements x rest) = broken_in c (statement_scope c l x) (reached && statement_passes x) (both found (broken_statement c l reached rest x)) rest
+  broken_in c l reached found (statements x rest) = broken_in c (locals_after c l x) (reached && statement_passes x) (both found (broken_statement c l reached rest x)) rest
 
   pub broken_arms : Names → Locals → Bool → Fault → Arms → Fault
   broken_arms c l reached found no_arms = found

@@ -12,7 +12,6 @@ ghost use Rattle.revision_calculus.specs.Program.{Setting};
 ghost use Rattle.rev_affine.specs.Affine.{IsAffine};
 ghost use Rattle.rev_affine.specs.Laws.{NeverTwice};
 ghost use Rattle.rev_affine.specs.Live.{arms_pass, passes, statement_form_passes, statement_passes};
-ghost use Rattle.rev_affine.specs.SecondUses.{statement_form_scope, statement_scope};
 ghost use Rattle.affine_check.specs.Faults.{Refuses};
 ghost use Rattle.affine_check.specs.Walk as rule;
 
@@ -100,7 +99,7 @@ fn broken(
         scope.old.reached (stmts rest.now) (stmt s.now)) }
     ensures locals { OnOk result
         (scope.new.locals
-        ≡ statement_scope (names_of checker.now) scope.old.locals (stmt s.now)) }
+        ≡ scopes.locals_after (names_of checker.now) scope.old.locals (stmt s.now)) }
     ensures reached { OnOk result
         (scope.new.reached ≡ (scope.old.reached && statement_passes (stmt s.now))) }
 {
@@ -120,7 +119,7 @@ fn broken_form(
         (stmts rest.now) (statement_form form.now)) }
     ensures locals { OnOk result
         (scope.new.locals
-        ≡ statement_form_scope (names_of checker.now) scope.old.locals
+        ≡ scopes.statement_form_locals (names_of checker.now) scope.old.locals
         (statement_form form.now)) }
     ensures reached { OnOk result
         (scope.new.reached

@@ -10,11 +10,12 @@ use Rattle.merge_decl.specs.Table.{find, added}
 use Rattle.rev_syntax.proofs.Lists.{same-self}
 use Rattle.rev_kinds.specs.Kinds.{Names, Locals, right_side_kind, result_of}
 use Rattle.rev_kinds.proofs.Typings.{complete}
+use Rattle.rev_types.specs.Scopes.{locals_after}
 use Rattle.rev_types.specs.Judgement.{RightSideHas}
 use Rattle.rev_affine.specs.Live.{statement_passes, statement_form_passes, passes, arms_pass, or}
 use Rattle.rev_affine.proofs.Counts.{or_left, or_right}
 use Rattle.rev_affine.specs.Affine.{Occurrence, use_of, gets, expression_occurrences, expressions_occurrences, right_side_occurrences, value_occurrences, Turns, Through, StatementThrough, StatementFormThrough, ArmsThrough, Inside, StatementInside, StatementFormInside, ArmsInside, NoValue, rev_use, UsedTwice}
-use Rattle.rev_affine.specs.SecondUses.{expression_places, expressions_places, right_side_places, value_places, ahead, statement_ahead, statement_form_ahead, arms_ahead, if_rev, expression_twice, expressions_twice, right_side_twice, statement_scope, twice, statement_twice, statement_form_twice, arms_twice}
+use Rattle.rev_affine.specs.SecondUses.{expression_places, expressions_places, right_side_places, value_places, ahead, statement_ahead, statement_form_ahead, arms_ahead, if_rev, expression_twice, expressions_twice, right_side_twice, twice, statement_twice, statement_form_twice, arms_twice}
 
 -- ---- lists
 
@@ -451,7 +452,7 @@ module _ (c : Names) where
   right_side_is l (forked at w args) t has = ap Some (sym has.0)
   right_side_is l (tried at handle) t has = ap Some (sym has.0)
 
-  pub scope_is : (x : Statement) (l l' : Locals) (ms : List Occurrence) → StatementThrough c l x l' ms → l' ≡ statement_scope c l x
+  pub scope_is : (x : Statement) (l l' : Locals) (ms : List Occurrence) → StatementThrough c l x l' ms → l' ≡ locals_after c l x
   scope_is (statement at line (bind w r)) l l' ms path = path.0.2 ∙ ap (λ o. added l w.text o) (sym (right_side_is l r path.0.0 path.0.1))
   scope_is (statement at line (assign w r)) l l' ms path = path.0
   scope_is (statement at line (assign_cell w index e)) l l' ms path = path.0
@@ -514,8 +515,8 @@ module _ (c : Names) where
 
   behind_end : (x : Statement) (rest : Statements) (l l' : Locals) (K : Name → List ℕ) (p : ℕ) (ms : List Occurrence) → StatementThrough c l x l' ms → Among (twice c l' rest K) p → Among (twice c l (statements x rest) K) p
   behind_end x rest l l' K p ms path h =
-      right_among (statement_twice c l x (λ n. ahead n rest (K n))) (cond (statement_passes x) (twice c (statement_scope c l x) rest K) []) p
-      (subst (λ d. Among (cond d (twice c (statement_scope c l x) rest K) []) p) (sym (statement_passes_is x l l' ms path)) (subst (λ m. Among (twice c m rest K) p) (scope_is x l l' ms path) h))
+      right_among (statement_twice c l x (λ n. ahead n rest (K n))) (cond (statement_passes x) (twice c (locals_after c l x) rest K) []) p
+      (subst (λ d. Among (cond d (twice c (locals_after c l x) rest K) []) p) (sym (statement_passes_is x l l' ms path)) (subst (λ m. Among (twice c m rest K) p) (scope_is x l l' ms path) h))
 
   mutual
     statements_end : (s : Statements) (l : Locals) (K : Name → List ℕ) (p : ℕ) (ms : List Occurrence) → Through c l s ms → Ends p ms K → Among (twice c l s K) p
@@ -525,7 +526,7 @@ module _ (c : Names) where
         (statement_end x l path.0 (λ n. ahead n rest (K n)) p path.1 path.3) (statements_end rest path.0 K p path.2 path.4)
       where
         by : Ends p path.1 (λ n. ahead n rest (K n)) ⊎ Ends p path.2 K → (Ends p path.1 (λ n. ahead n rest (K n)) → Among (statement_twice c l x (λ n. ahead n rest (K n))) p) → (Ends p path.2 K → Among (twice c path.0 rest K) p) → Among (twice c l (statements x rest) K) p
-        by (inl a) f g = left_among (statement_twice c l x (λ n. ahead n rest (K n))) (cond (statement_passes x) (twice c (statement_scope c l x) rest K) []) p (f a)
+        by (inl a) f g = left_among (statement_twice c l x (λ n. ahead n rest (K n))) (cond (statement_passes x) (twice c (locals_after c l x) rest K) []) p (f a)
         by (inr b) f g = behind_end x rest l path.0 K p path.1 path.3 (g b)
 
     statement_end : (x : Statement) (l l' : Locals) (K : Name → List ℕ) (p : ℕ) (ms : List Occurrence) → StatementThrough c l x l' ms → Ends p ms K → Among (statement_twice c l x K) p
@@ -567,11 +568,11 @@ module _ (c : Names) where
     statements_second : (s : Statements) (l : Locals) (K : Name → List ℕ) (p : ℕ) (ms : List Occurrence) → Inside c l s ms → TwiceAt p ms → Among (twice c l s K) p
     statements_second no_statements l K p ms path h = absurd (subst (TwiceAt p) path h)
     statements_second (statements x rest) l K p ms (inl e) h = absurd (subst (TwiceAt p) e h)
-    statements_second (statements x rest) l K p ms (inr (inl path)) h = left_among (statement_twice c l x (λ n. ahead n rest (K n))) (cond (statement_passes x) (twice c (statement_scope c l x) rest K) []) p (statement_second x l (λ n. ahead n rest (K n)) p ms path h)
+    statements_second (statements x rest) l K p ms (inr (inl path)) h = left_among (statement_twice c l x (λ n. ahead n rest (K n))) (cond (statement_passes x) (twice c (locals_after c l x) rest K) []) p (statement_second x l (λ n. ahead n rest (K n)) p ms path h)
     statements_second (statements x rest) l K p ms (inr (inr path)) h = by (twice_split p path.1 path.2 (subst (TwiceAt p) path.5 h)) (statements_second rest path.0 K p path.2 path.4)
       where
         first : Ends p path.1 (λ n. ahead n rest (K n)) → Among (twice c l (statements x rest) K) p
-        first e = left_among (statement_twice c l x (λ n. ahead n rest (K n))) (cond (statement_passes x) (twice c (statement_scope c l x) rest K) []) p (statement_end x l path.0 (λ n. ahead n rest (K n)) p path.1 path.3 e)
+        first e = left_among (statement_twice c l x (λ n. ahead n rest (K n))) (cond (statement_passes x) (twice c (locals_after c l x) rest K) []) p (statement_end x l path.0 (λ n. ahead n rest (K n)) p path.1 path.3 e)
 
         by : TwiceAt p path.1 ⊎ (((n : Name) × LeftAt n path.1 × FoundAt n p path.2) ⊎ TwiceAt p path.2) → (TwiceAt p path.2 → Among (twice c path.0 rest K) p) → Among (twice c l (statements x rest) K) p
         by (inl a) go = first (inl a)

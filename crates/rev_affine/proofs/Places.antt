@@ -7,10 +7,10 @@ use Rattle.merge_decl.specs.Table.{find, added}
 use Rattle.rev_kinds.specs.declared.names.Holder.{Holder}
 use Rattle.rev_kinds.specs.Kinds.{Names, Locals}
 use Rattle.merge_decl.specs.Least.{Among}
-use Rattle.rev_types.specs.Scopes.{outside, with_params, within}
+use Rattle.rev_types.specs.Scopes.{locals_after, outside, with_params, within}
 use Rattle.rev_types.specs.Judgement.{StatementTyped, StatementFormTyped, StatementsTyped, ArmsTyped, DeclarationsTyped, ProgramTyped}
 use Rattle.rev_affine.specs.Affine.{NameIn, ExpressionFormNameIn, NamesIn, LinksNameIn, PickIn, ExpressionFormPickIn, PicksIn, LinksPickIn, RightSideCopied, ItemsCopied, ValueCopied, Behind, Copied, StatementCopied, StatementFormCopied, ArmsCopied, StoresAt, Stored, StatementStored, StatementFormStored, ArmsStored, UseAt, UsesAt, RightSideUsesAt, ValueUsesAt, OuterUse, StatementOuterUse, StatementFormOuterUse, ArmsOuterUse, InLoop, StatementInLoop, StatementFormInLoop, ArmsInLoop, Breach, copied, stored, used_twice, in_loop, BodyBreaks, DeclarationsBreak, Breaks}
-use Rattle.rev_affine.specs.SecondUses.{if_rev, statement_scope}
+use Rattle.rev_affine.specs.SecondUses.{if_rev}
 use Rattle.merge_decl.proofs.Leasts.{none_is, first_is}
 use Rattle.rev_affine.specs.Laws.{Decides}
 use Rattle.rev_affine.specs.Affine.{Breakage, number, IsAffine}
@@ -54,7 +54,7 @@ stores_sound (Some h) at p i = let r = rev_sound (Some (Some h.kind)) at p i in 
 
 -- ---- what is in scope
 
-pub scope_behind : (c : Names) (x : Statement) (l l' : Locals) → Behind c l x l' → l' ≡ statement_scope c l x
+pub scope_behind : (c : Names) (x : Statement) (l l' : Locals) → Behind c l x l' → l' ≡ locals_after c l x
 scope_behind c (statement at line (bind w r)) l l' b = b.2 ∙ ap (λ o. added l w.text o) (sym (right_side_is c l r b.0 b.1))
 scope_behind c (statement at line (assign w r)) l l' b = b
 scope_behind c (statement at line (assign_cell w index e)) l l' b = b
@@ -152,7 +152,7 @@ value_copy_found l (Some e) p h = pick_name_found l e p h
 mutual
   pub copy_found : (c : Names) (l : Locals) (x : Statements) (p : ℕ) → Copied c l x p → Among (copies c l x) p
   copy_found c l no_statements p h = absurd h
-  copy_found c l (statements x rest) p h = append_found (statement_copies c l x) (copies c (statement_scope c l x) rest) p (statement_copy_found c l x p) (λ b. subst (λ m. Among (copies c m rest) p) (scope_behind c x l b.0 b.1) (copy_found c b.0 rest p b.2)) h
+  copy_found c l (statements x rest) p h = append_found (statement_copies c l x) (copies c (locals_after c l x) rest) p (statement_copy_found c l x p) (λ b. subst (λ m. Among (copies c m rest) p) (scope_behind c x l b.0 b.1) (copy_found c b.0 rest p b.2)) h
 
   pub statement_copy_found : (c : Names) (l : Locals) (x : Statement) (p : ℕ) → StatementCopied c l x p → Among (statement_copies c l x) p
   statement_copy_found c l (statement at line form) p h = statement_form_copy_found c l form p h
@@ -260,7 +260,7 @@ mutual
 mutual
   pub loop_use_found : (c : Names) (l : Locals) (x : Statements) (p : ℕ) → InLoop c l x p → Among (loop_uses c l x) p
   loop_use_found c l no_statements p h = absurd h
-  loop_use_found c l (statements x rest) p h = append_found (statement_loop_uses c l x) (loop_uses c (statement_scope c l x) rest) p (statement_loop_use_found c l x p) (λ b. subst (λ m. Among (loop_uses c m rest) p) (scope_behind c x l b.0 b.1) (loop_use_found c b.0 rest p b.2)) h
+  loop_use_found c l (statements x rest) p h = append_found (statement_loop_uses c l x) (loop_uses c (locals_after c l x) rest) p (statement_loop_use_found c l x p) (λ b. subst (λ m. Among (loop_uses c m rest) p) (scope_behind c x l b.0 b.1) (loop_use_found c b.0 rest p b.2)) h
 
   pub statement_loop_use_found : (c : Names) (l : Locals) (x : Statement) (p : ℕ) → StatementInLoop c l x p → Among (statement_loop_uses c l x) p
   statement_loop_use_found c l (statement at line form) p h = statement_form_loop_use_found c l form p h
@@ -353,7 +353,7 @@ value_copy_sound l (Some e) p h = pick_name_sound l e p h
 mutual
   pub copy_sound : (result : Option ValueKind) (c : Names) (l : Locals) (x : Statements) (p : ℕ) → StatementsTyped c result l x → Among (copies c l x) p → Copied c l x p
   copy_sound result c l no_statements p typed h = absurd h
-  copy_sound result c l (statements x rest) p typed h = append_sound (statement_copies c l x) (copies c (statement_scope c l x) rest) p (statement_copy_sound result c l x p typed.0 typed.1) (λ i. (typed.0, typed_behind c result x l typed.0 typed.1, copy_sound result c typed.0 rest p typed.2 (subst (λ m. Among (copies c m rest) p) (sym (scope_behind c x l typed.0 (typed_behind c result x l typed.0 typed.1))) i))) h
+  copy_sound result c l (statements x rest) p typed h = append_sound (statement_copies c l x) (copies c (locals_after c l x) rest) p (statement_copy_sound result c l x p typed.0 typed.1) (λ i. (typed.0, typed_behind c result x l typed.0 typed.1, copy_sound result c typed.0 rest p typed.2 (subst (λ m. Among (copies c m rest) p) (sym (scope_behind c x l typed.0 (typed_behind c result x l typed.0 typed.1))) i))) h
 
   pub statement_copy_sound : (result : Option ValueKind) (c : Names) (l : Locals) (x : Statement) (p : ℕ) → (l' : Locals) → StatementTyped c result l x l' → Among (statement_copies c l x) p → StatementCopied c l x p
   statement_copy_sound result c l (statement at line form) p l' typed h = statement_form_copy_sound result c l form p l' typed h
@@ -461,7 +461,7 @@ mutual
 mutual
   pub loop_use_sound : (result : Option ValueKind) (c : Names) (l : Locals) (x : Statements) (p : ℕ) → StatementsTyped c result l x → Among (loop_uses c l x) p → InLoop c l x p
   loop_use_sound result c l no_statements p typed h = absurd h
-  loop_use_sound result c l (statements x rest) p typed h = append_sound (statement_loop_uses c l x) (loop_uses c (statement_scope c l x) rest) p (statement_loop_use_sound result c l x p typed.0 typed.1) (λ i. (typed.0, typed_behind c result x l typed.0 typed.1, loop_use_sound result c typed.0 rest p typed.2 (subst (λ m. Among (loop_uses c m rest) p) (sym (scope_behind c x l typed.0 (typed_behind c result x l typed.0 typed.1))) i))) h
+  loop_use_sound result c l (statements x rest) p typed h = append_sound (statement_loop_uses c l x) (loop_uses c (locals_after c l x) rest) p (statement_loop_use_sound result c l x p typed.0 typed.1) (λ i. (typed.0, typed_behind c result x l typed.0 typed.1, loop_use_sound result c typed.0 rest p typed.2 (subst (λ m. Among (loop_uses c m rest) p) (sym (scope_behind c x l typed.0 (typed_behind c result x l typed.0 typed.1))) i))) h
 
   pub statement_loop_use_sound : (result : Option ValueKind) (c : Names) (l : Locals) (x : Statement) (p : ℕ) → (l' : Locals) → StatementTyped c result l x l' → Among (statement_loop_uses c l x) p → StatementInLoop c l x p
   statement_loop_use_sound result c l (statement at line form) p l' typed h = statement_form_loop_use_sound result c l form p l' typed h

@@ -9,10 +9,11 @@ use Rattle.merge_decl.specs.Names.{Name, same}
 use Rattle.merge_decl.specs.Table.{find}
 use Rattle.merge_decl.proofs.Tables.{same_equal}
 use Rattle.rev_kinds.specs.Kinds.{Names, Locals}
+use Rattle.rev_types.specs.Scopes.{locals_after}
 use Rattle.rev_types.specs.Judgement.{StatementTyped, StatementFormTyped, StatementsTyped, ArmsTyped}
 use Rattle.rev_affine.specs.Live.{statement_passes}
 use Rattle.rev_affine.specs.Affine.{Occurrence, use_of, gets, expression_occurrences, expressions_occurrences, right_side_occurrences, Turns, Through, StatementThrough, StatementFormThrough, ArmsThrough, Inside, StatementInside, StatementFormInside, ArmsInside, NoValue, UsedTwice}
-use Rattle.rev_affine.specs.SecondUses.{expression_places, expressions_places, right_side_places, ahead, statement_ahead, statement_form_ahead, arms_ahead, if_rev, expression_twice, expressions_twice, right_side_twice, statement_scope, twice, statement_twice, statement_form_twice, arms_twice}
+use Rattle.rev_affine.specs.SecondUses.{expression_places, expressions_places, right_side_places, ahead, statement_ahead, statement_form_ahead, arms_ahead, if_rev, expression_twice, expressions_twice, right_side_twice, twice, statement_twice, statement_form_twice, arms_twice}
 use Rattle.rev_affine.proofs.Paths.{nil_right_side, no_values, expression_split, expression_no_value, expressions_before, right_side_before, inside_nil, inside_rest, inside_here, statement_pass}
 use Rattle.rev_affine.proofs.Exact.{FoundAt, TwiceAt, LeftAt, among_split, scope_is}
 
@@ -292,15 +293,15 @@ module _ (c : Names) (result : Option ValueKind) (pl : ℕ) where
     statements_sound : (s : Statements) (l : Locals) (K : Name → List ℕ) → StatementsTyped c result l s → Among (twice c l s K) pl → Sec (Inside c l s) ⊎ Thr (Through c l s) K
     statements_sound no_statements l K typed h = absurd h
     statements_sound (statements x rest) l K typed h =
-        by (among_split (statement_twice c l x (λ n. ahead n rest (K n))) (cond (statement_passes x) (twice c (statement_scope c l x) rest K) []) pl h) (λ i. statement_sound x l typed.0 (λ n. ahead n rest (K n)) typed.1 i) (λ i. statements_sound rest typed.0 K typed.2 i)
+        by (among_split (statement_twice c l x (λ n. ahead n rest (K n))) (cond (statement_passes x) (twice c (locals_after c l x) rest K) []) pl h) (λ i. statement_sound x l typed.0 (λ n. ahead n rest (K n)) typed.1 i) (λ i. statements_sound rest typed.0 K typed.2 i)
       where
-        behind : (d : Bool) → statement_passes x ≡ d → Among (cond d (twice c (statement_scope c l x) rest K) []) pl → (Among (twice c typed.0 rest K) pl → Sec (Inside c typed.0 rest) ⊎ Thr (Through c typed.0 rest) K) → Sec (Inside c l (statements x rest)) ⊎ Thr (Through c l (statements x rest)) K
+        behind : (d : Bool) → statement_passes x ≡ d → Among (cond d (twice c (locals_after c l x) rest K) []) pl → (Among (twice c typed.0 rest K) pl → Sec (Inside c typed.0 rest) ⊎ Thr (Through c typed.0 rest) K) → Sec (Inside c l (statements x rest)) ⊎ Thr (Through c l (statements x rest)) K
         behind false e i go = absurd i
         behind true e i go =
             let m = statement_pass c result x l typed.0 typed.1 e in
             from_rest x rest l typed.0 m.0 K m.1 (go (subst (λ y. Among (twice c y rest K) pl) (sym (scope_is c x l typed.0 m.0 m.1)) i))
 
-        by : Among (statement_twice c l x (λ n. ahead n rest (K n))) pl ⊎ Among (cond (statement_passes x) (twice c (statement_scope c l x) rest K) []) pl → (Among (statement_twice c l x (λ n. ahead n rest (K n))) pl → Sec (StatementInside c l x) ⊎ Thr (StatementThrough c l x typed.0) (λ n. ahead n rest (K n)))
+        by : Among (statement_twice c l x (λ n. ahead n rest (K n))) pl ⊎ Among (cond (statement_passes x) (twice c (locals_after c l x) rest K) []) pl → (Among (statement_twice c l x (λ n. ahead n rest (K n))) pl → Sec (StatementInside c l x) ⊎ Thr (StatementThrough c l x typed.0) (λ n. ahead n rest (K n)))
             → (Among (twice c typed.0 rest K) pl → Sec (Inside c typed.0 rest) ⊎ Thr (Through c typed.0 rest) K) → Sec (Inside c l (statements x rest)) ⊎ Thr (Through c l (statements x rest)) K
         by (inl a) f g = from_statement x rest l typed.0 K typed.2 (f a)
         by (inr b) f g = behind (statement_passes x) refl b g

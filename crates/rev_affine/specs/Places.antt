@@ -9,9 +9,9 @@ use Rattle.merge_decl.specs.Least.{least}
 use Rattle.merge_decl.specs.Table.{find}
 use Rattle.rev_kinds.specs.declared.names.Holder.{Holder}
 use Rattle.rev_kinds.specs.Kinds.{Names, Locals}
-use Rattle.rev_types.specs.Scopes.{outside, with_params}
+use Rattle.rev_types.specs.Scopes.{locals_after, outside, with_params}
 use Rattle.rev_affine.specs.Affine.{Breach, Breakage, number, copied, stored, used_twice, in_loop}
-use Rattle.rev_affine.specs.SecondUses.{if_rev, statement_scope, twice}
+use Rattle.rev_affine.specs.SecondUses.{if_rev, twice}
 
 -- behind an assignment to this shared variable, if it is of kind rev
 abbrev pub if_stores : Option Holder → List ℕ → List ℕ
@@ -90,7 +90,7 @@ value_copies l (Some e) = pick_names l e
 abbrev mutual
   pub copies : Names → Locals → Statements → List ℕ
   copies c l no_statements = []
-  copies c l (statements x rest) = statement_copies c l x ++ copies c (statement_scope c l x) rest
+  copies c l (statements x rest) = statement_copies c l x ++ copies c (locals_after c l x) rest
 
   pub statement_copies : Names → Locals → Statement → List ℕ
   statement_copies c l (statement at line form) = statement_form_copies c l form
@@ -203,7 +203,7 @@ abbrev mutual
 abbrev mutual
   pub loop_uses : Names → Locals → Statements → List ℕ
   loop_uses c l no_statements = []
-  loop_uses c l (statements x rest) = statement_loop_uses c l x ++ loop_uses c (statement_scope c l x) rest
+  loop_uses c l (statements x rest) = statement_loop_uses c l x ++ loop_uses c (locals_after c l x) rest
 
   pub statement_loop_uses : Names → Locals → Statement → List ℕ
   statement_loop_uses c l (statement at line form) = statement_form_loop_uses c l form

@@ -1,14 +1,14 @@
 -- The places of second uses, as a function.
 --
 -- `ahead` lists where a path uses a name before it gets a value, `twice` where a use of a rev local can follow another.
--- `statement_scope` is what is in scope behind a statement.
 use Rattle.std.specs.Prelude.{ℕ, cond, if◌then◌else◌, List, [], ◌∷◌, ◌++◌, Option, Some, None}
 use Rattle.rev_num.specs.declared.value.ValueKind.{ValueKind}
 use Rattle.rev_num.specs.declared.value.ValueKind.TheVariants as k
 use Rattle.rev_syntax.specs.Trees.{Expression, placed, ExpressionForm, int, bool, no_rev, var, cell, apply, input, inputs, pick, unary, chain, Expressions, no_expressions, expression, RightSide, plain, called, forked, tried, Statement, statement, StatementForm, bind, assign, assign_cell, choose, choose_or, repeat, call, return, fork, join, print, assert, Statements, no_statements, statements, Arms, no_arms, arm}
 use Rattle.merge_decl.specs.Names.{Name, same}
-use Rattle.merge_decl.specs.Table.{find, added}
-use Rattle.rev_kinds.specs.Kinds.{Names, Locals, right_side_kind}
+use Rattle.merge_decl.specs.Table.{find}
+use Rattle.rev_kinds.specs.Kinds.{Names, Locals}
+use Rattle.rev_types.specs.Scopes.{locals_after}
 use Rattle.rev_affine.specs.Live.{statement_passes}
 
 -- ---- uses of a name
@@ -110,29 +110,12 @@ abbrev pub value_twice : Locals → Option Expression → List ℕ
 value_twice l None = []
 value_twice l (Some e) = []
 
-abbrev pub statement_form_scope : Names → Locals → StatementForm → Locals
-statement_form_scope c l (bind w r) = added l w.text (right_side_kind c l r)
-statement_form_scope c l (assign w r) = l
-statement_form_scope c l (assign_cell w index e) = l
-statement_form_scope c l (choose arms) = l
-statement_form_scope c l (choose_or arms last) = l
-statement_form_scope c l (repeat test body) = l
-statement_form_scope c l (call w args) = l
-statement_form_scope c l (return e) = l
-statement_form_scope c l (fork w args) = l
-statement_form_scope c l (join handle) = l
-statement_form_scope c l (print items) = l
-statement_form_scope c l (assert test) = l
-
-abbrev pub statement_scope : Names → Locals → Statement → Locals
-statement_scope c l (statement at line form) = statement_form_scope c l form
-
 -- the places of second uses in the statements, behind which these places use a name
 abbrev mutual
   pub twice : Names → Locals → Statements → (Name → List ℕ) → List ℕ
   twice c l no_statements K = []
   twice c l (statements x rest) K =
-      statement_twice c l x (λ n. ahead n rest (K n)) ++ cond (statement_passes x) (twice c (statement_scope c l x) rest K) []
+      statement_twice c l x (λ n. ahead n rest (K n)) ++ cond (statement_passes x) (twice c (locals_after c l x) rest K) []
 
   pub statement_twice : Names → Locals → Statement → (Name → List ℕ) → List ℕ
   statement_twice c l (statement at line form) K = statement_form_twice c l form K
