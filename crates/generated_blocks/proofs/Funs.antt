@@ -50,6 +50,7 @@ use Rattle.generated_blocks.proofs.Weights.{IsPaid, count_both, need_both, depth
 use Rattle.generated_blocks.proofs.Params.{params_mean, take_front}
 use Rattle.generated_blocks.proofs.Bodies.{value_kept, whole_have}
 use Rattle.code_generation.proofs.BlockRules.{kinds_length}
+use Rattle.code_certificate.proofs.Basics.{get_last}
 use Rattle.code_generation.proofs.BlockPlaces.{Stand, first_stands, rest_stands}
 
 -- ---- lists
@@ -58,12 +59,6 @@ get_more : {A : Type 0} (xs : List A) (y : A) (j : ℕ) → j < length xs → sl
 get_more [] y j h = absurd (omega (arith, h))
 get_more (x ∷ xs) y zero h = refl
 get_more (x ∷ xs) y (suc j) h = get_more xs y j (omega (arith, h))
-
-get_last : {A : Type 0} (xs : List A) (y : A) (j : ℕ) → length xs ≡ j → slice_get (xs ++ y ∷ []) j ≡ Some y
-get_last [] y zero h = refl
-get_last [] y (suc j) h = absurd (omega (arith, h))
-get_last (x ∷ xs) y zero h = absurd (omega (arith, h))
-get_last (x ∷ xs) y (suc j) h = get_last xs y j (omega (arith, h))
 
 pub with_none : {A : Type 0} (xs : List A) → xs ++ [] ≡ xs
 with_none [] = refl

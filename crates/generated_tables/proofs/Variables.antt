@@ -29,6 +29,7 @@ use Rattle.code_generation.specs.Numbers.{Numbers, merge_number}
 use Rattle.code_generation.specs.Generated.{value_word, merge_entry, var_of, merge_block, value_blocks}
 use Rattle.code_generation.proofs.Merges.{among_front, among_last, counted, merge_known}
 use Rattle.generated_tables.proofs.Names.{name_well}
+use Rattle.code_generation.proofs.Naming.{get_left}
 use Rattle.code_generation.proofs.BlockRules.{both}
 
 -- ---- cells and start values
@@ -100,11 +101,6 @@ funs_both (fun w ps r body ∷ xs) ys = let r = funs_both xs ys in omega (arith,
 funs_both (merge w m j r body ∷ xs) ys = let r = funs_both xs ys in omega (arith, r)
 funs_both (shared x ∷ xs) ys = funs_both xs ys
 funs_both (proc w ps r body ∷ xs) ys = funs_both xs ys
-
-get_left : {A : Type 0} (xs ys : List A) (j : ℕ) (x : A) → slice_get xs j ≡ Some x → slice_get (xs ++ ys) j ≡ Some x
-get_left [] ys j x h = absurd (let z : None ≡ Some x = h in cc)
-get_left (y ∷ xs) ys zero x h = h
-get_left (y ∷ xs) ys (suc j) x h = get_left xs ys j x h
 
 -- what was passed is among what stands before, with one more
 more : (before passed : List Declaration) (x : Declaration) → ((e : Declaration) → Among passed e → Among before e) → (e : Declaration) → Among (x ∷ passed) e → Among (before ++ x ∷ []) e

@@ -1,12 +1,8 @@
 -- Each program has a trace, and all its traces have one text.
 use Rattle.std.proofs.Common.{◌≡◌, ◌∙◌, refl, sym, subst, ap, List, [], ◌∷◌, ℕ}
-use Rattle.std.specs.Prelude.{◌++◌, map, codes, Option, Some, None}
-use Rattle.std.specs.Fmt.{decimal}
+use Rattle.std.specs.Prelude.{◌++◌, map, Option, Some, None}
 use Rattle.std.specs.List.{flat_map}
 use Rattle.rev_num.specs.Path.{Path}
-use Rattle.rev_num.specs.Text.{path_text}
-use Rattle.rev_num.specs.declared.outcome.Cause.{Cause}
-use Rattle.rev_num.specs.declared.outcome.Cause.TheVariants as cause
 use Rattle.revision_machine.specs.Machine.{Complete, Global, Live, Reached, Twice}
 use Rattle.revision_machine.proofs.Ends.{unique_end}
 use Rattle.revision_calculus.specs.Program.{Setting}
@@ -16,12 +12,10 @@ use Rattle.revision_calculus.specs.Complete.{start_of}
 use Rattle.revision_calculus.specs.Kinded.{IsAccepted}
 use Rattle.revision_calculus.proofs.Meets.{counts}
 use Rattle.revision_calculus.proofs.Outcomes.{one_outcome}
-use Rattle.trace_diagram.specs.Lines.{cause_text, change_text, end_text, event_text, fuel_text, head_text, quoted}
-use Rattle.trace_diagram.specs.Shown.{cause_shown, end_shown, shown_part}
-use Rattle.trace_diagram.specs.Traces.{ended, first_line, part_lines, text_lines, trace_text}
+use Rattle.trace_diagram.specs.Shown.{shown_part}
+use Rattle.trace_diagram.proofs.OneText.{lines_shown}
+use Rattle.trace_diagram.specs.Traces.{ended, first_line, part_lines, trace_text}
 use Rattle.trace_diagram.specs.declared.diagram.Part.{Part}
-use Rattle.trace_diagram.specs.declared.diagram.PartEnd.{PartEnd}
-use Rattle.trace_diagram.specs.declared.diagram.PartEnd.TheVariants as part_end
 use Rattle.trace_diagram.specs.declared.diagram.Trace.{Trace}
 use Rattle.audit_rules.specs.Traces.{InPostOrder, IsTrace, SameTrace}
 use Rattle.audit_rules.proofs.Listed.{end_has_trace}
@@ -54,32 +48,10 @@ module _ (s : Setting) (fuel : ℕ) where
 
 -- ---- a text does not tell the number of a merge's location
 
-cause_told : (c : Cause) (place : List ℕ) → cause_text (cause_shown c) place ≡ cause_text c place
-cause_told cause.Overflow place = refl
-cause_told cause.ZeroDivisor place = refl
-cause_told cause.Index place = refl
-cause_told cause.Assert place = refl
-cause_told cause.JoinNone place = refl
-cause_told cause.CallDepth place = refl
-cause_told cause.Spent place = refl
-cause_told (cause.Merge n f) place = refl
-
-end_told : (e : PartEnd) → end_text (end_shown e) ≡ end_text e
-end_told part_end.Done = refl
-end_told (part_end.Trapped t place) =
-    ap (λ (x : List ℕ). codes "end " ++ (x ++ (codes " at line " ++ (decimal t.line ++ (codes " in revision " ++ path_text t.origin)))))
-    (cause_told t.cause place)
-
-lines_told : (p : Part) → part_lines (shown_part p) ≡ part_lines p
-lines_told p =
-    ap (λ (x : List ℕ). head_text p.path
-    ∷ (map event_text p.events ++ (x ∷ fuel_text p.fuel ∷ (map change_text p.written ++ map quoted (text_lines p.text)))))
-    (end_told p.end)
-
 all_told : (ps : List Part) → flat_map part_lines (map shown_part ps) ≡ flat_map part_lines ps
 all_told [] = refl
 all_told (p ∷ ps) =
-    ap (λ (x : List (List ℕ)). x ++ flat_map part_lines (map shown_part ps)) (lines_told p)
+    ap (λ (x : List (List ℕ)). x ++ flat_map part_lines (map shown_part ps)) (lines_shown p)
     ∙ ap (λ (x : List (List ℕ)). part_lines p ++ x) (all_told ps)
 
 same_text : (t u : Trace) → SameTrace t.parts u.parts → trace_text t ≡ trace_text u

@@ -1,4 +1,4 @@
--- Segments, and the references of holders to them, as plain data.
+-- Segments, and the references of holders to them, as plain data. Sums are those of list_sums.
 -- A segment is named by a number from 1 on; 0 names none.
 --   Seg            free, building by a holder with a delta so far, or live with a delta, a parent,
 --   a count
@@ -6,10 +6,11 @@
 --   refs k c       the references to c: in all lists, and the live segments whose parent it is
 --   Counted k      each live count is the number of references and at least 1
 --   base_of        the words of initial under the deltas along the parents
-use Rattle.std.specs.Prelude.{◌≡◌, ℕ, zero, suc, ◌+◌, ◌<◌, List, [], ◌∷◌, cond, ◌==◌, Option, None}
+use Rattle.std.specs.Prelude.{◌≡◌, ℕ, zero, suc, ◌+◌, ◌<◌, List, [], ◌∷◌, Option, None}
 use Rattle.std.specs.Prelude.{Some}
 use mathlib.Core.Option as m
 use lib.ListN.{get_elem?}
+pub use Rattle.list_sums.specs.Sums.{total, is_at, times}
 
 pub data Seg : Type 0 where
   free : Seg
@@ -20,17 +21,6 @@ pub record Core : Type 0 where
   pub segs : List Seg
   pub lists : List (List ℕ)
   pub locations : ℕ
-
--- f of each, added up
-abbrev pub total : {A : Type 0} → (A → ℕ) → List A → ℕ
-total f [] = 0
-total f (x ∷ xs) = f x + total f xs
-
-abbrev pub is_at : ℕ → ℕ → ℕ
-is_at c p = cond (p == c) 1 0
-
-abbrev pub times : ℕ → List ℕ → ℕ
-times c xs = total (is_at c) xs
 
 -- 1 where the segment's parent is c
 abbrev pub up_is : ℕ → Seg → ℕ

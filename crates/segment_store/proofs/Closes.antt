@@ -15,14 +15,9 @@ use Rattle.segment_store.specs.declared.board.View.{View}
 use Rattle.segment_store.specs.Store.{building, refs_in, refs, builds, held}
 use Rattle.seg_core.specs.Core.{total, is_at}
 use Rattle.segment_store.specs.Store.{IsSegment, Kept}
-use Rattle.seg_core.proofs.Sums.{total_one, total_two, is_at_other}
+use Rattle.seg_core.proofs.Sums.{total_one, total_two, total_zero, is_at_other}
 
 module _ {A : Type 0} (f : A → ℕ) where
-  total_zero : (l : List A) → ((i : ℕ) (a : A) → get_elem? l i ≡ some a → f a ≡ 0) → total f l ≡ 0
-  total_zero [] h = refl
-  total_zero (x ∷ xs) h = let a = h zero x refl in let b = total_zero xs (λ i. h (suc i)) in
-      omega arith
-
   -- a sum above 0 has a part above 0
   pub total_some : (l : List A) → 0 < total f l → (i : ℕ) × (a : A) × (get_elem? l i ≡ some a)
       × (0 < f a)

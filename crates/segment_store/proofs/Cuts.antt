@@ -14,8 +14,7 @@ use Rattle.segment_store.specs.Store.{refs_in, refs, builds, held}
 use Rattle.segment_store.specs.Store.{Knows, Kept}
 use Rattle.segment_store.specs.Store.{hands_left, hands_right}
 use Rattle.segment_store.specs.Store.{parts_left, gathers}
-use Rattle.segment_store.proofs.Sums.{total_snoc}
-use Rattle.seg_core.proofs.Sums.{total_set}
+use Rattle.seg_core.proofs.Sums.{total_set, total_snoc}
 use Rattle.seg_core.proofs.Sums.{is_at_other}
 use Rattle.segment_store.proofs.Frames.{counts_as}
 

@@ -1,4 +1,4 @@
--- Sums over the views, words by segment and offset, and chains.
+-- Words by segment and offset, and chains.
 use Rattle.std.proofs.Common.{◌≡◌, ℕ, ◌+◌, ◌%◌, ◌<◌, ◌≤◌, ◌≢◌, cond, List, [], ◌∷◌}
 use Rattle.std.proofs.Common.{◌++◌, sym, refl, ◌∙◌, subst, arith, ⊎_elim, eq-eqb, ne_eqb}
 use mathlib.Core.Logic.{dite}
@@ -6,12 +6,6 @@ use native.Mathlib.Decide.{dec_le}
 use Rattle.segment_store.specs.Entry.{Entry}
 use Rattle.atomic_table.proofs.Lists.{one_turn}
 use Rattle.segment_store.specs.Store.{first_of, refs_in, Chain, Has}
-use Rattle.seg_core.specs.Core.{total}
-
-module _ {A : Type 0} (f : A → ℕ) where
-  pub total_snoc : (l : List A) (w : A) → total f (l ++ w ∷ []) ≡ total f l + f w
-  total_snoc [] w = omega arith
-  total_snoc (x ∷ xs) w = let r = total_snoc xs w in omega arith
 
 -- a chain that begins with the segment c refers to it
 pub refs_is : (c x : ℕ) (es : List Entry) → 0 < first_of es → first_of es ≡ c

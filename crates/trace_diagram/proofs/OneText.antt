@@ -310,7 +310,7 @@ end_told part_end.Done = refl
 end_told (part_end.Trapped t p) =
     ap (λ v. codes "end " ++ (v ++ where_text (record { path = t.origin; line = t.line }))) (cause_told t.cause p)
 
-lines_shown : (p : Part) → part_lines (shown_part p) ≡ part_lines p
+pub lines_shown : (p : Part) → part_lines (shown_part p) ≡ part_lines p
 lines_shown p =
     ap (λ v. head_text p.path ∷ (map event_text p.events ++ (v ∷ fuel_text p.fuel ∷ (map change_text p.written ++ map quoted (text_lines p.text))))) (end_told p.end)
 

@@ -3,7 +3,7 @@ use Rattle.std.specs.Prelude.{nat_lt, slice_get}
 use Rattle.std.proofs.lemmas.Bool.Decides.{nat_tests}
 use Rattle.std.proofs.lemmas.Option.{get_or_from_slice_get}
 use Rattle.block_merges.proofs.room.most_room.Goals as goal
-use Rattle.code_certificate.proofs.Basics.{some_within}
+use Rattle.code_soundness.proofs.Lists.{some_within}
 
 pub loop-n-preserved : goal.loop-n-preserved
 loop-n-preserved c =
