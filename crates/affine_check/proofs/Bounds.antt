@@ -16,10 +16,6 @@ pub or-false : (a : Bool) → (a || false) ≡ a
 or-false true = refl
 or-false false = refl
 
-pub or-true : (a : Bool) → (a || true) ≡ true
-or-true true = refl
-or-true false = refl
-
 -- ---- bounds
 
 le_first : (P R a p b q : ℕ) → is_less b q a p ≡ true → cond (is_less P R b q) false true ≡ (cond (is_less P R a p) false true || cond (is_less P R b q) false true)

@@ -23,10 +23,10 @@ use Rattle.affine_check.specs.declared.fault.AffineFault.{AffineFault}
 use Rattle.affine_check.specs.declared.fault.AffineFault.TheVariants.{Copied, Stored, UsedTwice, InLoop, OutOfMemory}
 use Rattle.affine_check.specs.Faults.{place, rank, Refuses}
 use Rattle.affine_check.specs.Walk.{Fault, both, misused, broken_in, misused_params, broken_body, broken_declaration, broken_declarations, broken_in_program}
-use Rattle.affine_check.proofs.Bounds.{or-assoc, or-false, upto, meets, any, any-append, meets-both}
+use Rattle.affine_check.proofs.Bounds.{or-assoc, or-false, upto, meets, any, meets-both}
 use Rattle.affine_check.proofs.Found.{copy, store, handles_arms, broken_is}
-use Rattle.affine_check.proofs.Handles.{Holds, either, left, right, never, arm_both, both_hold, pass, IsHandle, SomeHandle, Closed, was_handle, scope_free, scope_of, twice_in, twice_left, twice_right, none_append, follows, looped, trails, trails_of, misuse_is, misuse_of, free_ahead, complete, sound}
-use Rattle.affine_check.proofs.InLoops.{loops_in, loops_left, loops_behind, loops_complete, loops_sound}
+use Rattle.affine_check.proofs.Handles.{Holds, either, left, right, never, arm_both, both_hold, pass, IsHandle, SomeHandle, Closed, was_handle, scope_free, scope_of, twice_in, any_either, any_left, any_right, none_append, follows, looped, trails, trails_of, misuse_is, misuse_of, free_ahead, complete, sound}
+use Rattle.affine_check.proofs.InLoops.{loops_in, loops_complete, loops_sound}
 
 -- a breach as a fault
 abbrev pub fault_of : Breach → ℕ → AffineFault
@@ -54,10 +54,10 @@ module _ (last_place last_rank : ℕ) (c : Names) where
 
   -- of two parts
   joined : (first : Bool) (ps qs rs ss : List ℕ) → (Twice first ps ⊎ Loops rs) ⊎ (Twice first qs ⊎ Loops ss) → Twice first (ps ++ qs) ⊎ Loops (rs ++ ss)
-  joined first ps qs rs ss (inl (inl t)) = inl (t.0, twice_left last_place last_rank ps qs t.1)
-  joined first ps qs rs ss (inl (inr u)) = inr (loops_left last_place last_rank rs ss u)
-  joined first ps qs rs ss (inr (inl t)) = inl (t.0, twice_right last_place last_rank ps qs t.1)
-  joined first ps qs rs ss (inr (inr u)) = inr (loops_behind last_place last_rank rs ss u)
+  joined first ps qs rs ss (inl (inl t)) = inl (t.0, any_left last_place last_rank (λ at. UsedTwice at) ps qs t.1)
+  joined first ps qs rs ss (inl (inr u)) = inr (any_left last_place last_rank (λ at. InLoop at) rs ss u)
+  joined first ps qs rs ss (inr (inl t)) = inl (t.0, any_right last_place last_rank (λ at. UsedTwice at) ps qs t.1)
+  joined first ps qs rs ss (inr (inr u)) = inr (any_right last_place last_rank (λ at. InLoop at) rs ss u)
 
   each_of : {P Q : Type 0} (a b : Bool) → (Holds a → P) → (Holds b → Q) → Holds (a || b) → P ⊎ Q
   each_of {P} {Q} a b f g h = by (either a b h)
@@ -67,11 +67,11 @@ module _ (last_place last_rank : ℕ) (c : Names) where
       by (inr i) = inr (g i)
 
   behind_first : (l : Locals) (first : Bool) (x : Statement) (rest : Statements) (K : Name → List ℕ) → InTrail l first x rest K → Twice first (twice c l (statements x rest) K) ⊎ Loops (loop_uses c l (statements x rest))
-  behind_first l first x rest K (inl (inl t)) = inl (t.0, twice_left last_place last_rank (statement_twice c l x (λ n. ahead n rest (K n))) (cond (statement_passes x) (twice c (locals_after c l x) rest K) []) t.1)
+  behind_first l first x rest K (inl (inl t)) = inl (t.0, any_left last_place last_rank (λ at. UsedTwice at) (statement_twice c l x (λ n. ahead n rest (K n))) (cond (statement_passes x) (twice c (locals_after c l x) rest K) []) t.1)
   behind_first l first x rest K (inl (inr t)) =
-      inl (t.0, twice_right last_place last_rank (statement_twice c l x (λ n. ahead n rest (K n))) (cond (statement_passes x) (twice c (locals_after c l x) rest K) []) (pass last_place last_rank c (statement_passes x) (twice c (locals_after c l x) rest K) t.1 t.2))
-  behind_first l first x rest K (inr (inl u)) = inr (loops_left last_place last_rank (statement_loop_uses c l x) (loop_uses c (locals_after c l x) rest) u)
-  behind_first l first x rest K (inr (inr u)) = inr (loops_behind last_place last_rank (statement_loop_uses c l x) (loop_uses c (locals_after c l x) rest) u)
+      inl (t.0, any_right last_place last_rank (λ at. UsedTwice at) (statement_twice c l x (λ n. ahead n rest (K n))) (cond (statement_passes x) (twice c (locals_after c l x) rest K) []) (pass last_place last_rank c (statement_passes x) (twice c (locals_after c l x) rest K) t.1 t.2))
+  behind_first l first x rest K (inr (inl u)) = inr (any_left last_place last_rank (λ at. InLoop at) (statement_loop_uses c l x) (loop_uses c (locals_after c l x) rest) u)
+  behind_first l first x rest K (inr (inr u)) = inr (any_right last_place last_rank (λ at. InLoop at) (statement_loop_uses c l x) (loop_uses c (locals_after c l x) rest) u)
 
   behind_rest : (l : Locals) (first : Bool) (x : Statement) (rest : Statements) (K : Name → List ℕ) → Twice (first && statement_passes x) (twice c (locals_after c l x) rest K) ⊎ Loops (loop_uses c (locals_after c l x) rest) → InTrail l first x rest K
   behind_rest l first x rest K (inl t) = let q = both_hold first (statement_passes x) t.0 in inl (inr (q.0, q.1, t.1))
@@ -96,7 +96,7 @@ module _ (last_place last_rank : ℕ) (c : Names) where
 
   of_turns : {Q R : Type 0} (l : Locals) (body : Statements) (K : Name → List ℕ) (first : Bool) → Twice first (twice c l body K) ⊎ Loops (loop_uses c l body) → (Twice first (twice c l body K) ⊎ Q) ⊎ (Loops (outer_uses l body ++ loop_uses c l body) ⊎ R)
   of_turns l body K first (inl t) = inl (inl t)
-  of_turns l body K first (inr u) = inr (inl (loops_behind last_place last_rank (outer_uses l body) (loop_uses c l body) u))
+  of_turns l body K first (inr u) = inr (inl (any_right last_place last_rank (λ at. InLoop at) (outer_uses l body) (loop_uses c l body) u))
 
   mutual
     trails_sound : (result : Option ValueKind) (l : Locals) (xs : Statements) (first : Bool) (K : Name → List ℕ) → StatementsTyped c result l xs → Closed last_place last_rank c l K → Holds (trails last_place last_rank c l first xs) → Twice first (twice c l xs K) ⊎ Loops (loop_uses c l xs)
@@ -265,22 +265,13 @@ module _ (last_place last_rank : ℕ) (c : Names) where
   declarations_are f (e ∷ es) =
       declarations_are (both f (broken_declaration c e)) es ∙ ap (λ b. b || declarations_found es) (found_both f (broken_declaration c e)) ∙ or-assoc (found_at f) (found_at (broken_declaration c e)) (declarations_found es)
 
-  hit_either : (b : Breach) (xs ys : List ℕ) → Holds (hit b (xs ++ ys)) → Holds (hit b xs) ⊎ Holds (hit b ys)
-  hit_either b xs ys h = either (hit b xs) (hit b ys) (sym (any-append last_place last_rank (fault_of b) xs ys) ∙ h)
-
-  hit_left : (b : Breach) (xs ys : List ℕ) → Holds (hit b xs) → Holds (hit b (xs ++ ys))
-  hit_left b xs ys h = any-append last_place last_rank (fault_of b) xs ys ∙ left (hit b xs) (hit b ys) h
-
-  hit_right : (b : Breach) (xs ys : List ℕ) → Holds (hit b ys) → Holds (hit b (xs ++ ys))
-  hit_right b xs ys h = any-append last_place last_rank (fault_of b) xs ys ∙ right (hit b xs) (hit b ys) h
-
   declarations_complete : (inner : Names) (before es : List Declaration) (b : Breach) → DeclarationsTyped c inner before es → Holds (hit b (declarations_places c es b)) → Holds (declarations_found es)
   declarations_complete inner before [] b typed h = never h
   declarations_complete inner before (fun w ps r body ∷ es) b typed h = declarations_complete inner (fun w ps r body ∷ before) es b typed.1 h
   declarations_complete inner before (merge w m j r body ∷ es) b typed h = declarations_complete inner (merge w m j r body ∷ before) es b typed.1 h
   declarations_complete inner before (shared x ∷ es) b typed h = declarations_complete inner (shared x ∷ before) es b typed.1 h
   declarations_complete inner before (proc w ps r body ∷ es) b typed h =
-      arm_both (hit_either b (body_places c (with_params [] ps) body b) (declarations_places c es b) h)
+      arm_both (any_either last_place last_rank (fault_of b) (body_places c (with_params [] ps) body b) (declarations_places c es b) h)
       (λ i. left (found_at (broken_body c ps body)) (declarations_found es) (body_complete r ps body b typed.0.body i))
       (λ i. right (found_at (broken_body c ps body)) (declarations_found es) (declarations_complete inner (proc w ps r body ∷ before) es b typed.1 i))
 
@@ -294,8 +285,8 @@ module _ (last_place last_rank : ℕ) (c : Names) where
   declarations_sound inner before (shared x ∷ es) typed h = declarations_sound inner (shared x ∷ before) es typed.1 h
   declarations_sound inner before (proc w ps r body ∷ es) typed h =
       arm_both (either (found_at (broken_body c ps body)) (declarations_found es) h)
-      (λ i. let u = body_sound r ps body typed.0.body i in (u.0, hit_left u.0 (body_places c (with_params [] ps) body u.0) (declarations_places c es u.0) u.1))
-      (λ i. let u = declarations_sound inner (proc w ps r body ∷ before) es typed.1 i in (u.0, hit_right u.0 (body_places c (with_params [] ps) body u.0) (declarations_places c es u.0) u.1))
+      (λ i. let u = body_sound r ps body typed.0.body i in (u.0, any_left last_place last_rank (fault_of u.0) (body_places c (with_params [] ps) body u.0) (declarations_places c es u.0) u.1))
+      (λ i. let u = declarations_sound inner (proc w ps r body ∷ before) es typed.1 i in (u.0, any_right last_place last_rank (fault_of u.0) (body_places c (with_params [] ps) body u.0) (declarations_places c es u.0) u.1))
 
 -- ---- programs
 
@@ -311,15 +302,15 @@ module _ (last_place last_rank : ℕ) (p : ProgramTree) (typed : ProgramTyped p)
   program_complete : (b : Breach) → Holds (any last_place last_rank (fault_of b) (places p b)) → Holds (meets last_place last_rank (broken_in_program p))
   program_complete b h =
       program_is
-      ∙ arm_both (hit_either last_place last_rank outer b (declarations_places outer p.declarations b) (body_places outer [] p.main b) h)
+      ∙ arm_both (any_either last_place last_rank (fault_of b) (declarations_places outer p.declarations b) (body_places outer [] p.main b) h)
       (λ i. left (declarations_found last_place last_rank outer p.declarations) (meets last_place last_rank (broken_body outer [] p.main)) (declarations_complete last_place last_rank outer (within p.declarations) [] p.declarations b typed.declarations i))
       (λ i. right (declarations_found last_place last_rank outer p.declarations) (meets last_place last_rank (broken_body outer [] p.main)) (body_complete last_place last_rank outer None [] p.main b typed.main i))
 
   program_sound : Holds (meets last_place last_rank (broken_in_program p)) → (b : Breach) × Holds (any last_place last_rank (fault_of b) (places p b))
   program_sound h =
       arm_both (either (declarations_found last_place last_rank outer p.declarations) (meets last_place last_rank (broken_body outer [] p.main)) (sym program_is ∙ h))
-      (λ i. let u = declarations_sound last_place last_rank outer (within p.declarations) [] p.declarations typed.declarations i in (u.0, hit_left last_place last_rank outer u.0 (declarations_places outer p.declarations u.0) (body_places outer [] p.main u.0) u.1))
-      (λ i. let u = body_sound last_place last_rank outer None [] p.main typed.main i in (u.0, hit_right last_place last_rank outer u.0 (declarations_places outer p.declarations u.0) (body_places outer [] p.main u.0) u.1))
+      (λ i. let u = declarations_sound last_place last_rank outer (within p.declarations) [] p.declarations typed.declarations i in (u.0, any_left last_place last_rank (fault_of u.0) (declarations_places outer p.declarations u.0) (body_places outer [] p.main u.0) u.1))
+      (λ i. let u = body_sound last_place last_rank outer None [] p.main typed.main i in (u.0, any_right last_place last_rank (fault_of u.0) (declarations_places outer p.declarations u.0) (body_places outer [] p.main u.0) u.1))
 
 -- ---- the first
 

@@ -17,9 +17,10 @@ use Rattle.rev_affine.specs.Live.{statement_passes}
 use Rattle.rev_affine.specs.SecondUses.{expression_places, expressions_places, right_side_places, value_places, ahead, statement_ahead, statement_form_ahead, arms_ahead, if_rev, expression_twice, expressions_twice, right_side_twice, value_twice, twice, statement_twice, statement_form_twice, arms_twice}
 use Rattle.rev_affine.proofs.Places.{scope_behind, typed_behind}
 use Rattle.rev_affine.proofs.Meaning.{kept, still_free}
+use Rattle.affine_check.specs.declared.fault.AffineFault.{AffineFault}
 use Rattle.affine_check.specs.declared.fault.AffineFault.TheVariants.{UsedTwice}
 use Rattle.affine_check.specs.Walk.{is_handle, named, start, trail, misused}
-use Rattle.affine_check.proofs.Bounds.{meets, any-append}
+use Rattle.affine_check.proofs.Bounds.{meets, any, any-append}
 use Rattle.affine_check.proofs.Trails.{second, after_use, again_args, again_right, again, again_statement, again_form, again_arms, loops, misuse}
 use Rattle.affine_check.proofs.Found.{handles, handles_statement, handles_form, handles_arms}
 
@@ -175,20 +176,31 @@ module _ (last_place last_rank : ℕ) where
   abbrev pub looped : Name → Bool → Statements → Bool
   looped n inside xs = loops last_place last_rank n inside xs
 
-  twice_append : (xs ys : List ℕ) → twice_in (xs ++ ys) ≡ (twice_in xs || twice_in ys)
-  twice_append xs ys = any-append last_place last_rank (λ at. UsedTwice at) xs ys
+  -- places of two lists, as faults of one kind
+  module _ (make : ℕ → AffineFault) where
+    abbrev pub OneOf : List ℕ → Type 0
+    OneOf ps = Holds (any last_place last_rank make ps)
 
-  twice_either : (xs ys : List ℕ) → Holds (twice_in (xs ++ ys)) → Holds (twice_in xs) ⊎ Holds (twice_in ys)
-  twice_either xs ys h = either (twice_in xs) (twice_in ys) (sym (twice_append xs ys) ∙ h)
+    pub any_either : (xs ys : List ℕ) → OneOf (xs ++ ys) → OneOf xs ⊎ OneOf ys
+    any_either xs ys h = either (any last_place last_rank make xs) (any last_place last_rank make ys) (sym (any-append last_place last_rank make xs ys) ∙ h)
 
-  pub twice_left : (xs ys : List ℕ) → Holds (twice_in xs) → Holds (twice_in (xs ++ ys))
-  twice_left xs ys h = twice_append xs ys ∙ left (twice_in xs) (twice_in ys) h
+    pub any_left : (xs ys : List ℕ) → OneOf xs → OneOf (xs ++ ys)
+    any_left xs ys h = any-append last_place last_rank make xs ys ∙ left (any last_place last_rank make xs) (any last_place last_rank make ys) h
 
-  pub twice_right : (xs ys : List ℕ) → Holds (twice_in ys) → Holds (twice_in (xs ++ ys))
-  twice_right xs ys h = twice_append xs ys ∙ right (twice_in xs) (twice_in ys) h
+    pub any_right : (xs ys : List ℕ) → OneOf ys → OneOf (xs ++ ys)
+    any_right xs ys h = any-append last_place last_rank make xs ys ∙ right (any last_place last_rank make xs) (any last_place last_rank make ys) h
+
+    -- from those of a block, or of the blocks behind it and what else there is
+    pub any_arms : {P Q R : Type 0} (xs ys : List ℕ) → P ⊎ Q → (P → OneOf xs) → (Q → OneOf ys ⊎ R) → OneOf (xs ++ ys) ⊎ R
+    any_arms xs ys (inl i) f g = inl (any_left xs ys (f i))
+    any_arms {P} {Q} {R} xs ys (inr i) f g = by (g i)
+      where
+        by : OneOf ys ⊎ R → OneOf (xs ++ ys) ⊎ R
+        by (inl j) = inl (any_right xs ys j)
+        by (inr j) = inr j
 
   pub none_append : (xs ys : List ℕ) → twice_in xs ≡ false → twice_in ys ≡ false → twice_in (xs ++ ys) ≡ false
-  none_append xs ys p q = twice_append xs ys ∙ (λ i. p i || q i)
+  none_append xs ys p q = any-append last_place last_rank (λ at. UsedTwice at) xs ys ∙ (λ i. p i || q i)
 
   -- ---- a name that means nothing is used nowhere
 
@@ -313,7 +325,7 @@ module _ (last_place last_rank : ℕ) where
 
     args_complete : (l : Locals) (xs : Expressions) (K : Name → List ℕ) → Holds (twice_in (expressions_twice l xs K)) → SomeHandle l (λ n. behind_args n xs (K n))
     args_complete l no_expressions K h = never h
-    args_complete l (expression x xs) K h = by (twice_either (expression_twice l x (λ n. expressions_places n xs ++ K n)) (expressions_twice l xs K) h) (args_complete l xs K)
+    args_complete l (expression x xs) K h = by (any_either (λ at. UsedTwice at) (expression_twice l x (λ n. expressions_places n xs ++ K n)) (expressions_twice l xs K) h) (args_complete l xs K)
       where
         by : Holds (twice_in (expression_twice l x (λ n. expressions_places n xs ++ K n))) ⊎ Holds (twice_in (expressions_twice l xs K)) → (Holds (twice_in (expressions_twice l xs K)) → SomeHandle l (λ n. behind_args n xs (K n))) → SomeHandle l (λ n. behind_args n (expression x xs) (K n))
         by (inl i) rest = let u = use_complete l x (λ n. expressions_places n xs ++ K n) i in (u.0, u.1, left (behind_use u.0 x (expressions_places u.0 xs ++ K u.0)) (behind_args u.0 xs (K u.0)) u.2)
@@ -324,8 +336,8 @@ module _ (last_place last_rank : ℕ) where
     args_sound l (expression x xs) K n is h = by (either (behind_use n x (expressions_places n xs ++ K n)) (behind_args n xs (K n)) h) (args_sound l xs K n is)
       where
         by : Holds (behind_use n x (expressions_places n xs ++ K n)) ⊎ Holds (behind_args n xs (K n)) → (Holds (behind_args n xs (K n)) → Holds (twice_in (expressions_twice l xs K))) → Holds (twice_in (expressions_twice l (expression x xs) K))
-        by (inl i) rest = twice_left (expression_twice l x (λ m. expressions_places m xs ++ K m)) (expressions_twice l xs K) (use_sound l x (λ m. expressions_places m xs ++ K m) n is i)
-        by (inr i) rest = twice_right (expression_twice l x (λ m. expressions_places m xs ++ K m)) (expressions_twice l xs K) (rest i)
+        by (inl i) rest = any_left (λ at. UsedTwice at) (expression_twice l x (λ m. expressions_places m xs ++ K m)) (expressions_twice l xs K) (use_sound l x (λ m. expressions_places m xs ++ K m) n is i)
+        by (inr i) rest = any_right (λ at. UsedTwice at) (expression_twice l x (λ m. expressions_places m xs ++ K m)) (expressions_twice l xs K) (rest i)
 
     abbrev behind_right : Name → RightSide → List ℕ → Bool
     behind_right n r later = again_right last_place last_rank n r later
@@ -417,7 +429,7 @@ module _ (last_place last_rank : ℕ) where
         → (Holds (twice_in (statement_twice c l x (λ n. ahead n rest (K n)))) → SomeHandle l (λ n. follows_statement n x (ahead n rest (K n))) ⊎ Holds (trails_of l true rest x))
         → (Holds (twice_in (twice c (locals_after c l x) rest K)) → SomeHandle (locals_after c l x) (λ n. follows n rest (K n)) ⊎ Holds (trails (locals_after c l x) true rest))
         → Holds (twice_in (twice c l (statements x rest) K)) → InStatements l x rest K
-    complete_both l x rest K none first behind h = by (twice_either (statement_twice c l x (λ n. ahead n rest (K n))) (cond (statement_passes x) (twice c (locals_after c l x) rest K) []) h)
+    complete_both l x rest K none first behind h = by (any_either (λ at. UsedTwice at) (statement_twice c l x (λ n. ahead n rest (K n))) (cond (statement_passes x) (twice c (locals_after c l x) rest K) []) h)
       where
         here : SomeHandle l (λ n. follows_statement n x (ahead n rest (K n))) ⊎ Holds (trails_of l true rest x) → InStatements l x rest K
         here (inl u) = inl (u.0, u.1, left (follows_statement u.0 x (ahead u.0 rest (K u.0))) (statement_passes x && follows u.0 rest (K u.0)) u.2)
@@ -439,7 +451,7 @@ module _ (last_place last_rank : ℕ) where
         → (Holds (twice_in (twice c l body K)) → SomeHandle l (λ n. follows n body (K n)) ⊎ Holds (trails l true body))
         → (Holds (twice_in (arms_twice c l rest K)) → SomeHandle l (λ n. follows_arms n rest (others n) (K n)) ⊎ Holds (trails_in l true rest))
         → Holds (twice_in (twice c l body K ++ arms_twice c l rest K)) → InArms l body rest others K
-    arms_both l body rest others K first behind h = by (twice_either (twice c l body K) (arms_twice c l rest K) h)
+    arms_both l body rest others K first behind h = by (any_either (λ at. UsedTwice at) (twice c l body K) (arms_twice c l rest K) h)
       where
         here : SomeHandle l (λ n. follows n body (K n)) ⊎ Holds (trails l true body) → InArms l body rest others K
         here (inl u) = inl (u.0, u.1, left (follows u.0 body (K u.0)) (follows_arms u.0 rest (others u.0) (K u.0)) u.2)
@@ -457,7 +469,7 @@ module _ (last_place last_rank : ℕ) where
         → (Holds (twice_in (arms_twice c l arms K)) → SomeHandle l (λ n. follows_arms n arms (follows n last (K n)) (K n)) ⊎ Holds (trails_in l true arms))
         → (Holds (twice_in (twice c l last K)) → SomeHandle l (λ n. follows n last (K n)) ⊎ Holds (trails l true last))
         → Holds (twice_in (arms_twice c l arms K ++ twice c l last K)) → InLast l arms last K
-    last_both l arms last K first behind h = by (twice_either (arms_twice c l arms K) (twice c l last K) h)
+    last_both l arms last K first behind h = by (any_either (λ at. UsedTwice at) (arms_twice c l arms K) (twice c l last K) h)
       where
         here : SomeHandle l (λ n. follows_arms n arms (follows n last (K n)) (K n)) ⊎ Holds (trails_in l true arms) → InLast l arms last K
         here (inl u) = inl u
@@ -508,18 +520,10 @@ module _ (last_place last_rank : ℕ) where
         → (Holds (follows_statement n x (ahead n rest (K n))) → Holds (twice_in (statement_twice c l x (λ m. ahead m rest (K m)))))
         → (Holds (follows n rest (K n)) → Holds (twice_in (twice c (locals_after c l x) rest K)))
         → Holds (twice_in (twice c l (statements x rest) K))
-    sound_both l x rest K n (inl i) first behind = twice_left (statement_twice c l x (λ m. ahead m rest (K m))) (cond (statement_passes x) (twice c (locals_after c l x) rest K) []) (first i)
+    sound_both l x rest K n (inl i) first behind = any_left (λ at. UsedTwice at) (statement_twice c l x (λ m. ahead m rest (K m))) (cond (statement_passes x) (twice c (locals_after c l x) rest K) []) (first i)
     sound_both l x rest K n (inr i) first behind =
         let q = both_hold (statement_passes x) (follows n rest (K n)) i in
-        twice_right (statement_twice c l x (λ m. ahead m rest (K m))) (cond (statement_passes x) (twice c (locals_after c l x) rest K) []) (pass (statement_passes x) (twice c (locals_after c l x) rest K) q.0 (behind q.1))
-
-    of_arms : {P Q R : Type 0} (xs ys : List ℕ) → P ⊎ Q → (P → Holds (twice_in xs)) → (Q → Holds (twice_in ys) ⊎ R) → Holds (twice_in (xs ++ ys)) ⊎ R
-    of_arms xs ys (inl i) f g = inl (twice_left xs ys (f i))
-    of_arms {P} {Q} {R} xs ys (inr i) f g = by (g i)
-      where
-        by : Holds (twice_in ys) ⊎ R → Holds (twice_in (xs ++ ys)) ⊎ R
-        by (inl j) = inl (twice_right xs ys j)
-        by (inr j) = inr j
+        any_right (λ at. UsedTwice at) (statement_twice c l x (λ m. ahead m rest (K m))) (cond (statement_passes x) (twice c (locals_after c l x) rest K) []) (pass (statement_passes x) (twice c (locals_after c l x) rest K) q.0 (behind q.1))
 
     mutual
       pub sound : (l : Locals) (xs : Statements) (K : Name → List ℕ) (n : Name) → IsHandle l n → Holds (follows n xs (K n)) → Holds (twice_in (twice c l xs K))
@@ -537,7 +541,7 @@ module _ (last_place last_rank : ℕ) where
       sound_form l (assign_cell w index e) K n is h = never h
       sound_form l (choose arms) K n is h = arm_both (sound_arms l arms K n is false h) (λ i. i) (λ i. never i)
       sound_form l (choose_or arms last) K n is h =
-          arm_both (sound_arms l arms K n is (follows n last (K n)) h) (λ i. twice_left (arms_twice c l arms K) (twice c l last K) i) (λ i. twice_right (arms_twice c l arms K) (twice c l last K) (sound l last K n is i))
+          arm_both (sound_arms l arms K n is (follows n last (K n)) h) (λ i. any_left (λ at. UsedTwice at) (arms_twice c l arms K) (twice c l last K) i) (λ i. any_right (λ at. UsedTwice at) (arms_twice c l arms K) (twice c l last K) (sound l last K n is i))
       sound_form l (repeat test body) K n is h = sound l body (λ m. ahead m body [] ++ K m) n is h
       sound_form l (call w args) K n is h = args_sound l args K n is h
       sound_form l (return e) K n is h = never h
@@ -549,4 +553,4 @@ module _ (last_place last_rank : ℕ) where
       sound_arms : (l : Locals) (xs : Arms) (K : Name → List ℕ) (n : Name) → IsHandle l n → (other : Bool) → Holds (follows_arms n xs other (K n)) → Holds (twice_in (arms_twice c l xs K)) ⊎ Holds other
       sound_arms l no_arms K n is other h = inr h
       sound_arms l (arm test body rest) K n is other h =
-          of_arms (twice c l body K) (arms_twice c l rest K) (either (follows n body (K n)) (follows_arms n rest other (K n)) h) (λ i. sound l body K n is i) (λ i. sound_arms l rest K n is other i)
+          any_arms (λ at. UsedTwice at) (twice c l body K) (arms_twice c l rest K) (either (follows n body (K n)) (follows_arms n rest other (K n)) h) (λ i. sound l body K n is i) (λ i. sound_arms l rest K n is other i)

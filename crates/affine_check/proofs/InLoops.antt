@@ -15,26 +15,14 @@ use Rattle.rev_affine.specs.SecondUses.{if_rev}
 use Rattle.rev_affine.specs.Places.{use_places, uses_places, right_side_use_places, value_use_places, outer_uses, statement_outer_uses, statement_form_outer_uses, arms_outer_uses, loop_uses, statement_loop_uses, statement_form_loop_uses, arms_loop_uses}
 use Rattle.affine_check.specs.declared.fault.AffineFault.TheVariants.{InLoop}
 use Rattle.affine_check.specs.Walk.{named}
-use Rattle.affine_check.proofs.Bounds.{or-false, upto, any, any-append}
+use Rattle.affine_check.proofs.Bounds.{or-false, upto, any}
 use Rattle.affine_check.proofs.Trails.{in_loop, loops_args, loops_right, loops_value, loops, loops_statement, loops_form, loops_arms}
 use Rattle.affine_check.proofs.Found.{handles_form, handles_arms}
-use Rattle.affine_check.proofs.Handles.{Holds, either, left, right, never, arm_both, IsHandle, SomeHandle, Binds, scope_handle, scope_was, follows, bound_trail, trails, trails_of}
+use Rattle.affine_check.proofs.Handles.{Holds, either, left, right, never, arm_both, any_either, any_left, any_right, any_arms, IsHandle, SomeHandle, Binds, scope_handle, scope_was, follows, bound_trail, trails, trails_of}
 
 module _ (last_place last_rank : ℕ) where
   abbrev pub loops_in : List ℕ → Bool
   loops_in ps = any last_place last_rank (λ at. InLoop at) ps
-
-  loops_append : (xs ys : List ℕ) → loops_in (xs ++ ys) ≡ (loops_in xs || loops_in ys)
-  loops_append xs ys = any-append last_place last_rank (λ at. InLoop at) xs ys
-
-  loops_either : (xs ys : List ℕ) → Holds (loops_in (xs ++ ys)) → Holds (loops_in xs) ⊎ Holds (loops_in ys)
-  loops_either xs ys h = either (loops_in xs) (loops_in ys) (sym (loops_append xs ys) ∙ h)
-
-  pub loops_left : (xs ys : List ℕ) → Holds (loops_in xs) → Holds (loops_in (xs ++ ys))
-  loops_left xs ys h = loops_append xs ys ∙ left (loops_in xs) (loops_in ys) h
-
-  pub loops_behind : (xs ys : List ℕ) → Holds (loops_in ys) → Holds (loops_in (xs ++ ys))
-  loops_behind xs ys h = loops_append xs ys ∙ right (loops_in xs) (loops_in ys) h
 
   loop_use : (l : Locals) (x : Expression) → Holds (loops_in (use_places l x)) → SomeHandle l (λ n. in_loop last_place last_rank n true (named n x))
   loop_use l (placed at (int z)) h = never h
@@ -79,14 +67,14 @@ module _ (last_place last_rank : ℕ) where
   merged l P Q (inr u) = (u.0, u.1, right (P u.0) (Q u.0) u.2)
 
   each_loop : {A B : Type 0} (xs ys : List ℕ) → (Holds (loops_in xs) → A) → (Holds (loops_in ys) → B) → Holds (loops_in (xs ++ ys)) → A ⊎ B
-  each_loop {A} {B} xs ys f g h = by (loops_either xs ys h)
+  each_loop {A} {B} xs ys f g h = by (any_either last_place last_rank (λ at. InLoop at) xs ys h)
     where
       by : Holds (loops_in xs) ⊎ Holds (loops_in ys) → A ⊎ B
       by (inl i) = inl (f i)
       by (inr i) = inr (g i)
 
   either_loop : (xs ys : List ℕ) (a b : Bool) → (Holds a → Holds (loops_in xs)) → (Holds b → Holds (loops_in ys)) → Holds (a || b) → Holds (loops_in (xs ++ ys))
-  either_loop xs ys a b f g h = arm_both (either a b h) (λ i. loops_left xs ys (f i)) (λ i. loops_behind xs ys (g i))
+  either_loop xs ys a b f g h = arm_both (either a b h) (λ i. any_left last_place last_rank (λ at. InLoop at) xs ys (f i)) (λ i. any_right last_place last_rank (λ at. InLoop at) xs ys (g i))
 
   loop_args : (l : Locals) (xs : Expressions) → Holds (loops_in (uses_places l xs)) → SomeHandle l (λ n. loops_args last_place last_rank n true xs)
   loop_args l no_expressions h = never h
@@ -116,14 +104,6 @@ module _ (last_place last_rank : ℕ) where
   value_in_loop : (l : Locals) (e : Option Expression) (n : Name) → IsHandle l n → Holds (loops_value last_place last_rank n true e) → Holds (loops_in (value_use_places l e))
   value_in_loop l None n is h = never h
   value_in_loop l (Some e) n is h = use_in_loop l e n is h
-
-  of_arms : {P Q R : Type 0} (xs ys : List ℕ) → P ⊎ Q → (P → Holds (loops_in xs)) → (Q → Holds (loops_in ys) ⊎ R) → Holds (loops_in (xs ++ ys)) ⊎ R
-  of_arms xs ys (inl i) f g = inl (loops_left xs ys (f i))
-  of_arms {P} {Q} {R} xs ys (inr i) f g = by (g i)
-    where
-      by : Holds (loops_in ys) ⊎ R → Holds (loops_in (xs ++ ys)) ⊎ R
-      by (inl j) = inl (loops_behind xs ys j)
-      by (inr j) = inr j
 
   widen : (a b x y : Bool) → (Holds a → Holds x) → (Holds b → Holds y) → Holds (a || b) → Holds (x || y)
   widen a b x y f g h = arm_both (either a b h) (λ i. left x y (f i)) (λ i. right x y (g i))
@@ -197,7 +177,7 @@ module _ (last_place last_rank : ℕ) where
     form_outer l (assign_cell w index e) n is h = never h
     form_outer l (choose arms) n is h = arm_both (arms_outer l arms n is false h) (λ i. i) (λ i. never i)
     form_outer l (choose_or arms last) n is h =
-        arm_both (arms_outer l arms n is (loops last_place last_rank n true last) h) (λ i. loops_left (arms_outer_uses l arms) (outer_uses l last) i) (λ i. loops_behind (arms_outer_uses l arms) (outer_uses l last) (outer_sound l last n is i))
+        arm_both (arms_outer l arms n is (loops last_place last_rank n true last) h) (λ i. any_left last_place last_rank (λ at. InLoop at) (arms_outer_uses l arms) (outer_uses l last) i) (λ i. any_right last_place last_rank (λ at. InLoop at) (arms_outer_uses l arms) (outer_uses l last) (outer_sound l last n is i))
     form_outer l (repeat test body) n is h = outer_sound l body n is h
     form_outer l (call w args) n is h = args_in_loop l args n is h
     form_outer l (return e) n is h = value_in_loop l e n is h
@@ -209,7 +189,7 @@ module _ (last_place last_rank : ℕ) where
     arms_outer : (l : Locals) (xs : Arms) (n : Name) → IsHandle l n → (other : Bool) → Holds (loops_arms last_place last_rank n true xs other) → Holds (loops_in (arms_outer_uses l xs)) ⊎ Holds other
     arms_outer l no_arms n is other h = inr h
     arms_outer l (arm test body rest) n is other h =
-        of_arms (outer_uses l body) (arms_outer_uses l rest) (either (loops last_place last_rank n true body) (loops_arms last_place last_rank n true rest other) h) (outer_sound l body n is) (arms_outer l rest n is other)
+        any_arms last_place last_rank (λ at. InLoop at) (outer_uses l body) (arms_outer_uses l rest) (either (loops last_place last_rank n true body) (loops_arms last_place last_rank n true rest other) h) (outer_sound l body n is) (arms_outer l rest n is other)
 
   -- what stands in a loop stands in one that is in another
   mutual
@@ -324,8 +304,8 @@ module _ (last_place last_rank : ℕ) where
       loops_form_sound l (assign_cell w index e) n is h = never h
       loops_form_sound l (choose arms) n is h = arm_both (loops_arms_sound l arms n is false h) (λ i. i) (λ i. never i)
       loops_form_sound l (choose_or arms last) n is h =
-          arm_both (loops_arms_sound l arms n is (loops last_place last_rank n false last) h) (λ i. loops_left (arms_loop_uses c l arms) (loop_uses c l last) i) (λ i. loops_behind (arms_loop_uses c l arms) (loop_uses c l last) (loops_sound l last n is i))
-      loops_form_sound l (repeat test body) n is h = loops_left (outer_uses l body) (loop_uses c l body) (outer_sound l body n is h)
+          arm_both (loops_arms_sound l arms n is (loops last_place last_rank n false last) h) (λ i. any_left last_place last_rank (λ at. InLoop at) (arms_loop_uses c l arms) (loop_uses c l last) i) (λ i. any_right last_place last_rank (λ at. InLoop at) (arms_loop_uses c l arms) (loop_uses c l last) (loops_sound l last n is i))
+      loops_form_sound l (repeat test body) n is h = any_left last_place last_rank (λ at. InLoop at) (outer_uses l body) (loop_uses c l body) (outer_sound l body n is h)
       loops_form_sound l (call w args) n is h = no_args n args h
       loops_form_sound l (return e) n is h = no_value n e h
       loops_form_sound l (fork w args) n is h = no_args n args h
@@ -336,4 +316,4 @@ module _ (last_place last_rank : ℕ) where
       loops_arms_sound : (l : Locals) (xs : Arms) (n : Name) → IsHandle l n → (other : Bool) → Holds (loops_arms last_place last_rank n false xs other) → Holds (loops_in (arms_loop_uses c l xs)) ⊎ Holds other
       loops_arms_sound l no_arms n is other h = inr h
       loops_arms_sound l (arm test body rest) n is other h =
-          of_arms (loop_uses c l body) (arms_loop_uses c l rest) (either (loops last_place last_rank n false body) (loops_arms last_place last_rank n false rest other) h) (loops_sound l body n is) (loops_arms_sound l rest n is other)
+          any_arms last_place last_rank (λ at. InLoop at) (loop_uses c l body) (arms_loop_uses c l rest) (either (loops last_place last_rank n false body) (loops_arms last_place last_rank n false rest other) h) (loops_sound l body n is) (loops_arms_sound l rest n is other)

@@ -1,11 +1,11 @@
 -- No two locations of a well-typed program have one place.
-use Rattle.std.proofs.Common.{◌≡◌, ◌≢◌, ◌⊎◌, inl, inr, ℕ, ℤ, pos, negsuc, zero, suc, ◌+◌, ◌<◌, ◌≤◌, Bool, true, false, cond, ◌&&◌, ◌||◌, List, [], ◌∷◌, ◌++◌, map, Option, Some, None, refl, sym, ap, ◌∙◌, subst, arith}
+use Rattle.std.proofs.Common.{◌≡◌, ◌≢◌, ◌⊎◌, inl, inr, ℕ, ℤ, pos, negsuc, zero, suc, ◌+◌, ◌<◌, ◌≤◌, Bool, true, false, cond, ◌&&◌, List, [], ◌∷◌, ◌++◌, map, Option, Some, None, refl, sym, ap, ◌∙◌, subst, arith}
 use Rattle.std.specs.Prelude.{◌^◌, codes, is_some, not}
 use Rattle.std.specs.List.{list_all}
 use Rattle.std.specs.Fmt.{decimal}
 use Rattle.std.proofs.lemmas.Fmt.{decimal_injective}
 use Rattle.std.proofs.lemmas.List.{append_cancel_right}
-use Rattle.std.proofs.lemmas.Bool.{and_parts, true≢false, leb-true}
+use Rattle.std.proofs.lemmas.Bool.{and_parts, or_left, true≢false, leb-true}
 use Rattle.rev_num.specs.declared.outcome.Shown.{Shown}
 use Rattle.rev_syntax.specs.Bytes.{is_digit, is_letter, is_name_byte, is_word}
 use Rattle.rev_syntax.specs.Words.{is_name, is_reserved}
@@ -34,10 +34,6 @@ Free (b ∷ bs) = (b ≢ 91) × Free bs
 
 no_bracket : (b : ℕ) → is_name_byte b ≡ true → b ≢ 91
 no_bracket b h e = let k : is_name_byte 91 ≡ true = subst (λ x. is_name_byte x ≡ true) e h in true≢false (sym k)
-
-or_left : (a b : Bool) → a ≡ true → (a || b) ≡ true
-or_left true b e = refl
-or_left false b e = absurd (true≢false (sym e))
 
 free_all : (bs : List ℕ) → list_all is_name_byte bs ≡ true → Free bs
 free_all [] h = tt

@@ -7,7 +7,7 @@ use Rattle.revision_machine.specs.PathMap.{PathMap}
 use Rattle.revision_machine.specs.Machine.{Entry, Global, Twice, Live}
 use Rattle.revision_machine.specs.Laws.{local_of, Census, HasAtMost, IsIn, IsDistinct}
 use Rattle.revision_machine.proofs.Census.{count_law}
-use Rattle.revision_machine.proofs.Paths.{apart-same, decide_same}
+use Rattle.revision_machine.proofs.Paths.{apart-same}
 use Rattle.rev_num.proofs.PostOrder.{same_refl}
 use Rattle.rev_num.proofs.PostOrder.{before_trans}
 use Rattle.rev_num.proofs.PostOrder.{before_total}
@@ -18,6 +18,7 @@ use Rattle.revision_calculus.proofs.Meets.{counts, pays_forks}
 use Rattle.trace_diagram.specs.declared.diagram.Part.{Part}
 use Rattle.audit_rules.specs.Parts.{part_of}
 use Rattle.audit_rules.specs.Traces.{part_at, InPostOrder, IsPartOf, IsTrace, EndHasTrace}
+use Rattle.audit_rules.proofs.Total.{decide_in}
 
 -- ---- parts in post-order
 
@@ -153,19 +154,6 @@ module _ (s : Setting) (revs : PathMap (Entry Local)) where
   listed : (rs : List Path) → Census revs rs → IsTrace s (Live revs) (parts rs)
   listed rs census = (parts_order rs census.distinct, λ r. each r (decide_in r rs))
     where
-      decide_in : (r : Path) (qs : List Path) → IsIn r qs ⊎ (IsIn r qs → ⊥)
-      decide_in r [] = inr (λ i. i)
-      decide_in r (q ∷ qs) = go (decide_same r q) (decide_in r qs)
-        where
-          go : (r ≡ q) ⊎ (r ≢ q) → IsIn r qs ⊎ (IsIn r qs → ⊥) → IsIn r (q ∷ qs) ⊎ (IsIn r (q ∷ qs) → ⊥)
-          go (inl e) later = inl (inl e)
-          go (inr apart) (inl i) = inl (inr i)
-          go (inr apart) (inr none) = inr by
-            where
-              by : IsIn r (q ∷ qs) → ⊥
-              by (inl e) = apart e
-              by (inr i) = none i
-
       gone : (r : Path) → (IsIn r rs → ⊥) → (o : Option (Entry Local)) → revs r ≡ o → o ≡ None
       gone r none None here = refl
       gone r none (Some e) here = absurd (none (census.all r e here))

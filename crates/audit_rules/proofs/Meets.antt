@@ -1,25 +1,20 @@
 -- The calculus keeps what the theorem on audits wants, and so has it.
-use Rattle.std.proofs.Common.{◌≡◌, ℕ, zero, suc, ◌+◌, ◌≤◌, Bool, true, false, ◌&&◌, List, [], ◌∷◌, ◌++◌, map, length, Option, Some, None, refl, sym, ap, ◌∙◌, subst, arith, length-append}
+use Rattle.std.proofs.Common.{◌≡◌, ℕ, ◌+◌, ◌≤◌, Bool, true, false, ◌&&◌, List, [], ◌∷◌, ◌++◌, map, length, Option, Some, None, refl, sym, ap, ◌∙◌, subst, arith}
 use Rattle.std.proofs.lemmas.Bool.{and_from, le-leb}
 use Rattle.std.proofs.lemmas.List.{length-map}
 use Rattle.std.specs.Prelude.{nat_le}
 use Rattle.rev_num.specs.Path.{Path}
-use Rattle.rev_num.specs.declared.outcome.Shown.{Shown}
-use Rattle.rev_syntax.specs.Trees.{ArraySize, SharedDeclaration, Declaration, fun, merge, shared, proc}
-use Rattle.merge_decl.specs.Names.{Name}
-use Rattle.rev_types.specs.Scopes.{cells_of}
-use Rattle.rev_types.specs.Limits.{cells}
-use Rattle.rev_types.specs.Layout.{variable_behind, variables_behind, variables}
+use Rattle.rev_types.specs.Layout.{variables}
 use Rattle.revision_machine.specs.PathMap.{PathMap}
 use Rattle.revision_machine.specs.Machine.{Moves, Forks, Joins, Ended}
 use Rattle.revision_machine.specs.Conditions.{IsKept}
 use Rattle.revision_machine.proofs.Blocked.{no_blocked_end}
 use Rattle.revision_calculus.specs.Program.{Setting}
-use Rattle.revision_calculus.specs.State.{Location, Noted, forked, joined, Phase, Local}
+use Rattle.revision_calculus.specs.State.{Noted, forked, joined, Phase, Local}
 use Rattle.revision_calculus.specs.Step.{next}
 use Rattle.revision_calculus.specs.Join.{join}
 use Rattle.revision_calculus.specs.Calculus.{main, calculus}
-use Rattle.revision_calculus.specs.Outcome.{show_cells, show_variable, show_all}
+use Rattle.revision_calculus.specs.Outcome.{show_all}
 use Rattle.revision_calculus.specs.Kept.{location_count, IsTrapBelow, IsShaped}
 use Rattle.revision_calculus.specs.Kinded.{IsAccepted, location_kinds, IsKinded}
 use Rattle.revision_calculus.specs.Held.{Holds}

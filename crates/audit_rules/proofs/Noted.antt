@@ -6,7 +6,7 @@ use Rattle.rev_num.specs.declared.value.Value.{Value}
 use Rattle.rev_num.specs.declared.value.Value.TheVariants as v
 use Rattle.rev_num.specs.declared.outcome.Cause.{Cause}
 use Rattle.rev_num.specs.declared.outcome.Cause.TheVariants as cause
-use Rattle.rev_syntax.specs.Trees.{RightSide, plain, called, tried, Statement, statement, StatementForm, bind, assign, assign_cell, choose, choose_or, repeat, call, return, fork, join, print, assert, Statements, no_statements, statements}
+use Rattle.rev_syntax.specs.Trees.{RightSide, plain, called, tried, Statement, statement, bind, assign, assign_cell, choose, choose_or, repeat, call, return, fork, join, print, assert, Statements, no_statements, statements}
 use Rattle.rev_syntax.specs.Trees as t
 use Rattle.revision_machine.specs.Machine.{Event, Moves, Forks, Joins, Ended}
 use Rattle.merge_decl.specs.Names.{Name}
@@ -16,7 +16,7 @@ use Rattle.revision_calculus.specs.Program.{variable_named, procedure_named, Set
 use Rattle.revision_calculus.specs.State.{write_at, Frame, Noted, forked, joined, Phase, running, joining, done, trapped, Local}
 use Rattle.revision_calculus.specs.Evaluation.{eval, evals, set_named, set, give, cell_location}
 use Rattle.revision_calculus.specs.Step as spec
-use Rattle.revision_calculus.specs.Step.{traps, with_answer, enter, select, most_frames, frame_of, calls, end_frame, forker, new_child, joins, item_texts, line_of, by_right, does, begins, by_rest, by_frames, by_phase, next}
+use Rattle.revision_calculus.specs.Step.{traps, with_answer, enter, select, most_frames, frame_of, calls, end_frame, forker, joins, item_texts, line_of, by_right, does, begins, by_rest, by_frames, by_phase, next}
 use Rattle.revision_calculus.specs.Join.{Composition, merged, faults, absorb, inherit, join_in, left_side, note, compose, merges_of}
 use Rattle.revision_calculus.specs.Join as whole
 

@@ -7,6 +7,7 @@ use Rattle.revision_machine.specs.Conditions.{Counts}
 use Rattle.revision_machine.specs.Laws.{IsIn}
 use Rattle.revision_machine.proofs.Paths.{some_inj, child-same}
 use Rattle.audit_rules.specs.Audited.{Telling, Computed, made, JoinedEarlier, IsTwice, taken, Alone, by_move, by_fork, by_join, Passes, at_first, then_by, Computes, ends, at_twice, at_missing, goes, Begins, of_main, of_fork, Tells}
+pub use Rattle.rev_num.proofs.Options.{none_some}
 
 pub in_front : (t : Path) (ps qs : List Path) → IsIn t ps → IsIn t (ps ++ qs)
 in_front t [] qs i = absurd i
@@ -59,9 +60,6 @@ module _ (M : Machine) where
 
   pub join_end : {Q : Type 0} {v : Event M.Local} {q : Path} → v ≡ Joins q → v ≡ Ended → Q
   join_end e f = absurd cc
-
-pub none_some : {Q : Type 0} {A : Type 0} {a : A} → None ≡ Some a → Q
-none_some e = absurd cc
 
 module _ (M : Machine) (T : Telling M) (stated : PathMap T.Part) where
   pub one_step : (r : Path) (l a b : M.Local) → Alone M T stated r l a → Alone M T stated r l b → a ≡ b

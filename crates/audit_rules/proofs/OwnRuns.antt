@@ -1,19 +1,18 @@
 -- What a revision's own run keeps, whatever is stated.
-use Rattle.std.proofs.Common.{◌≡◌, ◌⊎◌, inl, inr, ℕ, suc, ◌+◌, Bool, true, false, ◌&&◌, List, [], ◌∷◌, length, Option, Some, None, refl, sym, ap, ◌∙◌, subst, arith}
+use Rattle.std.proofs.Common.{◌≡◌, ◌⊎◌, inl, inr, ℕ, ◌+◌, Bool, true, false, ◌&&◌, [], length, Option, Some, None, refl, sym, ap, ◌∙◌, subst, arith}
 use Rattle.std.proofs.lemmas.Bool.{and_parts, leb-true}
 use Rattle.std.specs.Prelude.{nat_le}
 use Rattle.rev_num.specs.Path.{Path, child}
-use Rattle.rev_num.specs.declared.value.ValueKind.{ValueKind}
 use Rattle.rev_num.specs.declared.outcome.Trap.{Trap}
 use Rattle.revision_machine.specs.PathMap.{PathMap}
 use Rattle.revision_machine.specs.Machine.{Joins, Ended}
 use Rattle.revision_calculus.specs.Program.{Setting}
-use Rattle.revision_calculus.specs.State.{Location, Phase, done, trapped, Local}
+use Rattle.revision_calculus.specs.State.{Phase, done, trapped, Local}
 use Rattle.revision_calculus.specs.Step.{by_phase, next}
 use Rattle.revision_calculus.specs.Join.{join}
 use Rattle.revision_calculus.specs.Calculus.{main, calculus}
 use Rattle.revision_calculus.specs.Kept.{IsAtWork, IsTrapBelow, IsShaped}
-use Rattle.revision_calculus.specs.Kinded.{IsAccepted, LocationsAre, location_kinds, FramesAt, names, IsKinded}
+use Rattle.revision_calculus.specs.Kinded.{IsAccepted, location_kinds, FramesAt, names, IsKinded}
 use Rattle.revision_calculus.proofs.Joining.{JoinOk, join_forks}
 use Rattle.revision_calculus.proofs.Meets.{joins_ok, spends_forks}
 use Rattle.revision_calculus.proofs.Shapes.{shape_kept, main_shaped}
@@ -25,12 +24,7 @@ use Rattle.audit_rules.proofs.Own.{none_some}
 use Rattle.audit_rules.proofs.Told.{taken_kinded, told_is_ended, told_below}
 use Rattle.audit_rules.proofs.Apart.{places_apart}
 use Rattle.audit_rules.proofs.Meets.{places_length}
-
-pub are_length : (ts : List ValueKind) (ms : List Location) → LocationsAre ts ms → length ms ≡ length ts
-are_length [] [] h = refl
-are_length [] (m ∷ ms) h = absurd h
-are_length (t ∷ ts) [] h = absurd h
-are_length (t ∷ ts) (m ∷ ms) h = ap suc (are_length ts ms h.1)
+pub use Rattle.revision_calculus.proofs.LocationKinds.{are_length}
 
 module _ (s : Setting) (well : IsAccepted s.program) (fuel : ℕ) where
   pub same_length : length (places s) ≡ length (location_kinds s)

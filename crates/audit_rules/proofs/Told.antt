@@ -14,10 +14,11 @@ use Rattle.merge_decl.specs.Names.{Name, same}
 use Rattle.merge_decl.specs.Least.{Among}
 use Rattle.rev_kinds.specs.Kinds.{same_kind}
 use Rattle.rev_num.proofs.PostOrder.{same_refl, same-eq}
-use Rattle.revision_calculus.specs.Program.{zero_value, Setting}
+use Rattle.revision_calculus.specs.Program.{Setting}
 use Rattle.revision_calculus.specs.State.{Location, Phase, running, joining, done, trapped, Local}
 use Rattle.revision_calculus.specs.Kinded.{IsOf, IsOfIfAny, location_kinds, LocationsAre, LocationIs}
 use Rattle.revision_calculus.specs.Kept.{IsFaultBelow, IsTrapBelow}
+use Rattle.revision_calculus.proofs.LocationKinds.{zero_is}
 use Rattle.joined_ends.specs.Ends.{SameWrite, AllSame}
 use Rattle.trace_diagram.specs.declared.diagram.Part.{Part}
 use Rattle.trace_diagram.specs.declared.diagram.Change.{Change}
@@ -216,11 +217,6 @@ same_kinds kind.Bool kind.Rev e = absurd (true≢false (sym e))
 same_kinds kind.Rev kind.Int e = absurd (true≢false (sym e))
 same_kinds kind.Rev kind.Bool e = absurd (true≢false (sym e))
 same_kinds kind.Rev kind.Rev e = refl
-
-zero_is : (t : ValueKind) → IsOf t (zero_value t)
-zero_is kind.Int = refl
-zero_is kind.Bool = refl
-zero_is kind.Rev = refl
 
 -- each of these that has one of the places is of the kind there
 abbrev Fit : List (List ℕ) → List ValueKind → List Change → Type 0

@@ -19,21 +19,15 @@ use Rattle.audit_rules.specs.Audited.{Computed, IsComputed, Shows, IsTraceOf}
 use Rattle.trace_diagram.specs.declared.diagram.Part.{Part}
 use Rattle.trace_diagram.specs.Shown.{shown_part}
 use Rattle.audit_rules.specs.Parts.{part_of, calculus_parts}
-use Rattle.audit_rules.specs.Traces.{part_at, paths_of, Always, EachIsComputed, HasVerdict, InPostOrder, IsPartOf, IsTold, IsTrace, SameTrace, TraceHasYes, VerdictIsOne, YesTells}
+use Rattle.audit_rules.specs.Traces.{part_at, paths_of, Always, EachIsComputed, HasVerdict, InPostOrder, IsPartOf, IsTold, IsTrace, SameStated, SameTrace, TraceHasYes, VerdictIsOne, YesTells}
 use Rattle.audit_rules.proofs.Own.{none_some}
 use Rattle.audit_rules.proofs.Meets.{IsFit, tells, yes_is_true, trace_is_yes, one_computed, one_verdict}
 use Rattle.audit_rules.proofs.Total.{computed}
 use Rattle.audit_rules.proofs.Decided.{verdict}
 use Rattle.audit_rules.proofs.SameParts.{same_part}
 
-abbrev Alike : Option Part → Option Part → Type 0
-Alike None None = Unit {0}
-Alike None (Some q) = ⊥
-Alike (Some p) None = ⊥
-Alike (Some p) (Some q) = shown_part p ≡ shown_part q
-
-abbrev AllAlike : List Part → List Part → Type 0
-AllAlike ps qs = (r : Path) → Alike (part_at ps r) (part_at qs r)
+abbrev pub AllAlike : List Part → List Part → Type 0
+AllAlike ps qs = (r : Path) → SameStated (part_at ps r) (part_at qs r)
 
 at_head : (p : Part) (ps : List Part) → part_at (p ∷ ps) p.path ≡ Some p
 at_head p ps = ap (λ b. cond b (Some p) (part_at ps p.path)) (same_refl p.path)
@@ -67,14 +61,14 @@ behind p q ps qs alike order apart = go (part_at qs p.path) refl
     there : part_at (q ∷ qs) p.path ≡ part_at qs p.path
     there = at_tail q qs p.path (λ e. apart (sym e))
 
-    both : Alike (Some p) (part_at qs p.path)
-    both = subst (λ v. Alike v (part_at qs p.path)) (at_head p ps) (subst (Alike (part_at (p ∷ ps) p.path)) there (alike p.path))
+    both : SameStated (Some p) (part_at qs p.path)
+    both = subst (λ v. SameStated v (part_at qs p.path)) (at_head p ps) (subst (SameStated (part_at (p ∷ ps) p.path)) there (alike p.path))
 
     go : (o : Option Part) → part_at qs p.path ≡ o → before q.path p.path ≡ true
-    go None e = absurd (subst (Alike (Some p)) e both)
+    go None e = absurd (subst (SameStated (Some p)) e both)
     go (Some x) e = let h = found qs p.path x e in subst (λ v. before q.path v ≡ true) h.1 (order.0 x h.0)
 
-alike_sym : (o u : Option Part) → Alike o u → Alike u o
+alike_sym : (o u : Option Part) → SameStated o u → SameStated u o
 alike_sym None None h = tt
 alike_sym None (Some q) h = absurd h
 alike_sym (Some p) None h = absurd h
@@ -82,8 +76,8 @@ alike_sym (Some p) (Some q) h = sym h
 
 same_list : (ps qs : List Part) → InPostOrder ps → InPostOrder qs → AllAlike ps qs → SameTrace ps qs
 same_list [] [] a b h = refl
-same_list [] (q ∷ qs) a b h = absurd (subst (Alike None) (at_head q qs) (h q.path))
-same_list (p ∷ ps) [] a b h = absurd (subst (λ v. Alike v None) (at_head p ps) (h p.path))
+same_list [] (q ∷ qs) a b h = absurd (subst (SameStated None) (at_head q qs) (h q.path))
+same_list (p ∷ ps) [] a b h = absurd (subst (λ v. SameStated v None) (at_head p ps) (h p.path))
 same_list (p ∷ ps) (q ∷ qs) a b h = go (λ k. same_list ps qs a.1 b.1 k) (decide_same p.path q.path)
   where
     go : (AllAlike ps qs → SameTrace ps qs) → (p.path ≡ q.path) ⊎ (p.path ≢ q.path) → SameTrace (p ∷ ps) (q ∷ qs)
@@ -93,20 +87,20 @@ same_list (p ∷ ps) (q ∷ qs) a b h = go (λ k. same_list ps qs a.1 b.1 k) (de
         absurd (before_irrefl p.path (before_trans p.path q.path p.path two one))
     go later (inl e) =
         let here : part_at (q ∷ qs) p.path ≡ Some q = ap (part_at (q ∷ qs)) e ∙ at_head q qs in
-        let first : shown_part p ≡ shown_part q = subst (λ v. Alike v (Some q)) (at_head p ps) (subst (Alike (part_at (p ∷ ps) p.path)) here (h p.path)) in
+        let first : shown_part p ≡ shown_part q = subst (λ v. SameStated v (Some q)) (at_head p ps) (subst (SameStated (part_at (p ∷ ps) p.path)) here (h p.path)) in
         let rest : SameTrace ps qs = later (λ r. tails r (decide_same p.path r)) in
         λ i. first i ∷ rest i
       where
-        tails : (r : Path) → (p.path ≡ r) ⊎ (p.path ≢ r) → Alike (part_at ps r) (part_at qs r)
+        tails : (r : Path) → (p.path ≡ r) ⊎ (p.path ≢ r) → SameStated (part_at ps r) (part_at qs r)
         tails r (inl pr) =
             let none_p : part_at ps r ≡ None = ap (part_at ps) (sym pr) ∙ none_behind p ps a in
             let none_q : part_at qs r ≡ None = ap (part_at qs) (sym pr ∙ e) ∙ none_behind q qs b in
-            subst (λ v. Alike v (part_at qs r)) (sym none_p) (subst (Alike None) (sym none_q) tt)
+            subst (λ v. SameStated v (part_at qs r)) (sym none_p) (subst (SameStated None) (sym none_q) tt)
         tails r (inr apart) =
-            subst (λ v. Alike v (part_at qs r)) (at_tail p ps r apart) (subst (Alike (part_at (p ∷ ps) r)) (at_tail q qs r (λ f. apart (e ∙ f))) (h r))
+            subst (λ v. SameStated v (part_at qs r)) (at_tail p ps r apart) (subst (SameStated (part_at (p ∷ ps) r)) (at_tail q qs r (λ f. apart (e ∙ f))) (h r))
 
 -- lists with one text have alike parts
-lists_alike : (ps qs : List Part) → SameTrace ps qs → AllAlike ps qs
+pub lists_alike : (ps qs : List Part) → SameTrace ps qs → AllAlike ps qs
 lists_alike [] [] e r = tt
 lists_alike [] (q ∷ qs) e r = absurd cc
 lists_alike (p ∷ ps) [] e r = absurd cc
@@ -121,14 +115,14 @@ lists_alike (p ∷ ps) (q ∷ qs) e r = go (same p.path r) (same q.path r) (ap (
     paths : p.path ≡ q.path
     paths = ap (λ v. v.path) first
 
-    go : (b c : Bool) → b ≡ c → Alike (part_at ps r) (part_at qs r) → Alike (cond b (Some p) (part_at ps r)) (cond c (Some q) (part_at qs r))
+    go : (b c : Bool) → b ≡ c → SameStated (part_at ps r) (part_at qs r) → SameStated (cond b (Some p) (part_at ps r)) (cond c (Some q) (part_at qs r))
     go true true f later = first
     go true false f later = absurd (true≢false f)
     go false true f later = absurd (true≢false (sym f))
     go false false f later = later
 
 module _ (s : Setting) (fuel : ℕ) where
-  shows_alike : (r : Path) (o u : Option Part) (e : Option (Entry Local)) → Shows (calculus s) (calculus_parts s fuel) (main s fuel) (λ p. None) r o e → IsPartOf s r u e → Alike o u
+  shows_alike : (r : Path) (o u : Option Part) (e : Option (Entry Local)) → Shows (calculus s) (calculus_parts s fuel) (main s fuel) (λ p. None) r o e → IsPartOf s r u e → SameStated o u
   shows_alike r None None None a b = tt
   shows_alike r None (Some q) None a b = absurd b
   shows_alike r None u (Some e) a b = absurd a
@@ -136,7 +130,7 @@ module _ (s : Setting) (fuel : ℕ) where
   shows_alike r (Some p) None (Some e) a b = absurd b
   shows_alike r (Some p) (Some q) (Some e) a b = a ∙ sym (ap shown_part b)
 
-  alike_shows : (r : Path) (o u : Option Part) (e : Option (Entry Local)) → Alike o u → IsPartOf s r u e → Shows (calculus s) (calculus_parts s fuel) (main s fuel) (λ p. None) r o e
+  alike_shows : (r : Path) (o u : Option Part) (e : Option (Entry Local)) → SameStated o u → IsPartOf s r u e → Shows (calculus s) (calculus_parts s fuel) (main s fuel) (λ p. None) r o e
   alike_shows r None None None a b = tt
   alike_shows r None None (Some e) a b = absurd b
   alike_shows r None (Some q) e a b = absurd a

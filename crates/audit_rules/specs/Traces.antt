@@ -40,6 +40,14 @@ abbrev pub IsTrace : Setting → Global Local → List Part → Type 0
 IsTrace s Twice ps = ⊥
 IsTrace s (Live revs) ps = InPostOrder ps × ((r : Path) → IsPartOf s r (part_at ps r) (revs r))
 
+-- two stated parts of a revision, or none, are the same but for the number of a merge's location,
+-- which their lines do not have
+abbrev pub SameStated : Option Part → Option Part → Type 0
+SameStated None None = Unit {0}
+SameStated None (Some q) = ⊥
+SameStated (Some p) None = ⊥
+SameStated (Some p) (Some q) = shown_part p ≡ shown_part q
+
 -- two traces are the same where their texts are
 abbrev pub SameTrace : List Part → List Part → Type 0
 SameTrace ps qs = map shown_part ps ≡ map shown_part qs

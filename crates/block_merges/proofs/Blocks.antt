@@ -8,8 +8,6 @@ use Rattle.rev_num.specs.declared.value.ValueKind.{ValueKind}
 use Rattle.rev_num.specs.declared.value.ValueKind.TheVariants as k
 use Rattle.rev_num.specs.declared.outcome.Cause.{Cause}
 use Rattle.rev_num.specs.Words.{int_of, word_of}
-use Rattle.rev_code.specs.declared.code.BlockClass.{BlockClass}
-use Rattle.rev_code.specs.declared.code.BlockClass.TheVariants as class
 use Rattle.rev_code.specs.declared.code.Code.{Code}
 use Rattle.rev_code.specs.declared.code.CodeBlock.{CodeBlock}
 use Rattle.rev_code.specs.declared.code.CodeVar.{CodeVar}
@@ -23,7 +21,7 @@ use Rattle.code_soundness.specs.Typed.{location_kinds}
 use Rattle.code_soundness.specs.Whole.{IsAccepted, notes_of}
 use Rattle.code_soundness.proofs.Accepting.{no_fault_accepted, no_fault_costs}
 use Rattle.code_soundness.proofs.Evaluating.{var_well, merge_kind, three_ints, merge_evaluates}
-use Rattle.code_soundness.proofs.Lists.{and_parts, kind_is, none_some, some_eq}
+use Rattle.code_soundness.proofs.Lists.{and_parts, none_some, some_eq}
 use Rattle.plain_words.specs.Agreement.{IsWord, AreWords}
 use Rattle.plain_words.proofs.Numbers as numbers
 use Rattle.block_run.specs.Area.{count}
@@ -32,7 +30,7 @@ use Rattle.fun_run.specs.Values.{HasRoom, IsArgs, IsValue}
 use Rattle.leg_run.specs.Rooms.{AreRooms}
 use Rattle.code_machine.specs.Local.{CodeRun}
 use Rattle.code_machine.specs.Joining as joining
-use Rattle.code_machine.specs.Joining.{merge_in, merges_of, merged_by, merged_there, merges, fault_of}
+use Rattle.code_machine.specs.Joining.{merge_in, merges_of, merged_by, merged_there, fault_of}
 use Rattle.block_merges.specs.Merging.{word_for, word_or_fault, int_word, merged_words, word_merges, ServesMerges, HasShortNumbers, IsMerged, IsShort, AreMergesOf, BlocksGiveTheMerges}
 use Rattle.block_merges.proofs.Short.{Fits, merge_fits, short_word}
 use Rattle.code_machine.proofs.Typing.{merged_var}

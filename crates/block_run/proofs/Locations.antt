@@ -4,7 +4,7 @@ use Rattle.rev_num.specs.Words.{int_of}
 use Rattle.rev_code.specs.declared.code.CodeBlock.{CodeBlock}
 use Rattle.rev_code.specs.Variables.{Place, cell_at}
 use Rattle.plain_words.specs.Plain as p
-use Rattle.plain_words.specs.Plain.{Run, Plain, moves, writes, faults, leaves, lacks}
+use Rattle.plain_words.specs.Plain.{Run, Plain}
 use Rattle.block_run.specs.declared.registers.Registers.{Registers}
 use Rattle.block_run.specs.declared.registers.Stop.{Stop}
 use Rattle.block_run.specs.declared.registers.Stop.TheVariants as stop

@@ -11,7 +11,7 @@ use Rattle.rev_code.specs.Words.{Word, int, bool, rev}
 use Rattle.rev_code.specs.State.{Setting, State, seen_at}
 use Rattle.rev_code.specs.Variables.{Place, scalar, array}
 use Rattle.rev_code.specs.Step as s
-use Rattle.rev_code.specs.Step.{Comes, goes, stuck, act}
+use Rattle.rev_code.specs.Step.{Comes, stuck, act}
 use Rattle.block_run.specs.Area.{taken, pushes, IsOperand}
 use Rattle.code_certificate.proofs.Basics.{some_within}
 

@@ -4,7 +4,7 @@ use Rattle.std.specs.Prelude.{Some, slice_get}
 use Rattle.std.proofs.lemmas.List.{take-set-le, drop-set-add}
 use Rattle.std.proofs.Math.Seq.{take-set-lt}
 use Rattle.rev_code.specs.declared.code.CodeBlock.{CodeBlock}
-use Rattle.plain_words.specs.Plain.{Run, Plain, moves}
+use Rattle.plain_words.specs.Plain.{Run, moves}
 use Rattle.plain_words.specs.Plain as p
 use Rattle.block_run.specs.declared.registers.Registers.{Registers}
 use Rattle.block_run.specs.declared.registers.Stop.TheVariants as stop

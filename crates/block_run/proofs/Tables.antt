@@ -1,6 +1,6 @@
 -- The table of variables has each of them.
-use Rattle.std.proofs.Common.{◌≡◌, ◌∙◌, ℕ, zero, suc, ◌+◌, ◌<◌, ◌≤◌, ◌^◌, Bool, true, false, List, [], ◌∷◌, length, map, drop, sum, get_or, Option, Some, None, refl, sym, ap, subst, arith, true≢false}
-use Rattle.std.specs.Prelude.{slice_get, if◌then◌else◌, nat_le, ◌&&◌}
+use Rattle.std.proofs.Common.{◌≡◌, ◌∙◌, ℕ, zero, suc, ◌+◌, ◌<◌, ◌≤◌, ◌^◌, Bool, true, false, List, [], ◌∷◌, length, map, drop, sum, get_or, Option, Some, None, refl, sym, ap, subst, arith}
+use Rattle.std.specs.Prelude.{slice_get, if◌then◌else◌, ◌&&◌}
 use Rattle.std.specs.List.{list_all}
 use Rattle.std.proofs.lemmas.Bool.Decides.{nat_tests}
 use Rattle.std.proofs.lemmas.List.Sums.{sum_by-cons}
@@ -8,8 +8,7 @@ use Rattle.rev_code.specs.declared.code.Code.{Code}
 use Rattle.rev_code.specs.declared.code.CodeVar.{CodeVar}
 use Rattle.rev_code.specs.Variables.{Place, place_from, if_scalar, if_array, scalar, array}
 use Rattle.code_rules.specs.Tables as rules
-use Rattle.rev_code.specs.Step.{is_procedure}
-use Rattle.code_rules.specs.Pass.{is_value_class}
+use Rattle.code_rules.proofs.Limits.{small_parts}
 use Rattle.code_certificate.proofs.Basics.{and_parts}
 use Rattle.code_soundness.proofs.Lists.{all_at}
 use Rattle.code_soundness.specs.Whole.{IsAccepted, notes_of}
@@ -78,21 +77,16 @@ cells_some : (array : Bool) (n : ℕ) → rules.has_cells array n ≡ true → 0
 cells_some true n h = grind (arith, nat_tests, h)
 cells_some false n h = grind (arith, nat_tests, h)
 
-first_of : (a b c d e f g h i j k : Bool) → (a && b && c && d && e && f && g && h && i && j && k) ≡ true → a ≡ true
-first_of true b c d e f g h i j k q = refl
-first_of false b c d e f g h i j k q = absurd (true≢false (sym q))
+-- by the limit on locations
+pub most_locations : (code : Code) → rules.is_small code ≡ true → count code.vars ≤ 4096
+most_locations code small =
+    let b : sum (map (λ (v : CodeVar). v.cells) code.vars) ≤ 4096 = (small_parts code small).locations in
+    let e = count_is code.vars in
+    omega (arith, b, e)
 
 module _ (code : Code) (ok : IsAccepted code (notes_of code)) where
   pub few_locations : count code.vars < 2 ^ 32
-  few_locations =
-      let a : nat_le (sum (map (λ (v : CodeVar). v.cells) code.vars)) 4096 ≡ true = first_of (nat_le (rules.locations code.vars) rules.most_locations)
-      (nat_le (rules.count_class is_procedure code.blocks) rules.most_blocks) (nat_le (rules.count_class is_value_class code.blocks) rules.most_blocks)
-      (nat_le (length code.blocks) rules.most_u16) (list_all rules.is_small_block code.blocks) (list_all rules.is_small_layout code.layouts)
-      (nat_le (length code.vars) rules.most_u16) (list_all rules.has_small_name code.vars) (nat_le (length code.texts) rules.most_u32)
-      (list_all rules.is_small_text code.texts) (nat_le (length code.layouts) rules.most_u32) ok.small in
-      let b : sum (map (λ (v : CodeVar). v.cells) code.vars) ≤ 4096 = grind (arith, nat_tests, a) in
-      let e = count_is code.vars in
-      omega (arith, b, e)
+  few_locations = let b = most_locations code ok.small in omega (arith, b)
 
   pub some_cells : (v : CodeVar) (k : ℕ) → slice_get code.vars k ≡ Some v → 0 < v.cells
   some_cells v k e =
@@ -105,7 +99,7 @@ module _ (code : Code) (ok : IsAccepted code (notes_of code)) where
   pub table_law : (table : List Variable) → table ≡ table_from 0 code.vars → IsTable code.vars table
   table_law table e = subst (IsTable code.vars) (sym e) (is_table code.vars some_cells few_locations)
 
-drop_more : (v : CodeVar) (vs : List CodeVar) (n : ℕ) → drop (n + 1) vs ≡ drop (suc n + 1) (v ∷ vs)
+pub drop_more : (v : CodeVar) (vs : List CodeVar) (n : ℕ) → drop (n + 1) vs ≡ drop (suc n + 1) (v ∷ vs)
 drop_more v vs n = let e : suc (n + 1) ≡ suc n + 1 = omega arith in ap (λ k. drop k (v ∷ vs)) e
 
 pub count_drop : (vs : List CodeVar) (n : ℕ) (d : CodeVar) → n < length vs → count (drop n vs) ≡ (get_or vs n d).cells + count (drop (n + 1) vs)

@@ -10,7 +10,7 @@ use Rattle.rev_code.specs.declared.code.Instr.TheVariants as i
 use Rattle.rev_code.specs.Words.{Word}
 use Rattle.rev_code.specs.State.{Setting, State}
 use Rattle.rev_code.specs.Step as s
-use Rattle.rev_code.specs.Step.{Comes, goes, traps, stuck, act, act_in, act_at, step, Steps}
+use Rattle.rev_code.specs.Step.{goes, stuck, act, act_in, act_at, step, Steps}
 use Rattle.rev_code.specs.Funs.{setting_of_fun, values}
 use Rattle.code_rules.specs.Pass.{target, is_charge, is_value_class, is_pure, bad_jump}
 use Rattle.code_certificate.proofs.Basics.{or_parts, not_false, and_false, some_eq, some_within}

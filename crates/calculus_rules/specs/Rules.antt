@@ -9,6 +9,7 @@ use Rattle.revision_calculus.specs.State.{Frame, Phase, running, joining, done, 
 use Rattle.revision_calculus.specs.Step.{next}
 use Rattle.revision_calculus.specs.Join.{join}
 use Rattle.revision_calculus.specs.Held.{beyond_first, Holds}
+pub use Rattle.rev_num.specs.Limits.{most_fuel}
 
 -- One that goes on has two, for its end or its join and for being joined, and one for each frame beyond the first.
 -- One that has ended has one, for being joined.
@@ -22,10 +23,6 @@ ends (trapped t) fs = 1
 -- So a count is 29 with itself, and the limit has room for fewer than 2^32 - 1 forks.
 abbrev pub weight : Local → ℕ
 weight l = 31 * l.fuel + 28 * l.forks + ends l.phase l.frames
-
--- the most fuel that a run starts with
-abbrev pub most_fuel : ℕ
-most_fuel = 4000000000
 
 -- the weight of `main` with the most fuel
 abbrev pub limit : ℕ

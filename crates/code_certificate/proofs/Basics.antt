@@ -8,9 +8,13 @@ use Rattle.rev_code.specs.declared.code.Code.{Code}
 use Rattle.rev_code.specs.declared.code.CodeBlock.{CodeBlock}
 use Rattle.rev_code.specs.declared.code.Instr.{Instr}
 use Rattle.rev_code.specs.Words.{same_kind}
+use Rattle.rev_code.proofs.SameKinds.{same_kind_self}
 use Rattle.code_rules.specs.declared.Rule.{Rule}
 use Rattle.code_rules.specs.Shapes.{Shape, same_shape}
 use Rattle.code_rules.specs.Pass.{Passed, gone, passed, before}
+pub use Rattle.std.proofs.lemmas.Bool.{and_parts}
+pub use Rattle.rev_num.proofs.Options.{some_eq}
+pub use Rattle.rev_num.proofs.Options.{none_some}
 
 -- ---- kinds and tests
 
@@ -24,10 +28,6 @@ kind_is k.Bool k.Int h = absurd (true≢false (sym h))
 kind_is k.Bool k.Rev h = absurd (true≢false (sym h))
 kind_is k.Rev k.Int h = absurd (true≢false (sym h))
 kind_is k.Rev k.Bool h = absurd (true≢false (sym h))
-
-pub and_parts : (d e : Bool) → d && e ≡ true → (d ≡ true) × (e ≡ true)
-and_parts true e h = (refl, h)
-and_parts false e h = absurd (true≢false (sym h))
 
 pub same_is : (xs ys : Shape) → same_shape xs ys ≡ true → xs ≡ ys
 same_is [] [] h = refl
@@ -76,12 +76,6 @@ within_some [] n h = absurd (omega (arith, h))
 within_some (y ∷ xs) zero h = (y, refl)
 within_some (y ∷ xs) (suc n) h = within_some xs n (omega (arith, h))
 
-pub some_eq : {A : Type 0} {x y : A} → Some x ≡ Some y → x ≡ y
-some_eq h = cc
-
-pub none_some : {A : Type 0} {x : A} → None ≡ Some x → ⊥
-none_some h = cc
-
 -- ---- the instructions before a place
 
 pub append_length : {A : Type 0} (xs ys : List A) → length (xs ++ ys) ≡ length xs + length ys
@@ -129,3 +123,7 @@ before_next code b at x h = ap (gone code b []) (take_some b.instrs at x h) ∙ 
 
 pub before_length : (code : Code) (b : CodeBlock) (at : ℕ) → at ≤ length b.instrs → length (before code b at) ≡ at
 before_length code b at h = let a = gone_length code b [] (take at b.instrs) in let l = length_take b.instrs at h in omega (arith, a, l)
+
+pub same_self : (s : Shape) → same_shape s s ≡ true
+same_self [] = refl
+same_self (x ∷ s) = ap (λ d. d && same_shape s s) (same_kind_self x) ∙ same_self s

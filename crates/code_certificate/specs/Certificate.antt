@@ -11,7 +11,7 @@ use Rattle.rev_code.specs.declared.code.Instr.{Instr}
 use Rattle.code_rules.specs.declared.Cost.{Cost}
 use Rattle.code_rules.specs.Shapes.{takes, begins, shape_after}
 use Rattle.code_rules.specs.Pass as pass
-use Rattle.code_rules.specs.Pass.{Note, Passed, entry, after, known, arrival, before, bad_jump, bad_operand, bad_local, falls_off, is_bare, is_paid_for, is_value_class, falls, block_fault, most_words}
+use Rattle.code_rules.specs.Pass.{Note, entry, after, known, arrival, before, bad_jump, bad_operand, bad_local, falls_off, is_bare, is_paid_for, is_value_class, falls, block_fault, most_words}
 
 pub record Fits (found noted : Note) : Type 0 where
   pub shape : found.shape ≡ noted.shape

@@ -1,6 +1,6 @@
 -- Bytes are read as code with nothing behind it, or they have a first fault, which is not want of memory.
 use Rattle.std.proofs.Common.{◌≡◌, ◌≢◌, refl, sym, subst, ℕ, zero, suc, ◌-◌, ◌++◌, ◌⊎◌, inl, inr, Bool, true, false, if◌then◌else◌, List, [], ◌∷◌, length, take, drop, nat_le}
-use Rattle.std.specs.Prelude.{codes, nat_eq, nat_lt, Option, Some, None}
+use Rattle.std.specs.Prelude.{codes, nat_eq, Option, Some, None}
 use Rattle.std.specs.Int.{w16, w32, w64, from_be_bytes}
 use Rattle.std.specs.List.{starts_with}
 use Rattle.rev_code.specs.declared.code.Code.{Code}
@@ -11,7 +11,7 @@ use Rattle.code_file.specs.declared.fault.ReadFault.TheVariants as fault
 use Rattle.code_file.specs.declared.version.Version.{Version}
 use Rattle.code_file.specs.Fields.{Reading, Got, Failed, Field, and_then, bytes_of, give, go_on, more, number_8, number_16, number_32, number_64, or_bad, test_by, tested}
 use Rattle.code_file.specs.Parts.{Operand, Plain, Truth, Byte, Short, Long, Word, has_tries, is_wide, tries, version_of}
-use Rattle.code_file.specs.Reads.{as_version, at_end, block, blocks, code_of, file, instr, instrs, item_of, layout, layout_item, layouts, locals, location_count, magic, name, or_bad_version, reading, text, texts, try_total, var, vars, version as version_field, with_operand}
+use Rattle.code_file.specs.Reads.{as_version, at_end, block, blocks, code_of, file, instr, instrs, layout, layout_item, layouts, locals, location_count, magic, name, or_bad_version, reading, text, texts, try_total, var, vars, version as version_field, with_operand}
 use Rattle.code_file.specs.Laws.{EachIsRead}
 
 -- ---- what fails is at fault

@@ -1,21 +1,16 @@
 -- What is read is the part of a file that spells it: bytes, names, texts, variables, layouts and instructions.
-use Rattle.std.proofs.Common.{◌≡◌, ◌∙◌, ℕ, zero, suc, ◌+◌, ◌^◌, ◌<◌, ◌≤◌, Bool, true, false, ◌&&◌, ◌||◌, if◌then◌else◌, List, [], ◌∷◌, ◌++◌, length, map, take, drop, All, Option, Some, None, refl, sym, ap, arith, nat_eq, nat_le, nat_lt, codes, slice_get}
+use Rattle.std.proofs.Common.{◌≡◌, ◌∙◌, ℕ, zero, suc, ◌+◌, ◌^◌, ◌<◌, ◌≤◌, Bool, true, false, ◌&&◌, ◌||◌, if◌then◌else◌, List, [], ◌∷◌, ◌++◌, length, All, Option, Some, None, refl, sym, ap, arith, nat_eq, nat_le, nat_lt, slice_get}
 use Rattle.std.proofs.lemmas.Grind.{common_steps}
 use Rattle.std.proofs.lemmas.List.{append-nil}
 use Rattle.std.specs.Int.{w16, w32, w64, to_be_bytes}
-use Rattle.std.specs.List.{flat_map, sum_by, starts_with}
-use Rattle.std.specs.Cmp.Lexicographic.{pointwise}
-use Rattle.std.proofs.lemmas.List.{take-append-drop}
-use Rattle.code_file.specs.declared.fault.ReadFault.TheVariants as fault
+use Rattle.std.specs.List.{flat_map, sum_by}
 use Rattle.std.proofs.lemmas.List.Sums.{sum_by-append, sum_by-cons}
-use Rattle.std.proofs.Common.{get_or, subst}
+use Rattle.std.proofs.Common.{subst}
 use Rattle.rev_num.specs.declared.value.ValueKind.{ValueKind}
 use Rattle.rev_num.specs.declared.value.ValueKind.TheVariants as kind
 use Rattle.rev_num.specs.Laws.{WordsAndNumbersAreInverse}
 use Rattle.rev_num.specs.Words.{int_of}
-use Rattle.rev_code.specs.declared.code.Code.{Code}
 use Rattle.rev_code.specs.declared.code.CodeVar.{CodeVar}
-use Rattle.rev_code.specs.declared.code.CodeBlock.{CodeBlock}
 use Rattle.rev_code.specs.declared.code.BlockClass.{BlockClass}
 use Rattle.rev_code.specs.declared.code.BlockClass.TheVariants as class
 use Rattle.rev_code.specs.declared.code.LayoutItem.{LayoutItem}
@@ -25,19 +20,15 @@ use Rattle.rev_code.specs.declared.code.Instr.TheVariants as i
 use Rattle.code_rules.specs.Tables.{is_name, is_start, has_cells, locations}
 use Rattle.code_file.specs.declared.version.Version.{Version}
 use Rattle.code_file.specs.declared.version.Version.TheVariants as version
-use Rattle.code_file.specs.Counts.{HasShortName, IsShort, IsShortLayout, IsShortBlock}
-use Rattle.code_file.specs.Fields.{Reading, Got, Failed, Field, and_then, give, bytes_of, number_8, number_16, number_32, number_64, tested, more}
-use Rattle.code_file.specs.Parts.{only, when, flag_of, kind_of, result_of, class_of, version_of, are_cells, is_merge, is_text, is_wide, has_tries, Operand, Plain, Truth, Byte, Short, Long, Word, operand_of, tries, try_count, tries_in}
-use Rattle.code_file.specs.Files.{flag_byte, kind_byte, result_byte, class_byte, var_bytes, text_bytes, item_bytes, layout_bytes, instr_bytes, block_bytes, version_number, location_bytes, try_bytes, body_bytes, file_of}
-use Rattle.code_file.specs.Laws.{Is8, Is16, Is32, Is64, IsVar, IsText, IsItem, IsInstr, IsBlock, HasFile}
-use Rattle.code_file.specs.Reads.{magic, as_version, or_bad_version, version as version_field, name, var, vars, location_count, text, texts, item_of, layout_item, layout, layouts, with_operand, instr, instrs, locals, block, blocks, try_total, code_of, at_end, file, reading}
-use Rattle.code_file.specs.Laws.{AreBytes, IsFile}
+use Rattle.code_file.specs.Counts.{HasShortName, IsShortLayout}
+use Rattle.code_file.specs.Fields.{Field, and_then, give, bytes_of, number_8, number_16, number_32, number_64, tested, more}
+use Rattle.code_file.specs.Parts.{only, flag_of, kind_of, result_of, class_of, version_of, are_cells, is_merge, is_text, Operand, Plain, Truth, Byte, Short, Long, Word, operand_of, tries, try_count, tries_in}
+use Rattle.code_file.specs.Files.{flag_byte, kind_byte, result_byte, class_byte, var_bytes, text_bytes, item_bytes, layout_bytes, instr_bytes, version_number}
+use Rattle.code_file.specs.Laws.{Is8, Is16, Is32, Is64, IsVar, IsItem, IsInstr}
+use Rattle.code_file.specs.Reads.{name, var, vars, text, texts, item_of, layout_item, layout, layouts, with_operand, instr, instrs}
 use Rattle.code_file.specs.Parts.{operands}
-use Rattle.std.specs.Prelude.{Result, Ok, Err, IfOk, OnOk}
-use Rattle.code_file.specs.declared.fault.ReadFault.{ReadFault}
-use Rattle.code_file.specs.Fields.{Follows}
 use Rattle.code_file.proofs.Steps.{locations_push}
-use Rattle.code_file.proofs.Spelled.{Taken, Takes, Spelled, Given, Part, then_takes, more_takes, tested_takes, number_8_takes, number_16_takes, number_32_takes, number_64_takes, bytes_takes, weaken, give_takes}
+use Rattle.code_file.proofs.Spelled.{Takes, Spelled, Given, Part, then_takes, more_takes, tested_takes, number_8_takes, number_16_takes, number_32_takes, number_64_takes, bytes_takes, weaken, give_takes}
 
 -- ---- single bytes
 

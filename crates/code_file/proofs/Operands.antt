@@ -1,5 +1,5 @@
 -- No instruction has a code byte above 37.
-use Rattle.std.proofs.Common.{◌≡◌, ◌∙◌, ℕ, ◌≤◌, Bool, false, cond, length, Some, None, List, [], ◌∷◌, zero, suc, refl, ap, arith, slice_get, nat_eq}
+use Rattle.std.proofs.Common.{◌≡◌, ◌∙◌, ℕ, ◌≤◌, Bool, false, cond, Some, None, ap, arith, slice_get, nat_eq}
 use Rattle.std.proofs.lemmas.Grind.{common_steps}
 use Rattle.code_file.specs.Parts.{Plain, operand_of, operands}
 use Rattle.rev_code.specs.declared.code.Instr.TheVariants as i

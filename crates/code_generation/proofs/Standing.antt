@@ -1,38 +1,36 @@
--- Code that stands in a block is taken apart, and its jumps are put together.
+-- What stands in a list, as code in a block, is taken apart, and jumps are put together.
 use Rattle.std.proofs.Common.{◌≡◌, ℕ, zero, suc, ◌+◌, List, [], ◌∷◌, ◌++◌, length, Some, None, refl, sym, ap, subst, append_assoc, arith}
 use Rattle.std.specs.Prelude.{slice_get}
 use Rattle.rev_code.specs.declared.code.Instr.{Instr}
 use Rattle.code_rules.specs.Pass.{target}
-use Rattle.code_generation.specs.Stands.{HasAt, Leads, AllLead}
+use Rattle.code_generation.specs.Stands.{HasItems, Leads, AllLead}
 
 nothing : Unit {0}
 nothing = tt
 
--- ---- code that stands there
+-- ---- what stands there
 
-module _ (whole : List Instr) where
-  -- the first part, and the second, which begins as many instructions further on
-  pub parts_stand : (xs ys : List Instr) (at m : ℕ) → length xs ≡ m → HasAt whole at (xs ++ ys) → HasAt whole at xs × HasAt whole (at + m) ys
-  parts_stand [] ys at m e h = (nothing, subst (λ p. HasAt whole p ys) (let z : at ≡ at + m = omega (arith, e) in z) h)
+module _ {A : Type 0} (whole : List A) where
+  -- the first part, and the second, which begins as many items further on
+  pub parts_stand : (xs ys : List A) (at m : ℕ) → length xs ≡ m → HasItems whole at (xs ++ ys) → HasItems whole at xs × HasItems whole (at + m) ys
+  parts_stand [] ys at m e h = (nothing, subst (λ p. HasItems whole p ys) (let z : at ≡ at + m = omega (arith, e) in z) h)
   parts_stand (x ∷ xs) ys at m e h =
       let r = parts_stand xs ys (suc at) (length xs) refl h.1 in
-      ((h.0, r.0), subst (λ p. HasAt whole p ys) (let z : suc at + length xs ≡ at + m = omega (arith, e) in z) r.1)
+      ((h.0, r.0), subst (λ p. HasItems whole p ys) (let z : suc at + length xs ≡ at + m = omega (arith, e) in z) r.1)
 
-  -- the first part, an instruction, and the part behind it
-  pub around_stands : (xs ys : List Instr) (y : Instr) (at m to : ℕ) → length xs ≡ m → to ≡ at + m + 1 → HasAt whole at (xs ++ y ∷ ys) → HasAt whole at xs × ((slice_get whole (at + m) ≡ Some y) × HasAt whole to ys)
+  -- the first part, an item, and the part behind it
+  pub around_stands : (xs ys : List A) (y : A) (at m to : ℕ) → length xs ≡ m → to ≡ at + m + 1 → HasItems whole at (xs ++ y ∷ ys) → HasItems whole at xs × ((slice_get whole (at + m) ≡ Some y) × HasItems whole to ys)
   around_stands xs ys y at m to e z h =
       let r = parts_stand xs (y ∷ ys) at m e h in
-      (r.0, (r.1.0, subst (λ p. HasAt whole p ys) (let w : suc (at + m) ≡ to = omega (arith, z) in w) r.1.1))
+      (r.0, (r.1.0, subst (λ p. HasItems whole p ys) (let w : suc (at + m) ≡ to = omega (arith, z) in w) r.1.1))
 
 -- ---- all of a list stands in it
 
--- in whatever way lists stand in others, item by item
-module _ {A : Type 0} (There : List A → ℕ → List A → Type 0) (none : (whole : List A) (at : ℕ) → There whole at []) (one_more : (whole : List A) (at : ℕ) (x : A) (xs : List A) → slice_get whole at ≡ Some x → There whole (suc at) xs → There whole at (x ∷ xs)) where
-  pub all_there : (before xs : List A) → There (before ++ xs) (length before) xs
-  all_there before [] = none (before ++ []) (length before)
-  all_there before (x ∷ xs) =
-      one_more (before ++ x ∷ xs) (length before) x xs (here before)
-      (subst (λ w. There w (suc (length before)) xs) (append_assoc before (x ∷ []) xs) (subst (λ p. There ((before ++ x ∷ []) ++ xs) p xs) (longer before) (all_there (before ++ x ∷ []) xs)))
+module _ {A : Type 0} where
+  pub all_stands : (before xs : List A) → HasItems (before ++ xs) (length before) xs
+  all_stands before [] = nothing
+  all_stands before (x ∷ xs) =
+      (here before, subst (λ w. HasItems w (suc (length before)) xs) (append_assoc before (x ∷ []) xs) (subst (λ p. HasItems ((before ++ x ∷ []) ++ xs) p xs) (longer before) (all_stands (before ++ x ∷ []) xs)))
     where
       here : (bs : List A) → slice_get (bs ++ x ∷ xs) (length bs) ≡ Some x
       here [] = refl
@@ -42,11 +40,8 @@ module _ {A : Type 0} (There : List A → ℕ → List A → Type 0) (none : (wh
       longer [] = refl
       longer (b ∷ bs) = ap suc (longer bs)
 
-pub all_stands : (before xs : List Instr) → HasAt (before ++ xs) (length before) xs
-all_stands = all_there HasAt (λ whole at. nothing) (λ whole at x xs here rest. (here, rest))
-
-pub whole_stands : (xs : List Instr) → HasAt xs 0 xs
-whole_stands xs = all_stands [] xs
+  pub whole_stands : (xs : List A) → HasItems xs 0 xs
+  whole_stands xs = all_stands [] xs
 
 -- ---- jumps
 

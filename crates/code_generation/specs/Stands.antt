@@ -3,10 +3,14 @@ use Rattle.std.specs.Prelude.{◌≡◌, ◌⊎◌, ◌<◌, ◌≤◌, ℕ, suc
 use Rattle.rev_code.specs.declared.code.Instr.{Instr}
 use Rattle.code_rules.specs.Pass.{target, is_charge}
 
--- these instructions stand there from this place on
+-- these items stand there from this place on
+abbrev pub HasItems : {A : Type 0} → List A → (at : ℕ) → List A → Type 0
+HasItems whole at [] = Unit {0}
+HasItems whole at (x ∷ xs) = (slice_get whole at ≡ Some x) × HasItems whole (suc at) xs
+
+-- these instructions do
 abbrev pub HasAt : List Instr → (at : ℕ) → List Instr → Type 0
-HasAt whole at [] = Unit {0}
-HasAt whole at (x ∷ xs) = (slice_get whole at ≡ Some x) × HasAt whole (suc at) xs
+HasAt whole at xs = HasItems whole at xs
 
 -- a Charge stands there
 abbrev pub ChargeAt : List Instr → ℕ → Type 0

@@ -1,35 +1,33 @@
 -- A joiner and the end that it takes in.
-use Rattle.std.proofs.Common.{◌≡◌, ◌≢◌, refl, ℕ, zero, suc, ◌+◌, ◌≤◌, Bool, true, false, cond, List, [], ◌∷◌, Option, Some, None, sym, ap, ◌∙◌, subst, arith}
-use Rattle.std.specs.Prelude.{slice_get, length}
+use Rattle.std.proofs.Common.{◌≡◌, ◌≢◌, refl, ℕ, ◌+◌, ◌≤◌, Bool, true, false, List, [], ◌∷◌, Option, Some, None, sym, ap, ◌∙◌, subst, arith}
+use Rattle.std.specs.Prelude.{slice_get}
 use Rattle.rev_num.specs.Path.{Path}
 use Rattle.rev_num.specs.declared.outcome.Cause.TheVariants as cause
-use Rattle.rev_code.specs.declared.code.CodeBlock.{CodeBlock}
 use Rattle.rev_code.specs.declared.code.Instr.{Instr}
 use Rattle.rev_code.specs.declared.code.Instr.TheVariants as i
-use Rattle.rev_code.specs.Words.{Word}
 use Rattle.rev_code.specs.State.{State, Frame}
 use Rattle.rev_code.specs.Step.{Comes, goes, traps, forks, joins, ends, stuck}
 use Rattle.revision_machine.specs.Machine.{Entry, Plain, Joined}
 use Rattle.revision_machine.specs.Numbered as numbers
-use Rattle.revision_machine.specs.Numbered.{Entries, World, Both, Listing, at_number, begin, Replays, IsOver}
+use Rattle.revision_machine.specs.Numbered.{Entries, World, Both, Listing, at_number}
 use Rattle.revision_machine.proofs.Paths.{some_inj}
 use Rattle.revision_machine.proofs.Numbers.{none_some}
-use Rattle.hub_algebra.specs.Replay.{goes_on, replay}
-use Rattle.hub_algebra.specs.Hub.{Stands, Meets}
+use Rattle.hub_algebra.specs.Replay.{replay}
+use Rattle.hub_algebra.specs.Hub.{Stands}
 use Rattle.hub_algebra.specs.HubMachine as hub
 use Rattle.hub_algebra.proofs.Replay.{replay_is}
 use Rattle.code_prices.specs.Prices.{Prices, Bears, place_price, instr_in, place, below, total}
 use Rattle.code_soundness.specs.Whole.{notes_of}
-use Rattle.code_machine.specs.Local.{CodeRun, IsVerified, Trap, Phase, running, done, trapped, Local, at_work, has_ended, End, end_of}
+use Rattle.code_machine.specs.Local.{CodeRun, IsVerified, Trap, trapped, Local, at_work, has_ended, end_of}
 use Rattle.code_machine.specs.Leg.{longest, leg}
 use Rattle.code_machine.specs.Joining.{join_in, join_end, join, inherit}
 use Rattle.code_machine.specs.Machines.{act_of, wish_of, numbered, start_in}
 use Rattle.code_machine.specs.Worlds.{fuels}
-use Rattle.code_machine.proofs.Fuel.{fuel_of}
+use Rattle.code_machine.proofs.Fuel.{fuel_of, two_fuels}
 use Rattle.code_machine.proofs.Paying.{Leaves, leg_leaves}
-use Rattle.code_hub.specs.CodeState.{CodeState, state_of, told, states, shown_entry, shown_at, shown_all, shown, shown_some}
+use Rattle.code_hub.specs.CodeState.{CodeState, state_of, told, states, shown_at, shown_all, shown_some}
 use Rattle.code_hub.specs.Values.{JoinerValue, LeftValue, joined, is_end, code_hub}
-use Rattle.code_hub.specs.Laws.{IsStart, MeetingFits, MeetingsFit, LegComesToJoin, OverIsOfCode}
+use Rattle.code_hub.specs.Laws.{MeetingsFit, LegComesToJoin, OverIsOfCode}
 use Rattle.code_hub.proofs.Shown.{at_shown, legs, replays}
 
 -- ---- instructions use up fuel alone
@@ -77,31 +75,6 @@ module _ (g : CodeRun) where
       let b = fuel_is c in
       let e = fuel_is d in
       omega (arith, a, b, e)
-
--- ---- two revisions of one world
-
-one_fuel : (w : Entries (Local ℕ)) (n : ℕ) (r : Path) (l : Local ℕ) → at_number w n ≡ Some (r, Plain l) → l.state.fuel ≤ fuels w
-one_fuel [] n r l e = none_some e
-one_fuel ((q, Plain k) ∷ w) zero r l e =
-    let same : k ≡ l = (let x : ◌≡◌ {A = Path × Entry (Local ℕ)} (q, Plain k) (r, Plain l) = some_inj e in let y : ◌≡◌ {A = Entry (Local ℕ)} (Plain k) (Plain l) = ap (λ z. z.1) x in cc) in
-    let f = ap (λ z. z.state.fuel) same in omega (arith, f)
-one_fuel ((q, Joined k) ∷ w) zero r l e = absurd (let x : ◌≡◌ {A = Path × Entry (Local ℕ)} (q, Joined k) (r, Plain l) = some_inj e in let y : ◌≡◌ {A = Entry (Local ℕ)} (Joined k) (Plain l) = ap (λ z. z.1) x in cc)
-one_fuel ((q, Plain k) ∷ w) (suc n) r l e = let f = one_fuel w n r l e in omega (arith, f)
-one_fuel ((q, Joined k) ∷ w) (suc n) r l e = one_fuel w n r l e
-
-plain_here : (q r : Path) (x : Entry (Local ℕ)) (l : Local ℕ) (w : Entries (Local ℕ)) → ◌≡◌ {A = Option (Path × Entry (Local ℕ))} (Some (q, x)) (Some (r, Plain l)) → fuels ((q, x) ∷ w) ≡ l.state.fuel + fuels w
-plain_here q r x l w e =
-    let y : x ≡ Plain l = ap (λ z. z.1) (some_inj e) in
-    ap (λ z. fuels ((q, z) ∷ w)) y
-
-two_fuels : (w : Entries (Local ℕ)) (n m : ℕ) (r q : Path) (l k : Local ℕ) → n ≢ m → at_number w n ≡ Some (r, Plain l) → at_number w m ≡ Some (q, Plain k)
-    → l.state.fuel + k.state.fuel ≤ fuels w
-two_fuels [] n m r q l k apart a b = none_some a
-two_fuels ((p, x) ∷ w) zero zero r q l k apart a b = absurd (apart refl)
-two_fuels ((p, x) ∷ w) zero (suc m) r q l k apart a b = let f = plain_here p r x l w a in let h = one_fuel w m q k b in omega (arith, f, h)
-two_fuels ((p, x) ∷ w) (suc n) zero r q l k apart a b = let f = plain_here p q x k w b in let h = one_fuel w n r l a in omega (arith, f, h)
-two_fuels ((p, Plain x) ∷ w) (suc n) (suc m) r q l k apart a b = let h = two_fuels w n m r q l k (λ e. apart (ap suc e)) a b in omega (arith, h)
-two_fuels ((p, Joined x) ∷ w) (suc n) (suc m) r q l k apart a b = two_fuels w n m r q l k (λ e. apart (ap suc e)) a b
 
 -- ---- legs that come to a join
 

@@ -1,12 +1,12 @@
 -- The world of a schedule is that of the code, with what runs at each state.
-use Rattle.std.proofs.Common.{◌≡◌, refl, ℕ, zero, suc, List, [], ◌∷◌, ◌++◌, length, Option, Some, None, sym, ap, ◌∙◌}
+use Rattle.std.proofs.Common.{◌≡◌, refl, ℕ, zero, suc, List, [], ◌∷◌, ◌++◌, length, Option, Some, None, ap, ◌∙◌}
 use Rattle.rev_num.specs.Path.{Path, child}
 use Rattle.revision_machine.specs.Machine.{Entry, Plain, Joined}
 use Rattle.revision_machine.specs.Numbered.{Wish, Goes, Bears, Wants, Stops, Entries, World, Both, Listing, at_number, put_number, join_stopped, join_number, leg_of, leg_at, leg}
 use Rattle.hub_algebra.specs.Replay.{goes_on, replay}
 use Rattle.code_machine.specs.Local.{CodeRun, Local}
 use Rattle.code_machine.specs.Machines.{numbered}
-use Rattle.code_hub.specs.CodeState.{CodeState, state_of, told, states, shown_entry, shown_at, shown_all, shown, shown_some}
+use Rattle.code_hub.specs.CodeState.{state_of, told, states, shown_entry, shown_at, shown_all, shown, shown_some}
 
 abbrev W : Type 0
 W = Entries (Local ℕ)

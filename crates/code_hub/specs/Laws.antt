@@ -3,7 +3,7 @@
 --   OverIsOfCode       where no number has a leg in the one, none has in the other
 --   LegComesToJoin     a joiner behind the instructions of a leg stands at the join to which that leg comes
 --   MeetingsFit        a joiner and the end that it takes in are of one run, and their fuel is at most that of the start
-use Rattle.std.specs.Prelude.{◌≡◌, ℕ, ◌+◌, ◌≤◌, List, Some}
+use Rattle.std.specs.Prelude.{◌≡◌, ℕ, ◌+◌, ◌≤◌, List}
 use Rattle.rev_code.specs.State.{State}
 use Rattle.rev_code.specs.Step.{joins}
 use Rattle.revision_machine.specs.Numbered.{Entries, Listing, IsOver}

@@ -1,5 +1,5 @@
 -- Lines of the parts of a table, from a place on.
-use Rattle.std.proofs.Common.{◌≡◌, ◌∙◌, ℕ, zero, suc, ◌+◌, ◌<◌, ◌≤◌, List, [], ◌∷◌, ◌++◌, length, drop, get_or, refl, ap, arith}
+use Rattle.std.proofs.Common.{◌≡◌, ◌∙◌, ℕ, suc, ◌+◌, ◌<◌, ◌≤◌, List, [], ◌++◌, length, drop, get_or, ap, arith}
 use Rattle.std.proofs.Math.Seq.{drop-cons}
 use Rattle.code_listing.specs.Listing.{numbered}
 use Rattle.code_file.proofs.Sums.{past}

@@ -1,12 +1,16 @@
 -- What a leg changes in a world by number.
-use Rattle.std.proofs.Common.{◌≡◌, ◌≢◌, ◌⊎◌, inl, inr, ◌∙◌, ℕ, zero, suc, Bool, List, [], ◌∷◌, ◌++◌, length, Option, Some, None, refl, sym, ap, subst, arith}
+use Rattle.std.proofs.Common.{◌≡◌, ◌≢◌, ◌⊎◌, inl, inr, ◌∙◌, ℕ, zero, suc, Bool, List, [], ◌∷◌, ◌++◌, length, Option, Some, None, refl, sym, ap, subst}
+use mathlib.Core.Logic.{dite}
+use native.Mathlib.Decide.{ℕ_discrete}
 use Rattle.rev_num.specs.Path.{Path, child}
 use Rattle.rev_code.specs.State.{State}
 use Rattle.rev_code.specs.Step as code
-use Rattle.rev_code.specs.Step.{Comes, goes, traps, forks, joins, ends, stuck, Steps, step, onward, reach}
+use Rattle.rev_code.specs.Step.{Comes, goes, traps, forks, joins, ends, stuck, step, onward, reach}
 use Rattle.revision_machine.specs.Machine.{Entry, Plain, Joined}
 use Rattle.revision_machine.specs.Numbered.{Numbered, Wish, Goes, Bears, Wants, Stops, Entries, World, Both, Listing, at_number, put_number, paths_of, Replays, leg_of, leg_at, join_number, join_stopped}
 use Rattle.revision_machine.specs.Numbered as numbers
+use Rattle.revision_machine.proofs.Numbers.{paths_put, paths_more}
+use Rattle.revision_machine.proofs.Lists.{at_front, put_other, put_here, put_twice}
 use Rattle.code_machine.specs.Local.{CodeRun, IsVerified, under, Local, at_work, end_of}
 use Rattle.code_machine.specs.Leg.{IsEvent, IsLeg, leg, clock}
 use Rattle.code_machine.specs.Joining.{join, join_end}
@@ -15,62 +19,11 @@ use Rattle.code_machine.specs.Worlds.{WaitsOn, WaitingHasNoLeg, WaitingStays, Is
 use Rattle.code_machine.proofs.Legs.{leg_is}
 use Rattle.code_machine.proofs.Events.{IsAt, stands}
 
--- ---- lists
-
-module _ {A : Type 0} where
-  pub put_other : (xs : List A) (n m : ℕ) (y : A) → m ≢ n → at_number (put_number xs n y) m ≡ at_number xs m
-  put_other [] n m y h = refl
-  put_other (x ∷ xs) zero zero y h = absurd (h refl)
-  put_other (x ∷ xs) zero (suc m) y h = refl
-  put_other (x ∷ xs) (suc n) zero y h = refl
-  put_other (x ∷ xs) (suc n) (suc m) y h = put_other xs n m y (λ e. h (ap suc e))
-
-  pub put_here : (xs : List A) (n : ℕ) (x y : A) → at_number xs n ≡ Some x → at_number (put_number xs n y) n ≡ Some y
-  put_here [] n x y e = absurd (let w : None ≡ Some x = e in cc)
-  put_here (z ∷ xs) zero x y e = refl
-  put_here (z ∷ xs) (suc n) x y e = put_here xs n x y e
-
-  pub put_twice : (xs : List A) (n : ℕ) (x y : A) → put_number (put_number xs n x) n y ≡ put_number xs n y
-  put_twice [] n x y = refl
-  put_twice (z ∷ xs) zero x y = refl
-  put_twice (z ∷ xs) (suc n) x y = ap (λ k. z ∷ k) (put_twice xs n x y)
-
-  pub put_length : (xs : List A) (n : ℕ) (x : A) → length (put_number xs n x) ≡ length xs
-  put_length [] n x = refl
-  put_length (z ∷ xs) zero x = refl
-  put_length (z ∷ xs) (suc n) x = ap suc (put_length xs n x)
-
-  front : (xs ys : List A) (n : ℕ) (x : A) → at_number xs n ≡ Some x → at_number (xs ++ ys) n ≡ Some x
-  front [] ys n x e = absurd (let w : None ≡ Some x = e in cc)
-  front (z ∷ xs) ys zero x e = e
-  front (z ∷ xs) ys (suc n) x e = front xs ys n x e
-
-  pub back : (xs : List A) (y : A) (n : ℕ) (x : A) → at_number (xs ++ y ∷ []) n ≡ Some x → (at_number xs n ≡ Some x) ⊎ (x ≡ y)
-  back [] y zero x e = inr (let w : Some y ≡ Some x = e in let z : y ≡ x = cc in sym z)
-  back [] y (suc n) x e = absurd (let w : None ≡ Some x = e in cc)
-  back (z ∷ xs) y zero x e = inl e
-  back (z ∷ xs) y (suc n) x e = back xs y n x e
-
-  -- what is found after a write is what was written, or what was there
-  pub found : (xs : List A) (n : ℕ) (y : A) (m : ℕ) (x : A) → at_number (put_number xs n y) m ≡ Some x → (at_number xs m ≡ Some x) ⊎ (x ≡ y)
-  found [] n y m x e = inl e
-  found (z ∷ xs) zero y zero x e = inr (let w : Some y ≡ Some x = e in let k : y ≡ x = cc in sym k)
-  found (z ∷ xs) zero y (suc m) x e = inl e
-  found (z ∷ xs) (suc n) y zero x e = inl e
-  found (z ∷ xs) (suc n) y (suc m) x e = found xs n y m x e
-
 some_parts : {A B : Type 0} (x y : A × B) → Some x ≡ Some y → (x.0 ≡ y.0) × (x.1 ≡ y.1)
 some_parts x y e = let z : x ≡ y = cc in (ap (λ k. k.0) z, ap (λ k. k.1) z)
 
 pub decide : (m n : ℕ) → (m ≡ n) ⊎ (m ≢ n)
-decide zero zero = inl refl
-decide zero (suc n) = inr (λ e. omega (arith, e))
-decide (suc m) zero = inr (λ e. omega (arith, e))
-decide (suc m) (suc n) = by (decide m n)
-  where
-    by : (m ≡ n) ⊎ (m ≢ n) → (suc m ≡ suc n) ⊎ (suc m ≢ suc n)
-    by (inl e) = inl (ap suc e)
-    by (inr h) = inr (λ e. h (omega (arith, e)))
+decide m n = dite (ℕ_discrete m n) (λ e. inl e) (λ h. inr h)
 
 -- ---- the four ways of a leg
 
@@ -117,7 +70,7 @@ module _ (N : Numbered) where
   own w u n (went rn l l' at is z) m r e apart there =
       inl (ap (λ k. at_number k m) (sym (listing u _ z)) ∙ put_other w n m (rn, Plain l') apart ∙ there)
   own w u n (bore rn l f c at is z) m r e apart there =
-      inl (ap (λ k. at_number k m) (sym (listing u _ z)) ∙ front (put_number w n (rn, Plain (f (length w)))) ((child rn (N.forks l), Plain c) ∷ []) m (r, e) (put_other w n m (rn, Plain (f (length w))) apart ∙ there))
+      inl (ap (λ k. at_number k m) (sym (listing u _ z)) ∙ at_front (put_number w n (rn, Plain (f (length w)))) ((child rn (N.forks l), Plain c) ∷ []) m (r, e) (put_other w n m (rn, Plain (f (length w))) apart ∙ there))
   own w u n (twice rn l k at is z) m r e apart there = absurd (let y : Listing u ≡ Both = z in cc)
   own w u n (took rn l k q lq at is found_there stops z) m r e apart there = by (decide m k)
     where
@@ -138,14 +91,16 @@ module _ (N : Numbered) where
           ∙ put_here (put_number w n (rn, Plain (N.join l k lq))) k (r, e) (q, Joined lq) (ap (at_number (put_number w n (rn, Plain (N.join l k lq)))) (sym same) ∙ here) in
           inr ((rn, l, at, is ∙ ap Wants (sym same)), (lq, plain, stops, found ∙ ap (λ x. Some (x, Joined lq)) (sym path)))
 
-  paths_put : (w : Entries N.Local) (n : ℕ) (r : Path) (e x : Entry N.Local) → at_number w n ≡ Some (r, e) → paths_of (put_number w n (r, x)) ≡ paths_of w
-  paths_put [] n r e x h = refl
-  paths_put ((p, y) ∷ w) zero r e x h = (let z = some_parts (p, y) (r, e) h in ap (λ k. k ∷ paths_of w) (sym z.0))
-  paths_put ((p, y) ∷ w) (suc n) r e x h = ap (λ k. p ∷ k) (paths_put w n r e x h)
-
-  paths_more : (w : Entries N.Local) (r : Path) (x : Entry N.Local) → paths_of (w ++ (r, x) ∷ []) ≡ paths_of w ++ r ∷ []
-  paths_more [] r x = refl
-  paths_more ((p, y) ∷ w) r x = ap (λ k. p ∷ k) (paths_more w r x)
+  -- one that has ended still stands behind a write of its joiner
+  pub joinee_stays : (w : Entries N.Local) (n m : ℕ) (r q : Path) (l lq : N.Local) (e : Entry N.Local) → at_number w n ≡ Some (r, Plain l) → N.next l ≡ Wants m → at_number w m ≡ Some (q, Plain lq) → N.next lq ≡ Stops
+      → at_number (put_number w n (r, e)) m ≡ Some (q, Plain lq)
+  joinee_stays w n m r q l lq e at is there stops = put_other w n m (r, e) other ∙ there
+    where
+      other : m ≢ n
+      other same =
+          let parts = some_parts (q, Plain lq) (r, Plain l) (sym there ∙ ap (at_number w) same ∙ at) in
+          let one : lq ≡ l = (let x : ◌≡◌ {A = Entry N.Local} (Plain lq) (Plain l) = parts.1 in cc) in
+          let clash : Wants m ≡ Stops = sym is ∙ ap N.next (sym one) ∙ stops in cc
 
   numbers_kept : (w u : Entries N.Local) (n : ℕ) → LegOf w n (Listing u) → (paths_of u ≡ paths_of w) ⊎ ((r : Path) × (l : N.Local) × (at_number w n ≡ Some (r, Plain l)) × (paths_of u ≡ paths_of w ++ child r (N.forks l) ∷ []))
   numbers_kept w u n (went r l l' at is z) = inl (ap paths_of (sym (listing u _ z)) ∙ paths_put w n r (Plain l) (Plain l') at)
@@ -153,14 +108,11 @@ module _ (N : Numbered) where
       inr (r, l, at, ap paths_of (sym (listing u _ z)) ∙ paths_more (put_number w n (r, Plain (f (length w)))) (child r (N.forks l)) (Plain c) ∙ ap (λ k. k ++ child r (N.forks l) ∷ []) (paths_put w n r (Plain l) (Plain (f (length w))) at))
   numbers_kept w u n (twice r l m at is z) = absurd (let y : Listing u ≡ Both = z in cc)
   numbers_kept w u n (took r l m q lq at is there stops z) =
-      inl (ap paths_of (sym (listing u _ z)) ∙ paths_put (put_number w n (r, Plain (N.join l m lq))) m q (Plain lq) (Joined lq) (by (decide m n)) ∙ paths_put w n r (Plain l) (Plain (N.join l m lq)) at)
-    where
-      by : (m ≡ n) ⊎ (m ≢ n) → at_number (put_number w n (r, Plain (N.join l m lq))) m ≡ Some (q, Plain lq)
-      by (inr other) = put_other w n m (r, Plain (N.join l m lq)) other ∙ there
-      by (inl same) =
-          let parts = some_parts (q, Plain lq) (r, Plain l) (sym there ∙ ap (at_number w) same ∙ at) in
-          let e : lq ≡ l = (let x : ◌≡◌ {A = Entry N.Local} (Plain lq) (Plain l) = parts.1 in cc) in
-          absurd (let clash : Wants m ≡ Stops = sym is ∙ ap N.next (sym e) ∙ stops in cc)
+      inl (ap paths_of (sym (listing u _ z)) ∙ paths_put (put_number w n (r, Plain (N.join l m lq))) m q (Plain lq) (Joined lq) (joinee_stays w n m r q l lq (Plain (N.join l m lq)) at is there stops) ∙ paths_put w n r (Plain l) (Plain (N.join l m lq)) at)
+
+  none_after : (ks : List ℕ) (u : Entries N.Local) → Replays N Both ks (Listing u) → ⊥
+  none_after [] u z = (let y : Both ≡ Listing u = z in cc)
+  none_after (k ∷ ks) u (v, z, more) = (let y : None ≡ Some v = z in cc)
 
   left : (ns : List ℕ) (w u : Entries N.Local) → Replays N (Listing w) ns (Listing u) → (n : ℕ) (r : Path) (e : Entry N.Local) → (IsAmong n ns → ⊥) → at_number w n ≡ Some (r, e) → IsKeptOrMarked u n r e
   left [] w u h n r e out there = inl (ap (λ k. at_number k n) (listing w u h) ∙ there)
@@ -168,11 +120,7 @@ module _ (N : Numbered) where
     where
       by : (v : World N.Local) → numbers.leg N (Listing w) m ≡ Some v → Replays N v ns (Listing u)
           → ((x : Entries N.Local) → Replays N (Listing x) ns (Listing u) → (y : Entry N.Local) → at_number x n ≡ Some (r, y) → IsKeptOrMarked u n r y) → IsKeptOrMarked u n r e
-      by Both h rest rec = absurd (none_after ns rest)
-        where
-          none_after : (ks : List ℕ) → Replays N Both ks (Listing u) → ⊥
-          none_after [] z = (let y : Both ≡ Listing u = z in cc)
-          none_after (k ∷ ks) (v, z, more) = (let y : None ≡ Some v = z in cc)
+      by Both h rest rec = absurd (none_after ns u rest)
       by (Listing x) h rest rec = go (own w x m (leg_ways w m (Listing x) h) n r e (λ z. out (inl z)) there)
         where
           go : (at_number x n ≡ Some (r, e)) ⊎ (Joins N w m n × ((l : N.Local) × (e ≡ Plain l) × (N.next l ≡ Stops) × (at_number x n ≡ Some (r, Joined l)))) → IsKeptOrMarked u n r e
@@ -182,10 +130,6 @@ module _ (N : Numbered) where
               marked : IsKeptOrMarked u n r (Joined l) → IsKeptOrMarked u n r e
               marked (inl k) = inr (l, plain, k)
               marked (inr (k, clash, y)) = absurd (let z : Joined l ≡ Plain k = clash in cc)
-
-  none_after : (ks : List ℕ) (u : Entries N.Local) → Replays N Both ks (Listing u) → ⊥
-  none_after [] u z = (let y : Both ≡ Listing u = z in cc)
-  none_after (k ∷ ks) u (v, z, more) = (let y : None ≡ Some v = z in cc)
 
   kept : (ns : List ℕ) (w u : Entries N.Local) → Replays N (Listing w) ns (Listing u) → (n : ℕ) (r : Path) (l : N.Local) → (IsAmong n ns → ⊥) → at_number w n ≡ Some (r, Plain l) → N.next l ≢ Stops → at_number u n ≡ Some (r, Plain l)
   kept [] w u h n r l out there on = ap (λ k. at_number k n) (listing w u h) ∙ there

@@ -1,23 +1,50 @@
 -- The fuel of all unmarked revisions is at most that of the start, since what pays for forks covers it.
-use Rattle.std.proofs.Common.{◌≡◌, ◌≢◌, ◌⊎◌, inl, inr, ◌∙◌, ℕ, zero, suc, ◌+◌, ◌*◌, ◌≤◌, List, [], ◌∷◌, ◌++◌, length, Option, Some, None, refl, sym, ap, subst, arith}
+use Rattle.std.proofs.Common.{◌≡◌, ◌≢◌, ℕ, zero, suc, ◌+◌, ◌*◌, ◌≤◌, List, [], ◌∷◌, ◌++◌, length, Option, Some, None, refl, sym, ap, subst, arith}
 use Rattle.rev_num.specs.Path.{Path, child}
 use Rattle.revision_machine.specs.PathMap.{PathMap}
 use Rattle.revision_machine.specs.Machine.{Entry, Plain, Joined, Global, Twice, Live}
 use Rattle.revision_machine.specs.Conditions.{Spends}
 use Rattle.revision_machine.specs.Laws.{amount, total, Amounts, SpendingLaw}
-use Rattle.revision_machine.specs.Numbered as numbers
-use Rattle.revision_machine.specs.Numbered.{Wish, Entries, World, Both, Listing, at_number, put_number, begin, Replays}
+use Rattle.revision_machine.specs.Numbered.{Entries, World, Both, Listing, at_number, put_number, begin, Replays}
 use Rattle.revision_machine.proofs.Census.{spending_law}
 use Rattle.code_machine.specs.Local.{CodeRun, IsVerified, Local}
 use Rattle.code_machine.specs.Joining.{join}
-use Rattle.code_machine.specs.Machines.{act, wish_of, machine, numbered, IsMain, start_in}
+use Rattle.code_machine.specs.Machines.{act, machine, numbered, IsMain, start_in}
 use Rattle.code_machine.specs.Weights.{pay}
 use Rattle.code_machine.specs.Worlds.{fuels, FuelIsOfTheStart}
 use Rattle.code_machine.proofs.Paying.{MoveOk, BearOk, WantOk, ActOk, act_ok, join_ok, some_pay}
 use Rattle.code_machine.proofs.Meeting.{counts, pays}
 use Rattle.code_machine.proofs.Starting.{first_pay}
-use Rattle.code_machine.proofs.Changes.{LegOf, went, bore, took, twice, leg_ways, put_other, decide}
+use Rattle.code_machine.proofs.Changes.{LegOf, went, bore, took, twice, leg_ways, joinee_stays}
+use Rattle.revision_machine.proofs.Replays.{replays_keep}
+use Rattle.revision_machine.proofs.Lists.{none_some}
+use Rattle.revision_machine.proofs.Paths.{some_inj}
 use Rattle.code_machine.proofs.Typing.{goes_act, bears_act, wants_act}
+
+-- ---- two revisions of one world have no more fuel than all
+
+one_fuel : (w : Entries (Local ℕ)) (n : ℕ) (r : Path) (l : Local ℕ) → at_number w n ≡ Some (r, Plain l) → l.state.fuel ≤ fuels w
+one_fuel [] n r l e = none_some e
+one_fuel ((q, Plain k) ∷ w) zero r l e =
+    let same : k ≡ l = (let x : ◌≡◌ {A = Path × Entry (Local ℕ)} (q, Plain k) (r, Plain l) = some_inj e in let y : ◌≡◌ {A = Entry (Local ℕ)} (Plain k) (Plain l) = ap (λ z. z.1) x in cc) in
+    let f = ap (λ z. z.state.fuel) same in omega (arith, f)
+one_fuel ((q, Joined k) ∷ w) zero r l e = absurd (let x : ◌≡◌ {A = Path × Entry (Local ℕ)} (q, Joined k) (r, Plain l) = some_inj e in let y : ◌≡◌ {A = Entry (Local ℕ)} (Joined k) (Plain l) = ap (λ z. z.1) x in cc)
+one_fuel ((q, Plain k) ∷ w) (suc n) r l e = let f = one_fuel w n r l e in omega (arith, f)
+one_fuel ((q, Joined k) ∷ w) (suc n) r l e = one_fuel w n r l e
+
+plain_here : (q r : Path) (x : Entry (Local ℕ)) (l : Local ℕ) (w : Entries (Local ℕ)) → ◌≡◌ {A = Option (Path × Entry (Local ℕ))} (Some (q, x)) (Some (r, Plain l)) → fuels ((q, x) ∷ w) ≡ l.state.fuel + fuels w
+plain_here q r x l w e =
+    let y : x ≡ Plain l = ap (λ z. z.1) (some_inj e) in
+    ap (λ z. fuels ((q, z) ∷ w)) y
+
+pub two_fuels : (w : Entries (Local ℕ)) (n m : ℕ) (r q : Path) (l k : Local ℕ) → n ≢ m → at_number w n ≡ Some (r, Plain l) → at_number w m ≡ Some (q, Plain k)
+    → l.state.fuel + k.state.fuel ≤ fuels w
+two_fuels [] n m r q l k apart a b = none_some a
+two_fuels ((p, x) ∷ w) zero zero r q l k apart a b = absurd (apart refl)
+two_fuels ((p, x) ∷ w) zero (suc m) r q l k apart a b = let f = plain_here p r x l w a in let h = one_fuel w m q k b in omega (arith, f, h)
+two_fuels ((p, x) ∷ w) (suc n) zero r q l k apart a b = let f = plain_here p q x k w b in let h = one_fuel w n r l a in omega (arith, f, h)
+two_fuels ((p, Plain x) ∷ w) (suc n) (suc m) r q l k apart a b = let h = two_fuels w n m r q l k (λ e. apart (ap suc e)) a b in omega (arith, h)
+two_fuels ((p, Joined x) ∷ w) (suc n) (suc m) r q l k apart a b = two_fuels w n m r q l k (λ e. apart (ap suc e)) a b
 
 -- ---- by paths
 
@@ -107,25 +134,13 @@ module _ (g : CodeRun) (ok : IsVerified g) where
       let a : WantOk g l = subst (ActOk g l) (wants_act g ok (act g l) m is) (act_ok g ok l) in
       let b = (join_ok g ok l lq a.works).pay in
       let s = put_plain w n r r l (join g l lq) at in
-      let t = put_joined (put_number w n (r, Plain (join g l lq))) m q q lq lq (by (decide m n)) in
+      let t = put_joined (put_number w n (r, Plain (join g l lq))) m q q lq lq (joinee_stays (numbered g) w n m r q l lq (Plain (join g l lq)) at is there stops) in
       subst (within most) (sym z) (omega (arith, b, s, t, h))
-    where
-      by : (m ≡ n) ⊎ (m ≢ n) → at_number (put_number w n (r, Plain (join g l lq))) m ≡ Some (q, Plain lq)
-      by (inr other) = put_other w n m (r, Plain (join g l lq)) other ∙ there
-      by (inl same) =
-          let y : ◌≡◌ {A = Path × Entry (Local ℕ)} (q, Plain lq) (r, Plain l) = (let x : ◌≡◌ {A = Option (Path × Entry (Local ℕ))} (Some (q, Plain lq)) (Some (r, Plain l)) = sym there ∙ ap (at_number w) same ∙ at in cc) in
-          let e : lq ≡ l = (let x : ◌≡◌ {A = Entry (Local ℕ)} (Plain lq) (Plain l) = ap (λ k. k.1) y in cc) in
-          absurd (let clash : numbers.Wants m ≡ numbers.Stops = sym is ∙ ap (λ k. wish_of (act g k)) (sym e) ∙ stops in cc)
   step_within most w n u h (twice r l m at is z) = subst (within most) (sym z) tt
 
   kept_within : (most : ℕ) (ns : List ℕ) (v w : World (Local ℕ)) → within most v → Replays (numbered g) v ns w → within most w
   unfolding within
-  kept_within most [] v w h e = subst (within most) e h
-  kept_within most (n ∷ ns) v w h (u, e, rest) = by v h e (λ x. kept_within most ns u w x rest)
-    where
-      by : (v : World (Local ℕ)) → within most v → numbers.leg (numbered g) v n ≡ Some u → (within most u → within most w) → within most w
-      by Both h e rec = absurd (let z : ◌≡◌ {A = Option (World (Local ℕ))} None (Some u) = e in cc)
-      by (Listing x) h e rec = rec (step_within most x n u h (leg_ways (numbered g) x n u e))
+  kept_within most = replays_keep (numbered g) (within most) (λ x n u h e. step_within most x n u h (leg_ways (numbered g) x n u e))
 
   pub fuel_of : (n : ℕ) (m : IsMain g n) (fuel : ℕ) (ns : List ℕ) (w : Entries (Local ℕ)) → Replays (numbered g) (begin (numbered g) (start_in g n m.body fuel)) ns (Listing w) → fuels w ≤ fuel
   unfolding within all

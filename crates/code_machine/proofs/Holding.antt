@@ -3,7 +3,6 @@
 use Rattle.std.proofs.Common.{◌≡◌, ◌≢◌, ◌⊎◌, inl, inr, ◌∙◌, ℕ, Bool, true, false, cond, List, [], ◌∷◌, map, refl, sym, ap, subst, true≢false}
 use Rattle.rev_num.specs.Path.{Path, child, same}
 use Rattle.revision_machine.specs.Machine as revisions
-use Rattle.revision_machine.specs.Machine.{Event}
 use Rattle.revision_machine.specs.Laws.{IsIn}
 use Rattle.revision_machine.specs.Conditions.{Handles}
 use Rattle.revision_machine.proofs.Paths.{apart-same, decide_same, child-apart}

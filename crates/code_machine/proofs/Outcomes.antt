@@ -15,7 +15,7 @@ use Rattle.revision_machine.specs.Numbered.{World, Both, Listing, at_number, or_
 use Rattle.revision_machine.specs.Simulation.{Agrees, EntryAgrees}
 use Rattle.revision_machine.specs.Schedules.{MatchesEnd}
 use Rattle.revision_machine.proofs.Ends.{unique_end}
-use Rattle.revision_machine.proofs.Numbers.{number_back, globe_there}
+use Rattle.revision_machine.proofs.Numbers.{number_back, globe_there, first_entry}
 use Rattle.revision_machine.proofs.Schedules.{schedule_law, complete_schedule_agrees}
 use Rattle.code_machine.specs.Local.{CodeRun, IsVerified, Phase, running, done, trapped, Local, handles}
 use Rattle.code_machine.specs.Joining.{main_at}
@@ -108,11 +108,6 @@ module _ (g : CodeRun) (ok : IsVerified g) (n : ℕ) (m : IsMain g n) (fuel : �
       complete_schedule_agrees (machine g) (numbered g) IsNumbered (start_in g n m.body fuel) (start_in g n m.body fuel) (named_counts g ok) (simulates g ok)
       (λ t i. first_numbered g n m.body fuel t) Holds (counts g ok) (holding g) (first_none g n m.body fuel) ns w h over
 
-  -- `main` stands first
-  main_first : (w : List (Path × Entry (Local ℕ))) (rest : List Path) → paths_of w ≡ [] ∷ rest → (e : Entry (Local ℕ)) × (at_number w 0 ≡ Some ([], e))
-  main_first [] rest e = absurd (let z : [] ≡ [] ∷ rest = e in cc)
-  main_first ((p, e) ∷ w) rest is = (e, (let z : p ≡ [] = (let y : p ∷ paths_of w ≡ [] ∷ rest = is in cc) in ap (λ q. Some (q, e)) z))
-
   entry_outcome : (t : List Path) (e : Entry (Local ℕ)) (x : Option (Entry (Local Path))) → EntryAgrees (machine g) (machine_by (numbered g) t) (IsNumbered t) [] x (Some e) → main_outcome (λ k. or_path (at_number t k) []) g (local_of e) ≡ outcome_in g x
   entry_outcome t (Plain b) (Some (Plain a)) h = local_outcome t g [] a b h
   entry_outcome t (Joined b) (Some (Joined a)) h = local_outcome t g [] a b h
@@ -128,7 +123,7 @@ module _ (g : CodeRun) (ok : IsVerified g) (n : ℕ) (m : IsMain g n) (fuel : �
   world_outcome ns (Listing w) h t own (Live revs) a =
       let law = schedule_law (numbered g) (start_in g n m.body fuel) (named_counts g ok) ns (Listing w) h in
       let reads : ReadsAs (numbered g) (start_in g n m.body fuel) ns (Listing w) law.0 = law.2 in
-      let here = main_first w reads.children (sym law.1 ∙ reads.are) in
+      let here = first_entry w [] reads.children (sym law.1 ∙ reads.are) in
       let distinct = subst Rattle.revision_machine.specs.Laws.IsDistinct law.1 reads.distinct in
       let globe : globe_of w [] ≡ Some here.0 = globe_there w 0 [] here.0 distinct here.1 in
       let agree = subst (EntryAgrees (machine g) (machine_by (numbered g) t) (IsNumbered t) [] (revs [])) globe (a []) in
@@ -145,7 +140,7 @@ module _ (g : CodeRun) (ok : IsVerified g) (n : ℕ) (m : IsMain g n) (fuel : �
   has_outcome ns (Listing w) h all =
       let law = schedule_law (numbered g) (start_in g n m.body fuel) (named_counts g ok) ns (Listing w) h in
       let reads : ReadsAs (numbered g) (start_in g n m.body fuel) ns (Listing w) law.0 = law.2 in
-      let here = main_first w reads.children (sym law.1 ∙ reads.are) in
+      let here = first_entry w [] reads.children (sym law.1 ∙ reads.are) in
       let r = over_outcome (local_of here.0) (λ k. or_path (at_number (paths_of w) k) []) (all 0 [] here.0 here.1) in
       (r.0, ap (outcome_with g (paths_of w)) here.1 ∙ r.1)
 

@@ -17,7 +17,7 @@ use Rattle.rev_code.specs.declared.code.LayoutItem.TheVariants as item
 use Rattle.rev_code.specs.Words.{Word, int, bool, rev, kind_of, same_kind, fits, zero_word}
 use Rattle.rev_code.specs.State.{Location, Frame, Fun, State, Setting, seen, seen_at, written_at}
 use Rattle.rev_code.specs.Variables.{Place, scalar, array, cell_at}
-use Rattle.rev_code.specs.Printing.{printed_kinds, word_text, pieces, line_of}
+use Rattle.rev_code.specs.Printing.{printed_kinds, word_text, pieces}
 use Rattle.rev_code.specs.Step as r
 use Rattle.rev_code.specs.Step.{Comes, goes, traps, forks, joins, ends, stuck, act, act_at, act_in, step, onward, reach, only, is_fun, is_procedure, arguments, value_at, params}
 use Rattle.rev_code.specs.Funs as funs

@@ -6,6 +6,7 @@ use Rattle.rev_num.specs.declared.value.ValueKind.{ValueKind}
 use Rattle.rev_num.specs.declared.value.ValueKind.TheVariants as k
 use Rattle.rev_num.specs.declared.value.NumFault.{NumFault}
 use Rattle.rev_num.specs.declared.outcome.Cause.{Cause}
+use Rattle.rev_num.proofs.Options.{none_some, some_eq}
 use Rattle.rev_code.specs.declared.code.CodeBlock.{CodeBlock}
 use Rattle.rev_code.specs.declared.code.CodeVar.{CodeVar}
 use Rattle.rev_code.specs.Words.{Word, int, bool, rev, kind_of}
@@ -24,25 +25,21 @@ use Rattle.revision_machine.specs.Machine.{Entry, Plain, Joined}
 use Rattle.revision_machine.specs.Conditions.{IsKept}
 use Rattle.revision_machine.specs.Laws.{local_of}
 use Rattle.revision_machine.specs.Numbered as numbers
-use Rattle.revision_machine.specs.Numbered.{Wish, Entries, World, Both, Listing, at_number, put_number, begin, Replays}
+use Rattle.revision_machine.specs.Numbered.{Entries, World, Listing, at_number, put_number, begin, Replays}
 use Rattle.revision_machine.proofs.Kept.{kept_law}
 use Rattle.version_map.specs.Composing.{Entry as Changed, Composition, composed, and_later}
 use Rattle.code_machine.specs.Local.{CodeRun, IsVerified, under, Trap, Phase, running, done, trapped, Local, at_work, has_ended, end_of, written_from, with_entry}
 use Rattle.code_machine.specs.Leg.{leg, HasLeg}
-use Rattle.code_machine.specs.Joining.{merge_in, merges_of, merges, merged_there, word_or_fault, main_at, mains, written_all, absorb, inherit, join_in, join_end, join}
+use Rattle.code_machine.specs.Joining.{merge_in, merges_of, merges, merged_there, word_or_fault, main_at, mains, written_all, absorb, join_in, join_end, join}
 use Rattle.code_machine.specs.Machines.{Act, Goes, Bears, Wants, Stops, fork, act_of, act_in, act, wish_of, machine, numbered, IsMain, start_in}
 use Rattle.code_machine.specs.Ends.{IsEntry, AreEntries}
 use Rattle.code_machine.specs.Proper.{IsProper, EachEntry, IsOver, StatesAreProper, WorldsAreProper, StopsWhereOver}
 use Rattle.code_machine.proofs.Legs.{accepted, has_leg}
 use Rattle.code_machine.proofs.Events.{IsAt, stands}
 use Rattle.code_machine.proofs.Holding.{of_moves, of_forks, of_joins}
-use Rattle.code_machine.proofs.Changes.{LegOf, went, bore, took, twice, leg_ways, found, back}
-
-none_some : {P : Type 0} {A : Type 0} {a : A} → None ≡ Some a → P
-none_some e = absurd cc
-
-some_eq : {A : Type 0} {a b : A} → Some a ≡ Some b → a ≡ b
-some_eq e = cc
+use Rattle.code_machine.proofs.Changes.{LegOf, went, bore, took, twice, leg_ways}
+use Rattle.revision_machine.proofs.Lists.{at_put, at_more}
+use Rattle.revision_machine.proofs.Replays.{replays_keep}
 
 -- ---- the merge of a location
 
@@ -98,7 +95,8 @@ module _ (g : CodeRun) (ok : IsVerified g) {H : Type 0} where
       let d = m.merge in
       subst (HasValue (Some k.Int)) (λ i. value_at (slice_get (values g.code) (d i)) (sym s i ∷ sym t i ∷ sym u i ∷ [])) v
 
-  new_kind : (n : ℕ) (kind : ValueKind) (x y z w : Word H) → slice_get (location_kinds g.code.vars) n ≡ Some kind → kind_of x ≡ kind → kind_of y ≡ kind → kind_of z ≡ kind → merges g n x y z ≡ Ok w → kind_of w ≡ kind
+  -- what a merge gives has its location's kind
+  pub new_kind : (n : ℕ) (kind : ValueKind) (x y z w : Word H) → slice_get (location_kinds g.code.vars) n ≡ Some kind → kind_of x ≡ kind → kind_of y ≡ kind → kind_of z ≡ kind → merges g n x y z ≡ Ok w → kind_of w ≡ kind
   new_kind n kind x y z w at a b c e = by (slice_get (merges_of g.code.vars) n) refl e
     where
       joined : ◌≡◌ {A = Result (Word H) NumFault} (Ok y) (Ok w) → kind_of w ≡ kind
@@ -318,18 +316,18 @@ module _ (g : CodeRun) (ok : IsVerified g) where
   stops_act (Wants q) e = absurd (let y : numbers.Wants q ≡ numbers.Stops = e in cc)
 
   put_proper : (w : Entries (Local ℕ)) (n : ℕ) (r : Path) (e : Entry (Local ℕ)) → Proper (Listing w) → IsProper g (local_of e) → Proper (Listing (put_number w n (r, e)))
-  put_proper w n r e all p m q f there = by (found w n (r, e) m (q, f) there)
+  put_proper w n r e all p m q f there = by (at_put w n (r, e) m (q, f) there)
     where
-      by : (at_number w m ≡ Some (q, f)) ⊎ (◌≡◌ {A = Path × Entry (Local ℕ)} (q, f) (r, e)) → IsProper g (local_of f)
+      by : (at_number w m ≡ Some (q, f)) ⊎ ((m ≡ n) × ◌≡◌ {A = Path × Entry (Local ℕ)} (q, f) (r, e)) → IsProper g (local_of f)
       by (inl z) = all m q f z
-      by (inr z) = subst (λ y. IsProper g (local_of y)) (sym (ap (λ y. y.1) z)) p
+      by (inr z) = subst (λ y. IsProper g (local_of y)) (sym (ap (λ y. y.1) z.1)) p
 
   more_proper : (w : Entries (Local ℕ)) (r : Path) (e : Entry (Local ℕ)) → Proper (Listing w) → IsProper g (local_of e) → Proper (Listing (w ++ (r, e) ∷ []))
-  more_proper w r e all p m q f there = by (back w (r, e) m (q, f) there)
+  more_proper w r e all p m q f there = by (at_more w (r, e) m (q, f) there)
     where
-      by : (at_number w m ≡ Some (q, f)) ⊎ (◌≡◌ {A = Path × Entry (Local ℕ)} (q, f) (r, e)) → IsProper g (local_of f)
+      by : (at_number w m ≡ Some (q, f)) ⊎ ((m ≡ length w) × ◌≡◌ {A = Path × Entry (Local ℕ)} (q, f) (r, e)) → IsProper g (local_of f)
       by (inl z) = all m q f z
-      by (inr z) = subst (λ y. IsProper g (local_of y)) (sym (ap (λ y. y.1) z)) p
+      by (inr z) = subst (λ y. IsProper g (local_of y)) (sym (ap (λ y. y.1) z.1)) p
 
   leg_proper : (w : Entries (Local ℕ)) (n : ℕ) (u : World (Local ℕ)) → Proper (Listing w) → LegOf (numbered g) w n u → Proper u
   leg_proper w n u all (went r l l' at is z) =
@@ -345,12 +343,7 @@ module _ (g : CodeRun) (ok : IsVerified g) where
   leg_proper w n u all (twice r l m at is z) = subst Proper (sym z) tt
 
   replays_proper : (ns : List ℕ) (v w : World (Local ℕ)) → Proper v → Replays (numbered g) v ns w → Proper w
-  replays_proper [] v w p h = subst Proper h p
-  replays_proper (n ∷ ns) v w p (u, h, rest) = by v p h (λ x. replays_proper ns u w x rest)
-    where
-      by : (v : World (Local ℕ)) → Proper v → numbers.leg (numbered g) v n ≡ Some u → (Proper u → Proper w) → Proper w
-      by Both p h rec = none_some h
-      by (Listing x) p h rec = rec (leg_proper x n u p (leg_ways (numbered g) x n u h))
+  replays_proper = replays_keep (numbered g) Proper (λ x n u p h. leg_proper x n u p (leg_ways (numbered g) x n u h))
 
   begin_proper : (l : Local ℕ) → IsProper g l → Proper (begin (numbered g) l)
   begin_proper l p zero r e there = (let z : ◌≡◌ {A = Path × Entry (Local ℕ)} ([], Plain l) (r, e) = some_eq there in subst (λ y. IsProper g (local_of y)) (ap (λ y. y.1) z) p)

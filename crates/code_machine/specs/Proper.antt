@@ -9,7 +9,7 @@ use Rattle.code_soundness.specs.Typed.{AreLocations, location_kinds, IsRevision}
 use Rattle.revision_machine.specs.Machine.{Entry}
 use Rattle.revision_machine.specs.Laws.{local_of, KeptLaw}
 use Rattle.revision_machine.specs.Numbered as numbers
-use Rattle.revision_machine.specs.Numbered.{Entries, World, Both, Listing, at_number, begin, Replays}
+use Rattle.revision_machine.specs.Numbered.{World, Both, Listing, at_number, begin, Replays}
 use Rattle.code_machine.specs.Local.{CodeRun, IsVerified, running, done, trapped, Trap, Local}
 use Rattle.code_machine.specs.Machines.{machine, numbered, IsMain, start_in}
 

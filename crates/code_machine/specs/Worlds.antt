@@ -9,7 +9,7 @@ use Rattle.rev_num.specs.Path.{Path, child}
 use Rattle.rev_code.specs.State.{State}
 use Rattle.rev_code.specs.Step.{joins}
 use Rattle.revision_machine.specs.Machine.{Entry, Plain, Joined}
-use Rattle.revision_machine.specs.Numbered.{Numbered, Wants, Stops, Entries, World, Both, Listing, at_number, put_number, paths_of, begin, Replays}
+use Rattle.revision_machine.specs.Numbered.{Numbered, Wants, Stops, Entries, World, Listing, at_number, put_number, paths_of, begin, Replays}
 use Rattle.revision_machine.specs.Numbered as numbers
 use Rattle.code_machine.specs.Local.{CodeRun, IsVerified, Local, at_work}
 use Rattle.code_machine.specs.Leg.{leg}

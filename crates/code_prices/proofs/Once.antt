@@ -11,7 +11,7 @@ use Rattle.code_prices.specs.Prices.{AllCertified, instr_in}
 use Rattle.code_prices.specs.Once.{at_charge, Within, stay, more, OncePerFrame}
 use Rattle.code_prices.proofs.Costing.{back_at_charge}
 use Rattle.code_prices.proofs.Ways as w
-use Rattle.code_prices.proofs.Ways.{Way, WayTo, Ways, ways}
+use Rattle.code_prices.proofs.Ways.{Way, Ways, ways}
 
 module _ {H : Type 0} (s : Setting H) (notes : ℕ → ℕ → Note) (certified : AllCertified s.code notes) (deep block at : ℕ) where
   -- the frame with so many frames below it waits at a later place

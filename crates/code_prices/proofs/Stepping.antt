@@ -11,7 +11,7 @@ use Rattle.code_prices.specs.Prices.{AllCertified, Prices, Bears, place_price, p
 use Rattle.code_prices.specs.Uses.{UsesUp}
 use Rattle.code_prices.proofs.Costing.{Plain, on, leap, charged, spent, begun, some_left}
 use Rattle.code_prices.proofs.Ways as w
-use Rattle.code_prices.proofs.Ways.{IsPlain, Way, WayTo, Ways, ways}
+use Rattle.code_prices.proofs.Ways.{IsPlain, Way, Ways, ways}
 
 plain_price : (p : Prices) (x : Instr) → is_charge (Some x) ≡ false → (d : Bool) → place_price p (Some x) d ≡ p.other + cond d p.paid 0
 plain_price p (i.Charge line) h d = absurd (true≢false h)

@@ -1,9 +1,8 @@
 -- The outcome of the code, from the world after one complete schedule.
 use Rattle.std.proofs.Common.{◌≡◌, ◌∙◌, ℕ, ◌≤◌, List, [], Option, Some, None, refl, sym, ap, subst}
-use Rattle.rev_num.specs.Path.{Path}
 use Rattle.rev_num.specs.declared.outcome.Outcome.{Outcome}
 use Rattle.rev_num.specs.declared.outcome.Outcome.TheVariants as o
-use Rattle.revision_machine.specs.Machine.{Entry, Plain}
+use Rattle.revision_machine.specs.Machine.{Plain}
 use Rattle.revision_machine.specs.Numbered.{Entries, World, Both, Listing, at_number, paths_of}
 use Rattle.code_machine.specs.Local.{CodeRun, IsVerified, Local}
 use Rattle.code_machine.specs.Outcome.{outcome}
@@ -13,7 +12,7 @@ use Rattle.code_outcomes.proofs.Outcomes.{each_has_one}
 use Rattle.code_world.specs.declared.ending.MainEnd.{MainEnd}
 use Rattle.code_world.specs.declared.world.World as rust
 use Rattle.code_world.specs.Endings.{HasLeft, MainIsOver, Names}
-use Rattle.code_world.proofs.Rows.{some_same}
+use Rattle.code_world.proofs.Ended.{plain_same}
 use Rattle.reached_worlds.specs.Reached.{IsReached, most_fuel}
 use Rattle.reached_worlds.proofs.Reaching.{main_stands}
 use Rattle.world_outcomes.specs.Ends.{IsEndOfMain}
@@ -47,12 +46,6 @@ module _ (g : CodeRun) (ok : IsVerified g) (fuel : ℕ) where
         by Both h = refl
         by (Listing w) h = absurd h
 
-plain_same : (x : Option (Path × Entry (Local ℕ))) (l k : Local ℕ) → x ≡ Some ([], Plain l) → x ≡ Some ([], Plain k) → l ≡ k
-plain_same x l k a b =
-    let z : ◌≡◌ {A = Path × Entry (Local ℕ)} ([], Plain l) ([], Plain k) = some_same (sym a ∙ b) in
-    let y : Plain l ≡ Plain k = ap (λ (i : Path × Entry (Local ℕ)). i.1) z in
-    cc
-
 -- the end of `main`, in a world with these paths
 pub record LeftBy (g : CodeRun) (w : Entries (Local ℕ)) (m : MainEnd) : Type 0 where
   pub local : Local ℕ
@@ -69,10 +62,10 @@ module _ (g : CodeRun) (ok : IsVerified g) (fuel : ℕ) (v : rust.World) (a : Is
       by (Listing w) is (l, at, end, names) =
           let r = subst (IsReached g) is (reached g ok fuel a.few a.schedule a.world a.complete) in
           let s = main_stands g ok w r in
-          let same : s.0 ≡ l = plain_same (at_number w 0) s.0 l s.1 at in (
+          let same : l ≡ s.0 = plain_same (at_number w 0) [] [] s.0 l s.1 at in (
             w,
             is,
-            record { local = l; there = at; end = record { end = end; starts = ap (λ (k : Local ℕ). Rattle.reached_worlds.specs.Reached.snapshots k.state.locations) (sym same) ∙ s.2 }; names = names },
+            record { local = l; there = at; end = record { end = end; starts = ap (λ (k : Local ℕ). Rattle.reached_worlds.specs.Reached.snapshots k.state.locations) same ∙ s.2 }; names = names },
           )
 
   pub main_shows : (x : Outcome) → ((w : Entries (Local ℕ)) → LeftBy g w m → outcome g (Listing w) ≡ Some x) → HasOutcome g fuel x

@@ -1,5 +1,5 @@
 -- A complete run, from the start of `main`.
-use Rattle.std.proofs.Common.{◌≡◌, ◌∙◌, ℕ, ◌≤◌, List, [], ◌∷◌, sym, ap}
+use Rattle.std.proofs.Common.{◌∙◌, ℕ, ◌≤◌, List, [], ◌∷◌, sym, ap}
 use Rattle.revision_machine.specs.Numbered as numbers
 use Rattle.revision_machine.specs.Numbered.{World, begin, Least, Replays, IsOver}
 use Rattle.code_machine.specs.Local.{CodeRun, Local}

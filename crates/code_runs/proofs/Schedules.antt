@@ -10,12 +10,7 @@ use Rattle.code_machine.specs.Worlds.{after, replay}
 use Rattle.code_outcomes.proofs.Mains.{has_main, main_is_one}
 use Rattle.world_runs.specs.Replay.{Replayed, StopsAt}
 use Rattle.code_runs.specs.Schedules.{EachIsLegalOrStops, IsLegal, NeverBoth, StopsOnce, WorldIsOne}
-
-some_same : {A : Type 0} {x y : A} → Some x ≡ Some y → x ≡ y
-some_same e = cc
-
-never_some : {A : Type 0} {x : A} → None ≡ Some x → ⊥
-never_some e = cc
+use Rattle.rev_num.proofs.Options.{some_eq as some_same, none_some as never_some}
 
 -- ---- from any world
 

@@ -1,6 +1,7 @@
 //! Runs of verified code.
 
 ghost use Rattle.std.specs.Prelude.{◌≡◌, ◌≤◌, ℕ, IfErr, IfOk};
+ghost use Rattle.rev_num.specs.Limits.{most_fuel};
 ghost use Rattle.block_merges.specs.Merging.{AreMergesOf};
 ghost use Rattle.block_run.specs.Area.{count};
 ghost use Rattle.code_outcomes.specs.Outcomes.{HasOutcome};
@@ -51,7 +52,7 @@ pub fn run_code(
     share: u64,
     fuel: u64,
 ) -> Result<Outcome, AllocError>
-    requires { fuel ≤ 4000000000 }
+    requires { fuel ≤ most_fuel }
     ensures { IfOk result (λ o. HasOutcome
         (record { code = code.code; inputs = inputs.items; share = share }) fuel o) }
 {
@@ -73,7 +74,7 @@ pub fn replay_code(
     fuel: u64,
     schedule: &[u32],
 ) -> Result<Outcome, ReplayFault>
-    requires { fuel ≤ 4000000000 }
+    requires { fuel ≤ most_fuel }
     ensures legal { IfOk result (λ o. IsLegal
         (record { code = code.code; inputs = inputs.items; share = share }) fuel schedule.now) }
     ensures outcome { IfOk result (λ o. HasOutcome

@@ -9,7 +9,7 @@ use Rattle.rev_code.specs.declared.code.Instr.{Instr}
 use Rattle.code_rules.specs.declared.Cost.{Cost}
 use Rattle.code_rules.specs.declared.Rule.{Rule}
 use Rattle.code_rules.specs.declared.Rule.TheVariants as rule
-use Rattle.code_rules.specs.Pass.{Note, Passed, arrival, passed, gone, target, bad_jump, bad_operand, bad_shape, wrong_kind, bad_local, falls_off, over_limit, broken, is_value_class, no_cost, cost_of, block_cost, costs_too_much, or_fault, scan, block_fault, fault_or, blocks_fault, most_need, most_count, most_words, after, applied, greatest_depth, greatest_need}
+use Rattle.code_rules.specs.Pass.{Note, Passed, arrival, passed, target, bad_jump, bad_operand, bad_shape, wrong_kind, bad_local, falls_off, over_limit, broken, is_value_class, no_cost, cost_of, block_cost, costs_too_much, scan, block_fault, fault_or, blocks_fault, most_need, most_count, most_words, after, applied, greatest_depth, greatest_need}
 use Rattle.code_rules.specs.Tables.{names_well, is_small}
 use Rattle.code_rules.specs.Verdict.{first_fault, of_tables}
 use Rattle.code_certificate.specs.Certificate.{note_at, IsCertified}
@@ -18,7 +18,7 @@ use Rattle.code_certificate.proofs.Basics.{if_none}
 use Rattle.code_certificate.proofs.Costs.{ok_eq, block_costs}
 use Rattle.code_soundness.specs.Whole.{IsAccepted, AreCosts, notes_in, notes_of, all_passed}
 use Rattle.code_soundness.proofs.Rooms.{place_room}
-use Rattle.code_soundness.proofs.Lists.{none_some, some_eq, or_parts, take_append, get_append_left, get_append_right}
+use Rattle.code_soundness.proofs.Lists.{none_some, some_eq, or_parts}
 
 -- ---- what a block costs
 

@@ -11,6 +11,7 @@ use Rattle.code_rules.specs.Shapes.{begins}
 pub use Rattle.code_certificate.proofs.Basics.{or_parts, not_true, and_false, append_length, kind_is, and_parts, not_false, none_some, some_eq, some_within, within_some}
 use Rattle.code_soundness.specs.Typed.{kinds_of}
 use Rattle.rev_code.proofs.SameKinds.{same_kind_self}
+pub use Rattle.std.proofs.Math.Seq.{take-append_seam as take_append}
 
 -- ---- tests
 
@@ -30,10 +31,6 @@ module _ {A : Type 0} where
   pub get_append_right : (xs ys : List A) (n : ℕ) → slice_get (xs ++ ys) (length xs + n) ≡ slice_get ys n
   get_append_right [] ys n = ap (slice_get ys) (omega arith)
   get_append_right (x ∷ xs) ys n = ap (slice_get (x ∷ xs ++ ys)) (let z : suc (length xs) + n ≡ suc (length xs + n) = omega arith in z) ∙ get_append_right xs ys n
-
-  pub take_append : (xs ys : List A) → take (length xs) (xs ++ ys) ≡ xs
-  take_append [] ys = refl
-  take_append (x ∷ xs) ys = ap (λ z. x ∷ z) (take_append xs ys)
 
   -- what is taken, and behind as many the rest
   pub take_then_drop : (n : ℕ) (xs : List A) → take n xs ++ drop (length (take n xs)) xs ≡ xs

@@ -20,7 +20,7 @@ use Rattle.code_rules.specs.Verdict.{first_fault}
 use Rattle.code_soundness.specs.Whole.{IsAccepted, notes_of}
 use Rattle.code_soundness.proofs.Accepting.{no_fault_accepted}
 use Rattle.code_soundness.specs.Safe as safe
-use Rattle.code_soundness.specs.Safe.{HasStep, IsSafe, IsReached, NeverFails, IsForked}
+use Rattle.code_soundness.specs.Safe.{HasStep, IsSafe, IsReached, NeverFails}
 use Rattle.code_soundness.proofs.Lists.{and_parts, some_eq, within_some}
 use Rattle.code_soundness.proofs.Variables.{start_kinds}
 use Rattle.code_soundness.proofs.Well.{Stands, Well}

@@ -1,6 +1,6 @@
 -- Lists from a place on.
 use Rattle.std.proofs.Common.{◌≡◌, ◌∙◌, ℕ, zero, suc, ◌+◌, ◌<◌, ◌≤◌, Bool, true, false, ◌&&◌, not, cond, List, [], ◌∷◌, length, drop, refl, sym, ap, arith, get_or, map}
-use Rattle.std.specs.List.{list_all, fold}
+use Rattle.std.specs.List.{fold}
 use Rattle.rev_code.specs.declared.code.CodeBlock.{CodeBlock}
 use Rattle.rev_code.specs.declared.code.CodeVar.{CodeVar}
 use Rattle.rev_code.specs.declared.code.BlockClass.{BlockClass}

@@ -16,7 +16,9 @@ use Rattle.rev_vm.proofs.Values.{one_end}
 use Rattle.code_soundness.specs.Typed.{location_kinds}
 use Rattle.code_machine.specs.Local.{CodeRun, Local, end_of}
 use Rattle.code_machine.specs.Proper.{IsOver}
-use Rattle.code_world.proofs.Rows.{none_some, some_same, at_below, below_at, more_length}
+use Rattle.code_world.proofs.Rows.{none_some, some_same}
+use Rattle.revision_machine.proofs.Numbers.{path_at}
+use Rattle.revision_machine.proofs.Lists.{at_below, below_at}
 use Rattle.audit_rules.specs.Traces as calculus_traces
 use Rattle.trace_making.specs.Made.{is_sooner}
 use Rattle.trace_making.proofs.InOrder.{AreOnce, contains_among, among_contains, distinct_once, in_order, once_moved}
@@ -148,8 +150,3 @@ module _ (g : CodeRun) (w : Entries (Local ℕ)) (ns : List Noted) (noted : AreN
       let b = below_at w n (omega (arith, few, many)) in
       let path : path_in (paths_of w) n ≡ b.0.0 = ap (λ o. or_path o []) (path_at w n b.0.0 b.0.1 b.1) in
       (b.0.0, b.0.1, b.1, noted_is g (paths_of w) n b.0.0 (local_of b.0.1) x v path (noted.each n b.0.0 b.0.1 x b.1 there) (over n b.0.0 b.0.1 b.1) is)
-    where
-      path_at : (u : Entries (Local ℕ)) (k : ℕ) (r : Path) (e : Entry (Local ℕ)) → at_number u k ≡ Some (r, e) → at_number (paths_of u) k ≡ Some r
-      path_at [] k r e h = none_some h
-      path_at (y ∷ u) zero r e h = let z : ◌≡◌ {A = Path × Entry (Local ℕ)} y (r, e) = some_same h in ap (λ (q : Path × Entry (Local ℕ)). Some q.0) z
-      path_at (y ∷ u) (suc k) r e h = path_at u k r e h

@@ -64,9 +64,9 @@ module _ (g : CodeRun) (ok : IsVerified g) (fuel : ℕ) where
 
   notes_ended : (w : Entries (Local ℕ)) (ns : List Noted) → AreNoted g w ns → AreOver w → HaveEnded ns
   notes_ended w ns noted over n x there =
-      let few = Rattle.code_world.proofs.Rows.at_below ns n x there in
+      let few = Rattle.revision_machine.proofs.Lists.at_below ns n x there in
       let many = noted.count in
-      let b = Rattle.code_world.proofs.Rows.below_at w n (omega (Rattle.std.proofs.Common.arith, few, many)) in
+      let b = Rattle.revision_machine.proofs.Lists.below_at w n (omega (Rattle.std.proofs.Common.arith, few, many)) in
       let k = (noted.each n b.0.0 b.0.1 x b.1 there).left (over n b.0.0 b.0.1 b.1) in
       (k.0, k.1)
 

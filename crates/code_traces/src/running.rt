@@ -1,6 +1,7 @@
 //! One run of verified code, to its outcome and its trace.
 
 ghost use Rattle.std.specs.Prelude.{◌≤◌, ℕ, IfOk};
+ghost use Rattle.rev_num.specs.Limits.{most_fuel};
 ghost use Rattle.code_outcomes.specs.Outcomes.{HasOutcome};
 ghost use Rattle.leg_run.specs.Setting.{IsSetting};
 ghost use Rattle.rev_vm.specs.Starts.{run_under};
@@ -70,7 +71,7 @@ pub fn trace_code(
     share: u64,
     fuel: u64,
 ) -> Result<TracedRun, AllocError>
-    requires { fuel ≤ 4000000000 }
+    requires { fuel ≤ most_fuel }
     ensures outcome { IfOk result (λ t. HasOutcome
         (record { code = code.code; inputs = inputs.items; share = share }) fuel t.outcome) }
     ensures trace { IfOk result (λ t. HasTrace

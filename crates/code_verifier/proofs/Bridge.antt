@@ -6,13 +6,14 @@ use Rattle.rev_code.specs.declared.code.Code.{Code}
 use Rattle.rev_code.specs.declared.code.CodeBlock.{CodeBlock}
 use Rattle.code_rules.specs.Shapes.{Shape, same_shape}
 use Rattle.code_rules.specs.Pass as pass
-use Rattle.code_rules.specs.Pass.{Note, Passed, entry, after, leads_to, joined, jumped, meet, arrival, known, passed, gone, before, is_other, clashes, target, falls, paid_after, bad_jump, bad_operand, is_bare, is_paid_for, bad_local, falls_off, over_limit, broken, broken_on_arrival, bad_shape, wrong_kind, scan, or_fault}
+use Rattle.code_rules.specs.Pass.{Note, Passed, after, leads_to, joined, jumped, meet, is_other, clashes, target, falls}
 use Rattle.code_verifier.specs.declared.mark.Mark.{Mark}
 use Rattle.code_verifier.specs.Kept.{Extends, shape_at}
 use Rattle.code_verifier.specs.Marking.{AllInRange, met, other_at, clashes_at, joined_mark, kept, leap, IsMark, Marks, Stands}
 use Rattle.code_verifier.proofs.Tries.{shape_extends, get_set, length_set}
 use Rattle.code_certificate.proofs.Basics.{within_some}
 use Rattle.rev_num.proofs.Lists.{get_set_other}
+use Rattle.rev_num.proofs.Options.{some_same as some_eq}
 
 -- ---- more shapes
 
@@ -77,9 +78,6 @@ joined_marks shapes x n h None None p = h
 joined_marks shapes x n h None (Some m) p = absurd p
 joined_marks shapes x n h (Some y) None p = absurd p
 joined_marks shapes x n h (Some y) (Some m) p = record { within = h.within; shape = h.shape; paid = (λ i. p.paid i && h.paid i) }
-
-some_eq : {A : Type 0} (x y : A) → Some x ≡ Some y → x ≡ y
-some_eq x y h = cc
 
 nat_eq_self : (n : ℕ) → nat_eq n n ≡ true
 nat_eq_self n = grind (arith, nat_tests)

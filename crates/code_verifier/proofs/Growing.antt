@@ -11,6 +11,7 @@ use Rattle.code_verifier.specs.Trie.{shape_on, shapes_of, above, above_at, IsNod
 use Rattle.code_verifier.proofs.Tries.{get_last, get_set, length_set, grown_length, grown_snoc, grown_set}
 use Rattle.code_certificate.proofs.Basics.{some_within}
 use Rattle.rev_num.proofs.Lists.{get_append, get_set_other}
+use Rattle.rev_num.proofs.Options.{some_same as some_eq}
 
 abbrev at_of : Option Shape → Shape
 at_of o = elim o [ None ↦ [] | Some s ↦ s ]
@@ -96,9 +97,6 @@ module _ (ns : List Node) (trie : IsTrie ns) (id : ℕ) (kind : ValueKind) (node
   data Which (j : ℕ) (n : Node) : Type 0 where
     old : Old j n → Which j n
     new : j ≡ length ns → n ≡ new_node kind id (suc node.depth) → Which j n
-
-  some_eq : {A : Type 0} (x y : A) → Some x ≡ Some y → x ≡ y
-  some_eq x y h = cc
 
   which : (j : ℕ) (n : Node) → slice_get grown_nodes j ≡ Some n → Which j n
   which j n h = by (nat_eq j id) refl (nat_eq j (length ns)) refl

@@ -1,5 +1,5 @@
 -- One instruction of the pass.
-use Rattle.std.proofs.Common.{◌≡◌, ◌∙◌, ℕ, zero, suc, ◌+◌, ◌^◌, ◌<◌, ◌≤◌, max, Bool, true, false, not, ◌&&◌, ◌||◌, List, [], ◌∷◌, ◌++◌, length, Option, Some, None, refl, sym, ap, subst, arith, true≢false, take, drop, get_or}
+use Rattle.std.proofs.Common.{◌≡◌, ◌∙◌, ℕ, zero, suc, ◌+◌, ◌^◌, ◌<◌, ◌≤◌, max, Bool, true, false, not, ◌&&◌, ◌||◌, List, [], ◌∷◌, length, Option, Some, None, refl, sym, ap, subst, arith, true≢false, drop, get_or}
 use Rattle.std.specs.Prelude.{slice_get, nat_lt, is_some, if◌then◌else◌, Err}
 use Rattle.std.proofs.lemmas.Bool.Decides.{nat_tests}
 use Rattle.rev_code.specs.declared.code.Code.{Code}
@@ -11,7 +11,7 @@ use Rattle.code_rules.specs.declared.Rule.{Rule}
 use Rattle.code_rules.specs.declared.Rule.TheVariants as rule
 use Rattle.code_rules.specs.Shapes.{Shape, takes, begins, shape_after}
 use Rattle.code_rules.specs.Pass as pass
-use Rattle.code_rules.specs.Pass.{Note, Passed, after, arrival, known, passed, gone, before, clashes, target, falls, paid_after, bad_jump, bad_operand, is_bare, is_paid_for, bad_local, falls_off, over_limit, broken, broken_with, broken_on_arrival, scan, or_fault, bad_shape, wrong_kind, greatest_depth, greatest_need, count_of, cost_of, costs_too_much, applied, cost_at, is_value_class, most_need, most_count, most_words}
+use Rattle.code_rules.specs.Pass.{Note, Passed, after, arrival, known, passed, before, clashes, target, falls, paid_after, bad_jump, bad_operand, is_bare, is_paid_for, bad_local, falls_off, over_limit, broken, broken_with, scan, or_fault, bad_shape, wrong_kind, greatest_depth, greatest_need, count_of, cost_of, costs_too_much, applied, cost_at, is_value_class, most_need, most_count, most_words}
 use Rattle.code_verifier.specs.declared.mark.Mark.{Mark}
 use Rattle.code_verifier.specs.declared.spent.Spent.{Spent}
 use Rattle.code_verifier.specs.declared.stack.Effect.{Effect}
@@ -24,7 +24,7 @@ use Rattle.code_verifier.specs.Spending.{spend, is_over, AllCheap, IsCheap, IsSp
 use Rattle.code_verifier.specs.Passing.{rule_of, shape_faulty, IsReady, Arrived, IsStep}
 use Rattle.code_verifier.proofs.Tries.{get_or_some}
 use Rattle.code_verifier.proofs.Bridge.{meets, clash_is, stands_next, stands_more}
-use Rattle.code_certificate.proofs.Basics.{take_some, gone_snoc, before_next, some_within}
+use Rattle.code_certificate.proofs.Basics.{before_next, some_within}
 use Rattle.code_verifier.proofs.Blocks.{drop_suc}
 
 -- ---- the instructions before a place

@@ -1,17 +1,13 @@
 -- What the numbers of shapes stand for stays so when a shape is added.
 use Rattle.std.proofs.Common.{◌≡◌, ◌≢◌, ◌∙◌, ℕ, zero, suc, ◌+◌, ◌<◌, ◌≤◌, Bool, true, false, List, [], ◌∷◌, ◌++◌, length, Some, None, refl, sym, ap, arith, true≢false, length-append, get_or}
-use Rattle.std.specs.Prelude.{slice_get, slice_set, nat_eq, ◌&&◌}
+use Rattle.std.specs.Prelude.{slice_get, slice_set, nat_eq}
 use Rattle.std.proofs.lemmas.Bool.Decides.{nat_tests}
 use Rattle.rev_num.specs.declared.value.ValueKind.{ValueKind}
-use Rattle.rev_num.specs.declared.value.ValueKind.TheVariants as k
-use Rattle.rev_code.specs.Words.{same_kind}
-use Rattle.code_certificate.proofs.Basics.{kind_is, same_is, some_within, within_some}
+use Rattle.code_certificate.proofs.Basics.{same_is, within_some, same_self}
 use Rattle.code_rules.specs.Shapes.{Shape, same_shape}
 use Rattle.code_verifier.specs.declared.node.Node.{Node}
 use Rattle.code_verifier.specs.Kept.{shape_at, first, rest, Extends}
 use Rattle.code_verifier.specs.Trie.{shape_on, grown, shapes_of, above_at, IsTrie}
-use Rattle.rev_num.proofs.Lists.{get_append, get_set_other}
-use Rattle.rev_code.proofs.SameKinds.{same_kind_self}
 
 -- ---- lists
 
@@ -71,10 +67,6 @@ pub shape_extends : (old new : List Shape) (id : ℕ) → Extends old new → id
 shape_extends old new id e h = ap (λ o. elim o as (λ _. Shape) [ None ↦ [] | Some s ↦ s ]) (e.kept id h)
 
 -- ---- equal shapes have one number
-
-pub same_self : (xs : Shape) → same_shape xs xs ≡ true
-same_self [] = refl
-same_self (x ∷ xs) = ap (λ d. d && same_shape xs xs) (same_kind_self x) ∙ same_self xs
 
 no_cons : (x : ValueKind) (s : Shape) → x ∷ s ≡ [] → ⊥
 no_cons x s h = cc

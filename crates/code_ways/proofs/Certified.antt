@@ -11,7 +11,7 @@ use Rattle.code_rules.specs.declared.Rule.TheVariants as rule
 use Rattle.code_rules.specs.Shapes.{Shape, takes, begins, shape_after}
 use Rattle.code_rules.specs.Pass.{Note, entry, bad_jump, block_fault, costs_too_much, is_charge, is_value_class, paid_after, most_need, most_count}
 use Rattle.code_certificate.specs.Certificate.{Fits, IsJumped, IsNoted, IsCertified}
-use Rattle.code_certificate.proofs.Basics.{and_parts, some_eq}
+use Rattle.code_certificate.proofs.Basics.{and_parts}
 use Rattle.code_ways.specs.Ways.{IsStart, first, behind, Arrives, starts, falls_on, jumps_on, Way, begins as begins_way, goes_on, jumps}
 use Rattle.code_ways.specs.Breaks.{BreaksShape, differ, too_few, too_many, unpaid, clash, back, BreaksLimit, need_of_applied, total_count, cost_upto}
 use Rattle.code_ways.specs.First.{KeepsAll}

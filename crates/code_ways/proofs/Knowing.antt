@@ -1,11 +1,9 @@
 -- What the pass notes on arrival is what ways bring, at each place before which no rule is broken.
 --   Known   one shape arrives, which is noted; where the note says paid, every way has paid, and otherwise one has not
-use Rattle.std.proofs.Common.{◌≡◌, ◌≢◌, ◌∙◌, ◌⊎◌, inl, inr, ℕ, zero, suc, ◌<◌, ◌≤◌, Bool, true, false, cond, not, ◌&&◌, ◌||◌, List, [], ◌∷◌, length, Option, Some, None, refl, sym, ap, subst, arith, true≢false}
+use Rattle.std.proofs.Common.{◌≡◌, ◌≢◌, ◌∙◌, ◌⊎◌, inl, inr, ℕ, zero, suc, ◌<◌, ◌≤◌, Bool, true, false, cond, not, ◌&&◌, ◌||◌, List, length, Option, Some, None, refl, sym, ap, subst, arith, true≢false}
 use Rattle.std.specs.Prelude.{slice_get, nat_lt, if◌then◌else◌}
 use Rattle.std.proofs.lemmas.Bool.Decides.{nat_tests}
-use Rattle.rev_num.specs.declared.value.ValueKind.{ValueKind}
 use Rattle.rev_num.specs.declared.value.ValueKind.TheVariants as k
-use Rattle.rev_code.specs.Words.{same_kind}
 use Rattle.rev_code.specs.declared.code.Code.{Code}
 use Rattle.rev_code.specs.declared.code.CodeBlock.{CodeBlock}
 use Rattle.rev_code.specs.declared.code.Instr.{Instr}
@@ -14,11 +12,11 @@ use Rattle.code_rules.specs.declared.Cost.{Cost}
 use Rattle.code_rules.specs.Shapes.{Shape, same_shape, shape_after}
 use Rattle.code_rules.specs.Pass.{Note, entry, arrival, before, fallen, jumped, joined, leads_to, meet, is_other, clashes, falls, target, paid_after, is_charge, is_value_class, bad_jump, no_cost}
 use Rattle.code_certificate.specs.Certificate.{Fits, leaves, note_at}
-use Rattle.code_certificate.proofs.Basics.{and_parts, same_is, not_false, some_eq, none_some, within_some, before_next, before_length}
+use Rattle.code_certificate.proofs.Basics.{and_parts, same_is, not_false, some_eq, none_some, within_some, before_next, before_length, same_self}
 use Rattle.code_certificate.proofs.Meeting.{meet_now, meet_mark, leads_self, leads_is}
 use Rattle.code_certificate.proofs.Accepted.{Whole}
 use Rattle.code_ways.specs.Ways.{IsStart, first, behind, Arrives, starts, falls_on, jumps_on, Way, begins, goes_on, jumps}
-use Rattle.rev_code.proofs.SameKinds.{same_kind_self}
+pub use Rattle.rev_num.proofs.Lists.{or_true}
 
 -- an instruction pays, uses up a payment, or keeps it
 pub after_paid : (x : Instr) (p d : Bool) → (is_charge (Some x) ≡ false → p ≡ true → d ≡ true) → paid_after p x ≡ true → paid_after d x ≡ true
@@ -27,16 +25,8 @@ after_paid (i.Call n) p d h e = e
 after_paid (i.Fork n) p d h e = e
 after_paid _ p d h e = h refl e
 
-pub or_true : (v : Bool) → (v || true) ≡ true
-or_true true = refl
-or_true false = refl
-
 suc_eq : (m n : ℕ) → suc m ≡ suc n → m ≡ n
 suc_eq m n h = omega (arith, h)
-
-pub same_self : (s : Shape) → same_shape s s ≡ true
-same_self [] = refl
-same_self (x ∷ s) = ap (λ d. d && same_shape s s) (same_kind_self x) ∙ same_self s
 
 module _ (code : Code) (costs : List Cost) (n : ℕ) (b : CodeBlock) where
   -- no rule is broken before this place

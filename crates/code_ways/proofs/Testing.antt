@@ -10,10 +10,10 @@ use Rattle.code_rules.specs.declared.Cost.{Cost}
 use Rattle.code_rules.specs.Shapes.{Shape, same_shape, takes, begins, shape_after}
 use Rattle.code_rules.specs.Pass.{Note, passed, before, jumped, is_other, clashes, is_bare, is_paid_for, is_charge, is_value_class, target, bad_shape, wrong_kind, over_limit, cost_of, costs_too_much, greatest_depth, most_words}
 use Rattle.code_certificate.specs.Certificate.{note_at}
-use Rattle.code_certificate.proofs.Basics.{or_parts, and_false, not_true, and_parts, same_is, not_false, some_within, no_length, before_next, before_length}
+use Rattle.code_certificate.proofs.Basics.{or_parts, and_false, not_true, and_parts, same_is, not_false, some_within, no_length, before_next, before_length, same_self}
 use Rattle.code_ways.specs.Ways.{Arrives, Way}
 use Rattle.code_ways.specs.Breaks.{IsEarlierJump, BreaksShape, differ, too_few, too_many, unpaid, clash, back, IsDeepest, cost_upto, BreaksLimit}
-use Rattle.code_ways.proofs.Knowing.{same_self, Good, Known, AllKnown, Led, led}
+use Rattle.code_ways.proofs.Knowing.{Good, Known, AllKnown, Led, led}
 use Rattle.code_ways.proofs.Depths.{cost_before, deepest}
 
 or_cases : (d e : Bool) → d || e ≡ true → (d ≡ true) ⊎ (e ≡ true)

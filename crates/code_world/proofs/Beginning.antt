@@ -4,7 +4,7 @@ use Rattle.std.specs.Prelude.{slice_get}
 use Rattle.std.specs.List.{list_all}
 use Rattle.rev_code.specs.declared.code.CodeBlock.{CodeBlock}
 use Rattle.code_rules.specs.Tables as rules
-use Rattle.code_rules.specs.Tables.{is_main, ends_in_main, is_start, is_block, fits_class, has_result}
+use Rattle.code_rules.specs.Tables.{is_main, ends_in_main, is_block}
 use Rattle.code_soundness.proofs.Lists.{and_parts}
 use Rattle.revision_machine.specs.Machine.{Plain}
 use Rattle.revision_machine.specs.Numbered.{at_number}

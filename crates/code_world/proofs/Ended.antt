@@ -1,8 +1,9 @@
 -- What `main` left, where it is over.
-use Rattle.std.proofs.Common.{◌≡◌, ◌∙◌, ℕ, List, [], ◌∷◌, length, Option, Some, None, refl, sym, ap, subst, inl, inr}
+use Rattle.std.proofs.Common.{◌≡◌, ◌∙◌, ℕ, List, [], length, Option, Some, None, refl, sym, ap, subst, inl, inr}
 use Rattle.rev_num.specs.Path.{Path}
 use Rattle.revision_machine.specs.Machine.{Entry, Plain, Joined}
 use Rattle.revision_machine.specs.Numbered.{Entries, World, Listing, at_number, paths_of}
+use Rattle.revision_machine.proofs.Numbers.{length-paths}
 use Rattle.version_map.specs.declared.end.EndValue.{EndValue}
 use Rattle.code_machine.specs.Local.{CodeRun, Local, running, done, trapped, at_work}
 use Rattle.code_machine.specs.Proper.{IsOver}
@@ -24,11 +25,8 @@ at_work_still : (l : Local ℕ) → IsOver l → l.phase ≡ running → ⊥
 at_work_still l (inl e) r = let z : running ≡ done = sym r ∙ e in cc
 at_work_still l (inr (t, e)) r = let z : running ≡ trapped t = sym r ∙ e in cc
 
-paths_many : {A : Type 0} (w : List (Path × A)) → length (paths_of w) ≡ length w
-paths_many [] = refl
-paths_many (x ∷ w) = ap (λ n. Rattle.std.specs.Prelude.suc n) (paths_many w)
-
-plain_same : (o : Option (Path × Entry (Local ℕ))) (p q : Path) (l k : Local ℕ) → o ≡ Some (p, Plain l) → o ≡ Some (q, Plain k) → k ≡ l
+-- what stands at one number is one local state
+pub plain_same : (o : Option (Path × Entry (Local ℕ))) (p q : Path) (l k : Local ℕ) → o ≡ Some (p, Plain l) → o ≡ Some (q, Plain k) → k ≡ l
 plain_same o p q l k a b =
     let z : ◌≡◌ {A = Path × Entry (Local ℕ)} (q, Plain k) (p, Plain l) = some_same (sym b ∙ a) in
     let y : Plain k ≡ Plain l = ap (λ (x : Path × Entry (Local ℕ)). x.1) z in
@@ -62,7 +60,7 @@ module _ (g : CodeRun) (t : Table) (w : Entries (Local ℕ)) (is : IsTable g t w
         x.end,
         record {
           named = subst (λ b. AreNamed b (paths_of w)) (sym bs) is.named;
-          all = paths_many w ∙ sym (births_many t.births.items w is.forks) ∙ ap (λ (b : List Birth). length b) (sym bs);
+          all = length-paths w ∙ sym (births_many t.births.items w is.forks) ∙ ap (λ (b : List Birth). length b) (sym bs);
         },
       )
 

@@ -22,7 +22,8 @@ use Rattle.code_world.specs.declared.table.Stage.TheVariants as stage
 use Rattle.code_world.specs.Slots.{WholeRunner, WholeJoin, Runs, StandsAtJoin, IsEntry}
 use Rattle.code_world.specs.Tables.{AreSlots}
 use Rattle.code_world.specs.Turns.{IsStage}
-use Rattle.code_world.proofs.Rows.{slot_at, at_below}
+use Rattle.code_world.proofs.Rows.{slot_at}
+use Rattle.revision_machine.proofs.Lists.{at_below}
 
 -- ---- stages
 

@@ -1,89 +1,24 @@
 -- A table of revisions stands for a world, also after a write and with one more.
-use Rattle.std.proofs.Common.{◌≡◌, ◌≢◌, ◌⊎◌, inl, inr, ◌∙◌, ℕ, zero, suc, ◌+◌, ◌<◌, ◌≤◌, List, [], ◌∷◌, ◌++◌, length, Option, Some, None, refl, sym, ap, subst, arith}
+use Rattle.std.proofs.Common.{◌≡◌, ◌⊎◌, inl, inr, ◌∙◌, ℕ, zero, suc, ◌+◌, ◌≤◌, List, [], ◌∷◌, ◌++◌, length, Some, None, refl, sym, ap, subst, arith}
 use Rattle.rev_num.specs.Path.{Path, child}
 use Rattle.revision_machine.specs.Machine.{Entry}
 use Rattle.revision_machine.specs.Laws.{local_of}
-use Rattle.revision_machine.specs.Numbered.{Entries, at_number, put_number, paths_of}
+use Rattle.revision_machine.specs.Numbered.{Entries, at_number, put_number}
 use Rattle.code_machine.specs.Local.{CodeRun, Local}
 use Rattle.code_world.specs.declared.slot.Slot.{Slot}
 use Rattle.code_world.specs.declared.table.Birth.{Birth}
 use Rattle.code_world.specs.Slots.{IsEntry}
 use Rattle.code_world.specs.Tables.{AreSlots, AreForks, HasPath, AreNamed, forks_of}
 use Rattle.code_world.specs.Turns.{born, forked_once}
-use Rattle.code_machine.proofs.Changes.{put_twice, put_length}
+pub use Rattle.rev_num.proofs.Options.{none_some, some_eq as some_same}
+use Rattle.revision_machine.proofs.Lists.{at_front, at_length, at_more, at_below, at_put, put_length}
 
 -- ---- lists
 
-pub none_some : {A : Type 0} {P : Type 0} {x : A} → ◌≡◌ {A = Option A} None (Some x) → P
-none_some e = absurd cc
-
-pub some_same : {A : Type 0} {x y : A} → ◌≡◌ {A = Option A} (Some x) (Some y) → x ≡ y
-some_same e = cc
-
 module _ {A : Type 0} where
-  pub at_front : (xs ys : List A) (n : ℕ) (x : A) → at_number xs n ≡ Some x → at_number (xs ++ ys) n ≡ Some x
-  at_front [] ys n x e = none_some e
-  at_front (y ∷ xs) ys zero x e = e
-  at_front (y ∷ xs) ys (suc n) x e = at_front xs ys n x e
-
-  -- at the end, or before it
-  pub at_more : (xs : List A) (y : A) (n : ℕ) (x : A) → at_number (xs ++ y ∷ []) n ≡ Some x → (at_number xs n ≡ Some x) ⊎ ((n ≡ length xs) × (x ≡ y))
-  at_more [] y zero x e = inr (refl, sym (some_same e))
-  at_more [] y (suc n) x e = none_some e
-  at_more (z ∷ xs) y zero x e = inl e
-  at_more (z ∷ xs) y (suc n) x e = by (at_more xs y n x e)
-    where
-      by : (at_number xs n ≡ Some x) ⊎ ((n ≡ length xs) × (x ≡ y)) → (at_number xs n ≡ Some x) ⊎ ((suc n ≡ suc (length xs)) × (x ≡ y))
-      by (inl h) = inl h
-      by (inr h) = inr (ap suc h.0, h.1)
-
-  pub at_end : (xs : List A) (y : A) → at_number (xs ++ y ∷ []) (length xs) ≡ Some y
-  at_end [] y = refl
-  at_end (x ∷ xs) y = at_end xs y
-
-  pub at_below : (xs : List A) (n : ℕ) (x : A) → at_number xs n ≡ Some x → n < length xs
-  at_below [] n x e = none_some e
-  at_below (y ∷ xs) zero x e = omega arith
-  at_below (y ∷ xs) (suc n) x e = let h = at_below xs n x e in omega (arith, h)
-
-  pub below_at : (xs : List A) (n : ℕ) → n < length xs → (x : A) × (at_number xs n ≡ Some x)
-  below_at [] n h = absurd (omega (arith, h))
-  below_at (y ∷ xs) zero h = (y, refl)
-  below_at (y ∷ xs) (suc n) h = below_at xs n (omega (arith, h))
-
-  -- writes at two places
-  pub put_both : (xs : List A) (n m : ℕ) (x y : A) → n ≢ m → put_number (put_number xs n x) m y ≡ put_number (put_number xs m y) n x
-  put_both [] n m x y h = refl
-  put_both (z ∷ xs) zero zero x y h = absurd (h refl)
-  put_both (z ∷ xs) zero (suc m) x y h = refl
-  put_both (z ∷ xs) (suc n) zero x y h = refl
-  put_both (z ∷ xs) (suc n) (suc m) x y h = ap (λ k. z ∷ k) (put_both xs n m x y (λ e. h (ap suc e)))
-
   pub more_length : (xs : List A) (x : A) → length (xs ++ x ∷ []) ≡ suc (length xs)
   more_length [] x = refl
   more_length (y ∷ xs) x = ap suc (more_length xs x)
-
-  -- what is found after a write
-  pub at_put : (xs : List A) (n : ℕ) (y : A) (m : ℕ) (x : A) → at_number (put_number xs n y) m ≡ Some x → (at_number xs m ≡ Some x) ⊎ ((m ≡ n) × (x ≡ y))
-  at_put [] n y m x e = inl e
-  at_put (z ∷ xs) zero y zero x e = inr (refl, sym (some_same e))
-  at_put (z ∷ xs) zero y (suc m) x e = inl e
-  at_put (z ∷ xs) (suc n) y zero x e = inl e
-  at_put (z ∷ xs) (suc n) y (suc m) x e = by (at_put xs n y m x e)
-    where
-      by : (at_number xs m ≡ Some x) ⊎ ((m ≡ n) × (x ≡ y)) → (at_number xs m ≡ Some x) ⊎ ((suc m ≡ suc n) × (x ≡ y))
-      by (inl h) = inl h
-      by (inr h) = inr (ap suc h.0, h.1)
-
-module _ {A : Type 0} where
-  pub paths_put : (w : List (Path × A)) (n : ℕ) (r : Path) (e x : A) → at_number w n ≡ Some (r, e) → paths_of (put_number w n (r, x)) ≡ paths_of w
-  paths_put [] n r e x h = refl
-  paths_put (y ∷ w) zero r e x h = ap (λ z. z.0 ∷ paths_of w) (sym (some_same h))
-  paths_put (y ∷ w) (suc n) r e x h = ap (λ z. y.0 ∷ z) (paths_put w n r e x h)
-
-  pub paths_more : (w : List (Path × A)) (r : Path) (x : A) → paths_of (w ++ (r, x) ∷ []) ≡ paths_of w ++ r ∷ []
-  paths_more [] r x = refl
-  paths_more (y ∷ w) r x = ap (λ z. y.0 ∷ z) (paths_more w r x)
 
 -- ---- slots
 
@@ -203,7 +138,7 @@ named_born bs ps many named n b at r path m d e = by (at_more (put_number bs n (
       r,
       (let h = at_below ps n r path in omega (arith, h, is)),
       at_front ps (child r b.forks ∷ []) n r path,
-      ap (at_number (ps ++ child r b.forks ∷ [])) is ∙ at_end ps (child r b.forks),
+      ap (at_number (ps ++ child r b.forks ∷ [])) is ∙ at_length ps (child r b.forks) [],
     )
 
     by : (at_number (put_number bs n (forked_once b)) m ≡ Some d) ⊎ ((m ≡ length (put_number bs n (forked_once b))) × (d ≡ record { forker = n; place = b.forks; forks = 0 })) → HasPath (ps ++ child r b.forks ∷ []) m d

@@ -1,5 +1,5 @@
 -- A leg of a table is a leg of its world.
-use Rattle.std.proofs.Common.{◌≡◌, ◌≢◌, ◌⊎◌, inl, inr, ◌∙◌, ℕ, zero, suc, ◌+◌, ◌<◌, ◌≤◌, ◌^◌, Bool, true, false, List, [], ◌∷◌, ◌++◌, length, Option, Some, None, refl, sym, ap, subst, arith}
+use Rattle.std.proofs.Common.{◌≡◌, ◌≢◌, ◌∙◌, ℕ, suc, ◌+◌, ◌<◌, ◌≤◌, ◌^◌, Bool, true, false, List, [], ◌∷◌, ◌++◌, length, Option, Some, None, refl, sym, ap, subst, arith}
 use Rattle.rev_num.specs.Path.{Path, child}
 use Rattle.rev_code.specs.State.{State}
 use Rattle.rev_code.specs.Words.{Word}
@@ -7,14 +7,14 @@ use Rattle.version_map.specs.Composing.{Composition, composed}
 use Rattle.version_map.specs.declared.end.EndValue.{EndValue}
 use Rattle.version_map.specs.declared.end.Finish.{Finish}
 use Rattle.version_map.specs.declared.end.Finish.TheVariants as finish
-use Rattle.revision_machine.specs.Machine.{Entry, Plain, Joined}
+use Rattle.revision_machine.specs.Machine.{Plain, Joined}
 use Rattle.revision_machine.specs.Numbered.{Goes, Bears, Wants, Stops, Entries, at_number, put_number, paths_of, leg_of, leg_at, join_number, join_stopped, event_by}
-use Rattle.revision_machine.proofs.Numbers.{length-paths, at_paths}
+use Rattle.revision_machine.proofs.Numbers.{length-paths, at_paths, paths_put, paths_more}
 use Rattle.code_machine.specs.Local.{CodeRun, IsVerified, Phase, running, done, trapped, Trap, Local, at_work, End, end_of}
 use Rattle.code_machine.specs.Joining.{merges, mains, absorb, join_in, join_end, join}
 use Rattle.code_machine.specs.Machines.{act, numbered}
 use Rattle.code_machine.specs.Worlds.{Joins, WaitsOn}
-use Rattle.code_machine.proofs.Changes.{put_other, put_here, put_twice, put_length}
+use Rattle.revision_machine.proofs.Lists.{put_other, put_here, put_twice, put_length, put_both, at_below, at_front, put_same}
 use Rattle.code_machine.proofs.Meeting.{named_counts}
 use Rattle.code_machine.proofs.Paying.{BearOk, ActOk, act_ok, join_keeps_forks}
 use Rattle.code_machine.proofs.Typing.{bears_act}
@@ -33,7 +33,7 @@ use Rattle.code_world.specs.Slots.{WholeRunner, WholeJoin, IsSlot}
 use Rattle.code_world.specs.Tables.{AreSlots, AreForks, AreNamed, forks_of, IsTable}
 use Rattle.code_world.specs.Turns.{IsGood, born, forked_once, behind, ends_with, Settles}
 use Rattle.code_world.proofs.Finding.{StandsThere, standing_at, EndedThere, ended_at, joined_at, RunsAt, running_at, end_stops, stands_wants, works_on, joinee_number}
-use Rattle.code_world.proofs.Rows.{none_some, some_same, slots_put, slots_more, slots_many, births_many, forks_at, forks_kept, forks_put, forks_more, sum_put, sum_more, sum_one, named_born, put_both, more_length, at_below, at_front, paths_put, paths_more}
+use Rattle.code_world.proofs.Rows.{none_some, some_same, slots_put, slots_more, slots_many, births_many, forks_at, forks_kept, forks_put, forks_more, sum_put, sum_more, sum_one, named_born, more_length}
 
 module _ (g : CodeRun) (ok : IsVerified g) (t : Table) (w : Entries (Local ℕ)) (h : IsTable g t w) (n : ℕ) (p : Path) (l : Local ℕ) (there : at_number w n ≡ Some (p, Plain l)) where
   -- a revision that goes on or ends by itself
@@ -282,11 +282,6 @@ module _ (g : CodeRun) (t : Table) (w : Entries (Local ℕ)) (h : IsGood g t w) 
       (settled g t w h n a k.at v k.end s met t' (slots ∙ ap (λ m. put_number (put_number (put_number t.slots.items n slot.Joined) m slot.Joined) n s) (sym k.number)) births)
 
 -- ---- a revision that is put at its join
-
-put_same : (w : Entries (Local ℕ)) (n : ℕ) (x : Path × Entry (Local ℕ)) → at_number w n ≡ Some x → put_number w n x ≡ w
-put_same [] n x e = refl
-put_same (y ∷ w) zero x e = ap (λ z. z ∷ w) (sym (some_same e))
-put_same (y ∷ w) (suc n) x e = ap (λ z. y ∷ z) (put_same w n x e)
 
 module _ (g : CodeRun) (t : Table) (w : Entries (Local ℕ)) (h : IsGood g t w) (n : ℕ) where
   pub many_slots : length t.slots.items ≤ 1 + most_fuel

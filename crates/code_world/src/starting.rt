@@ -1,6 +1,7 @@
 //! The start of a world.
 
 ghost use Rattle.std.specs.Prelude.{◌≡◌, ◌≤◌, [], ℕ, IfOk, OnOk};
+ghost use Rattle.rev_num.specs.Limits.{most_fuel};
 ghost use Rattle.code_machine.specs.Machines.{IsMain, numbered, start_in};
 ghost use Rattle.leg_run.specs.Setting.{IsSetting};
 ghost use Rattle.revision_machine.specs.Numbered as numbers;
@@ -78,7 +79,7 @@ impl World {
     /// The world at the start: `main` alone, with this fuel.
     pub fn begin(alloc: Global, setting: &CodeSetting, fuel: u64) -> Result<World, AllocError>
         requires setting { IsSetting setting.now }
-        requires fuel { fuel ≤ 4000000000 }
+        requires fuel { fuel ≤ most_fuel }
         ensures { IfOk result (λ v. (n : ℕ) × (m : IsMain (run_under setting.now) n)
             × IsWorld (run_under setting.now) v (numbers.begin (numbered (run_under setting.now))
             (start_in (run_under setting.now) n m.body fuel))) }

@@ -5,7 +5,6 @@
 --   arm_written    an arm
 use Rattle.std.proofs.Common.{◌≡◌, ℕ, ◌+◌, Bool, true, false, List, [], ◌∷◌, ◌++◌, length, refl, ap, ◌∙◌, arith, append_assoc, length-append}
 use Rattle.std.specs.Prelude.{slice_set}
-use Rattle.std.proofs.Math.Seq.{set-append_seam}
 use Rattle.rev_syntax.specs.Trees.{Expression, Statements, repeat}
 use Rattle.rev_code.specs.declared.code.Instr.{Instr}
 use Rattle.rev_code.specs.declared.code.Instr.TheVariants as i

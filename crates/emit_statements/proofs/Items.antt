@@ -1,5 +1,5 @@
 -- The values of a print, one after another.
-use Rattle.std.proofs.Common.{◌≡◌, ℕ, ◌+◌, List, [], ◌∷◌, ◌++◌, length, refl, ap, sym, ◌∙◌, arith, append_assoc, length-append}
+use Rattle.std.proofs.Common.{◌≡◌, ℕ, ◌+◌, List, ◌∷◌, ◌++◌, length, refl, ap, sym, ◌∙◌, arith, append_assoc, length-append}
 use Rattle.rev_syntax.specs.Trees.{PrintItem, text, shown}
 use Rattle.rev_code.specs.declared.code.Instr.{Instr}
 use Rattle.code_generation.specs.Numbers.{Numbers, Scope}

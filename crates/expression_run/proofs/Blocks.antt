@@ -20,16 +20,16 @@ use Rattle.rev_code.specs.declared.code.Instr.TheVariants as i
 use Rattle.rev_code.specs.Words.{fits, same_kind}
 use Rattle.rev_code.specs.State.{Fun, State, Setting}
 use Rattle.rev_code.specs.Step as r
-use Rattle.rev_code.specs.Step.{Comes, goes, traps, ends, act_at, act_in, step, params, first_locals, reach, onward}
+use Rattle.rev_code.specs.Step.{Comes, traps, ends, act_at, act_in, step, params, reach, onward}
 use Rattle.rev_code.specs.Funs.{fun_start, answer, setting_of_fun, value_of}
 use Rattle.code_generation.specs.Numbers.{Numbers, Scope, with_params}
 use Rattle.code_generation.specs.Expressions.{expression_size, expression_code}
-use Rattle.code_generation.specs.Generated.{fun_block, merge_block}
+use Rattle.code_generation.specs.Generated.{fun_block, merge_block, kinds_of}
 use Rattle.code_generation.specs.Stands.{HasAt}
 use Rattle.code_generation.proofs.Standing.{parts_stand, whole_stands}
 use Rattle.code_generation.proofs.Lengths.{and_one, expression_length}
 use Rattle.expression_run.specs.Agrees as g
-use Rattle.expression_run.specs.Agrees.{word, coded, IsOfKind, ArgsAre, kinds_of, FunReads, Reads, at_with, Gives, Onward}
+use Rattle.expression_run.specs.Agrees.{word, coded, IsOfKind, ArgsAre, FunReads, Reads, at_with, Gives, Onward}
 use Rattle.expression_run.specs.Blocks.{IsBody, BlockGives, merge_params}
 use Rattle.expression_run.proofs.Typing.{typed}
 use Rattle.expression_run.proofs.Words.{args_fit, word_kind}

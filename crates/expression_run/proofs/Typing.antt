@@ -1,9 +1,10 @@
 -- An expression that has a kind keeps the rules on kinds link by link.
-use Rattle.std.proofs.Common.{◌≡◌, ◌∙◌, ℕ, suc, ◌+◌, Bool, true, false, ◌&&◌, ◌||◌, List, [], ◌∷◌, length, Some, refl, sym, ap, subst, arith, true≢false}
+use Rattle.std.proofs.Common.{◌≡◌, ◌∙◌, ℕ, suc, ◌+◌, Bool, true, ◌&&◌, ◌||◌, List, [], ◌∷◌, length, Some, refl, sym, ap, subst, arith, true≢false}
 use Rattle.std.specs.Prelude.{slice_get, nat_lt, ◌==◌, if◌then◌else◌}
-use Rattle.std.proofs.lemmas.Bool.{eqb-true}
+use Rattle.std.proofs.lemmas.Bool.{eqb-true, and_parts}
 use Rattle.rev_num.specs.declared.value.ValueKind.{ValueKind}
 use Rattle.rev_num.specs.declared.value.ValueKind.TheVariants as k
+use Rattle.rev_num.proofs.Options.{some_eq as some_is}
 use Rattle.rev_syntax.specs.Trees.{Parameter, Expression, placed, ExpressionForm, Expressions, Links, int, bool, no_rev, var, cell, apply, input, inputs, pick, unary, chain, no_expressions, expression, no_links, link}
 use Rattle.rev_syntax.specs.Small.{name_formed, expression_formed, expression_form_formed, expressions_formed, links_formed, strength, all_bind, is_chain}
 use Rattle.rev_syntax.specs.declared.tree.BinaryOp.{BinaryOp}
@@ -14,13 +15,6 @@ use Rattle.rev_kinds.specs.Kinds.{Callee, Names, Locals, given_kind, links_kind}
 use Rattle.rev_kinds.specs.Typing.{TakesLeft, TakesFirst, TakesRightSide, HasKind, ExpressionFormHas, ArgsHave, LinksHave, IsOfKind}
 use Rattle.expression_run.specs.Applying.{AllApply, FormApplies, ArgsApply, LinksApply}
 use Rattle.expression_run.proofs.Typed.{Typed, FormTyped, ArgsTyped, LinksTyped}
-
-and_parts : (d q : Bool) → d && q ≡ true → (d ≡ true) × (q ≡ true)
-and_parts true q h = (refl, h)
-and_parts false q h = absurd (true≢false (sym h))
-
-some_is : {A : Type 0} {x y : A} → Some x ≡ Some y → x ≡ y
-some_is h = cc
 
 -- ---- the operators of one chain
 

@@ -1,26 +1,13 @@
--- Which applications a body has by its list of them, and the parameters of a merge.
-use Rattle.std.proofs.Common.{◌≡◌, ◌≢◌, ◌≤◌, ℕ, ◌+◌, Bool, true, false, cond, List, [], ◌∷◌, ◌++◌, length, Some, None, refl, sym, ap, arith}
-use Rattle.rev_num.specs.declared.value.ValueKind.TheVariants as k
-use Rattle.rev_syntax.specs.Trees.{PlacedName, Expression, placed, ExpressionForm, Expressions, Links, int, bool, no_rev, var, cell, apply, input, inputs, pick, unary, chain, no_expressions, expression, no_links, link, Declaration, fun, merge, shared, proc}
-use Rattle.merge_decl.specs.Names.{Name, same}
-use Rattle.merge_decl.specs.Table.{find, added}
-use Rattle.merge_decl.specs.FunRules.{Use, expression_uses, expression_form_uses, expressions_uses, links_uses, first_fun, head}
-use Rattle.merge_decl.specs.declared.expand.FunHead.{FunHead}
-use Rattle.rev_kinds.specs.Kinds.{Callee, Names, Locals}
-use Rattle.rev_kinds.proofs.Lists.{added_unknown}
-use Rattle.rev_types.specs.Judgement.{ParamsNew}
+-- Which applications a body has by its list of them.
+use Rattle.std.proofs.Common.{◌≡◌, ℕ, ◌++◌, Some, refl}
+use Rattle.rev_syntax.specs.Trees.{Expression, placed, ExpressionForm, Expressions, Links, int, bool, no_rev, var, cell, apply, input, inputs, pick, unary, chain, no_expressions, expression, no_links, link}
+use Rattle.merge_decl.specs.Names.{Name}
+use Rattle.merge_decl.specs.FunRules.{Use, expression_uses, expression_form_uses, expressions_uses, links_uses}
+use Rattle.rev_kinds.specs.Kinds.{Callee, Names}
+use Rattle.rev_kinds.proofs.Uses.{OfUses, uses_parts}
 use Rattle.expression_run.specs.Applying.{AllApply, FormApplies, ArgsApply, LinksApply}
-use Rattle.expression_run.specs.Blocks.{merge_params}
 
 -- ---- applications
-
-abbrev pub OfUses : (Use → Type 0) → List Use → Type 0
-OfUses P [] = Unit {0}
-OfUses P (x ∷ xs) = P x × OfUses P xs
-
-split : (P : Use → Type 0) (xs ys : List Use) → OfUses P (xs ++ ys) → OfUses P xs × OfUses P ys
-split P [] ys h = (tt, h)
-split P (x ∷ xs) ys h = let rest = split P xs ys h.1 in ((h.0, rest.0), rest.1)
 
 module _ (c : Names) (Can : Name → Callee → Type 0) (n : ℕ) where
   abbrev pub Use_can : Use → Type 0
@@ -40,16 +27,16 @@ module _ (c : Names) (Can : Name → Callee → Type 0) (n : ℕ) where
     form_applies (apply w args) h = (λ f e. h.0 refl f e, args_apply args h.1)
     form_applies (input p index) h = applies index h
     form_applies (pick test x y) h =
-        let g = split Use_can (expression_uses n test ++ expression_uses n x) (expression_uses n y) h in
-        let q = split Use_can (expression_uses n test) (expression_uses n x) g.0 in
+        let g = uses_parts Use_can (expression_uses n test ++ expression_uses n x) (expression_uses n y) h in
+        let q = uses_parts Use_can (expression_uses n test) (expression_uses n x) g.0 in
         (applies test q.0, applies x q.1, applies y g.1)
     form_applies (unary op e) h = applies e h
-    form_applies (chain first rest) h = let g = split Use_can (expression_uses n first) (links_uses n rest) h in (applies first g.0, links_apply rest g.1)
+    form_applies (chain first rest) h = let g = uses_parts Use_can (expression_uses n first) (links_uses n rest) h in (applies first g.0, links_apply rest g.1)
 
     args_apply : (xs : Expressions) → OfUses Use_can (expressions_uses n xs) → ArgsApply c Can xs
     args_apply no_expressions h = tt
-    args_apply (expression x xs) h = let g = split Use_can (expression_uses n x) (expressions_uses n xs) h in (applies x g.0, args_apply xs g.1)
+    args_apply (expression x xs) h = let g = uses_parts Use_can (expression_uses n x) (expressions_uses n xs) h in (applies x g.0, args_apply xs g.1)
 
     links_apply : (ls : Links) → OfUses Use_can (links_uses n ls) → LinksApply c Can ls
     links_apply no_links h = tt
-    links_apply (link op x rest) h = let g = split Use_can (expression_uses n x) (links_uses n rest) h in (applies x g.0, links_apply rest g.1)
+    links_apply (link op x rest) h = let g = uses_parts Use_can (expression_uses n x) (links_uses n rest) h in (applies x g.0, links_apply rest g.1)

@@ -23,12 +23,13 @@ use Rattle.rev_code.specs.declared.code.Instr.{Instr}
 use Rattle.rev_code.specs.declared.code.Instr.TheVariants as i
 use Rattle.rev_code.specs.declared.code.CodeBlock.{CodeBlock}
 use Rattle.rev_code.specs.Words as w
-use Rattle.rev_code.specs.Words.{Word, int, bool, rev, fits, same_kind}
+use Rattle.rev_code.specs.Words.{Word, bool, fits, same_kind}
 use Rattle.rev_code.specs.State.{State, Setting}
 use Rattle.rev_code.specs.Step as r
 use Rattle.rev_code.specs.Step.{Comes, on, traps, act, arguments}
 use Rattle.code_generation.specs.Expressions.{unary_code}
-use Rattle.expression_run.specs.Agrees.{word, IsOfKind, ArgsAre, kinds_of, pushed}
+use Rattle.code_generation.specs.Generated.{kinds_of}
+use Rattle.expression_run.specs.Agrees.{word, IsOfKind, ArgsAre, pushed}
 use Rattle.rev_code.proofs.SameKinds.{same_kind_self}
 
 pub as_int : (x : Value) → kind_of x ≡ k.Int → (z : ℤ) × (x ≡ v.Int z)

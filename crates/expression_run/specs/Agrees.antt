@@ -28,10 +28,12 @@ use Rattle.rev_code.specs.Words.{Word, int, bool, rev}
 use Rattle.rev_code.specs.State.{State, Setting, seen_at}
 use Rattle.rev_code.specs.Variables.{Place, scalar, array}
 use Rattle.rev_code.specs.Step.{traps, params, value_at, step, goes}
+use Rattle.code_generation.specs.Generated.{kinds_of}
 use Rattle.code_generation.specs.Numbers.{Numbers, Scope}
 use Rattle.code_generation.specs.Expressions.{expression_size, expression_code, expressions_size, expressions_code}
 use Rattle.code_generation.specs.Stands.{HasAt}
 use Rattle.expression_run.specs.Applying.{AllApply, ArgsApply}
+pub use Rattle.code_generation.specs.Generated.{kinds_of}
 
 abbrev pub word : Value → Word Path
 word (v.Int z) = int z
@@ -68,9 +70,6 @@ ArgsAre [] [] = Unit {0}
 ArgsAre [] (x ∷ xs) = ⊥
 ArgsAre (p ∷ ps) [] = ⊥
 ArgsAre (p ∷ ps) (x ∷ xs) = (kind_of x ≡ p.kind) × ArgsAre ps xs
-
-abbrev pub kinds_of : List Parameter → List ValueKind
-kinds_of ps = map (λ p. p.kind) ps
 
 -- the block of a fun, and its value, are those of the fun
 pub record FunReads (s : Setting Path) (number : ℕ) (f : Callee) (g : Option value.Fun) : Type 0 where

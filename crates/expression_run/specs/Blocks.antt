@@ -21,6 +21,7 @@ use Rattle.code_generation.specs.Numbers.{Numbers}
 use Rattle.code_generation.specs.Generated.{fun_block, merge_block}
 use Rattle.expression_run.specs.Applying.{AllApply}
 use Rattle.expression_run.specs.Agrees.{word, coded, IsOfKind, ArgsAre, FunReads}
+pub use Rattle.rev_types.specs.Scopes.{int_param}
 
 -- a body that keeps the rules, with these parameters, where the funs that it applies have these values
 pub record IsBody (code : Code) (before : List (Fun Path)) (n : Numbers) (c : Names) (fs : Funs) (ps : List Parameter) (r : ValueKind) (body : Expression) : Type 0 where
@@ -41,9 +42,6 @@ abbrev pub FunBlocksGive : Type 0
 FunBlocksGive =
     (code : Code) (before : List (Fun Path)) (at : ℕ) (n : Numbers) (c : Names) (fs : Funs) (ps : List Parameter) (r : ValueKind) (body : Expression) → IsBody code before n c fs ps r body
     → slice_get code.blocks at ≡ Some (fun_block n ps r body) → BlockGives code before at (fun_block n ps r body) fs ps r body
-
-abbrev pub int_param : PlacedName → Parameter
-int_param w = record { name = w; kind_at = 0; kind = k.Int }
 
 abbrev pub merge_params : PlacedName → PlacedName → PlacedName → List Parameter
 merge_params m j r = int_param m ∷ int_param j ∷ int_param r ∷ []

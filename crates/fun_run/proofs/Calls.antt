@@ -11,7 +11,7 @@ use Rattle.rev_code.specs.declared.code.Instr.TheVariants as i
 use Rattle.rev_code.specs.Words.{Word, kind_of, same_kind, fits}
 use Rattle.rev_code.specs.State.{Frame, Fun, Setting, State}
 use Rattle.rev_code.specs.Step as s
-use Rattle.rev_code.specs.Step.{Comes, goes, traps, forks, joins, ends, stuck, act, act_in, act_at, step, reach, params, value_at, is_fun, only, first_locals, Steps}
+use Rattle.rev_code.specs.Step.{Comes, goes, traps, forks, joins, ends, stuck, act, act_in, act_at, step, reach, params, value_at, is_fun, only, Steps}
 use Rattle.rev_code.specs.Funs.{fun_start, setting_of_fun, values, answer}
 use Rattle.code_rules.specs.Pass.{has_class, is_value_class, is_pure}
 use Rattle.code_certificate.proofs.Basics.{and_parts, kind_is, some_eq}

@@ -1,10 +1,8 @@
 -- The evaluation of a fun or merge on the area of words.
-use Rattle.std.proofs.Common.{◌≡◌, ◌≢◌, ◌∙◌, ℕ, zero, suc, ◌+◌, ◌-◌, ◌<◌, ◌≤◌, ◌^◌, Bool, true, false, List, [], ◌∷◌, ◌++◌, length, take, drop, reverse, map, set, get_or, Option, Some, None, refl, sym, ap, subst, arith, ◌⊎◌, inl, inr, get_or-take, get_or-set_same, true≢false}
-use Rattle.std.specs.Prelude.{slice_get, Result, Ok, Err, ◌&&◌, nat_le}
-use Rattle.std.specs.List.{list_all}
-use Rattle.std.proofs.lemmas.Bool.Decides.{nat_tests}
+use Rattle.std.proofs.Common.{◌≡◌, ◌≢◌, ◌∙◌, ℕ, zero, suc, ◌+◌, ◌-◌, ◌<◌, ◌≤◌, ◌^◌, Bool, true, List, [], ◌∷◌, ◌++◌, length, take, drop, reverse, map, set, get_or, Option, Some, None, refl, sym, ap, subst, arith, ◌⊎◌, inl, inr, get_or-take, get_or-set_same}
+use Rattle.std.specs.Prelude.{slice_get, Result, Ok, Err}
 use Rattle.code_rules.specs.Tables as rules
-use Rattle.rev_code.specs.Step.{is_procedure}
+use Rattle.code_rules.proofs.Limits.{small_block, small_parts}
 use Rattle.code_soundness.proofs.Lists.{all_at}
 use Rattle.std.proofs.lemmas.List.{drop-take, length-drop, take-set-le}
 use Rattle.rev_num.specs.declared.value.NumFault.{NumFault}
@@ -18,11 +16,11 @@ use Rattle.rev_code.specs.declared.code.Instr.TheVariants as i
 use Rattle.rev_code.specs.Words.{Word, zero_word}
 use Rattle.rev_code.specs.State.{Location, Setting, State}
 use Rattle.rev_code.specs.Step as s
-use Rattle.rev_code.specs.Step.{Comes, goes, traps, ends, step, params, value_at, cause_of, first_locals, Steps}
+use Rattle.rev_code.specs.Step.{ends, step, params, value_at, cause_of, first_locals, Steps}
 use Rattle.rev_code.specs.Funs.{fun_start, values, answer}
-use Rattle.code_rules.specs.Pass.{is_value_class, applied, cost_at}
+use Rattle.code_rules.specs.Pass.{is_value_class}
 use Rattle.code_rules.specs.declared.Cost.{Cost}
-use Rattle.code_certificate.proofs.Basics.{and_parts, some_eq, within_some}
+use Rattle.code_certificate.proofs.Basics.{some_eq, within_some}
 use Rattle.code_soundness.specs.Typed.{kinds_of}
 use Rattle.code_soundness.specs.Whole.{IsAccepted, notes_of}
 use Rattle.code_soundness.specs.Funs.{HasValue, IsArithmetic}
@@ -40,11 +38,6 @@ use Rattle.block_run.proofs.Turning.{all_same, good_next, good_typed, one_more_s
 use Rattle.fun_run.specs.Values.{HasRoom, IsArgs, IsValue}
 use Rattle.fun_run.proofs.Slices.{zeros, stack_slice, take_shorter, words_append, words_drop, words_reverse, words_take}
 use Rattle.fun_run.proofs.Calls.{IsEvent, Application, application, has_value, not_earlier, returned, start_good, trap_arithmetic, turn_here, value_is}
-
-pub fifth_of : (x e f g h i j k : Bool) → (x && e && f && g && h && i && j && k) ≡ true → e ≡ true
-fifth_of true true f g h i j k q = refl
-fifth_of true false f g h i j k q = absurd (true≢false (sym q))
-fifth_of false e f g h i j k q = absurd (true≢false (sym q))
 
 pub class_of : (code : Code) (n : ℕ) (b : CodeBlock) → slice_get code.blocks n ≡ Some b → IsOfValue code n → is_value_class b.class ≡ true
 class_of code n b is v =
@@ -97,14 +90,8 @@ no_location l x h = cc
 -- a block has fewer instructions than a place can name
 pub block_short : (code : Code) → IsAccepted code (notes_of code) → (n : ℕ) (b : CodeBlock) → slice_get code.blocks n ≡ Some b → length b.instrs < 2 ^ 32
 block_short code ok n b is =
-    let a = fifth_of (nat_le (rules.locations code.vars) rules.most_locations && nat_le (rules.count_class is_procedure code.blocks) rules.most_blocks
-    && nat_le (rules.count_class is_value_class code.blocks) rules.most_blocks && nat_le (length code.blocks) rules.most_u16)
-    (list_all rules.is_small_block code.blocks) (list_all rules.is_small_layout code.layouts)
-    (nat_le (length code.vars) rules.most_u16) (list_all rules.has_small_name code.vars) (nat_le (length code.texts) rules.most_u32)
-    (list_all rules.is_small_text code.texts) (nat_le (length code.layouts) rules.most_u32) ok.small in
-    let q = all_at rules.is_small_block code.blocks n b a is in
-    let r = (and_parts (nat_le b.params rules.most_params && nat_le (length b.locals) rules.most_locals) (nat_le (length b.instrs) rules.most_u32) q).1 in
-    grind (arith, nat_tests, r)
+    let r : length b.instrs ≤ 4294967295 = (small_block b (all_at rules.is_small_block code.blocks n b (small_parts code ok.small).each_block is)).1 in
+    omega (arith, r)
 
 module _ (code : Code) (ok : IsAccepted code (notes_of code)) (n : ℕ) (b : CodeBlock) (is : slice_get code.blocks n ≡ Some b) (class : is_value_class b.class ≡ true) where
   module _ (args : List (Word ℕ)) (ws0 : List ℕ) (at : ℕ) (given : IsArgs code n args ws0 at) where

@@ -22,17 +22,17 @@ use Rattle.code_generation.specs.Sizes.{statements_size}
 use Rattle.code_generation.specs.Statements.{Spot, behind_statement, statement_code, statement_form_code, statements_code, ahead}
 use Rattle.code_generation.specs.Prints.{statements_kinds, statements_layouts}
 use Rattle.code_generation.specs.Generated.{zero_code, is_return, ends_in_return, end_code}
-use Rattle.code_generation.specs.Stands.{HasAt}
+use Rattle.code_generation.specs.Stands.{HasAt, HasItems}
 use Rattle.code_generation.proofs.Standing.{parts_stand, whole_stands}
 use Rattle.code_generation.proofs.Lengths.{expression_length, statements_length}
 use Rattle.expression_run.proofs.Typed.{Typed}
-use Rattle.generated_certificate.specs.Items.{HasItems, noted, push}
+use Rattle.generated_certificate.specs.Items.{noted, push}
 use Rattle.generated_certificate.specs.Expressions.{word_kind, expression_notes, expression_depth}
 use Rattle.generated_statements.specs.Statements.{statements_notes}
 use Rattle.generated_certificate.specs.Means.{FunMeans, NamesMean}
 use Rattle.generated_statements.specs.Bodies.{BodyMeans}
 use Rattle.generated_certificate.specs.Kept.{IsWithin, IsKept, AllKept}
-use Rattle.generated_certificate.proofs.Parts.{nothing, parts_have, all_have, note_here, fits_eq, parts_kept, one_kept}
+use Rattle.generated_certificate.proofs.Parts.{nothing, note_here, fits_eq, parts_kept, one_kept}
 use Rattle.generated_certificate.proofs.Lengths.{expression_notes_length, first_note}
 use Rattle.generated_statements.proofs.StatementLengths.{statements_notes_length}
 use Rattle.generated_certificate.proofs.WordKinds.{kind_is}
@@ -46,9 +46,6 @@ use Rattle.std.proofs.lemmas.Option.{slice_get_past}
 behind_all : (ns : List Note) (at : ℕ) → length ns ≤ at → Fits entry (noted ns at)
 behind_all ns at h = fits_eq entry (noted ns at) (ap Rattle.generated_certificate.specs.Items.note_or_entry (slice_get_past ns at h))
 
-pub whole_have : {A : Type 0} (xs : List A) → HasItems xs 0 xs
-whole_have xs = all_have [] xs
-
 -- ---- funs and merges
 
 module _ (code : Code) (k : ℕ) (b : CodeBlock) (deepest : ℕ) (n : Numbers) (c : Names) (l : Locals) (scope : Scope) (w : IsWithin b deepest) (m : NamesMean code b n c l scope) where
@@ -59,7 +56,7 @@ module _ (code : Code) (k : ℕ) (b : CodeBlock) (deepest : ℕ) (n : Numbers) (
       let size : ℕ = expression_size body in
       let here = subst (λ xs. HasAt b.instrs 0 xs) is (whole_stands b.instrs) in
       let p = parts_stand b.instrs (expression_code n scope body 0) (i.Return ∷ []) 0 size (expression_length n scope body 0) here in
-      let q = parts_have ns (expression_notes c l body entry) (push (word_kind c l body) entry ∷ []) 0 size (expression_notes_length c l body entry) (whole_have ns) in
+      let q = parts_stand ns (expression_notes c l body entry) (push (word_kind c l body) entry ∷ []) 0 size (expression_notes_length c l body entry) (whole_stands ns) in
       let kind = kind_is c l (λ name f. FunMeans code k n name f) body r ty in
       let note = note_here ns (0 + size) (push (word_kind c l body) entry) q.1.0 ∙ ap (λ z. push z entry) kind in
       let long = length-append (expression_notes c l body entry) (push (word_kind c l body) entry ∷ []) in
@@ -109,7 +106,7 @@ module _ (code : Code) (j : ℕ) (b : CodeBlock) (n : Numbers) (c : Names) (resu
       let size : ℕ = statements_size n body in
       let here = subst (λ xs. HasAt b.instrs 0 xs) is (whole_stands b.instrs) in
       let p = parts_stand b.instrs (statements_code n scope body s) (end_code result body) 0 size (statements_length n scope body s) here in
-      let q = parts_have ns (statements_notes c n l body) (end_notes result body) 0 size (statements_notes_length c n l body) (whole_have ns) in
+      let q = parts_stand ns (statements_notes c n l body) (end_notes result body) 0 size (statements_notes_length c n l body) (whole_stands ns) in
       let long = length-append (statements_notes c n l body) (end_notes result body) in
       let len = statements_notes_length c n l body in
       let ends = ends_kept ns result body (0 + size) refl p.1 q.1 (omega (arith, long, len)) in (

@@ -1,5 +1,6 @@
 -- Kept code is certified, and the pass accepts it.
-use Rattle.std.proofs.Common.{◌≡◌, ◌∙◌, ◌<◌, ◌≤◌, ℕ, zero, suc, ◌+◌, ◌-◌, Bool, true, false, ◌&&◌, List, [], ◌∷◌, ◌++◌, length, length-append, take, Some, None, refl, sym, ap, subst, arith, true≢false}
+use Rattle.std.proofs.Common.{◌≡◌, ◌∙◌, ◌<◌, ◌≤◌, ℕ, zero, suc, ◌+◌, ◌-◌, Bool, true, false, ◌&&◌, List, [], ◌∷◌, ◌++◌, length, length-append, take, Some, refl, sym, ap, subst, arith, true≢false}
+use Rattle.std.proofs.Math.Bool.{and-false}
 use Rattle.std.specs.Prelude.{slice_get, nat_eq, Ok}
 use Rattle.std.proofs.lemmas.Bool.Decides.{nat_tests}
 use Rattle.rev_code.specs.declared.code.Code.{Code}
@@ -18,7 +19,6 @@ use Rattle.code_ways.proofs.OfCode.{block_fine}
 use Rattle.generated_certificate.specs.Items.{noted}
 use Rattle.generated_certificate.specs.Kept.{IsKept, AllKept}
 use Rattle.generated_certificate.proofs.Parts.{each_kept}
-use Rattle.std.proofs.lemmas.Option.{slice_get_past}
 
 -- ---- ends of lists
 
@@ -33,11 +33,7 @@ pub returns_at_end : (b : CodeBlock) (xs : List Instr) → b.instrs ≡ xs ++ i.
 returns_at_end b xs e at x here = by (nat_eq (suc at) (length b.instrs)) refl
   where
     by : (d : Bool) → nat_eq (suc at) (length b.instrs) ≡ d → falls x && nat_eq (suc at) (length b.instrs) ≡ false
-    by false q = ap (λ z. falls x && z) q ∙ none (falls x)
-      where
-        none : (z : Bool) → z && false ≡ false
-        none true = refl
-        none false = refl
+    by false q = ap (λ z. falls x && z) q ∙ and-false (falls x)
     by true q =
         let z : suc at ≡ length b.instrs = grind (arith, nat_tests, q) in
         let r : x ≡ i.Return = last_is xs i.Return x at (sym (ap (λ l. slice_get l at) e) ∙ here) (z ∙ ap length e) in

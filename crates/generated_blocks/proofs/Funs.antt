@@ -1,9 +1,11 @@
 -- The blocks of funs and merges are accepted, one declaration after the other.
-use Rattle.std.proofs.Common.{◌≡◌, ◌∙◌, ◌⊎◌, inl, inr, ◌<◌, ◌≤◌, ℕ, zero, suc, ◌+◌, ◌*◌, Bool, true, false, ◌&&◌, ◌||◌, IsTrue, List, [], ◌∷◌, ◌++◌, length, length-append, take, Option, Some, None, refl, sym, ap, subst, arith, true≢false}
+use Rattle.std.proofs.Common.{◌≡◌, ◌∙◌, ◌⊎◌, inl, inr, ◌<◌, ◌≤◌, ℕ, suc, ◌+◌, ◌*◌, Bool, true, false, ◌&&◌, ◌||◌, IsTrue, List, [], ◌∷◌, ◌++◌, length, length-append, take, Option, Some, None, refl, sym, ap, subst, arith, true≢false}
 use Rattle.std.specs.Prelude.{slice_get, nat_lt, nat_le, if◌then◌else◌, Ok}
 use Rattle.std.specs.List.{list_all}
 use Rattle.std.proofs.lemmas.Bool.{leb-false}
 use Rattle.std.proofs.lemmas.Bool.Decides.{nat_tests}
+use Rattle.std.proofs.lemmas.List.{append-nil}
+use Rattle.rev_num.proofs.Lists.{get_append}
 use Rattle.rev_num.specs.declared.value.ValueKind.{ValueKind}
 use Rattle.rev_num.specs.declared.value.ValueKind.TheVariants as k
 use Rattle.rev_syntax.specs.Trees.{PlacedName, Parameter, Expression, Declaration, fun, merge, shared, proc, ProgramTree}
@@ -40,29 +42,22 @@ use Rattle.expression_run.proofs.Typed.{Typed}
 use Rattle.expression_run.proofs.Typing.{typed}
 use Rattle.merge_decl.proofs.Firsts.{first_from}
 use Rattle.rev_types.proofs.MergeParams.{merge_new}
-use Rattle.expression_run.proofs.Uses.{OfUses, Use_can, applies}
+use Rattle.rev_kinds.proofs.Uses.{OfUses, uses_fine}
+use Rattle.expression_run.proofs.Uses.{Use_can, applies}
 use Rattle.generated_certificate.specs.Expressions.{expression_depth}
 use Rattle.generated_certificate.specs.Means.{FunMeans, NamesMean}
 use Rattle.generated_certificate.specs.Kept.{IsWithin}
 use Rattle.generated_blocks.specs.Notes.{value_notes}
 use Rattle.generated_blocks.proofs.Certificates.{returns_at_end, accepts, at_most}
 use Rattle.generated_blocks.proofs.Weights.{IsPaid, count_both, need_both, depth_within, costs_within}
-use Rattle.generated_blocks.proofs.Params.{params_mean, take_front}
-use Rattle.generated_blocks.proofs.Bodies.{value_kept, whole_have}
+use Rattle.generated_blocks.proofs.Params.{params_mean}
+use Rattle.generated_blocks.proofs.Bodies.{value_kept}
 use Rattle.code_generation.proofs.BlockRules.{kinds_length}
-use Rattle.code_certificate.proofs.Basics.{get_last}
+use Rattle.code_certificate.proofs.Basics.{get_last, take_front}
 use Rattle.code_generation.proofs.BlockPlaces.{Stand, first_stands, rest_stands}
+use Rattle.code_generation.proofs.Standing.{whole_stands}
 
--- ---- lists
-
-get_more : {A : Type 0} (xs : List A) (y : A) (j : ℕ) → j < length xs → slice_get (xs ++ y ∷ []) j ≡ slice_get xs j
-get_more [] y j h = absurd (omega (arith, h))
-get_more (x ∷ xs) y zero h = refl
-get_more (x ∷ xs) y (suc j) h = get_more xs y j (omega (arith, h))
-
-pub with_none : {A : Type 0} (xs : List A) → xs ++ [] ≡ xs
-with_none [] = refl
-with_none (x ∷ xs) = ap (λ z. x ∷ z) (with_none xs)
+-- ---- limits
 
 within_limits : (c : Cost) → c.need ≤ 65536 → c.count ≤ 262144 → costs_too_much c ≡ false
 within_limits c p q =
@@ -90,7 +85,7 @@ module _ (p : ProgramTree) where
         block = fun_block n f.params d.result d.body;
         is = d.stands;
         class = refl;
-        params = ap (take (length f.params)) (sym (with_none (kinds_of f.params))) ∙ take_front (kinds_of f.params) [] (length f.params) (kinds_length f.params);
+        params = ap (take (length f.params)) (sym (append-nil (kinds_of f.params))) ∙ take_front (kinds_of f.params) [] (length f.params) (kinds_length f.params);
         result = sym d.gives;
       }
 
@@ -120,10 +115,7 @@ module _ (p : ProgramTree) where
         by (Some h) e q = earlier h (failed (nat_le x.within h.decl) _ (parts (later_here x h) _ q).0) (sofar.names x.name.text h e)
 
     can_apply : (xs : List Use) → broken_in (rule.fun_named p) xs ≡ [] → OfUses (Use_can inner Can d) xs
-    can_apply [] fine = tt
-    can_apply (x ∷ xs) fine =
-        let both = parts (broken_by x (rule.fun_named p x.name.text)) (broken_in (rule.fun_named p) xs) fine in
-        (can_use x both.0, can_apply xs both.1)
+    can_apply = uses_fine (Use_can inner Can d) (rule.fun_named p) can_use
 
   -- ---- one block
 
@@ -148,7 +140,7 @@ module _ (p : ProgramTree) where
       let paid = uses (λ name f. IsPaid ws costs at n name f) (λ name f paid e. paid) in
       let w : IsWithin b deepest = record { jumps = λ j x e. jumps_stay p at b j x here e; ends = returns_at_end b (expression_code n scope body 0) instrs; small = λ e. absurd (true≢false (sym value ∙ e)) } in
       let known : NamesMean code b n inner [] [] = record { locals = λ name t e. absurd (let z : None ≡ Some (Some t) = e in cc); free = λ name e. refl; shared = λ name h e. absurd (let z : None ≡ Some h = e in cc); inputs = λ e. absurd (true≢false e) } in
-      let named = params_mean code b n inner ps 0 [] [] new (subst (λ xs. Rattle.generated_certificate.specs.Items.HasItems xs 0 (kinds_of ps)) (sym locals) (whole_have (kinds_of ps))) known in
+      let named = params_mean code b n inner ps 0 [] [] new (subst (λ xs. Rattle.code_generation.specs.Stands.HasItems xs 0 (kinds_of ps)) (sym locals) (whole_stands (kinds_of ps))) known in
       let kept = value_kept code at b deepest n inner l scope w named body r means result instrs (omega arith) in
       let long = ap length instrs ∙ length-append (expression_code n scope body 0) (i.Return ∷ []) in
       let some : 0 < length b.instrs = omega (arith, long) in
@@ -174,7 +166,7 @@ module _ (p : ProgramTree) where
   paid_more : (ws : Table ℕ) (costs : List Cost) (at : ℕ) (w : Name) (weight : ℕ) (new : Cost) (name : Name) (f : Callee) → length costs ≡ at → IsPaid ws costs at n name f → IsPaid (added ws w weight) (costs ++ new ∷ []) (suc at) n name f
   paid_more ws costs at w weight new name f many h =
       let e = h.earlier in
-      let same_cost : cost_at (costs ++ new ∷ []) (n.fun name) ≡ cost_at costs (n.fun name) = ap (λ o. elim o [ None ↦ no_cost | Some c ↦ c ]) (get_more costs new (n.fun name) (omega (arith, e, many))) in
+      let same_cost : cost_at (costs ++ new ∷ []) (n.fun name) ≡ cost_at costs (n.fun name) = ap (λ o. elim o [ None ↦ no_cost | Some c ↦ c ]) (get_append costs (new ∷ []) (n.fun name) (omega (arith, e, many))) in
       let c1 = h.count in
       let c2 = h.need in
       record {
@@ -188,7 +180,7 @@ module _ (p : ProgramTree) where
   paid_same : (ws : Table ℕ) (costs : List Cost) (at : ℕ) (new : Cost) (name : Name) (f : Callee) → length costs ≡ at → IsPaid ws costs at n name f → IsPaid ws (costs ++ new ∷ []) (suc at) n name f
   paid_same ws costs at new name f many h =
       let e = h.earlier in
-      let same_cost : cost_at (costs ++ new ∷ []) (n.fun name) ≡ cost_at costs (n.fun name) = ap (λ o. elim o [ None ↦ no_cost | Some c ↦ c ]) (get_more costs new (n.fun name) (omega (arith, e, many))) in
+      let same_cost : cost_at (costs ++ new ∷ []) (n.fun name) ≡ cost_at costs (n.fun name) = ap (λ o. elim o [ None ↦ no_cost | Some c ↦ c ]) (get_append costs (new ∷ []) (n.fun name) (omega (arith, e, many))) in
       let c1 = h.count in
       let c2 = h.need in
       record {

@@ -1,6 +1,5 @@
 -- Behind its parameters a body means what it means in the program.
-use Rattle.std.proofs.Common.{◌≡◌, ℕ, zero, suc, List, [], ◌∷◌, ◌++◌, length, take, Some, refl, ap, arith}
-use Rattle.rev_num.specs.declared.value.ValueKind.{ValueKind}
+use Rattle.std.proofs.Common.{ℕ, suc, List, [], ◌∷◌, Some}
 use Rattle.rev_syntax.specs.Trees.{Parameter}
 use Rattle.merge_decl.specs.Table.{added}
 use Rattle.rev_kinds.specs.Kinds.{Names, Locals}
@@ -10,19 +9,11 @@ use Rattle.rev_code.specs.declared.code.Code.{Code}
 use Rattle.rev_code.specs.declared.code.CodeBlock.{CodeBlock}
 use Rattle.code_generation.specs.Numbers.{Numbers, Scope, with_params}
 use Rattle.code_generation.specs.Generated.{kinds_of}
-use Rattle.generated_certificate.specs.Items.{HasItems}
+use Rattle.code_generation.specs.Stands.{HasItems}
 use Rattle.generated_certificate.specs.Means.{NamesMean}
 use Rattle.generated_statements.proofs.Scopes.{name_bound}
-use Rattle.code_generation.proofs.BlockRules.{kinds_length}
 
 pub params_mean : (code : Code) (b : CodeBlock) (n : Numbers) (c : Names) (ps : List Parameter) (m : ℕ) (l : Locals) (scope : Scope) → ParamsNew c l ps → HasItems b.locals m (kinds_of ps) → NamesMean code b n c l scope → NamesMean code b n c (scopes.with_params l ps) (with_params scope m ps)
 params_mean code b n c [] m l scope new here means = means
 params_mean code b n c (p ∷ ps) m l scope new here means =
     params_mean code b n c ps (suc m) (added l p.name.text (Some p.kind)) (added scope p.name.text m) new.1 here.1 (name_bound code b n c l scope p.name.text p.kind m means new.0.0 here.0)
-
--- the parameters of a body are the first locals
-pub take_front : (xs ys : List ValueKind) (m : ℕ) → length xs ≡ m → take m (xs ++ ys) ≡ xs
-take_front [] ys zero h = refl
-take_front [] ys (suc m) h = absurd (omega (arith, h))
-take_front (x ∷ xs) ys zero h = absurd (omega (arith, h))
-take_front (x ∷ xs) ys (suc m) h = ap (λ z. x ∷ z) (take_front xs ys m (omega (arith, h)))

@@ -24,6 +24,7 @@ use Rattle.rev_code.specs.declared.code.CodeBlock.{CodeBlock}
 use Rattle.rev_code.specs.declared.code.Instr.TheVariants as i
 use Rattle.code_rules.specs.declared.Cost.{Cost}
 use Rattle.code_rules.specs.Pass.{is_value_class, block_fault, blocks_fault, fault_or, most_words}
+use Rattle.code_certificate.proofs.Basics.{take_front}
 use Rattle.code_generation.specs.Numbers.{Numbers, numbers, Scope, with_params, var_number, has_result}
 use Rattle.code_generation.specs.Sizes.{statements_prints}
 use Rattle.code_generation.specs.Prints.{statements_kinds, statements_texts, statements_layouts}
@@ -31,18 +32,18 @@ use Rattle.code_generation.specs.Generated.{kinds_of, var_of, body_code, body_lo
 use Rattle.code_generation.proofs.Naming.{proc_stands}
 use Rattle.code_generation.proofs.Inside.{jumps_stay}
 use Rattle.code_generation.proofs.Lengths.{statements_prints_length}
-use Rattle.generated_certificate.specs.Items.{HasItems}
 use Rattle.generated_certificate.specs.Means.{NamesMean}
 use Rattle.generated_statements.specs.Bodies.{ProcMeans, BodyMeans}
 use Rattle.generated_certificate.specs.Kept.{IsWithin}
-use Rattle.generated_certificate.proofs.Parts.{parts_have}
 use Rattle.generated_blocks.specs.Notes.{body_notes}
 use Rattle.generated_blocks.proofs.Certificates.{returns_at_end, accepts}
-use Rattle.generated_blocks.proofs.Params.{params_mean, take_front}
-use Rattle.generated_blocks.proofs.Bodies.{body_kept, body_returns, whole_have}
+use Rattle.generated_blocks.proofs.Params.{params_mean}
+use Rattle.generated_blocks.proofs.Bodies.{body_kept, body_returns}
 use Rattle.code_generation.proofs.BlockPlaces.{Stand, first_stands, rest_stands}
 use Rattle.generated_blocks.proofs.Funs.{fun_means, AllBefore}
 use Rattle.code_generation.proofs.BlockRules.{kinds_length}
+use Rattle.code_generation.specs.Stands.{HasItems}
+use Rattle.code_generation.proofs.Standing.{parts_stand, whole_stands}
 
 -- ---- shared variables
 
@@ -147,8 +148,8 @@ module _ (p : ProgramTree) (limits : DeclarationsWithin [] p.declarations) where
       let ends = body_returns n scope result body (record { at = 0; local = length ps; layout = layout }) in
       let is_end : b.instrs ≡ ends.0 ++ i.Return ∷ [] = instrs ∙ ends.1 in
       let w : IsWithin b most_words = record { jumps = λ j x e. jumps_stay p at b j x here e; ends = returns_at_end b ends.0 is_end; small = λ e. omega arith } in
-      let all_locals = subst (λ xs. HasItems xs 0 (body_locals outer ps body)) (sym locals) (whole_have (body_locals outer ps body)) in
-      let kinds = parts_have b.locals (kinds_of ps) (statements_kinds outer (scopes.with_params [] ps) body) 0 (length ps) (kinds_length ps) all_locals in
+      let all_locals = subst (λ xs. HasItems xs 0 (body_locals outer ps body)) (sym locals) (whole_stands (body_locals outer ps body)) in
+      let kinds = parts_stand b.locals (kinds_of ps) (statements_kinds outer (scopes.with_params [] ps) body) 0 (length ps) (kinds_length ps) all_locals in
       let named = params_mean code b n outer ps 0 [] [] new kinds.0 (nothing_known b v) in
       let from : 0 + length ps ≡ length ps = omega arith in
       let kept = body_kept code at b n outer result w (body_means at b before v) res ps body texts layout named ty sm pr (subst (λ z. HasItems b.locals z (statements_kinds outer (scopes.with_params [] ps) body)) from kinds.1) lays instrs in
@@ -173,7 +174,7 @@ module _ (p : ProgramTree) (limits : DeclarationsWithin [] p.declarations) where
       let smalls = and_parts (declaration_small (proc w ps r body)) (list_all declaration_small es) small in
       let small_body = (and_parts (name_formed w && list_all parameter_formed ps) (statements_small body) smalls.0).1 in
       let l : Locals = scopes.with_params [] ps in
-      let both = parts_have code.layouts (statements_layouts outer l texts body) (layouts_of outer (texts + length (statements_texts body)) es p.main) layout (statements_prints body) (statements_prints_length outer l texts body) lays in
+      let both = parts_stand code.layouts (statements_layouts outer l texts body) (layouts_of outer (texts + length (statements_texts body)) es p.main) layout (statements_prints body) (statements_prints_length outer l texts body) lays in
       let acc = block_accepted costs at before b ps r body texts layout refl refl refl refl here typed'.0.params typed'.0.body small_body within'.0.1.1 both.0 in
       ap (λ o. fault_or at o (λ cost. blocks_fault code (costs ++ cost ∷ []) (suc at) (body_blocks n outer es p.main more))) acc.1
       ∙ bodies_accepted (costs ++ acc.0 ∷ []) (suc at) (texts + length (statements_texts body)) more ws (proc w ps r body ∷ passed) es (more_before at before) typed'.1 within'.1 smalls.1 main main_small main_within both.1 (rest_stands p at b (body_blocks n outer es p.main more) stand)

@@ -12,8 +12,8 @@ use Rattle.code_rules.specs.declared.Cost.{Cost}
 use Rattle.code_rules.specs.Pass.{blocks_fault}
 use Rattle.code_generation.specs.Numbers.{numbers}
 use Rattle.code_generation.specs.Generated.{body_blocks, layouts_of, code_of}
-use Rattle.generated_blocks.proofs.Bodies.{whole_have}
 use Rattle.code_generation.proofs.BlockPlaces.{Stand, all_stand}
+use Rattle.code_generation.proofs.Standing.{whole_stands}
 use Rattle.generated_blocks.proofs.Funs.{AllBefore, funs_accepted}
 use Rattle.generated_blocks.proofs.Procs.{few_of_fun, bodies_accepted}
 
@@ -24,7 +24,7 @@ module _ (p : ProgramTree) (small : IsSmall p) (fine : fun_faults p ≡ []) (wel
   later : (costs : List Cost) (at : ℕ) → length costs ≡ at → AllBefore p at → Stand p at tail → blocks_fault (code_of p) costs at tail ≡ None
   later costs at many before stand =
       bodies_accepted p well.within.declarations costs at 0 0 [] [] p.declarations before well.typed.declarations well.within.declarations small.declarations well.typed.main small.main well.within.main
-      (whole_have (layouts_of (outside p.declarations) 0 p.declarations p.main)) stand
+      (whole_stands (layouts_of (outside p.declarations) 0 p.declarations p.main)) stand
 
   pub instructions_accepted : blocks_fault (code_of p) [] 0 (code_of p).blocks ≡ None
   instructions_accepted =

@@ -22,24 +22,24 @@ use Rattle.rev_code.specs.declared.code.Code.{Code}
 use Rattle.rev_code.specs.declared.code.CodeBlock.{CodeBlock}
 use Rattle.rev_code.specs.Step.{is_fun}
 use Rattle.code_rules.specs.Shapes as sh
-use Rattle.code_rules.specs.Shapes.{Shape, takes, begins, shape_after, var_kind, param_kinds, result_kinds, one_or_none}
+use Rattle.code_rules.specs.Shapes.{takes, var_kind, param_kinds, result_kinds, one_or_none}
 use Rattle.code_rules.specs.Pass.{Note, has_class, is_scalar, is_array}
 use Rattle.code_rules.specs.Pass as pass
 use Rattle.code_certificate.specs.Certificate.{Fits, leaves}
 use Rattle.code_generation.specs.Numbers.{Numbers, Scope}
 use Rattle.code_generation.specs.Expressions.{expression_size, form_size, expressions_size, links_size, link_size, load, unary_code, link_code, pick_yes, pick_no, pick_end, expression_code, form_code, expressions_code, links_code}
 use Rattle.code_generation.specs.Generated.{kinds_of}
-use Rattle.code_generation.specs.Stands.{HasAt}
+use Rattle.code_generation.specs.Stands.{HasAt, HasItems}
 use Rattle.code_generation.proofs.Standing.{parts_stand, around_stands}
 use Rattle.code_generation.proofs.Lengths.{around, expression_length, expressions_length, link_length}
 use Rattle.expression_run.specs.Applying.{AllApply}
 use Rattle.expression_run.proofs.Typed.{Typed, FormTyped, ArgsTyped, LinksTyped}
 use Rattle.expression_run.proofs.Typing.{typed}
-use Rattle.generated_certificate.specs.Items.{HasItems, noted, push}
+use Rattle.generated_certificate.specs.Items.{noted, push}
 use Rattle.generated_certificate.specs.Expressions.{word_kind, link_notes, behind_args, expression_notes, form_notes, expressions_notes, links_notes, expression_depth, form_depth, expressions_depth, links_depth}
 use Rattle.generated_certificate.specs.Means.{FunMeans, NamesMean}
 use Rattle.generated_certificate.specs.Kept.{IsWithin, IsKept, AllKept}
-use Rattle.generated_certificate.proofs.Parts.{nothing, parts_have, around_have, note_here, fits_eq, parts_kept, around_kept, one_kept}
+use Rattle.generated_certificate.proofs.Parts.{nothing, note_here, fits_eq, parts_kept, around_kept, one_kept}
 use Rattle.generated_certificate.proofs.Lengths.{expression_notes_length, expressions_notes_length, link_notes_length, first_note}
 use Rattle.generated_certificate.proofs.WordKinds.{kind_is}
 use Rattle.generated_certificate.proofs.Places.{no, turned, finds_all, pure_fine, outside_fine, passes_on, pushes, if_false, if_true, jumps_on, turns, operates}
@@ -146,7 +146,7 @@ module _ (code : Code) (at_block : ℕ) (bl : CodeBlock) (deepest : ℕ) (n : Nu
   unfolding Operand
   both x left right size depth at xs operand note len notes_len kept here there low last =
       let p = parts_stand bl.instrs (xs at) (x ∷ []) at size (len at) here in
-      let q = parts_have ns (operand (push left note)) (push right (push left note) ∷ []) at size (notes_len (push left note)) there in
+      let q = parts_stand ns (operand (push left note)) (push right (push left note) ∷ []) at size (notes_len (push left note)) there in
       let e = note_here ns (at + size) (push right (push left note)) q.1.0 in
       one_kept code at_block bl (noted ns) deepest (xs at) x at size (len at) (kept (push left note) at p.0 q.0 low (fits_eq (push right (push left note)) (noted ns (at + size)) e)) (last p.1.0 e)
 
@@ -161,7 +161,7 @@ module _ (code : Code) (at_block : ℕ) (bl : CodeBlock) (deepest : ℕ) (n : Nu
       let here1 = subst (λ z. HasAt bl.instrs z (xs (at + 1) ++ i.Jump (at + size + 3) ∷ i.PushBool v ∷ [])) next here.1 in
       let there1 = subst (λ z. HasItems ns z (operand note ++ push k.Bool note ∷ note ∷ [])) next there.1 in
       let p = parts_stand bl.instrs (xs (at + 1)) (i.Jump (at + size + 3) ∷ i.PushBool v ∷ []) (at + 1) size (len (at + 1)) here1 in
-      let q = parts_have ns (operand note) (push k.Bool note ∷ note ∷ []) (at + 1) size (notes_len note) there1 in
+      let q = parts_stand ns (operand note) (push k.Bool note ∷ note ∷ []) (at + 1) size (notes_len note) there1 in
       let at_jump = note_here ns (at + 1 + size) (push k.Bool note) q.1.0 in
       let at_push = note_here ns (suc (at + 1 + size)) note q.1.1.0 in
       let to_push : suc (at + 1 + size) ≡ at + 1 + size + 1 = omega arith in
@@ -217,7 +217,7 @@ module _ (code : Code) (at_block : ℕ) (bl : CodeBlock) (deepest : ℕ) (n : Nu
   args_first : (args : Expressions) (note : Note) (at : ℕ) → HasItems ns at (expressions_notes c l args note) → Fits (behind_args c l args note) (noted ns (at + expressions_size args)) → Fits note (noted ns at)
   args_first no_expressions note at h fits = move note _ _ (let z : at + 0 ≡ at = omega arith in z) fits
   args_first (expression e rest) note at h fits =
-      let q = parts_have ns (expression_notes c l e note) (expressions_notes c l rest (push (word_kind c l e) note)) at (expression_size e) (expression_notes_length c l e note) h in
+      let q = parts_stand ns (expression_notes c l e note) (expressions_notes c l rest (push (word_kind c l e) note)) at (expression_size e) (expression_notes_length c l e note) h in
       fits_eq note (noted ns at) (first_note c l ns e note at q.0)
 
   -- the kinds of the parameters, the last on top
@@ -235,23 +235,23 @@ module _ (code : Code) (at_block : ℕ) (bl : CodeBlock) (deepest : ℕ) (n : Nu
   link_first : (op : BinaryOp) (operand : Note → List Note) (left right : ValueKind) (size : ℕ) (note : Note) (at : ℕ) → ((z : Note) → length (operand z) ≡ size) → ((z : Note) (p : ℕ) → HasItems ns p (operand z) → noted ns p ≡ z) → HasItems ns at (link_notes op operand left right note) → noted ns at ≡ push left note
   link_first b.And operand left right size note at len firsts h = note_here ns at (push left note) h.0
   link_first b.Or operand left right size note at len firsts h = note_here ns at (push left note) h.0
-  link_first b.Add operand left right size note at len firsts h = firsts (push left note) at (parts_have ns (operand (push left note)) (push right (push left note) ∷ []) at size (len (push left note)) h).0
-  link_first b.Sub operand left right size note at len firsts h = firsts (push left note) at (parts_have ns (operand (push left note)) (push right (push left note) ∷ []) at size (len (push left note)) h).0
-  link_first b.Mul operand left right size note at len firsts h = firsts (push left note) at (parts_have ns (operand (push left note)) (push right (push left note) ∷ []) at size (len (push left note)) h).0
-  link_first b.Div operand left right size note at len firsts h = firsts (push left note) at (parts_have ns (operand (push left note)) (push right (push left note) ∷ []) at size (len (push left note)) h).0
-  link_first b.Rem operand left right size note at len firsts h = firsts (push left note) at (parts_have ns (operand (push left note)) (push right (push left note) ∷ []) at size (len (push left note)) h).0
-  link_first b.Eq operand left right size note at len firsts h = firsts (push left note) at (parts_have ns (operand (push left note)) (push right (push left note) ∷ []) at size (len (push left note)) h).0
-  link_first b.Ne operand left right size note at len firsts h = firsts (push left note) at (parts_have ns (operand (push left note)) (push right (push left note) ∷ []) at size (len (push left note)) h).0
-  link_first b.Lt operand left right size note at len firsts h = firsts (push left note) at (parts_have ns (operand (push left note)) (push right (push left note) ∷ []) at size (len (push left note)) h).0
-  link_first b.Le operand left right size note at len firsts h = firsts (push left note) at (parts_have ns (operand (push left note)) (push right (push left note) ∷ []) at size (len (push left note)) h).0
-  link_first b.Gt operand left right size note at len firsts h = firsts (push left note) at (parts_have ns (operand (push left note)) (push right (push left note) ∷ []) at size (len (push left note)) h).0
-  link_first b.Ge operand left right size note at len firsts h = firsts (push left note) at (parts_have ns (operand (push left note)) (push right (push left note) ∷ []) at size (len (push left note)) h).0
+  link_first b.Add operand left right size note at len firsts h = firsts (push left note) at (parts_stand ns (operand (push left note)) (push right (push left note) ∷ []) at size (len (push left note)) h).0
+  link_first b.Sub operand left right size note at len firsts h = firsts (push left note) at (parts_stand ns (operand (push left note)) (push right (push left note) ∷ []) at size (len (push left note)) h).0
+  link_first b.Mul operand left right size note at len firsts h = firsts (push left note) at (parts_stand ns (operand (push left note)) (push right (push left note) ∷ []) at size (len (push left note)) h).0
+  link_first b.Div operand left right size note at len firsts h = firsts (push left note) at (parts_stand ns (operand (push left note)) (push right (push left note) ∷ []) at size (len (push left note)) h).0
+  link_first b.Rem operand left right size note at len firsts h = firsts (push left note) at (parts_stand ns (operand (push left note)) (push right (push left note) ∷ []) at size (len (push left note)) h).0
+  link_first b.Eq operand left right size note at len firsts h = firsts (push left note) at (parts_stand ns (operand (push left note)) (push right (push left note) ∷ []) at size (len (push left note)) h).0
+  link_first b.Ne operand left right size note at len firsts h = firsts (push left note) at (parts_stand ns (operand (push left note)) (push right (push left note) ∷ []) at size (len (push left note)) h).0
+  link_first b.Lt operand left right size note at len firsts h = firsts (push left note) at (parts_stand ns (operand (push left note)) (push right (push left note) ∷ []) at size (len (push left note)) h).0
+  link_first b.Le operand left right size note at len firsts h = firsts (push left note) at (parts_stand ns (operand (push left note)) (push right (push left note) ∷ []) at size (len (push left note)) h).0
+  link_first b.Gt operand left right size note at len firsts h = firsts (push left note) at (parts_stand ns (operand (push left note)) (push right (push left note) ∷ []) at size (len (push left note)) h).0
+  link_first b.Ge operand left right size note at len firsts h = firsts (push left note) at (parts_stand ns (operand (push left note)) (push right (push left note) ∷ []) at size (len (push left note)) h).0
 
   links_first : (rest : Links) (left t : ValueKind) (note : Note) (at : ℕ) → LinksTyped c l Can left rest t → HasItems ns at (links_notes c l rest left note) → Fits (push t note) (noted ns (at + links_size rest)) → Fits (push left note) (noted ns at)
   links_first no_links left t note at ty h fits = subst (λ z. Fits (push z note) (noted ns at)) (sym ty) (move (push t note) _ _ (let z : at + 0 ≡ at = omega arith in z) fits)
   links_first (link op e rest) left t note at ty h fits =
       let operand : Note → List Note = λ z. expression_notes c l e z in
-      let q = parts_have ns (link_notes op operand left (word_kind c l e) note) (links_notes c l rest (given_kind op) note) at (link_size op (expression_size e)) (link_notes_length op (expression_size e) operand left (word_kind c l e) note (λ z. expression_notes_length c l e z)) h in
+      let q = parts_stand ns (link_notes op operand left (word_kind c l e) note) (links_notes c l rest (given_kind op) note) at (link_size op (expression_size e)) (link_notes_length op (expression_size e) operand left (word_kind c l e) note (λ z. expression_notes_length c l e z)) h in
       fits_eq (push left note) (noted ns at) (link_first op operand left (word_kind c l e) (expression_size e) note at (λ z. expression_notes_length c l e z) (λ z p it. first_note c l ns e z p it) q.0)
 
   -- ---- all forms
@@ -275,7 +275,7 @@ module _ (code : Code) (at_block : ℕ) (bl : CodeBlock) (deepest : ℕ) (n : Nu
         let size : ℕ = expression_size index in
         let some = depth_some index in
         let p = parts_stand bl.instrs (expression_code n scope index at) (i.LoadCell (n.var x.text) ∷ []) at size (expression_length n scope index at) here in
-        let q = parts_have ns (expression_notes c l index note) (push k.Int note ∷ []) at size (expression_notes_length c l index note) there in
+        let q = parts_stand ns (expression_notes c l index note) (push k.Int note ∷ []) at size (expression_notes_length c l index note) there in
         let e = note_here ns (at + size) (push k.Int note) q.1.0 in
         one_kept code at_block bl (noted ns) deepest (expression_code n scope index at) (i.LoadCell (n.var x.text)) at size (expression_length n scope index at)
         (expression_kept index k.Int at note ty.1 p.0 q.0 low (fits_eq (push k.Int note) (noted ns (at + size)) e))
@@ -284,7 +284,7 @@ module _ (code : Code) (at_block : ℕ) (bl : CodeBlock) (deepest : ℕ) (n : Nu
         let size : ℕ = expressions_size args in
         let f : FunMeans code at_block n x.text ty.0 = ty.3 in
         let p = parts_stand bl.instrs (expressions_code n scope args at) (i.Apply (n.fun x.text) ∷ []) at size (expressions_length n scope args at) here in
-        let q = parts_have ns (expressions_notes c l args note) (behind_args c l args note ∷ []) at size (expressions_notes_length c l args note) there in
+        let q = parts_stand ns (expressions_notes c l args note) (behind_args c l args note ∷ []) at size (expressions_notes_length c l args note) there in
         let e = note_here ns (at + size) (behind_args c l args note) q.1.0 in
         let before = args_behind ty.0.params args note ty.4 in
         let less = f.earlier in
@@ -299,7 +299,7 @@ module _ (code : Code) (at_block : ℕ) (bl : CodeBlock) (deepest : ℕ) (n : Nu
         let size : ℕ = expression_size index in
         let some = depth_some index in
         let p = parts_stand bl.instrs (expression_code n scope index at) (i.LoadInput ∷ []) at size (expression_length n scope index at) here in
-        let q = parts_have ns (expression_notes c l index note) (push k.Int note ∷ []) at size (expression_notes_length c l index note) there in
+        let q = parts_stand ns (expression_notes c l index note) (push k.Int note ∷ []) at size (expression_notes_length c l index note) there in
         let e = note_here ns (at + size) (push k.Int note) q.1.0 in
         one_kept code at_block bl (noted ns) deepest (expression_code n scope index at) i.LoadInput at size (expression_length n scope index at)
         (expression_kept index k.Int at note ty.2 p.0 q.0 low (fits_eq (push k.Int note) (noted ns (at + size)) e))
@@ -308,7 +308,7 @@ module _ (code : Code) (at_block : ℕ) (bl : CodeBlock) (deepest : ℕ) (n : Nu
         let size : ℕ = expression_size x in
         let some = depth_some x in
         let p = parts_stand bl.instrs (expression_code n scope x at) (unary_code op ∷ []) at size (expression_length n scope x at) here in
-        let q = parts_have ns (expression_notes c l x note) (push (operand_kind op) note ∷ []) at size (expression_notes_length c l x note) there in
+        let q = parts_stand ns (expression_notes c l x note) (push (operand_kind op) note ∷ []) at size (expression_notes_length c l x note) there in
         let e = note_here ns (at + size) (push (operand_kind op) note) q.1.0 in
         one_kept code at_block bl (noted ns) deepest (expression_code n scope x at) (unary_code op) at size (expression_length n scope x at)
         (expression_kept x (operand_kind op) at note ty.1 p.0 q.0 low (fits_eq (push (operand_kind op) note) (noted ns (at + size)) e))
@@ -327,9 +327,9 @@ module _ (code : Code) (at_block : ℕ) (bl : CodeBlock) (deepest : ℕ) (n : Nu
         let no_at : pick_no at test x ≡ at + (st + 1 + sx) + 1 = omega arith in
         let yes_at : pick_yes at test ≡ at + st + 1 = omega arith in
         let p = around_stands bl.instrs code1 (expression_code n scope y (pick_no at test x)) (i.Jump (pick_end at test x y)) at (st + 1 + sx) (pick_no at test x) len1 no_at here in
-        let q = around_have ns notes1 (expression_notes c l y note) (push t note) at (st + 1 + sx) (pick_no at test x) len2 no_at there2 in
+        let q = around_stands ns notes1 (expression_notes c l y note) (push t note) at (st + 1 + sx) (pick_no at test x) len2 no_at there2 in
         let p1 = around_stands bl.instrs (expression_code n scope test at) (expression_code n scope x (pick_yes at test)) (i.JumpIfFalse (pick_no at test x)) at st (pick_yes at test) (expression_length n scope test at) yes_at p.0 in
-        let q1 = around_have ns (expression_notes c l test note) (expression_notes c l x note) (push k.Bool note) at st (pick_yes at test) (expression_notes_length c l test note) yes_at q.0 in
+        let q1 = around_stands ns (expression_notes c l test note) (expression_notes c l x note) (push k.Bool note) at st (pick_yes at test) (expression_notes_length c l test note) yes_at q.0 in
         let e_test = note_here ns (at + st) (push k.Bool note) q1.1.0 in
         let e_jump = note_here ns (at + (st + 1 + sx)) (push t note) q.1.0 in
         let first_x = first_note c l ns x note (pick_yes at test) q1.1.1 in
@@ -352,7 +352,7 @@ module _ (code : Code) (at_block : ℕ) (bl : CodeBlock) (deepest : ℕ) (n : Nu
         let is_left : word_kind c l first ≡ left = kind_is c l Can first left ty.1 in
         let there2 = subst (λ z. HasItems ns at (expression_notes c l first note ++ links_notes c l rest z note)) is_left there in
         let p = parts_stand bl.instrs (expression_code n scope first at) (links_code n scope rest (at + size)) at size (expression_length n scope first at) here in
-        let q = parts_have ns (expression_notes c l first note) (links_notes c l rest left note) at size (expression_notes_length c l first note) there2 in
+        let q = parts_stand ns (expression_notes c l first note) (links_notes c l rest left note) at size (expression_notes_length c l first note) there2 in
         let fits2 = move (push t note) _ _ (let z : at + (size + links_size rest) ≡ at + size + links_size rest = omega arith in z) fits in
         parts_kept code at_block bl (noted ns) deepest (expression_code n scope first at) (links_code n scope rest (at + size)) at size (expression_length n scope first at)
         (expression_kept first left at note ty.1 p.0 q.0 (omega (arith, low)) (links_first rest left t note (at + size) ty.2 q.1 fits2))
@@ -366,7 +366,7 @@ module _ (code : Code) (at_block : ℕ) (bl : CodeBlock) (deepest : ℕ) (n : Nu
         let size : ℕ = expression_size e in
         let next : Note = push (word_kind c l e) note in
         let h = parts_stand bl.instrs (expression_code n scope e at) (expressions_code n scope rest (at + size)) at size (expression_length n scope e at) here in
-        let q = parts_have ns (expression_notes c l e note) (expressions_notes c l rest next) at size (expression_notes_length c l e note) there in
+        let q = parts_stand ns (expression_notes c l e note) (expressions_notes c l rest next) at size (expression_notes_length c l e note) there in
         let fits2 = move (behind_args c l rest next) _ _ (let z : at + (size + expressions_size rest) ≡ at + size + expressions_size rest = omega arith in z) fits in
         let is = kind_is c l Can e p.kind ty.0 in
         parts_kept code at_block bl (noted ns) deepest (expression_code n scope e at) (expressions_code n scope rest (at + size)) at size (expression_length n scope e at)
@@ -385,7 +385,7 @@ module _ (code : Code) (at_block : ℕ) (bl : CodeBlock) (deepest : ℕ) (n : Nu
         let len = link_length op (expression_size e) xs at (λ p. expression_length n scope e p) in
         let notes_len = link_notes_length op (expression_size e) operand left right note (λ z. expression_notes_length c l e z) in
         let p = parts_stand bl.instrs (link_code op (expression_size e) xs at) (links_code n scope rest (at + size)) at size len here in
-        let q = parts_have ns (link_notes op operand left right note) (links_notes c l rest (given_kind op) note) at size notes_len there2 in
+        let q = parts_stand ns (link_notes op operand left right note) (links_notes c l rest (given_kind op) note) at size notes_len there2 in
         let fits2 = move (push t note) _ _ (let z : at + (size + links_size rest) ≡ at + size + links_size rest = omega arith in z) fits in
         parts_kept code at_block bl (noted ns) deepest (link_code op (expression_size e) xs at) (links_code n scope rest (at + size)) at size len
         (link_kept op left right (expression_size e) (expression_depth e) at xs operand note ty.2 ty.3 (λ z. expression_length n scope e z) (λ z. expression_notes_length c l e z) (λ z j it. first_note c l ns e z j it)

@@ -9,9 +9,11 @@ use Rattle.rev_kinds.specs.Kinds.{Names, Locals, operand_kind, given_kind}
 use Rattle.code_rules.specs.Pass.{Note}
 use Rattle.code_generation.specs.Expressions.{expression_size, form_size, expressions_size, links_size, link_size}
 use Rattle.code_generation.proofs.Lengths.{two, and_one, around}
-use Rattle.generated_certificate.specs.Items.{HasItems, noted, push}
+use Rattle.code_generation.specs.Stands.{HasItems}
+use Rattle.code_generation.proofs.Standing.{parts_stand}
+use Rattle.generated_certificate.specs.Items.{noted, push}
 use Rattle.generated_certificate.specs.Expressions.{word_kind, link_notes, behind_args, expression_notes, form_notes, expressions_notes, links_notes}
-use Rattle.generated_certificate.proofs.Parts.{parts_have, note_here}
+use Rattle.generated_certificate.proofs.Parts.{note_here}
 
 pub link_notes_length : (op : BinaryOp) (size : ℕ) (operand : Note → List Note) (left right : ValueKind) (n : Note) → ((m : Note) → length (operand m) ≡ size) → length (link_notes op operand left right n) ≡ link_size op size
 link_notes_length b.And size operand left right n h = let r = length-append (operand n) (push right n ∷ n ∷ []) in let z = h n in omega (arith, r, z)
@@ -72,17 +74,17 @@ module _ (c : Names) (l : Locals) where
       first_form no_rev n at h = note_here ns at n h.0
       first_form (var w) n at h = note_here ns at n h.0
       first_form (inputs p) n at h = note_here ns at n h.0
-      first_form (cell w index) n at h = first_note index n at (parts_have ns (expression_notes c l index n) (push k.Int n ∷ []) at (expression_size index) (expression_notes_length index n) h).0
+      first_form (cell w index) n at h = first_note index n at (parts_stand ns (expression_notes c l index n) (push k.Int n ∷ []) at (expression_size index) (expression_notes_length index n) h).0
       first_form (apply w no_expressions) n at h = note_here ns at n h.0
       first_form (apply w (expression e rest)) n at h =
           let m : Note = push (word_kind c l e) n in
-          let es = parts_have ns (expression_notes c l e n ++ expressions_notes c l rest m) (behind_args c l rest m ∷ []) at (expressions_size (expression e rest)) (expressions_notes_length (expression e rest) n) h in
-          first_note e n at (parts_have ns (expression_notes c l e n) (expressions_notes c l rest m) at (expression_size e) (expression_notes_length e n) es.0).0
-      first_form (input p index) n at h = first_note index n at (parts_have ns (expression_notes c l index n) (push k.Int n ∷ []) at (expression_size index) (expression_notes_length index n) h).0
+          let es = parts_stand ns (expression_notes c l e n ++ expressions_notes c l rest m) (behind_args c l rest m ∷ []) at (expressions_size (expression e rest)) (expressions_notes_length (expression e rest) n) h in
+          first_note e n at (parts_stand ns (expression_notes c l e n) (expressions_notes c l rest m) at (expression_size e) (expression_notes_length e n) es.0).0
+      first_form (input p index) n at h = first_note index n at (parts_stand ns (expression_notes c l index n) (push k.Int n ∷ []) at (expression_size index) (expression_notes_length index n) h).0
       first_form (pick test x y) n at h =
           let front : List Note = expression_notes c l test n ++ push k.Bool n ∷ expression_notes c l x n in
           let p = around (expression_notes c l test n) (expression_notes c l x n) (push k.Bool n) (expression_size test) (expression_size x) (expression_notes_length test n) (expression_notes_length x n) in
-          let outer = parts_have ns front (push (word_kind c l x) n ∷ expression_notes c l y n) at (expression_size test + 1 + expression_size x) p h in
-          first_note test n at (parts_have ns (expression_notes c l test n) (push k.Bool n ∷ expression_notes c l x n) at (expression_size test) (expression_notes_length test n) outer.0).0
-      first_form (unary op e) n at h = first_note e n at (parts_have ns (expression_notes c l e n) (push (operand_kind op) n ∷ []) at (expression_size e) (expression_notes_length e n) h).0
-      first_form (chain first rest) n at h = first_note first n at (parts_have ns (expression_notes c l first n) (links_notes c l rest (word_kind c l first) n) at (expression_size first) (expression_notes_length first n) h).0
+          let outer = parts_stand ns front (push (word_kind c l x) n ∷ expression_notes c l y n) at (expression_size test + 1 + expression_size x) p h in
+          first_note test n at (parts_stand ns (expression_notes c l test n) (push k.Bool n ∷ expression_notes c l x n) at (expression_size test) (expression_notes_length test n) outer.0).0
+      first_form (unary op e) n at h = first_note e n at (parts_stand ns (expression_notes c l e n) (push (operand_kind op) n ∷ []) at (expression_size e) (expression_notes_length e n) h).0
+      first_form (chain first rest) n at h = first_note first n at (parts_stand ns (expression_notes c l first n) (links_notes c l rest (word_kind c l first) n) at (expression_size first) (expression_notes_length first n) h).0

@@ -1,4 +1,4 @@
--- Items and kept code are taken apart and put together.
+-- The note at a place, and kept code is taken apart and put together.
 use Rattle.std.proofs.Common.{◌≡◌, ◌∙◌, ℕ, zero, suc, ◌+◌, List, [], ◌∷◌, ◌++◌, length, Some, None, refl, sym, ap, subst, arith}
 use Rattle.std.specs.Prelude.{slice_get}
 use Rattle.rev_code.specs.declared.code.Code.{Code}
@@ -6,32 +6,13 @@ use Rattle.rev_code.specs.declared.code.CodeBlock.{CodeBlock}
 use Rattle.rev_code.specs.declared.code.Instr.{Instr}
 use Rattle.code_rules.specs.Pass.{Note}
 use Rattle.code_certificate.specs.Certificate.{Fits}
-use Rattle.code_generation.proofs.Standing.{all_there}
-use Rattle.generated_certificate.specs.Items.{HasItems, note_or_entry, noted}
+use Rattle.generated_certificate.specs.Items.{note_or_entry, noted}
 use Rattle.generated_certificate.specs.Kept.{IsKept, AllKept}
 
 pub nothing : Unit {0}
 nothing = tt
 
--- ---- items
-
-module _ {A : Type 0} (whole : List A) where
-  -- the first part, and the second, which begins as many items further on
-  pub parts_have : (xs ys : List A) (at m : ℕ) → length xs ≡ m → HasItems whole at (xs ++ ys) → HasItems whole at xs × HasItems whole (at + m) ys
-  parts_have [] ys at m e h = (nothing, subst (λ p. HasItems whole p ys) (let z : at ≡ at + m = omega (arith, e) in z) h)
-  parts_have (x ∷ xs) ys at m e h =
-      let r = parts_have xs ys (suc at) (length xs) refl h.1 in
-      ((h.0, r.0), subst (λ p. HasItems whole p ys) (let z : suc at + length xs ≡ at + m = omega (arith, e) in z) r.1)
-
-  -- the first part, an item, and the part behind it
-  pub around_have : (xs ys : List A) (y : A) (at m to : ℕ) → length xs ≡ m → to ≡ at + m + 1 → HasItems whole at (xs ++ y ∷ ys) → HasItems whole at xs × ((slice_get whole (at + m) ≡ Some y) × HasItems whole to ys)
-  around_have xs ys y at m to e z h =
-      let r = parts_have xs (y ∷ ys) at m e h in
-      (r.0, (r.1.0, subst (λ p. HasItems whole p ys) (let w : suc (at + m) ≡ to = omega (arith, z) in w) r.1.1))
-
--- all of a list stands in it
-pub all_have : {A : Type 0} (before xs : List A) → HasItems (before ++ xs) (length before) xs
-all_have {A = A} = all_there {A = A} HasItems (λ whole at. nothing) (λ whole at x xs here rest. (here, rest))
+-- ---- notes
 
 pub note_here : (ns : List Note) (at : ℕ) (n : Note) → slice_get ns at ≡ Some n → noted ns at ≡ n
 note_here ns at n h = ap note_or_entry h

@@ -1,10 +1,11 @@
 -- One instruction keeps the rules at its place.
 use Rattle.std.proofs.Common.{◌≡◌, ◌∙◌, ◌⊎◌, inl, ◌<◌, ◌≤◌, ℕ, suc, Bool, true, false, not, ◌&&◌, ◌||◌, List, [], ◌∷◌, ◌++◌, length, length-append, append_assoc, reverse, drop, Option, Some, None, refl, sym, ap, subst, arith, true≢false}
+use Rattle.std.proofs.Math.Bool.{and-false}
+use Rattle.std.proofs.Math.Seq.{drop-append_seam, drop-length}
 use Rattle.std.specs.Prelude.{slice_get}
 use Rattle.std.proofs.lemmas.List.{reverse-append}
 use Rattle.rev_num.specs.declared.value.ValueKind.{ValueKind}
 use Rattle.rev_num.specs.declared.value.ValueKind.TheVariants as kind
-use Rattle.rev_code.specs.Words.{same_kind}
 use Rattle.rev_code.specs.declared.code.Code.{Code}
 use Rattle.rev_code.specs.declared.code.CodeBlock.{CodeBlock}
 use Rattle.rev_code.specs.declared.code.Instr.{Instr}
@@ -15,6 +16,7 @@ use Rattle.code_certificate.specs.Certificate.{Fits, IsJumped, leaves}
 use Rattle.generated_certificate.specs.Items.{noted, push}
 use Rattle.generated_certificate.specs.Kept.{IsWithin, IsKept}
 use Rattle.rev_code.proofs.SameKinds.{same_kind_self}
+pub use Rattle.rev_num.proofs.Lists.{false_no as no}
 
 pub begins_one : (t : ValueKind) (s : Shape) → begins (t ∷ []) (t ∷ s) ≡ true
 begins_one t s = ap (λ d. d && true) (same_kind_self t)
@@ -22,15 +24,8 @@ begins_one t s = ap (λ d. d && true) (same_kind_self t)
 pub begins_two : (t u : ValueKind) (s : Shape) → begins (t ∷ u ∷ []) (t ∷ u ∷ s) ≡ true
 begins_two t u s = λ j. same_kind_self t j && (same_kind_self u j && true)
 
-pub no : {A : Type 0} → false ≡ true → A
-no h = absurd (true≢false (sym h))
-
 pub none_some : {A : Type 0} (to : ℕ) (o : Option ℕ) → o ≡ None → o ≡ Some to → A
 none_some to o h e = absurd (let z : None ≡ Some to = sym h ∙ e in cc)
-
-and_false : (d : Bool) → d && false ≡ false
-and_false true = refl
-and_false false = refl
 
 -- ---- kinds in order, of which the last is on top
 
@@ -41,16 +36,8 @@ begins_all : (xs s : Shape) → begins xs (xs ++ s) ≡ true
 begins_all [] s = refl
 begins_all (x ∷ xs) s = λ j. same_kind_self x j && begins_all xs s j
 
-drop_all : (xs s : Shape) → drop (length xs) (xs ++ s) ≡ s
-drop_all [] s = refl
-drop_all (x ∷ xs) s = drop_all xs s
-
 none_below : (xs s : Shape) → s ≡ [] → length (xs ++ s) ≡ length xs
 none_below xs s e = length-append xs s ∙ (let z : length s ≡ 0 = ap length e in omega (arith, z))
-
-drop_self : (xs : Shape) → drop (length xs) xs ≡ []
-drop_self [] = refl
-drop_self (x ∷ xs) = drop_self xs
 
 begins_self : (o : Option ValueKind) → begins (one_or_none o) (one_or_none o) ≡ true
 begins_self None = refl
@@ -63,7 +50,7 @@ module _ (code : Code) (k : ℕ) (b : CodeBlock) where
       (begins (takes code b n.shape x) n.shape ≡ true) × (is_bare x ≡ true → length n.shape ≡ length (takes code b n.shape x)) × (is_paid_for x ≡ true → n.paid ≡ true) × (leaves code b n x ≡ m)
 
   pub pure_fine : (x : Instr) → names code k x ≡ true → is_pure x ≡ true → bad_operand code k b x ≡ false
-  pure_fine x h p = (λ j. not (h j) || (is_value_class b.class && not (p j))) ∙ and_false (is_value_class b.class)
+  pure_fine x h p = (λ j. not (h j) || (is_value_class b.class && not (p j))) ∙ and-false (is_value_class b.class)
 
   pub outside_fine : (x : Instr) → names code k x ≡ true → is_value_class b.class ≡ false → bad_operand code k b x ≡ false
   outside_fine x h v = λ j. not (h j) || (v j && not (is_pure x))
@@ -74,7 +61,7 @@ module _ (code : Code) (k : ℕ) (b : CodeBlock) where
     ap (λ z. begins z (reverse ks ++ s)) ta ∙ begins_all (reverse ks) s,
     λ q. none_below (reverse ks) s (ba q) ∙ sym (ap length ta),
     pa,
-    ap (λ z. record { shape = gives code b x ++ drop (length z) (reverse ks ++ s); paid = paid_after paid x }) ta ∙ (λ j. record { shape = gi j ++ drop_all (reverse ks) s j; paid = paid_after paid x }),
+    ap (λ z. record { shape = gives code b x ++ drop (length z) (reverse ks ++ s); paid = paid_after paid x }) ta ∙ (λ j. record { shape = gi j ++ drop-append_seam (reverse ks) s j; paid = paid_after paid x }),
   )
 
   module _ (deepest : ℕ) (w : IsWithin b deepest) (ns : List Note) where
@@ -161,5 +148,5 @@ module _ (code : Code) (k : ℕ) (b : CodeBlock) where
     pub gives_back : (at : ℕ) (paid : Bool) → slice_get b.instrs at ≡ Some i.Return → noted ns at ≡ record { shape = one_or_none b.result; paid = paid } → Fits entry (noted ns (suc at)) → IsKept code k b (noted ns) deepest at i.Return
     gives_back at paid here note next =
         kept at (record { shape = one_or_none b.result; paid = paid }) (record { shape = []; paid = paid }) i.Return here note (pure_fine i.Return refl refl) refl
-        (begins_self b.result, λ q. refl, λ q. no q, ap (λ z. record { shape = z; paid = paid }) (drop_self (one_or_none b.result)))
+        (begins_self b.result, λ q. refl, λ q. no q, ap (λ z. record { shape = z; paid = paid }) (drop-length (one_or_none b.result)))
         (omega arith) (λ q. no q) (λ to e l. absurd (let z : None ≡ Some to = e in cc)) (λ to e l. refl) (λ f. inl next)

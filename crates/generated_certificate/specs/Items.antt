@@ -1,12 +1,7 @@
--- Items that stand in a list from a place on, and the notes of a list.
-use Rattle.std.specs.Prelude.{◌≡◌, ℕ, suc, Option, Some, None, List, [], ◌∷◌, slice_get, true}
+-- The notes of a list.
+use Rattle.std.specs.Prelude.{ℕ, Option, Some, None, List, [], ◌∷◌, slice_get, true}
 use Rattle.rev_num.specs.declared.value.ValueKind.{ValueKind}
 use Rattle.code_rules.specs.Pass.{Note, entry}
-
--- these items stand there from this place on
-abbrev pub HasItems : {A : Type 0} → List A → (at : ℕ) → List A → Type 0
-HasItems whole at [] = Unit {0}
-HasItems whole at (x ∷ xs) = (slice_get whole at ≡ Some x) × HasItems whole (suc at) xs
 
 -- of a place without a note nothing is known
 abbrev pub note_or_entry : Option Note → Note

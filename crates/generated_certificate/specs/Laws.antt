@@ -11,9 +11,9 @@ use Rattle.code_rules.specs.Pass.{Note}
 use Rattle.code_certificate.specs.Certificate.{Fits}
 use Rattle.code_generation.specs.Numbers.{Numbers, Scope}
 use Rattle.code_generation.specs.Expressions.{expression_size, expression_code}
-use Rattle.code_generation.specs.Stands.{HasAt}
+use Rattle.code_generation.specs.Stands.{HasAt, HasItems}
 use Rattle.expression_run.specs.Applying.{AllApply}
-use Rattle.generated_certificate.specs.Items.{HasItems, noted, push}
+use Rattle.generated_certificate.specs.Items.{noted, push}
 use Rattle.generated_certificate.specs.Expressions.{expression_notes, expression_depth}
 use Rattle.generated_certificate.specs.Means.{FunMeans, NamesMean}
 use Rattle.generated_certificate.specs.Kept.{IsWithin, AllKept}

@@ -1,6 +1,5 @@
 -- Code has at most as many `TryJoin` as instructions, and the code of a small program has fewer than a file can count.
-use Rattle.std.proofs.Common.{◌≤◌, ◌<◌, ℕ, ◌+◌, ◌*◌, Bool, true, false, Option, Some, None, List, [], ◌∷◌, ◌++◌, length, length-append, arith}
-use Rattle.std.specs.Prelude.{if◌then◌else◌}
+use Rattle.std.proofs.Common.{◌≤◌, ◌<◌, ℕ, ◌+◌, ◌*◌, Option, None, List, [], ◌∷◌, ◌++◌, length, length-append, arith}
 use Rattle.std.proofs.lemmas.List.Sums.{sum_by-cons, sum_by-append}
 use Rattle.rev_num.specs.declared.value.ValueKind.{ValueKind}
 use Rattle.rev_syntax.specs.Trees.{Parameter, Expression, Statements, Declaration, fun, merge, shared, proc, ProgramTree}
@@ -15,7 +14,7 @@ use Rattle.code_generation.specs.Numbers.{Numbers, numbers, Scope, with_params}
 use Rattle.code_generation.specs.Expressions.{expression_code}
 use Rattle.code_generation.specs.Sizes.{statements_prints}
 use Rattle.code_generation.specs.Statements.{statements_code}
-use Rattle.code_generation.specs.Generated.{zero_code, ends_in_return, end_code, body_code, fun_block, merge_block, proc_block, main_block, merge_scope, value_blocks, body_blocks, code_of}
+use Rattle.code_generation.specs.Generated.{end_code, body_code, fun_block, merge_block, proc_block, main_block, merge_scope, value_blocks, body_blocks, code_of}
 use Rattle.code_generation.proofs.Lengths.{expression_length, statements_length}
 use Rattle.generated_tables.proofs.Counts.{size_few, statements_few}
 use Rattle.generated_tables.proofs.Small.{end_few}

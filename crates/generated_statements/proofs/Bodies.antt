@@ -23,16 +23,16 @@ use Rattle.code_generation.specs.Expressions.{expression_size, expressions_size,
 use Rattle.code_generation.specs.Sizes.{right_side_size, items_size, dropped_size, leap_size, statement_size, statement_form_size, statements_size, arms_size, statement_prints, statements_prints, arms_prints}
 use Rattle.code_generation.specs.Statements.{Spot, ahead, behind_statement, behind_arms, store, right_side_code, items_code, dropped, leap, in_arm, next_arm, statement_code, statement_form_code, statements_code, arms_code}
 use Rattle.code_generation.specs.Prints.{local_kind, layout_of, statement_kinds, statement_form_kinds, statements_kinds, arms_kinds, statement_texts, statements_texts, arms_texts, statement_layouts, statement_form_layouts, statements_layouts, arms_layouts}
-use Rattle.code_generation.specs.Stands.{HasAt}
+use Rattle.code_generation.specs.Stands.{HasAt, HasItems}
 use Rattle.code_generation.proofs.Standing.{parts_stand, around_stands}
 use Rattle.code_generation.proofs.Lengths.{two, around, expression_length, expressions_length, right_side_length, items_length, leap_length, statement_length, statements_length, arms_length, statement_locals, statements_locals, arms_locals, statement_prints_length, statements_prints_length, arms_prints_length}
-use Rattle.generated_certificate.specs.Items.{HasItems, noted, push, charged}
+use Rattle.generated_certificate.specs.Items.{noted, push, charged}
 use Rattle.generated_certificate.specs.Expressions.{word_kind, behind_args, expression_notes, expressions_notes}
 use Rattle.generated_statements.specs.Statements.{right_side_notes, behind_right_side, items_notes, behind_items, returned_notes, dropped_notes, leap_notes, statement_notes, statement_form_notes, statements_notes, arms_notes}
 use Rattle.generated_certificate.specs.Means.{FunMeans, NamesMean}
 use Rattle.generated_statements.specs.Bodies.{BodyMeans}
 use Rattle.generated_certificate.specs.Kept.{IsWithin, IsKept, AllKept}
-use Rattle.generated_certificate.proofs.Parts.{nothing, parts_have, around_have, note_here, fits_eq, parts_kept, around_kept, one_kept}
+use Rattle.generated_certificate.proofs.Parts.{nothing, note_here, fits_eq, parts_kept, around_kept, one_kept}
 use Rattle.generated_certificate.proofs.Lengths.{expression_notes_length, expressions_notes_length, first_note}
 use Rattle.generated_statements.proofs.StatementLengths.{right_side_notes_length, items_notes_length, leap_notes_length, statement_notes_length, statements_notes_length, arms_notes_length}
 use Rattle.generated_certificate.proofs.WordKinds.{kind_is}
@@ -70,7 +70,7 @@ module _ (code : Code) (at_block : ℕ) (bl : CodeBlock) (n : Numbers) (c : Name
   taken l scope m e t at x h s here there last =
       let size : ℕ = expression_size e in
       let p = parts_stand bl.instrs (expression_code n scope e at) (x ∷ []) at size (expression_length n scope e at) here in
-      let q = parts_have ns (expression_notes c l e charged) (push t charged ∷ []) at size (expression_notes_length c l e charged) there in
+      let q = parts_stand ns (expression_notes c l e charged) (push t charged ∷ []) at size (expression_notes_length c l e charged) there in
       let note = note_here ns (at + size) (push t charged) q.1.0 in
       one_kept code at_block bl (noted ns) most_words (expression_code n scope e at) x at size (expression_length n scope e at)
       (term_kept code at_block bl n c w bm ns l scope m e t at charged h s (omega arith) p.0 q.0 (fits_eq (push t charged) (noted ns (at + size)) note)) (last p.1.0 note)
@@ -81,7 +81,7 @@ module _ (code : Code) (at_block : ℕ) (bl : CodeBlock) (n : Numbers) (c : Name
   right_taken l scope m r t at x h s here there last =
       let size : ℕ = right_side_size r in
       let p = parts_stand bl.instrs (right_side_code n scope r at) (x ∷ []) at size (right_side_length n scope r at) here in
-      let q = parts_have ns (right_side_notes c l r) (behind_right_side c l r ∷ []) at size (right_side_notes_length c l r) there in
+      let q = parts_stand ns (right_side_notes c l r) (behind_right_side c l r ∷ []) at size (right_side_notes_length c l r) there in
       let note = note_here ns (at + size) (behind_right_side c l r) q.1.0 in
       let d = right_is code at_block bl n c w bm ns l r t h s in
       one_kept code at_block bl (noted ns) most_words (right_side_code n scope r at) x at size (right_side_length n scope r at)
@@ -99,39 +99,39 @@ module _ (code : Code) (at_block : ℕ) (bl : CodeBlock) (n : Numbers) (c : Name
       let tested : List Note = expression_notes c l test charged ++ push k.Bool charged ∷ statements_notes c n l body in
       let size = around (expression_notes c l test charged) (statements_notes c n l body) (push k.Bool charged) (expression_size test) (statements_size n body) (expression_notes_length c l test charged) (statements_notes_length c n l body) in
       let both = two tested (leap_notes has_last rest) (expression_size test + 1 + statements_size n body) (leap_size has_last rest) size (leap_notes_length has_last rest) in
-      let outer = parts_have ns (tested ++ leap_notes has_last rest) (arms_notes c n l has_last rest) at (expression_size test + 1 + statements_size n body + leap_size has_last rest) both h in
-      let front = parts_have ns tested (leap_notes has_last rest) at (expression_size test + 1 + statements_size n body) size outer.0 in
-      let inner = parts_have ns (expression_notes c l test charged) (push k.Bool charged ∷ statements_notes c n l body) at (expression_size test) (expression_notes_length c l test charged) front.0 in
+      let outer = parts_stand ns (tested ++ leap_notes has_last rest) (arms_notes c n l has_last rest) at (expression_size test + 1 + statements_size n body + leap_size has_last rest) both h in
+      let front = parts_stand ns tested (leap_notes has_last rest) at (expression_size test + 1 + statements_size n body) size outer.0 in
+      let inner = parts_stand ns (expression_notes c l test charged) (push k.Bool charged ∷ statements_notes c n l body) at (expression_size test) (expression_notes_length c l test charged) front.0 in
       fits_eq charged (noted ns at) (first_note c l ns test charged at inner.0)
 
   term_first : (l : Locals) (e : Expression) (t : ValueKind) (at : ℕ) → HasItems ns at (expression_notes c l e charged ++ push t charged ∷ []) → Fits charged (noted ns at)
-  term_first l e t at h = fits_eq charged (noted ns at) (first_note c l ns e charged at (parts_have ns (expression_notes c l e charged) (push t charged ∷ []) at (expression_size e) (expression_notes_length c l e charged) h).0)
+  term_first l e t at h = fits_eq charged (noted ns at) (first_note c l ns e charged at (parts_stand ns (expression_notes c l e charged) (push t charged ∷ []) at (expression_size e) (expression_notes_length c l e charged) h).0)
 
   args_begin : (l : Locals) (args : Expressions) (at : ℕ) → HasItems ns at (expressions_notes c l args charged) → Fits (behind_args c l args charged) (noted ns (at + expressions_size args)) → Fits charged (noted ns at)
   args_begin l no_expressions at h fits = subst (λ z. Fits charged (noted ns z)) (let z : at + 0 ≡ at = omega arith in z) fits
   args_begin l (expression e rest) at h fits =
-      let q = parts_have ns (expression_notes c l e charged) (expressions_notes c l rest (push (word_kind c l e) charged)) at (expression_size e) (expression_notes_length c l e charged) h in
+      let q = parts_stand ns (expression_notes c l e charged) (expressions_notes c l rest (push (word_kind c l e) charged)) at (expression_size e) (expression_notes_length c l e charged) h in
       fits_eq charged (noted ns at) (first_note c l ns e charged at q.0)
 
   items_begin : (l : Locals) (items : List PrintItem) (at : ℕ) → HasItems ns at (items_notes c l items charged) → Fits (behind_items c l items charged) (noted ns (at + items_size items)) → Fits charged (noted ns at)
   items_begin l [] at h fits = subst (λ z. Fits charged (noted ns z)) (let z : at + 0 ≡ at = omega arith in z) fits
   items_begin l (text p bytes ∷ items) at h fits = items_begin l items at h fits
   items_begin l (shown e ∷ items) at h fits =
-      let q = parts_have ns (expression_notes c l e charged) (items_notes c l items (push (word_kind c l e) charged)) at (expression_size e) (expression_notes_length c l e charged) h in
+      let q = parts_stand ns (expression_notes c l e charged) (items_notes c l items (push (word_kind c l e) charged)) at (expression_size e) (expression_notes_length c l e charged) h in
       fits_eq charged (noted ns at) (first_note c l ns e charged at q.0)
 
   right_first : (l : Locals) (r : RightSide) (at : ℕ) → HasItems ns at (right_side_notes c l r ++ behind_right_side c l r ∷ []) → Fits charged (noted ns at)
   right_first l (plain e) at h = term_first l e (word_kind c l e) at h
   right_first l (called p x args) at h =
-      let front = parts_have ns (expressions_notes c l args charged ++ behind_args c l args charged ∷ []) (behind_right_side c l (called p x args) ∷ []) at (expressions_size args + 1) (right_side_notes_length c l (called p x args)) h in
-      let q = parts_have ns (expressions_notes c l args charged) (behind_args c l args charged ∷ []) at (expressions_size args) (expressions_notes_length c l args charged) front.0 in
+      let front = parts_stand ns (expressions_notes c l args charged ++ behind_args c l args charged ∷ []) (behind_right_side c l (called p x args) ∷ []) at (expressions_size args + 1) (right_side_notes_length c l (called p x args)) h in
+      let q = parts_stand ns (expressions_notes c l args charged) (behind_args c l args charged ∷ []) at (expressions_size args) (expressions_notes_length c l args charged) front.0 in
       args_begin l args at q.0 (fits_eq (behind_args c l args charged) (noted ns (at + expressions_size args)) (note_here ns (at + expressions_size args) (behind_args c l args charged) q.1.0))
   right_first l (forked p x args) at h =
-      let front = parts_have ns (expressions_notes c l args charged ++ behind_args c l args charged ∷ []) (behind_right_side c l (forked p x args) ∷ []) at (expressions_size args + 1) (right_side_notes_length c l (forked p x args)) h in
-      let q = parts_have ns (expressions_notes c l args charged) (behind_args c l args charged ∷ []) at (expressions_size args) (expressions_notes_length c l args charged) front.0 in
+      let front = parts_stand ns (expressions_notes c l args charged ++ behind_args c l args charged ∷ []) (behind_right_side c l (forked p x args) ∷ []) at (expressions_size args + 1) (right_side_notes_length c l (forked p x args)) h in
+      let q = parts_stand ns (expressions_notes c l args charged) (behind_args c l args charged ∷ []) at (expressions_size args) (expressions_notes_length c l args charged) front.0 in
       args_begin l args at q.0 (fits_eq (behind_args c l args charged) (noted ns (at + expressions_size args)) (note_here ns (at + expressions_size args) (behind_args c l args charged) q.1.0))
   right_first l (tried p handle) at h =
-      let front = parts_have ns (expression_notes c l handle charged ++ push k.Rev charged ∷ []) (behind_right_side c l (tried p handle) ∷ []) at (expression_size handle + 1) (right_side_notes_length c l (tried p handle)) h in
+      let front = parts_stand ns (expression_notes c l handle charged ++ push k.Rev charged ∷ []) (behind_right_side c l (tried p handle) ∷ []) at (expression_size handle + 1) (right_side_notes_length c l (tried p handle)) h in
       term_first l handle k.Rev at front.0
 
   returned_first : (l : Locals) (e : Option Expression) (at : ℕ) → HasItems ns at (returned_notes c l e) → Fits charged (noted ns at)
@@ -221,9 +221,9 @@ module _ (code : Code) (at_block : ℕ) (bl : CodeBlock) (n : Numbers) (c : Name
         let len2 = around (expression_notes c l index charged) (expression_notes c l e below) below si se (expression_notes_length c l index charged) (expression_notes_length c l e below) in
         let there2 = subst (λ z. HasItems ns s.at (notes1 ++ push z below ∷ [])) kind there in
         let p = parts_stand bl.instrs code1 (i.StoreCell (n.var x.text) ∷ []) s.at (si + 1 + se) len1 here in
-        let q = parts_have ns notes1 (push t below ∷ []) s.at (si + 1 + se) len2 there2 in
+        let q = parts_stand ns notes1 (push t below ∷ []) s.at (si + 1 + se) len2 there2 in
         let p1 = around_stands bl.instrs (expression_code n scope index s.at) (expression_code n scope e at2) (i.CheckCell (n.var x.text)) s.at si at2 (expression_length n scope index s.at) refl p.0 in
-        let q1 = around_have ns (expression_notes c l index charged) (expression_notes c l e below) below s.at si at2 (expression_notes_length c l index charged) refl q.0 in
+        let q1 = around_stands ns (expression_notes c l index charged) (expression_notes c l e below) below s.at si at2 (expression_notes_length c l index charged) refl q.0 in
         let e_check = note_here ns (s.at + si) below q1.1.0 in
         let e_store = note_here ns (s.at + (si + 1 + se)) (push t below) q.1.0 in
         let first_e = first_note c l ns e below at2 q1.1.1 in
@@ -247,9 +247,9 @@ module _ (code : Code) (at_block : ℕ) (bl : CodeBlock) (n : Numbers) (c : Name
         let smalls = and_parts (arms_small arms) (statements_small last) sm in
         let len = arms_length n scope true arms end s in
         let p = parts_stand bl.instrs (arms_code n scope true arms end s) (statements_code n scope last behind) s.at sa len here in
-        let q = parts_have ns (arms_notes c n l true arms) (statements_notes c n l last) s.at sa (arms_notes_length c n l true arms) there in
-        let ks = parts_have bl.locals (arms_kinds c l arms) (statements_kinds c l last) s.local (arms_lets arms) (arms_locals c l arms) kinds in
-        let ls = parts_have code.layouts (arms_layouts c l texts arms) (statements_layouts c l (texts + length (arms_texts arms)) last) s.layout (arms_prints arms) (arms_prints_length c l texts arms) lays in
+        let q = parts_stand ns (arms_notes c n l true arms) (statements_notes c n l last) s.at sa (arms_notes_length c n l true arms) there in
+        let ks = parts_stand bl.locals (arms_kinds c l arms) (statements_kinds c l last) s.local (arms_lets arms) (arms_locals c l arms) kinds in
+        let ls = parts_stand code.layouts (arms_layouts c l texts arms) (statements_layouts c l (texts + length (arms_texts arms)) last) s.layout (arms_prints arms) (arms_prints_length c l texts arms) lays in
         let at_end = next_at _ _ (let z : s.at + (sa + sl) ≡ end = omega arith in z) next in
         let at_last = statements_first l last (s.at + sa) q.1 at_end in (
           parts_kept code at_block bl (noted ns) most_words (arms_code n scope true arms end s) (statements_code n scope last behind) s.at sa len
@@ -270,9 +270,9 @@ module _ (code : Code) (at_block : ℕ) (bl : CodeBlock) (n : Numbers) (c : Name
         let len2 = around (expression_notes c l test charged) (statements_notes c n l body) (push k.Bool charged) st sb (expression_notes_length c l test charged) (statements_notes_length c n l body) in
         let inside : s.at + (st + 1) ≡ s.at + st + 1 = omega arith in
         let p = parts_stand bl.instrs code1 (i.Jump head ∷ []) s.at (st + 1 + sb) len1 here in
-        let q = parts_have ns notes1 (entry ∷ []) s.at (st + 1 + sb) len2 there in
+        let q = parts_stand ns notes1 (entry ∷ []) s.at (st + 1 + sb) len2 there in
         let p1 = around_stands bl.instrs (expression_code n scope test s.at) (statements_code n scope body inner) leave s.at st (s.at + (st + 1)) (expression_length n scope test s.at) inside p.0 in
-        let q1 = around_have ns (expression_notes c l test charged) (statements_notes c n l body) (push k.Bool charged) s.at st (s.at + (st + 1)) (expression_notes_length c l test charged) inside q.0 in
+        let q1 = around_stands ns (expression_notes c l test charged) (statements_notes c n l body) (push k.Bool charged) s.at st (s.at + (st + 1)) (expression_notes_length c l test charged) inside q.0 in
         let e_test = note_here ns (s.at + st) (push k.Bool charged) q1.1.0 in
         let e_back = note_here ns (s.at + (st + 1 + sb)) entry q.1.0 in
         let body_end = next_at _ _ (let z : s.at + (st + 1 + sb) ≡ s.at + (st + 1) + sb = omega arith in z) (next_eq (s.at + (st + 1 + sb)) e_back) in
@@ -293,7 +293,7 @@ module _ (code : Code) (at_block : ℕ) (bl : CodeBlock) (n : Numbers) (c : Name
         let to : ℕ = s.at + size + 1 in
         let smalls = and_parts (name_formed x) (expressions_small args) sm in
         let p = around_stands bl.instrs (expressions_code n scope args s.at) (dropped (n.gives x.text)) (i.Call (n.proc x.text)) s.at size to (expressions_length n scope args s.at) refl here in
-        let q = around_have ns (expressions_notes c l args charged) (dropped_notes c x (n.gives x.text)) (behind_args c l args charged) s.at size to (expressions_notes_length c l args charged) refl there in
+        let q = around_stands ns (expressions_notes c l args charged) (dropped_notes c x (n.gives x.text)) (behind_args c l args charged) s.at size to (expressions_notes_length c l args charged) refl there in
         let end = next_at _ _ (let z : s.at + (size + 1 + dropped_size (n.gives x.text)) ≡ to + dropped_size (n.gives x.text) = omega arith in z) next in
         let gone = dropped_kept code at_block bl n c w bm ns x callee (n.gives x.text) callee.result to ty.0.1.0 refl (bm.procs x.text callee ty.0.1.0).gives p.1.1 q.1.1 end in
         let after : to ≡ suc (s.at + size) = omega arith in
@@ -309,7 +309,7 @@ module _ (code : Code) (at_block : ℕ) (bl : CodeBlock) (n : Numbers) (c : Name
         let to : ℕ = s.at + size + 1 in
         let smalls = and_parts (name_formed x) (expressions_small args) sm in
         let p = around_stands bl.instrs (expressions_code n scope args s.at) (i.Pop ∷ []) (i.Fork (n.proc x.text)) s.at size to (expressions_length n scope args s.at) refl here in
-        let q = around_have ns (expressions_notes c l args charged) (push k.Rev entry ∷ []) (behind_args c l args charged) s.at size to (expressions_notes_length c l args charged) refl there in
+        let q = around_stands ns (expressions_notes c l args charged) (push k.Rev entry ∷ []) (behind_args c l args charged) s.at size to (expressions_notes_length c l args charged) refl there in
         let e_pop = note_here ns to (push k.Rev entry) q.1.1.0 in
         let after : suc (s.at + size) ≡ to = omega arith in
         let both = forks_one code at_block bl n c w bm ns l scope m x args callee s.at ty.0.1 smalls.1 p.0 q.0 p.1.0 (note_here ns (s.at + size) (behind_args c l args charged) q.1.0) (fits_eq (push k.Rev entry) (noted ns (suc (s.at + size))) (ap (noted ns) after ∙ e_pop)) in (
@@ -325,7 +325,7 @@ module _ (code : Code) (at_block : ℕ) (bl : CodeBlock) (n : Numbers) (c : Name
     form_kept l scope (print items) l' texts line head s m ty sm pr kinds lays less ch here there next =
         let size : ℕ = items_size items in
         let p = parts_stand bl.instrs (items_code n scope items s.at) (i.Print s.layout ∷ []) s.at size (items_length n scope items s.at) here in
-        let q = parts_have ns (items_notes c l items charged) (behind_items c l items charged ∷ []) s.at size (items_notes_length c l items charged) there in
+        let q = parts_stand ns (items_notes c l items charged) (behind_items c l items charged ∷ []) s.at size (items_notes_length c l items charged) there in
         let note = note_here ns (s.at + size) (behind_items c l items charged) q.1.0 in
         let shape = items_behind code at_block bl n c w bm ns l texts items charged ty.0 sm in
         let fits = fits_eq (behind_items c l items charged) (noted ns (s.at + size)) note in (
@@ -350,9 +350,9 @@ module _ (code : Code) (at_block : ℕ) (bl : CodeBlock) (n : Numbers) (c : Name
         let smalls = and_parts (statement_small x) (statements_small rest) sm in
         let same_locals : ty.0 ≡ l2 = typed_locals c result l ty.0 x ty.1 in
         let p = parts_stand bl.instrs (statement_code n scope x s) (statements_code n (scope_after scope s.local x) rest behind) s.at size (statement_length n scope x s) here in
-        let q = parts_have ns (statement_notes c n l x) (statements_notes c n l2 rest) s.at size (statement_notes_length c n l x) there in
-        let ks = parts_have bl.locals (statement_kinds c l x) (statements_kinds c l2 rest) s.local (statement_lets x) (statement_locals c l x) kinds in
-        let ls = parts_have code.layouts (statement_layouts c l texts x) (statements_layouts c l2 (texts + length (statement_texts x)) rest) s.layout (statement_prints x) (statement_prints_length c l texts x) lays in
+        let q = parts_stand ns (statement_notes c n l x) (statements_notes c n l2 rest) s.at size (statement_notes_length c n l x) there in
+        let ks = parts_stand bl.locals (statement_kinds c l x) (statements_kinds c l2 rest) s.local (statement_lets x) (statement_locals c l x) kinds in
+        let ls = parts_stand code.layouts (statement_layouts c l texts x) (statements_layouts c l2 (texts + length (statement_texts x)) rest) s.layout (statement_prints x) (statement_prints_length c l texts x) lays in
         let m2 = subst (λ z. NamesMean code bl n c z (scope_after scope s.local x)) same_locals (statement_next l scope x ty.0 s.local m ty.1 ks.0) in
         let ty2 = subst (λ z. StatementsTyped c result z rest) same_locals ty.2 in
         let end = next_at _ _ (let z : s.at + (size + statements_size n rest) ≡ s.at + size + statements_size n rest = omega arith in z) next in
@@ -383,15 +383,15 @@ module _ (code : Code) (at_block : ℕ) (bl : CodeBlock) (n : Numbers) (c : Name
         let inside : s.at + (st + 1) ≡ s.at + st + 1 = omega arith in
         let there_at : s.at + (first + sl) ≡ on.at = omega arith in
         let outer = parts_stand bl.instrs (code1 ++ leap has_last rest end) (arms_code n scope has_last rest end on) s.at (first + sl) code_both here in
-        let outer_n = parts_have ns (notes1 ++ leap_notes has_last rest) (arms_notes c n l has_last rest) s.at (first + sl) notes_both there in
+        let outer_n = parts_stand ns (notes1 ++ leap_notes has_last rest) (arms_notes c n l has_last rest) s.at (first + sl) notes_both there in
         let front = parts_stand bl.instrs code1 (leap has_last rest end) s.at first len1 outer.0 in
-        let front_n = parts_have ns notes1 (leap_notes has_last rest) s.at first len2 outer_n.0 in
+        let front_n = parts_stand ns notes1 (leap_notes has_last rest) s.at first len2 outer_n.0 in
         let p1 = around_stands bl.instrs (expression_code n scope test s.at) (statements_code n scope body inner) jump s.at st (s.at + (st + 1)) (expression_length n scope test s.at) inside front.0 in
-        let q1 = around_have ns (expression_notes c l test charged) (statements_notes c n l body) (push k.Bool charged) s.at st (s.at + (st + 1)) (expression_notes_length c l test charged) inside front_n.0 in
+        let q1 = around_stands ns (expression_notes c l test charged) (statements_notes c n l body) (push k.Bool charged) s.at st (s.at + (st + 1)) (expression_notes_length c l test charged) inside front_n.0 in
         let rest_here = subst (λ p. HasAt bl.instrs p (arms_code n scope has_last rest end on)) there_at outer.1 in
         let rest_there = subst (λ p. HasItems ns p (arms_notes c n l has_last rest)) there_at outer_n.1 in
-        let ks = parts_have bl.locals (statements_kinds c l body) (arms_kinds c l rest) s.local (statements_lets body) (statements_locals c l body) kinds in
-        let ls = parts_have code.layouts (statements_layouts c l texts body) (arms_layouts c l (texts + length (statements_texts body)) rest) s.layout (statements_prints body) (statements_prints_length c l texts body) lays in
+        let ks = parts_stand bl.locals (statements_kinds c l body) (arms_kinds c l rest) s.local (statements_lets body) (statements_locals c l body) kinds in
+        let ls = parts_stand code.layouts (statements_layouts c l texts body) (arms_layouts c l (texts + length (statements_texts body)) rest) s.layout (statements_prints body) (statements_prints_length c l texts body) lays in
         let e_test = note_here ns (s.at + st) (push k.Bool charged) q1.1.0 in
         let behind2 = next_at _ _ (let z : s.at + (st + 1 + sb + sl + sr) ≡ on.at + sr = omega arith in z) behind in
         let behind3 = next_at _ _ (let z : s.at + (st + 1 + sb + sl + sr) ≡ s.at + first + (sl + sr) = omega arith in z) behind in

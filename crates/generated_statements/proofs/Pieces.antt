@@ -24,7 +24,7 @@ use Rattle.rev_code.specs.Printing.{printed_kinds}
 use Rattle.rev_code.specs.Step.{is_procedure}
 use Rattle.code_rules.specs.Shapes as sh
 use Rattle.code_rules.specs.Shapes.{Shape, takes, gives, begins, var_kind, param_kinds, result_kinds, layout_kinds, one_or_none}
-use Rattle.code_rules.specs.Pass.{Note, entry, has_class, is_scalar, is_array, is_layout, is_value_class, most_words}
+use Rattle.code_rules.specs.Pass.{Note, entry, has_class, is_scalar, is_array, is_layout, most_words}
 use Rattle.code_rules.specs.Pass as pass
 use Rattle.code_certificate.specs.Certificate.{Fits, leaves}
 use Rattle.code_generation.specs.Numbers.{Numbers, Scope}
@@ -33,20 +33,20 @@ use Rattle.code_generation.specs.Sizes.{right_side_size, items_size, returned_si
 use Rattle.code_generation.specs.Statements.{store, right_side_code, items_code, returned_code, dropped}
 use Rattle.code_generation.specs.Prints.{local_kind, value_item, layout_of}
 use Rattle.code_generation.specs.Generated.{kinds_of}
-use Rattle.code_generation.specs.Stands.{HasAt}
+use Rattle.code_generation.specs.Stands.{HasAt, HasItems}
 use Rattle.code_generation.proofs.Standing.{parts_stand}
 use Rattle.code_generation.proofs.Lengths.{expression_length, expressions_length}
 use Rattle.expression_run.proofs.Typed.{Typed, ArgsTyped}
 use Rattle.rev_kinds.proofs.Lists.{and_parts}
 use Rattle.expression_run.proofs.Applying.{all_apply, args_apply}
 use Rattle.expression_run.proofs.Typing.{typed, args_typed}
-use Rattle.generated_certificate.specs.Items.{HasItems, noted, push, charged}
+use Rattle.generated_certificate.specs.Items.{noted, push, charged}
 use Rattle.generated_certificate.specs.Expressions.{word_kind, behind_args, expression_notes, expressions_notes, expression_depth, expressions_depth}
 use Rattle.generated_statements.specs.Statements.{result_kind, right_side_notes, behind_right_side, items_notes, behind_items, returned_notes, dropped_notes}
 use Rattle.generated_certificate.specs.Means.{FunMeans, NamesMean}
 use Rattle.generated_statements.specs.Bodies.{FunApplies, BodyMeans}
 use Rattle.generated_certificate.specs.Kept.{IsWithin, IsKept, AllKept}
-use Rattle.generated_certificate.proofs.Parts.{nothing, parts_have, note_here, fits_eq, parts_kept, one_kept}
+use Rattle.generated_certificate.proofs.Parts.{nothing, note_here, fits_eq, parts_kept, one_kept}
 use Rattle.generated_certificate.proofs.Lengths.{expression_notes_length, expressions_notes_length, first_note}
 use Rattle.generated_certificate.proofs.WordKinds.{kind_is}
 use Rattle.generated_certificate.proofs.Places.{no, turned, begins_one, begins_two, finds_all, outside_fine, passes_on, gives_back}
@@ -183,7 +183,7 @@ module _ (code : Code) (at_block : ℕ) (bl : CodeBlock) (n : Numbers) (c : Name
   returned_kept l scope m (Some t) (Some e) at res ty s here there next =
       let size : ℕ = expression_size e in
       let p = parts_stand bl.instrs (expression_code n scope e at) (i.Return ∷ []) at size (expression_length n scope e at) here in
-      let q = parts_have ns (expression_notes c l e charged) (push (word_kind c l e) charged ∷ []) at size (expression_notes_length c l e charged) there in
+      let q = parts_stand ns (expression_notes c l e charged) (push (word_kind c l e) charged ∷ []) at size (expression_notes_length c l e charged) there in
       let is = kind_is c l Can e t (term_typed l e t ty s).0 in
       let note = note_here ns (at + size) (push (word_kind c l e) charged) q.1.0 ∙ ap (λ z. push z charged) is in
       one_kept code at_block bl (noted ns) most_words (expression_code n scope e at) i.Return at size (expression_length n scope e at)
@@ -251,7 +251,7 @@ module _ (code : Code) (at_block : ℕ) (bl : CodeBlock) (n : Numbers) (c : Name
   right_kept l scope m (called p0 x args) t at h s here there note =
       let size : ℕ = expressions_size args in
       let p = parts_stand bl.instrs (expressions_code n scope args at) (i.Call (n.proc x.text) ∷ []) at size (expressions_length n scope args at) here in
-      let q = parts_have ns (expressions_notes c l args charged) (behind_args c l args charged ∷ []) at size (expressions_notes_length c l args charged) there in
+      let q = parts_stand ns (expressions_notes c l args charged) (behind_args c l args charged ∷ []) at size (expressions_notes_length c l args charged) there in
       let kind : result_kind c x ≡ t = ap (λ z. local_kind (result_of z)) h.1.0 ∙ ap local_kind h.2 in
       let end : suc (at + size) ≡ at + (size + 1) = omega arith in
       let behind = fits_eq (push t entry) (noted ns (suc (at + size))) (ap (noted ns) end ∙ note ∙ ap (λ z. push z entry) kind) in
@@ -260,14 +260,14 @@ module _ (code : Code) (at_block : ℕ) (bl : CodeBlock) (n : Numbers) (c : Name
   right_kept l scope m (forked p0 x args) t at h s here there note =
       let size : ℕ = expressions_size args in
       let p = parts_stand bl.instrs (expressions_code n scope args at) (i.Fork (n.proc x.text) ∷ []) at size (expressions_length n scope args at) here in
-      let q = parts_have ns (expressions_notes c l args charged) (behind_args c l args charged ∷ []) at size (expressions_notes_length c l args charged) there in
+      let q = parts_stand ns (expressions_notes c l args charged) (behind_args c l args charged ∷ []) at size (expressions_notes_length c l args charged) there in
       let end : suc (at + size) ≡ at + (size + 1) = omega arith in
       let both = forks_one l scope m x args h.1.0 at h.1.1 (and_parts (name_formed x) (expressions_small args) s).1 p.0 q.0 p.1.0 (note_here ns (at + size) (behind_args c l args charged) q.1.0) (fits_eq (push k.Rev entry) (noted ns (suc (at + size))) (ap (noted ns) end ∙ note)) in
       one_kept code at_block bl (noted ns) most_words (expressions_code n scope args at) (i.Fork (n.proc x.text)) at size (expressions_length n scope args at) both.0 both.1
   right_kept l scope m (tried p0 handle) t at h s here there note =
       let size : ℕ = expression_size handle in
       let p = parts_stand bl.instrs (expression_code n scope handle at) (i.TryJoin ∷ []) at size (expression_length n scope handle at) here in
-      let q = parts_have ns (expression_notes c l handle charged) (push k.Rev charged ∷ []) at size (expression_notes_length c l handle charged) there in
+      let q = parts_stand ns (expression_notes c l handle charged) (push k.Rev charged ∷ []) at size (expression_notes_length c l handle charged) there in
       let end : suc (at + size) ≡ at + (size + 1) = omega arith in
       let e = note_here ns (at + size) (push k.Rev charged) q.1.0 in
       one_kept code at_block bl (noted ns) most_words (expression_code n scope handle at) i.TryJoin at size (expression_length n scope handle at)
@@ -280,7 +280,7 @@ module _ (code : Code) (at_block : ℕ) (bl : CodeBlock) (n : Numbers) (c : Name
   items_first l [] note at h fits = subst (λ z. Fits note (noted ns z)) (let z : at + 0 ≡ at = omega arith in z) fits
   items_first l (text p bytes ∷ items) note at h fits = items_first l items note at h fits
   items_first l (shown e ∷ items) note at h fits =
-      let q = parts_have ns (expression_notes c l e note) (items_notes c l items (push (word_kind c l e) note)) at (expression_size e) (expression_notes_length c l e note) h in
+      let q = parts_stand ns (expression_notes c l e note) (items_notes c l items (push (word_kind c l e) note)) at (expression_size e) (expression_notes_length c l e note) h in
       fits_eq note (noted ns at) (first_note c l ns e note at q.0)
 
   pub items_kept : (l : Locals) (scope : Scope) → NamesMean code bl n c l scope → (items : List PrintItem) (at : ℕ) (note : Note) → ItemsTyped c l items → list_all item_small items ≡ true → length note.shape + length items ≤ 64 → HasAt bl.instrs at (items_code n scope items at) → HasItems ns at (items_notes c l items note) → Fits (behind_items c l items note) (noted ns (at + items_size items)) → Keeps at (items_code n scope items at)
@@ -291,7 +291,7 @@ module _ (code : Code) (at_block : ℕ) (bl : CodeBlock) (n : Numbers) (c : Name
       let next : Note = push (word_kind c l e) note in
       let g = and_parts (expression_small e) (list_all item_small items) s in
       let h = parts_stand bl.instrs (expression_code n scope e at) (items_code n scope items (at + size)) at size (expression_length n scope e at) here in
-      let q = parts_have ns (expression_notes c l e note) (items_notes c l items next) at size (expression_notes_length c l e note) there in
+      let q = parts_stand ns (expression_notes c l e note) (items_notes c l items next) at size (expression_notes_length c l e note) there in
       let fits2 = subst (λ z. Fits (behind_items c l items next) (noted ns z)) (let z : at + (size + items_size items) ≡ at + size + items_size items = omega arith in z) fits in
       let is = kind_is c l Can e ty.0.0 (term_typed l e ty.0.0 ty.0.1 g.0).0 in
       parts_kept code at_block bl (noted ns) most_words (expression_code n scope e at) (items_code n scope items (at + size)) at size (expression_length n scope e at)

@@ -2,24 +2,18 @@
 use Rattle.std.proofs.Common.{◌≡◌, ◌∙◌, ℕ, Bool, true, false, Option, Some, None, refl, sym, ap}
 use Rattle.std.specs.Prelude.{slice_get, if◌then◌else◌}
 use Rattle.rev_num.specs.declared.value.ValueKind.{ValueKind}
-use Rattle.rev_syntax.specs.Trees.{RightSide, plain, called, forked, tried, Statement, statement, StatementForm, bind, assign, assign_cell, choose, choose_or, repeat, call, return, fork, join, print, assert}
+use Rattle.rev_syntax.specs.Trees.{Statement, statement, StatementForm, bind, assign, assign_cell, choose, choose_or, repeat, call, return, fork, join, print, assert}
 use Rattle.merge_decl.specs.Names.{Name, same}
 use Rattle.merge_decl.specs.Table.{find, added}
 use Rattle.merge_decl.proofs.Tables.{same_equal, find-added, or_else, or_else-none}
-use Rattle.rev_kinds.specs.Kinds.{Names, Locals, result_of, right_side_kind}
-use Rattle.rev_kinds.proofs.Typings.{complete}
-use Rattle.rev_types.specs.Judgement.{RightSideHas, StatementTyped, StatementFormTyped}
+use Rattle.rev_kinds.specs.Kinds.{Names, Locals}
+use Rattle.rev_types.specs.Judgement.{StatementTyped, StatementFormTyped}
 use Rattle.rev_types.specs.Scopes.{locals_after, statement_form_locals}
 use Rattle.rev_code.specs.declared.code.Code.{Code}
 use Rattle.rev_code.specs.declared.code.CodeBlock.{CodeBlock}
 use Rattle.code_generation.specs.Numbers.{Numbers, Scope}
 use Rattle.generated_certificate.specs.Means.{NamesMean}
-
-pub right_kind : (c : Names) (l : Locals) (r : RightSide) (t : ValueKind) → RightSideHas c l r t → right_side_kind c l r ≡ Some t
-right_kind c l (plain e) t h = (complete c l e t h).1
-right_kind c l (called p w args) t h = ap result_of h.1.0 ∙ h.2
-right_kind c l (forked p w args) t h = ap Some (sym h.0)
-right_kind c l (tried p handle) t h = ap Some (sym h.0)
+pub use Rattle.rev_types.proofs.StatementsSound.{right_side_is as right_kind}
 
 form_locals : (c : Names) (result : Option ValueKind) (l l' : Locals) (form : StatementForm) → StatementFormTyped c result l form l' → l' ≡ statement_form_locals c l form
 form_locals c result l l' (bind w r) h = h.1.2 ∙ ap (λ z. added l w.text z) (sym (right_kind c l r h.1.0 h.1.1))

@@ -15,7 +15,7 @@ use Rattle.code_generation.specs.Numbers.{Numbers}
 use Rattle.code_generation.specs.Generated.{kinds_of}
 use Rattle.code_generation.specs.Statements.{Spot}
 use Rattle.code_generation.specs.Prints.{statements_kinds, statements_layouts}
-use Rattle.generated_certificate.specs.Items.{HasItems}
+use Rattle.code_generation.specs.Stands.{HasItems}
 use Rattle.generated_certificate.specs.Means.{FunMeans}
 
 pub record ProcMeans (code : Code) (n : Numbers) (name : Name) (f : Callee) : Type 0 where

@@ -13,8 +13,8 @@ use Rattle.code_certificate.specs.Certificate.{Fits}
 use Rattle.code_generation.specs.Numbers.{Numbers, Scope}
 use Rattle.code_generation.specs.Sizes.{statements_size}
 use Rattle.code_generation.specs.Statements.{Spot, statements_code}
-use Rattle.code_generation.specs.Stands.{HasAt}
-use Rattle.generated_certificate.specs.Items.{HasItems, noted}
+use Rattle.code_generation.specs.Stands.{HasAt, HasItems}
+use Rattle.generated_certificate.specs.Items.{noted}
 use Rattle.generated_certificate.specs.Means.{NamesMean}
 use Rattle.generated_certificate.specs.Kept.{IsWithin, AllKept}
 use Rattle.generated_statements.specs.Statements.{statements_notes}

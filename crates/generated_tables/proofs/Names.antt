@@ -1,5 +1,6 @@
 -- A name of the language is a name in code, and a text a text.
 use Rattle.std.proofs.Common.{◌≡◌, ◌∙◌, ℕ, zero, suc, Bool, true, false, not, ◌&&◌, ◌||◌, List, [], ◌∷◌, ◌++◌, Some, None, refl, sym, ap, arith, true≢false}
+use Rattle.std.proofs.lemmas.Bool.{not-true}
 use Rattle.std.specs.Prelude.{slice_get, nat_eq}
 use Rattle.std.specs.List.{list_all, list_any}
 use Rattle.std.specs.Cmp.Lexicographic.{pointwise}
@@ -85,11 +86,7 @@ module _ (name : List ℕ) (h : word.is_reserved name ≡ false) where
   free : table.is_reserved name ≡ false
   free = λ j. first j || second j || third j
 
-not_true : (d : Bool) → not d ≡ true → d ≡ false
-not_true true h = sym h
-not_true false h = refl
-
 pub name_well : (name : List ℕ) → word.is_name name ≡ true → table.is_name name ≡ true
 name_well name h =
     let p = and_parts (byte.is_word name) (not (word.is_reserved name)) h in
-    both (table.is_word name) (not (table.is_reserved name)) (word_well name p.0) (ap not (free name (not_true (word.is_reserved name) p.1)))
+    both (table.is_word name) (not (table.is_reserved name)) (word_well name p.0) (ap not (free name (not-true (word.is_reserved name) p.1)))

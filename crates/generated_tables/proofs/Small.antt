@@ -1,5 +1,5 @@
 -- The tables of the code of a small, well-typed program are well and within all limits.
-use Rattle.std.proofs.Common.{◌≡◌, ◌<◌, ◌≤◌, ℕ, suc, ◌+◌, Bool, true, false, ◌&&◌, IsTrue, List, [], ◌∷◌, ◌++◌, length, length-append, map, Option, Some, None, refl, ap, arith}
+use Rattle.std.proofs.Common.{◌≡◌, ◌<◌, ◌≤◌, ℕ, suc, ◌+◌, Bool, true, false, ◌&&◌, IsTrue, List, [], ◌∷◌, ◌++◌, length, length-append, map, Option, Some, None, refl, arith}
 use Rattle.std.specs.Prelude.{nat_le, if◌then◌else◌}
 use Rattle.std.specs.List.{list_all}
 use Rattle.std.proofs.lemmas.Bool.Decides.{nat_tests}
@@ -11,7 +11,7 @@ use Rattle.merge_decl.specs.Weights.{weights_with}
 use Rattle.rev_kinds.specs.Kinds.{Names}
 use Rattle.rev_kinds.proofs.Lists.{and_parts}
 use Rattle.rev_types.specs.Accepted.{IsWellTyped}
-use Rattle.rev_types.specs.Limits.{procs, funs, statements_lets, BodyWithin, DeclarationsWithin}
+use Rattle.rev_types.specs.Limits.{procs, statements_lets, BodyWithin, DeclarationsWithin}
 use Rattle.rev_types.specs.Layout.{variables_behind, variables}
 use Rattle.rev_types.specs.Scopes as scopes
 use Rattle.rev_types.specs.Scopes.{outside, within}
@@ -20,6 +20,7 @@ use Rattle.rev_code.specs.Step.{is_procedure}
 use Rattle.code_rules.specs.Pass.{is_value_class}
 use Rattle.rev_code.specs.declared.code.Instr.TheVariants as i
 use Rattle.code_rules.specs.Tables.{is_text_byte, is_item, is_small_text, is_small_layout, is_small_block, has_small_name, is_var, blocks_well, lines_well, names_well, is_small, locations, count_class}
+use Rattle.code_generation.proofs.Naming.{values_count}
 use Rattle.code_generation.specs.Numbers.{Numbers, numbers, Scope, with_params}
 use Rattle.code_generation.specs.Expressions.{expression_code}
 use Rattle.code_generation.specs.Sizes.{statements_prints}
@@ -111,13 +112,6 @@ bodies_small n c ws (proc w ps r body ∷ es) main layout lim last few =
 bodies_small n c ws (fun w ps r body ∷ es) main layout lim last few = bodies_small n c (weights_with ws (fun w ps r body)) es main layout lim.1 last (omega (arith, few))
 bodies_small n c ws (merge w m j r body ∷ es) main layout lim last few = bodies_small n c ws es main layout lim.1 last (omega (arith, few))
 bodies_small n c ws (shared x ∷ es) main layout lim last few = bodies_small n c ws es main layout lim.1 last (omega (arith, few))
-
-values_count : (n : Numbers) (es : List Declaration) → length (value_blocks n es) ≡ funs es
-values_count n [] = refl
-values_count n (fun w ps r body ∷ es) = let r = values_count n es in omega (arith, r)
-values_count n (merge w m j r body ∷ es) = let r = values_count n es in omega (arith, r)
-values_count n (shared x ∷ es) = values_count n es
-values_count n (proc w ps r body ∷ es) = values_count n es
 
 bodies_count : (n : Numbers) (c : Names) (es : List Declaration) (main : Statements) (layout : ℕ) → length (body_blocks n c es main layout) ≡ suc (procs es)
 bodies_count n c [] main layout = refl

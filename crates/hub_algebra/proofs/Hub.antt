@@ -11,7 +11,8 @@ use Rattle.hub_algebra.specs.declared.status.Status.{Status}
 use Rattle.hub_algebra.specs.declared.status.Status.TheVariants.{Ready, Out, Waiting, Over, Gone}
 use Rattle.hub_algebra.proofs.Forkers.{one_forker, one_more, as_many}
 use Rattle.hub_algebra.specs.Hub.{Values, EndsAre, end_of, Statuses, Fits, AllFit, Tied, Forks, Joins, EndsLeg, WasTrapped, Meets, all_ended}
-use Rattle.hub_algebra.proofs.Replay.{put_other, put_here, put_length, at_more, at_end, replay_more, still}
+use Rattle.hub_algebra.proofs.Replay.{replay_more, still}
+use Rattle.revision_machine.proofs.Lists.{put_other, put_here, put_length, at_front, at_length}
 
 module _ (N : Numbered) (V : Values N) where
   abbrev S : Type 0
@@ -116,9 +117,9 @@ module _ (N : Numbered) (V : Values N) where
           forked = one_more N w (put_number w k (h.0, Plain (p.forker (length w)))) (child h.0 (N.forks p.state), Plain (V.runs c)) k fs next t.forked (put_length w k (h.0, Plain (p.forker (length w))));
         } in (
           after,
-          state_now (schedule ++ k ∷ []) (hub ++ Ready c ∷ []) (fs ++ k ∷ []) after k (h.0, Plain (p.forker (length w))) (at_more _ _ k _ (put_here w k (h.0, Plain p.state) _ h.1)) ∙ ap (λ n. Some (p.forker n)) (sym long),
+          state_now (schedule ++ k ∷ []) (hub ++ Ready c ∷ []) (fs ++ k ∷ []) after k (h.0, Plain (p.forker (length w))) (at_front _ _ k _ (put_here w k (h.0, Plain p.state) _ h.1)) ∙ ap (λ n. Some (p.forker n)) (sym long),
           state_now (schedule ++ k ∷ []) (hub ++ Ready c ∷ []) (fs ++ k ∷ []) after (length hub) (child h.0 (N.forks p.state), Plain (V.runs c))
-              (ap (at_number after.world) (long ∙ sym (put_length w k (h.0, Plain (p.forker (length w))))) ∙ at_end (put_number w k (h.0, Plain (p.forker (length w)))) (child h.0 (N.forks p.state), Plain (V.runs c))),
+              (ap (at_number after.world) (long ∙ sym (put_length w k (h.0, Plain (p.forker (length w))))) ∙ at_length (put_number w k (h.0, Plain (p.forker (length w)))) (child h.0 (N.forks p.state), Plain (V.runs c)) []),
         )
 
     -- a join that waits is no entry
@@ -150,7 +151,7 @@ module _ (N : Numbered) (V : Values N) where
           forked = as_many N w (put_number v m (q, Joined lq)) k fs next t.forked (put_length v m (q, Joined lq) ∙ put_length w k (h.0, Plain l'));
         } in (
           after,
-          state_now (schedule ++ k ∷ []) (put_number hub m Gone) fs after k (h.0, Plain l') (put_other v m k (q, Joined lq) apart ∙ put_here w k (h.0, Plain p.state) (h.0, Plain l') h.1) ∙ ap Some (sym (p.comes.1 e lq f.2.2.1)),
+          state_now (schedule ++ k ∷ []) (put_number hub m Gone) fs after k (h.0, Plain l') (put_other v m k (q, Joined lq) (λ is. apart (sym is)) ∙ put_here w k (h.0, Plain p.state) (h.0, Plain l') h.1) ∙ ap Some (sym (p.comes.1 e lq f.2.2.1)),
         )
 
     pub meets : (schedule : List ℕ) (hub : Statuses N V) (fs : List ℕ) → T schedule hub fs → (k : ℕ) (a : V.AtJoin) (e : V.End) → at_number hub k ≡ Some Out → Joins N V main schedule k a → at_number hub (V.on a) ≡ Some (Over e)

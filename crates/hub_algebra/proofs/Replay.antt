@@ -7,35 +7,8 @@ use Rattle.revision_machine.specs.Machine.{Entry, Plain, Joined}
 use Rattle.revision_machine.specs.Laws.{local_of}
 use Rattle.revision_machine.specs.Numbered.{Wish, Goes, Bears, Wants, Stops, Numbered, Entries, World, Both, Listing, at_number, put_number, join_stopped, join_number, leg_of, leg_at, leg, begin, Replays}
 use Rattle.revision_machine.proofs.Paths.{some_inj}
-use Rattle.revision_machine.proofs.Numbers.{none_some}
+use Rattle.revision_machine.proofs.Lists.{none_some, put_other}
 use Rattle.hub_algebra.specs.Replay.{IsNotIn, state_here, state_in, state_of, goes_on, replay, state_after}
-
-module _ {A : Type 0} where
-  pub put_other : (w : List A) (n m : ℕ) (y : A) → n ≢ m → at_number (put_number w n y) m ≡ at_number w m
-  put_other [] n m y apart = refl
-  put_other (x ∷ w) zero zero y apart = absurd (apart refl)
-  put_other (x ∷ w) zero (suc m) y apart = refl
-  put_other (x ∷ w) (suc n) zero y apart = refl
-  put_other (x ∷ w) (suc n) (suc m) y apart = put_other w n m y (λ e. apart (ap suc e))
-
-  pub put_here : (w : List A) (n : ℕ) (x y : A) → at_number w n ≡ Some x → at_number (put_number w n y) n ≡ Some y
-  put_here [] n x y e = none_some e
-  put_here (z ∷ w) zero x y e = refl
-  put_here (z ∷ w) (suc n) x y e = put_here w n x y e
-
-  pub put_length : (w : List A) (n : ℕ) (y : A) → length (put_number w n y) ≡ length w
-  put_length [] n y = refl
-  put_length (x ∷ w) zero y = refl
-  put_length (x ∷ w) (suc n) y = ap suc (put_length w n y)
-
-  pub at_more : (w v : List A) (k : ℕ) (x : A) → at_number w k ≡ Some x → at_number (w ++ v) k ≡ Some x
-  at_more [] v k x e = none_some e
-  at_more (z ∷ w) v zero x e = e
-  at_more (z ∷ w) v (suc k) x e = at_more w v k x e
-
-  pub at_end : (w : List A) (y : A) → at_number (w ++ y ∷ []) (length w) ≡ Some y
-  at_end [] y = refl
-  at_end (x ∷ w) y = at_end w y
 
 module _ {L : Type 0} where
   pub state_more : (w v : Entries L) (k : ℕ) (l : L) → state_here (at_number w k) ≡ Some l → state_here (at_number (w ++ v) k) ≡ Some l
@@ -56,7 +29,7 @@ module _ (N : Numbered) where
   Keeps w k Both = Unit {0}
   Keeps w k (Listing v) = (l : N.Local) → state_here (at_number w k) ≡ Some l → state_here (at_number v k) ≡ Some l
 
-  leg_keeps : (w : Entries N.Local) (n k : ℕ) (u : World N.Local) → n ≢ k → leg N (Listing w) n ≡ Some u → Keeps w k u
+  leg_keeps : (w : Entries N.Local) (n k : ℕ) (u : World N.Local) → k ≢ n → leg N (Listing w) n ≡ Some u → Keeps w k u
   leg_keeps w n k u apart s = of_entry (at_number w n) refl s
     where
       of_stop : (r : Path) (l : N.Local) (m : ℕ) (q : Path) (lq : N.Local) → at_number w m ≡ Some (q, Plain lq) → (v : Wish N.Local) → join_stopped N w n r l m q lq v ≡ Some u → Keeps w k u
@@ -69,8 +42,8 @@ module _ (N : Numbered) where
           marked =
               let put : Entries N.Local = put_number w n (r, Plain (N.join l m lq)) in
               let front : state_here (at_number put k) ≡ state_here (at_number w k) = ap state_here (put_other w n k (r, Plain (N.join l m lq)) apart) in
-              dite (ℕ_discrete n m)
-              (λ is. ap state_here (put_other put m k (q, Joined lq) (λ mk. apart (is ∙ mk))) ∙ front)
+              dite (ℕ_discrete m n)
+              (λ is. ap state_here (put_other put m k (q, Joined lq) (λ mk. apart (mk ∙ is))) ∙ front)
               (λ ne. put_same put m k q (Plain lq) (Joined lq) (put_other w n m (r, Plain (N.join l m lq)) ne ∙ there) refl ∙ front)
 
       of_target : (r : Path) (l : N.Local) (m : ℕ) (o : Option (Path × Entry N.Local)) → at_number w m ≡ o → join_number N w n r l m o ≡ Some u → Keeps w k u
@@ -101,7 +74,7 @@ module _ (N : Numbered) where
       of_leg : ((v' : Entries N.Local) → state_in (Listing v') k ≡ Some l → goes_on N (Some (Listing v')) ns ≡ Some (Listing w) → state_in (Listing w) k ≡ Some l) → (o : Option (World N.Local)) → leg N (Listing v) n ≡ o → goes_on N o ns ≡ Some (Listing w) → state_in (Listing w) k ≡ Some l
       of_leg later None e s = none_some s
       of_leg later (Some Both) e s = absurd (both_ends ns w s)
-      of_leg later (Some (Listing v')) e s = later v' (leg_keeps v n k (Listing v') out.0 e l here) s
+      of_leg later (Some (Listing v')) e s = later v' (leg_keeps v n k (Listing v') (λ i. out.0 (sym i)) e l here) s
 
   pub goes_append : (o : Option (World N.Local)) (ms ns : List ℕ) → goes_on N o (ms ++ ns) ≡ goes_on N (goes_on N o ms) ns
   goes_append None ms ns = refl

@@ -1,12 +1,10 @@
 -- What becomes of a revision's stage.
-use Rattle.std.proofs.Common.{◌≡◌, refl, ℕ, true, false, Bool, cond, ap, ◌∙◌, rules}
-use Rattle.revision_machine.specs.Numbered.{Wants, Goes, Stops}
+use Rattle.std.proofs.Common.{◌≡◌, refl, ℕ, true, false, rules}
+use Rattle.revision_machine.specs.Numbered.{Stops}
 use Rattle.hub_cases.specs.declared.node.Node.{Node}
-use Rattle.hub_cases.specs.declared.node.Way.{Way}
-use Rattle.hub_cases.specs.declared.node.Way.TheVariants.{Adds, Again, Traps, Tries}
 use Rattle.hub_cases.specs.declared.node.Stage.{Stage}
 use Rattle.hub_cases.specs.declared.node.Stage.TheVariants.{Begins, Forked, JoinsFirst, JoinsSecond, Ends, Over}
-use Rattle.hub_cases.specs.Tree.{next, next_at, goes_on, is_early, told_at, after_fork, stage_after, outlives, outlived, joined, ended, ended_at}
+use Rattle.hub_cases.specs.Tree.{next, next_at, goes_on, is_early, told_at, stage_after, outlives, outlived, joined, ended_at}
 
 pub early_goes : (s : Stage) (l : Node) (n : ℕ) → is_early s ≡ true → goes_on (told_at s l n).stage ≡ true
 early_goes Begins l n e = refl

@@ -1,5 +1,5 @@
 -- The tree as a machine, whose joiners and ends are the revisions themselves.
-use Rattle.std.specs.Prelude.{List, []}
+use Rattle.std.specs.Prelude.{[]}
 use Rattle.hub_algebra.specs.HubMachine.{HubMachine}
 use Rattle.hub_cases.specs.declared.going.Going.{Going}
 use Rattle.hub_cases.specs.declared.node.Node.{Node}

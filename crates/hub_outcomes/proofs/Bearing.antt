@@ -2,12 +2,13 @@
 use Rattle.std.proofs.Common.{◌≡◌, ◌≢◌, ◌⊎◌, inl, inr, ◌∙◌, ℕ, zero, suc, ◌+◌, ◌<◌, ◌≤◌, Bool, true, false, cond, ◌==◌, List, [], ◌∷◌, ◌++◌, length, take, get_or, ◌^◌, Some, refl, sym, ap, subst, arith}
 use Rattle.std.proofs.lemmas.List.{length-take-le, take-append-le, take_all, take_at, take_more}
 use Rattle.revision_machine.specs.Numbered.{at_number, put_number}
-use Rattle.code_machine.proofs.Changes.{decide, put_other, put_here, put_length}
+use Rattle.code_machine.proofs.Changes.{decide}
+use Rattle.revision_machine.proofs.Lists.{put_other, put_here, put_length, at_front, at_more, at_length, at_below, at_there}
 use Rattle.hub_table.specs.Counts.{is_at, times}
 use Rattle.hub_table.proofs.Lists.{total_snoc, is_at_same, is_at_other}
 use Rattle.code_world.specs.declared.table.Birth.{Birth}
 use Rattle.code_world.specs.Turns.{born, forked_once}
-use Rattle.code_world.proofs.Rows.{none_some, some_same, at_front, at_more, at_end, at_below, more_length}
+use Rattle.code_world.proofs.Rows.{none_some, some_same, more_length}
 use Rattle.hub_outcomes.specs.Births.{forks_by, IsBirth, AreBirths, AreEarlier}
 
 -- ---- counts
@@ -79,7 +80,7 @@ module _ (fs : List ℕ) (bs : List Birth) (are : AreBirths fs bs) (earlier : Ar
   child : IsBirth (fs ++ n ∷ []) (length fs) (record { forker = n; place = b.forks; forks = 0 })
   child =
       let less = below in record {
-        forked = at_end fs n;
+        forked = at_length fs n [];
         place = (are.each n b at).forks ∙ ap (forks_by n) (sym (take_at fs (n ∷ []) (length fs) refl));
         forks =
             let none = forks_none fs (length fs) earlier (omega arith) in
@@ -143,11 +144,6 @@ first_birth (f ∷ fs) bs first is =
     let zero_is : f ≡ 0 = some_same first in
     subst (AreBirths (f ∷ [])) (sym is) (subst (λ x. AreBirths (x ∷ []) (record { forker = 0; place = 0; forks = 0 } ∷ [])) (sym zero_is) births_one)
 
-number_there : (xs : List ℕ) (n : ℕ) → n < length xs → at_number xs n ≡ Some (get_or xs n 0)
-number_there [] n less = absurd (omega (arith, less))
-number_there (x ∷ xs) zero less = refl
-number_there (x ∷ xs) (suc n) less = number_there xs n (omega (arith, less))
-
 -- the forker that comes next, and the births with its child
 module _ (fs : List ℕ) (earlier : AreEarlier fs) (k : ℕ) (less : k < length fs) (some_before : 1 ≤ k) (bs : List Birth) (are : AreBirths (take k fs) bs) where
   many : length (take k fs) ≡ k
@@ -155,7 +151,7 @@ module _ (fs : List ℕ) (earlier : AreEarlier fs) (k : ℕ) (less : k < length 
 
   before : (j : ℕ) → j ≡ k → 1 ≤ j → get_or fs k 0 < j
   before zero e some = absurd (omega (arith, some))
-  before (suc j) e some = let a = earlier j (get_or fs k 0) (ap (at_number fs) e ∙ number_there fs k less) in omega (arith, a)
+  before (suc j) e some = let a = earlier j (get_or fs k 0) (ap (at_number fs) e ∙ at_there fs k 0 less) in omega (arith, a)
 
   pub forker_inside : get_or fs k 0 < length bs
   forker_inside = let a = before k refl some_before in let b = many in let c = are.all in omega (arith, a, b, c)

@@ -1,19 +1,21 @@
 -- By the forkers of a world of code, births name the world's paths: along a schedule they do, and a world has one list
 -- of forkers.
-use Rattle.std.proofs.Common.{◌≡◌, ◌≢◌, ◌∙◌, ℕ, zero, suc, ◌+◌, ◌<◌, List, [], ◌∷◌, ◌++◌, append-nil, length, Option, Some, refl, sym, ap, subst, arith}
+use Rattle.std.proofs.Common.{◌≡◌, ◌∙◌, ℕ, zero, suc, ◌+◌, ◌<◌, List, [], ◌∷◌, ◌++◌, append-nil, length, Some, refl, sym, ap, subst, arith}
 use Rattle.rev_num.specs.Path.{Path, child}
-use Rattle.revision_machine.specs.Machine.{Entry, Plain, Joined}
-use Rattle.revision_machine.specs.Laws.{IsDistinct, IsIn}
+use Rattle.revision_machine.specs.Machine.{Plain, Joined}
+use Rattle.revision_machine.specs.Laws.{IsDistinct}
 use Rattle.revision_machine.specs.Numbered as numbers
 use Rattle.revision_machine.specs.Numbered.{Entries, World, Both, Listing, at_number, put_number, paths_of, event_by, begin, Replays}
-use Rattle.revision_machine.proofs.Numbers.{in_at, at_paths, length-paths}
+use Rattle.revision_machine.proofs.Numbers.{number_at, at_paths, length-paths, paths_put, paths_more}
 use Rattle.revision_machine.proofs.Paths.{child-same}
 use Rattle.revision_machine.proofs.Schedules.{schedule_law}
 use Rattle.hub_algebra.specs.Forkers.{ForkersAre}
 use Rattle.code_machine.specs.Local.{CodeRun, IsVerified, Local}
 use Rattle.code_machine.specs.Joining.{join}
 use Rattle.code_machine.specs.Machines.{act, numbered, start_in}
-use Rattle.code_machine.proofs.Changes.{LegOf, went, bore, took, twice, leg_ways, put_other}
+use Rattle.code_machine.proofs.Changes.{LegOf, went, bore, took, twice, leg_ways, joinee_stays}
+use Rattle.revision_machine.proofs.Replays.{replays_keep}
+use Rattle.revision_machine.proofs.Lists.{at_front, at_below, below_at}
 use Rattle.code_machine.proofs.Meeting.{named_counts}
 use Rattle.code_machine.proofs.Paying.{BearOk, ActOk, act_ok, join_keeps_forks}
 use Rattle.code_machine.proofs.Typing.{bears_act}
@@ -21,7 +23,7 @@ use Rattle.code_world.specs.declared.table.Birth.{Birth}
 use Rattle.code_world.specs.Endings.{Names}
 use Rattle.code_world.specs.Tables.{AreForks, HasPath, AreNamed}
 use Rattle.code_world.specs.Turns.{born, forked_once}
-use Rattle.code_world.proofs.Rows.{none_some, some_same, at_front, at_below, below_at, paths_put, paths_more, forks_at, births_many, forks_kept, forks_put, forks_more, named_born}
+use Rattle.code_world.proofs.Rows.{none_some, some_same, forks_at, births_many, forks_kept, forks_put, forks_more, named_born}
 use Rattle.hub_outcomes.specs.Births.{AreBirths, AreEarlier}
 use Rattle.hub_outcomes.specs.Laws.{BirthsNameTheirs}
 use Rattle.hub_outcomes.proofs.Bearing.{births_more, earlier_more, births_one, earlier_one, one_birth}
@@ -118,43 +120,22 @@ marked w s m q l there = record {
 }
 
 module _ (g : CodeRun) (ok : IsVerified g) where
-  plain_one : (r q : Path) (l k : Local ℕ) → ◌≡◌ {A = Option (Path × Entry (Local ℕ))} (Some (r, Plain l)) (Some (q, Plain k)) → l ≡ k
-  plain_one r q l k e =
-      let one : ◌≡◌ {A = Path × Entry (Local ℕ)} (r, Plain l) (q, Plain k) = some_same e in
-      let plain : ◌≡◌ {A = Entry (Local ℕ)} (Plain l) (Plain k) = ap (λ x. x.1) one in cc
-
-  -- one that has ended does not come to a join
-  other : (w : Entries (Local ℕ)) (n m : ℕ) (r q : Path) (l k : Local ℕ) (on : ℕ) → at_number w n ≡ Some (r, Plain l) → at_number w m ≡ Some (q, Plain k)
-      → (numbered g).next l ≡ numbers.Wants on → (numbered g).next k ≡ numbers.Stops → m ≢ n
-  other w n m r q l k on there target is stops e =
-      let same : l ≡ k = plain_one r q l k (sym there ∙ (ap (at_number w) (sym e) ∙ target)) in
-      let clash : ◌≡◌ {A = numbers.Wish (Local ℕ)} (numbers.Wants on) numbers.Stops = sym is ∙ (ap (numbered g).next same ∙ stops) in cc
-
   one_leg : (w : Entries (Local ℕ)) → Named w → (n : ℕ) (u : World (Local ℕ)) → LegOf (numbered g) w n u → AfterLeg u
   one_leg w s n u (went r l l' at is z) = subst AfterLeg (sym z) (goes_on g ok w s n r l at l' ((named_counts g ok []).moves r l l' (ap (event_by [] r l.state.forks) is)))
   one_leg w s n u (bore r l f k at is z) = subst AfterLeg (sym z) (bears g ok w s n r l at f k is)
   one_leg w s n u (took r l m q lq at is target stops z) =
       subst AfterLeg (sym z)
       (marked (put_number w n (r, Plain (join g l lq))) (goes_on g ok w s n r l at (join g l lq) (join_keeps_forks g l lq)) m q lq
-      (put_other w n m (r, Plain (join g l lq)) (other w n m r q l lq m at target is stops) ∙ target))
+      (joinee_stays (numbered g) w n m r q l lq (Plain (join g l lq)) at is target stops))
   one_leg w s n u (twice r l m at is z) = subst AfterLeg (sym z) tt
 
   along : (ns : List ℕ) (v w : World (Local ℕ)) → AfterLeg v → Replays (numbered g) v ns w → AfterLeg w
-  along [] v w s e = subst AfterLeg e s
-  along (n ∷ ns) v w s (u, e, rest) = by v s e (λ x. along ns u w x rest)
-    where
-      by : (v : World (Local ℕ)) → AfterLeg v → numbers.leg (numbered g) v n ≡ Some u → (AfterLeg u → AfterLeg w) → AfterLeg w
-      by Both s e later = none_some e
-      by (Listing x) s e later = later (one_leg x s n u (leg_ways (numbered g) x n u e))
+  along = replays_keep (numbered g) AfterLeg (λ x n u s e. one_leg x s n u (leg_ways (numbered g) x n u e))
 
 -- ---- one list of forkers
 
 one_place : (ps : List Path) → IsDistinct ps → (i j : ℕ) (p : Path) → at_number ps i ≡ Some p → at_number ps j ≡ Some p → i ≡ j
-one_place [] d i j p a b = none_some a
-one_place (q ∷ ps) d zero zero p a b = refl
-one_place (q ∷ ps) d zero (suc j) p a b = absurd (d.0 (subst (λ x. IsIn x ps) (sym (some_same a)) (in_at ps j p b)))
-one_place (q ∷ ps) d (suc i) zero p a b = absurd (d.0 (subst (λ x. IsIn x ps) (sym (some_same b)) (in_at ps i p a)))
-one_place (q ∷ ps) d (suc i) (suc j) p a b = ap suc (one_place ps d.1 i j p a b)
+one_place ps d i j p a b = sym (number_at ps i p d a) ∙ number_at ps j p d b
 
 module _ {A : Type 0} where
   same_list : (xs ys : List A) → length xs ≡ length ys → ((n : ℕ) (x y : A) → at_number xs n ≡ Some x → at_number ys n ≡ Some y → x ≡ y) → xs ≡ ys

@@ -9,7 +9,7 @@ use Rattle.revision_machine.proofs.Numbers.{none_some}
 use Rattle.hub_algebra.specs.declared.status.Status.{Status}
 use Rattle.hub_algebra.specs.declared.status.Status.TheVariants.{Ready, Out, Waiting, Over, Gone}
 use Rattle.hub_algebra.specs.HubMachine.{HubMachine}
-use Rattle.hub_algebra.proofs.Replay.{put_other, put_here, put_length, at_end}
+use Rattle.revision_machine.proofs.Lists.{put_other, put_here, put_length, at_length}
 use Rattle.hub_table.specs.declared.run_queue.Chain.{Chain}
 use Rattle.hub_table.specs.declared.run_queue.RunQueue.{RunQueue}
 use Rattle.hub_table.specs.Counts.{total, is_at, times, flag}
@@ -105,7 +105,7 @@ module _ {L R A E : Type 0} (d : HubMachine L R A E) where
   ends_put : (slots : Slots) (n : ℕ) (x s : Status R A E) → at_number slots n ≡ Some x → ended_here (Some s) ≡ ended_here (Some x) → SameEnds slots (put_number slots n s)
   ends_put slots n x s e same m = dite (ℕ_discrete n m)
       (λ is. ap (λ i. ended_here (at_number (put_number slots n s) i)) (sym is) ∙ (ap ended_here (put_here slots n x s e) ∙ (same ∙ (sym (ap ended_here e) ∙ ap (λ i. ended_here (at_number slots i)) is))))
-      (λ apart. ap ended_here (put_other slots n m s apart))
+      (λ apart. ap ended_here (put_other slots n m s (λ i. apart (sym i))))
 
   ends_more : (slots : Slots) (c : R) → SameEnds slots (slots ++ Ready c ∷ [])
   ends_more [] c zero = refl
@@ -247,10 +247,10 @@ module _ {L R A E : Type 0} (d : HubMachine L R A E) where
       lists = listed;
       ready_are = λ j. dite (ℕ_discrete j n)
           (λ is. ap (λ i. times i ready') is ∙ (here ∙ sym (ap (λ i. flag (is_ready d (put_number slots n s) (at_number (put_number slots n s) i))) is ∙ ap (λ o. flag (is_ready d (put_number slots n s) o)) (put_here slots n x s e))))
-          (λ apart. others j apart ∙ ap (λ o. flag (is_ready d (put_number slots n s) o)) (sym (put_other slots n j s (λ i. apart (sym i)))));
+          (λ apart. others j apart ∙ ap (λ o. flag (is_ready d (put_number slots n s) o)) (sym (put_other slots n j s apart)));
       waits_are = λ m j. dite (ℕ_discrete j n)
           (λ is. ap (λ i. times i (waits' m)) is ∙ (here_waits m ∙ sym (ap (λ i. flag (waits_for d (put_number slots n s) m (at_number (put_number slots n s) i))) is ∙ ap (λ o. flag (waits_for d (put_number slots n s) m o)) (put_here slots n x s e))))
-          (λ apart. others_waits m j apart ∙ ap (λ o. flag (waits_for d (put_number slots n s) m o)) (sym (put_other slots n j s (λ i. apart (sym i)))));
+          (λ apart. others_waits m j apart ∙ ap (λ o. flag (waits_for d (put_number slots n s) m o)) (sym (put_other slots n j s apart)));
       links = long.0 ∙ (h.links ∙ sym (put_length slots n s));
       reach = let a = h.reach in let b = long.1 in let c = put_length slots n s in omega arith;
       count = let a = h.count in let b = total_put is_open slots n x s e in omega arith;
@@ -376,7 +376,7 @@ module _ {L R A E : Type 0} (d : HubMachine L R A E) where
   pub queue_end : (slots : Slots) (q q' : RunQueue) (n : ℕ) (i : E) → Queued d slots q → at_number slots n ≡ Some Out → EndsOne q q' n → Queued d (put_number slots n (Over i)) q'
   queue_end slots q q' n i h e ends =
       let nowhere = is_nowhere slots q h n (Some Out) e out_idle in
-      let woken : Woken slots (put_number slots n (Over i)) n = (ap ended_here e, ap ended_here (put_here slots n Out (Over i) e), λ m ne. ap ended_here (put_other slots n m (Over i) (λ is. ne (sym is)))) in
+      let woken : Woken slots (put_number slots n (Over i)) n = (ap ended_here e, ap ended_here (put_here slots n Out (Over i) e), λ m ne. ap ended_here (put_other slots n m (Over i) ne)) in
       let both : (j : ℕ) → times j (h.waits n ++ h.ready) ≡ times j (h.waits n) + times j h.ready = λ j. total_append (is_at j) (h.waits n) h.ready in
       placed slots n Out (Over i) q q' (h.waits n ++ h.ready) (without_waiters h.waits n) h e (ends.0 h.ready h.waits h.lists (is_once slots q h))
       (let a = both n in let b = nowhere.in_ready in let c = nowhere.in_waits n in omega arith)
@@ -405,7 +405,7 @@ module _ {L R A E : Type 0} (d : HubMachine L R A E) where
   pub queue_add : (slots : Slots) (q q' : RunQueue) (n : ℕ) (c : R) → Queued d slots q → n ≡ length slots → AddsOne q q' n → Queued d (slots ++ Ready c ∷ []) q'
   queue_add slots q q' n c h is adds =
       let none : at_number slots n ≡ None = slice_get_past slots n (omega arith) in
-      let here : at_number (slots ++ Ready c ∷ []) n ≡ Some (Ready c) = ap (at_number (slots ++ Ready c ∷ [])) is ∙ at_end slots (Ready c) in
+      let here : at_number (slots ++ Ready c ∷ []) n ≡ Some (Ready c) = ap (at_number (slots ++ Ready c ∷ [])) is ∙ at_length slots (Ready c) [] in
       let nowhere = is_nowhere slots q h n None none none_idle in
       let many = many_more slots (Ready c) in
       record {

@@ -4,7 +4,7 @@ use mathlib.Core.Logic.{dite}
 use native.Mathlib.Decide.{ℕ_discrete}
 use Rattle.revision_machine.specs.Numbered.{at_number, put_number}
 use Rattle.revision_machine.proofs.Paths.{some_inj}
-use Rattle.hub_algebra.proofs.Replay.{put_other, at_more}
+use Rattle.revision_machine.proofs.Lists.{put_other, at_front}
 use Rattle.hub_table.specs.declared.run_queue.Chain.{Chain}
 use Rattle.hub_table.specs.declared.run_queue.RunQueue.{RunQueue}
 use Rattle.hub_table.specs.Counts.{is_at, times}
@@ -24,11 +24,11 @@ in_front k last ns front is = ap (times k) is ∙ total_snoc (is_at k) front las
 
 way_put : (links : List ℕ) (k x first : ℕ) (ns : List ℕ) (last : ℕ) → times k ns ≡ 0 → IsWay links first ns last → IsWay (put_number links k x) first ns last
 way_put links k x first [] last none w = w
-way_put links k x first (n ∷ ns) last none w = (w.0, w.1, put_other links k n x (λ e. not_first k n ns none (sym e)) ∙ w.2, way_put links k x w.0 ns last (omega arith) w.3)
+way_put links k x first (n ∷ ns) last none w = (w.0, w.1, put_other links k n x (not_first k n ns none) ∙ w.2, way_put links k x w.0 ns last (omega arith) w.3)
 
 way_more : (links more : List ℕ) (first : ℕ) (ns : List ℕ) (last : ℕ) → IsWay links first ns last → IsWay (links ++ more) first ns last
 way_more links more first [] last w = w
-way_more links more first (n ∷ ns) last w = (w.0, w.1, at_more links more n w.0 w.2, way_more links more w.0 ns last w.3)
+way_more links more first (n ∷ ns) last w = (w.0, w.1, at_front links more n w.0 w.2, way_more links more w.0 ns last w.3)
 
 way_join : (links : List ℕ) (first : ℕ) (ms : List ℕ) (last next : ℕ) (ns : List ℕ) (end : ℕ) → IsWay links first ms last → at_number links last ≡ Some next → IsWay links next ns end → IsWay links first (ms ++ last ∷ ns) end
 way_join links first [] last next ns end w at v = (next, w, at, v)

@@ -1,11 +1,10 @@
 -- A joiner and its code are the same behind the join.
-use Rattle.std.proofs.Common.{◌≡◌, ◌≢◌, ◌∙◌, ◌⊎◌, inl, inr, ℕ, suc, ◌+◌, Bool, true, false, List, [], ◌∷◌, ◌++◌, length, map, drop, Option, Some, None, refl, sym, ap, subst, arith}
+use Rattle.std.proofs.Common.{◌≡◌, ◌≢◌, ◌∙◌, ◌⊎◌, inl, inr, ℕ, ◌+◌, Bool, true, false, List, [], ◌∷◌, ◌++◌, length, map, drop, Option, Some, None, refl, sym, ap, subst, arith}
 use Rattle.std.specs.Prelude.{slice_get, is_some, Ok, Err}
 use Rattle.std.proofs.lemmas.List.{map-append}
 use Rattle.rev_num.specs.Path.{Path}
 use Rattle.rev_num.specs.declared.value.Value.{Value}
 use Rattle.rev_num.specs.declared.value.Value.TheVariants as v
-use Rattle.rev_num.specs.declared.value.ValueKind.{ValueKind}
 use Rattle.rev_num.specs.declared.outcome.Cause.TheVariants as cause
 use Rattle.rev_num.specs.declared.outcome.Trap.{Trap}
 use Rattle.merge_decl.specs.Names.{Name}
@@ -19,7 +18,7 @@ use Rattle.revision_calculus.specs.Join as calculus
 use Rattle.revision_calculus.specs.Join.{merges_of, left_side}
 use Rattle.revision_calculus.specs.Kinded.{IsAccepted, IsKinded, LocationsAre, location_kinds, names}
 use Rattle.revision_calculus.proofs.FunKinds.{rules_kept}
-use Rattle.revision_calculus.proofs.LocationKinds.{merges_fit, merge_locations}
+use Rattle.revision_calculus.proofs.LocationKinds.{merges_fit, merge_locations, are_length}
 use Rattle.revision_calculus.proofs.MergeCauses.{merge_law}
 use Rattle.rev_code.specs.declared.code.Instr.TheVariants as i
 use Rattle.rev_code.specs.Words.{Word}
@@ -46,12 +45,6 @@ use Rattle.join_agreement.specs.Related.{run_of, IsTrap, origin_at, IsGiven, IsA
 use Rattle.join_agreement.proofs.Merging.{laid_from, alike_from}
 use Rattle.join_agreement.proofs.Composing.{coded_all, composed_alike, mains_alike, written_alike}
 use Rattle.join_agreement.proofs.Takes.{few_empty}
-
-are_length : (ts : List ValueKind) (ms : List Location) → LocationsAre ts ms → length ms ≡ length ts
-are_length [] [] h = refl
-are_length [] (m ∷ ms) h = absurd h
-are_length (t ∷ ts) [] h = absurd h
-are_length (t ∷ ts) (m ∷ ms) h = ap suc (are_length ts ms h.1)
 
 listed_on : (xs : List (Listed Path)) (ns : List Noted) (q : Path) (m n : ℕ) → xs ≡ map entry ns → m ≡ n → xs ++ words.joined q m ∷ [] ≡ map entry (ns ++ source.joined q n ∷ [])
 listed_on xs ns q m n e f = (λ j. e j ++ words.joined q (f j) ∷ []) ∙ sym (map-append entry ns (source.joined q n ∷ []))

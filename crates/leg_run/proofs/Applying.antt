@@ -1,15 +1,16 @@
 -- Applications of funs.
-use Rattle.std.proofs.Common.{◌≡◌, ◌∙◌, ℕ, suc, ◌+◌, ◌-◌, ◌<◌, ◌≤◌, true, false, ℤ, List, ◌∷◌, length, map, reverse, take, drop, set, get_or, Option, Some, None, refl, sym, ap, subst, arith, get_or-set_same}
+use Rattle.std.proofs.Common.{◌≡◌, ◌∙◌, ℕ, suc, ◌+◌, ◌-◌, ◌<◌, ◌≤◌, true, ℤ, List, ◌∷◌, length, map, reverse, take, drop, set, get_or, Option, Some, None, refl, sym, ap, subst, arith, get_or-set_same}
 use Rattle.std.specs.Prelude.{slice_get, if◌then◌else◌, nat_lt, Ok, Err}
 use Rattle.std.proofs.lemmas.List.{length-drop, take-set-le, length-set}
 use Rattle.rev_num.specs.declared.value.NumFault.{NumFault}
+use Rattle.rev_num.proofs.Lists.{false_no}
 use Rattle.rev_code.specs.declared.code.Code.{Code}
 use Rattle.rev_code.specs.declared.code.CodeBlock.{CodeBlock}
 use Rattle.rev_code.specs.declared.code.Instr.TheVariants as i
 use Rattle.rev_code.specs.Words.{Word}
 use Rattle.rev_code.specs.State.{State}
 use Rattle.rev_code.specs.Step as s
-use Rattle.rev_code.specs.Step.{Comes, apply_to, cause_of, goes, is_fun, on, only, params, step, stuck, traps, value_at, value_or_trap}
+use Rattle.rev_code.specs.Step.{apply_to, cause_of, goes, is_fun, only, params, step, traps, value_at, value_or_trap}
 use Rattle.rev_code.specs.Funs.{setting, values}
 use Rattle.code_rules.specs.Shapes.{begins, param_kinds}
 use Rattle.code_rules.specs.Pass.{has_class}
@@ -37,12 +38,6 @@ use Rattle.leg_run.specs.Ends.{GoesOn, Leaves}
 use Rattle.leg_run.specs.Standing.{AreBelow, Stands, listed_as}
 use Rattle.leg_run.proofs.Frames as f
 use Rattle.leg_run.proofs.Frames.{arguments_are, frames_still, part_same, take_whole}
-
-false_no : {A : Type 0} → false ≡ true → A
-false_no h = absurd (clash h)
-  where
-    clash : false ≡ true → ⊥
-    clash h = cc
 
 module _ (code : Code) (ok : first_fault code ≡ None) (inputs : List ℤ) (share : ℕ) (run : Run) (seen : ℕ → ℕ) (root : ℕ → Option ℕ) (c : State ℕ)
     (st : Stands code inputs share run seen root c) (b : CodeBlock) (is : slice_get code.blocks run.registers.block ≡ Some b)

@@ -10,7 +10,7 @@ use Rattle.rev_code.specs.declared.code.Instr.TheVariants as i
 use Rattle.rev_code.specs.Words.{Word, zero_word}
 use Rattle.rev_code.specs.State.{State}
 use Rattle.rev_code.specs.Step as s
-use Rattle.rev_code.specs.Step.{Comes, arguments, call_with, enter, first_locals, goes, is_procedure, most_frames, only, params, step, traps}
+use Rattle.rev_code.specs.Step.{call_with, enter, first_locals, goes, is_procedure, most_frames, only, params, step, traps}
 use Rattle.rev_code.specs.Funs.{setting}
 use Rattle.code_rules.specs.Shapes.{begins, param_kinds}
 use Rattle.code_rules.specs.Pass.{has_class}

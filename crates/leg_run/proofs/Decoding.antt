@@ -6,15 +6,17 @@ use Rattle.rev_num.specs.declared.value.ValueKind.TheVariants as k
 use Rattle.rev_code.specs.declared.code.Code.{Code}
 use Rattle.rev_code.specs.declared.code.CodeBlock.{CodeBlock}
 use Rattle.rev_code.specs.Words.{Word, int, bool, rev, kind_of}
-use Rattle.rev_code.specs.State.{Frame, Location}
+use Rattle.rev_code.specs.State.{Frame, Location, State}
 use Rattle.code_certificate.proofs.Basics.{some_eq}
 use Rattle.code_soundness.specs.Typed.{kinds_of, location_kinds, AllWaiting, AreLocations, IsLocation, IsFrame}
 use Rattle.code_soundness.specs.Whole.{notes_of}
 use Rattle.plain_words.specs.Agreement.{IsWord, AreWords}
 use Rattle.block_run.specs.Area.{low, stack_of}
 use Rattle.block_run.specs.Standing.{IsSeen, AreSeen}
+use Rattle.leg_run.specs.declared.revision.Run.{Run}
 use Rattle.leg_run.specs.declared.revision.Waiting.{Waiting}
-use Rattle.leg_run.specs.Standing.{AreBelow, StandsForItsState, frame_of, location_as, locals_at, locals_of, locations_from, stack_base, word_as, words_as}
+use Rattle.leg_run.specs.Ends.{Leaves, with_frames}
+use Rattle.leg_run.specs.Standing.{AreBelow, StandsForItsState, frame_of, location_as, locals_at, locals_of, locations_from, stack_base, state_of, word_as, words_as}
 
 -- ---- words
 
@@ -89,6 +91,25 @@ below_are code ws above (f ∷ fs) (w ∷ waits) block t h =
 
 -- ---- the state
 
+-- all but the frames
+pub leaves_state : (code : Code) (run : Run) (seen : ℕ → ℕ) (root : ℕ → Option ℕ) (c : State ℕ) → Leaves code run seen root c → c ≡ with_frames (state_of code run seen root) c
+leaves_state code run seen root c l =
+    let locations = seen_locations (location_kinds code.vars) c.locations seen root l.kinds l.locations in
+    let fuel = l.fuel in let forks = l.forks in let listed = l.listed in let text = l.text in let line = l.line in
+    λ i. record {
+      block = c.block;
+      at = c.at;
+      locals = c.locals;
+      stack = c.stack;
+      below = c.below;
+      locations = locations i;
+      fuel = fuel i;
+      forks = forks i;
+      listed = listed i;
+      text = text i;
+      line = line i;
+    }
+
 pub its_state : StandsForItsState
 its_state code inputs share run seen root c s =
     let r = run.registers in
@@ -104,19 +125,6 @@ its_state code inputs share run seen root c s =
     let stack = words_of_kinds c.stack _ _ s.here.run.stack shape
     ∙ ap (λ n. words_as (notes_of code run.registers.block run.registers.at).shape (stack_of run.words.items n (run.registers.top - n))) base in
     let below = below_are code run.words.items run.registers.base c.below (reverse run.below.items) c.block t.below s.below in
-    let locations = seen_locations (location_kinds code.vars) c.locations seen root s.here.good.locations s.here.locations in
-    let fuel = sym s.here.run.fuel in
-    let forks = s.forks in let listed = s.listed in let text = s.text in let line = sym s.here.run.line in
-    λ i. record {
-      block = block i;
-      at = at i;
-      locals = locals i;
-      stack = stack i;
-      below = below i;
-      locations = locations i;
-      fuel = fuel i;
-      forks = forks i;
-      listed = listed i;
-      text = text i;
-      line = line i;
-    }
+    leaves_state code run seen root c
+    (record { locations = s.here.locations; kinds = s.here.good.locations; fuel = sym s.here.run.fuel; line = sym s.here.run.line; forks = s.forks; listed = s.listed; text = s.text })
+    ∙ (λ i. record (state_of code run seen root) { block = block i; at = at i; locals = locals i; stack = stack i; below = below i })

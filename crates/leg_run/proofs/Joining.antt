@@ -2,13 +2,14 @@
 use Rattle.std.proofs.Common.{◌≡◌, ◌∙◌, ℕ, ◌+◌, ◌-◌, ◌≤◌, Bool, true, false, ℤ, List, [], ◌∷◌, length, get_or, Option, Some, None, refl, sym, ap, subst, arith}
 use Rattle.std.specs.Prelude.{slice_get, if◌then◌else◌}
 use Rattle.rev_num.specs.declared.value.ValueKind.TheVariants as k
+use Rattle.rev_num.proofs.Lists.{false_no}
 use Rattle.rev_code.specs.declared.code.Code.{Code}
 use Rattle.rev_code.specs.declared.code.CodeBlock.{CodeBlock}
 use Rattle.rev_code.specs.declared.code.Instr.TheVariants as i
 use Rattle.rev_code.specs.Words.{Word, int, bool, rev}
 use Rattle.rev_code.specs.State.{State}
 use Rattle.rev_code.specs.Step as s
-use Rattle.rev_code.specs.Step.{act, fork_with, forks, is_procedure, only, params, step}
+use Rattle.rev_code.specs.Step.{fork_with, forks, is_procedure, only, params, step}
 use Rattle.rev_code.specs.Funs.{setting}
 use Rattle.code_rules.specs.Shapes.{begins, param_kinds}
 use Rattle.code_rules.specs.Pass.{has_class}
@@ -23,12 +24,6 @@ use Rattle.leg_run.specs.declared.revision.Run.{Run}
 use Rattle.leg_run.specs.Ends.{EndsAt, join_instr, join_of}
 use Rattle.leg_run.specs.Standing.{Stands}
 use Rattle.leg_run.proofs.Frames as f
-
-false_no : {A : Type 0} → false ≡ true → A
-false_no h = absurd (clash h)
-  where
-    clash : false ≡ true → ⊥
-    clash h = cc
 
 module _ (code : Code) (ok : first_fault code ≡ None) (inputs : List ℤ) (share : ℕ) (run : Run) (seen : ℕ → ℕ) (root : ℕ → Option ℕ) (c : State ℕ)
     (st : Stands code inputs share run seen root c) (b : CodeBlock) (is : slice_get code.blocks run.registers.block ≡ Some b) where

@@ -1,29 +1,27 @@
 -- What verified code needs at most is room enough.
 use Rattle.std.proofs.Common.{◌≡◌, ◌∙◌, ℕ, zero, suc, ◌+◌, ◌<◌, ◌≤◌, Bool, true, false, List, [], ◌∷◌, ◌++◌, length, take, Option, Some, None, refl, sym, ap, subst, arith, true≢false}
-use Rattle.std.specs.Prelude.{slice_get, slice_index_or, max, min, nat_le, nat_lt, ◌&&◌, if◌then◌else◌}
+use Rattle.std.specs.Prelude.{slice_get, slice_index_or, max, min, nat_lt, if◌then◌else◌}
 use Rattle.std.proofs.Math.Nat.{le-min, min-le_right}
 use Rattle.std.proofs.lemmas.List.{length-take}
 use Rattle.std.proofs.lemmas.Option.{get_or_from_slice_get, slice_get_past}
-use Rattle.std.specs.List.{list_all}
 use Rattle.std.proofs.lemmas.Bool.Decides.{nat_tests}
 use Rattle.rev_code.specs.declared.code.Code.{Code}
 use Rattle.rev_code.specs.declared.code.CodeBlock.{CodeBlock}
 use Rattle.rev_code.specs.declared.code.Instr.{Instr}
 use Rattle.rev_code.specs.declared.code.Instr.TheVariants as i
-use Rattle.rev_code.specs.Step.{is_procedure}
 use Rattle.code_rules.specs.declared.Cost.{Cost}
 use Rattle.code_rules.specs.Tables as rules
+use Rattle.code_rules.proofs.Limits.{small_block, small_parts}
 use Rattle.code_rules.specs.Pass.{Passed, applied, before, block_cost, cost_at, cost_of, gone, greatest_depth, greatest_need, is_value_class, no_cost, passed}
 use Rattle.code_rules.specs.Shapes.{shape_after}
 use Rattle.code_rules.specs.Verdict.{first_fault}
 use Rattle.code_certificate.specs.Certificate.{note_at}
-use Rattle.code_certificate.proofs.Basics.{and_parts, append_length, before_next, some_eq, some_within, within_some}
+use Rattle.code_certificate.proofs.Basics.{append_length, before_next, some_eq, some_within, within_some}
 use Rattle.code_soundness.specs.Whole.{AreCosts, IsAccepted, all_passed, notes_in, notes_of}
 use Rattle.code_soundness.proofs.Accepting.{no_fault_accepted, no_fault_costs}
 use Rattle.code_soundness.proofs.Evaluating.{get_take}
 use Rattle.code_soundness.proofs.Lists.{all_at, get_append_left, get_append_right}
 use Rattle.code_soundness.proofs.Rooms.{place_room}
-use Rattle.fun_run.proofs.Running.{fifth_of}
 use Rattle.leg_run.specs.Rooms.{HasRoomFor, IsRoom, greatest_room, room_applied, room_of}
 use Rattle.leg_run.proofs.Depths.{depth_whole, take_all}
 
@@ -154,16 +152,7 @@ module _ (code : Code) (ok : first_fault code ≡ None) (n : ℕ) (b : CodeBlock
   same_depth at = ap (λ o. length (notes_in code o at).shape) is
 
   pub few_locals : length b.locals ≤ 64
-  few_locals =
-      let a = fifth_of (nat_le (rules.locations code.vars) rules.most_locations && nat_le (rules.count_class is_procedure code.blocks) rules.most_blocks
-      && nat_le (rules.count_class is_value_class code.blocks) rules.most_blocks && nat_le (length code.blocks) rules.most_u16)
-      (list_all rules.is_small_block code.blocks) (list_all rules.is_small_layout code.layouts)
-      (nat_le (length code.vars) rules.most_u16) (list_all rules.has_small_name code.vars) (nat_le (length code.texts) rules.most_u32)
-      (list_all rules.is_small_text code.texts) (nat_le (length code.layouts) rules.most_u32) accepted.small in
-      let q = all_at rules.is_small_block code.blocks n b a is in
-      let p = (and_parts (nat_le b.params rules.most_params && nat_le (length b.locals) rules.most_locals) (nat_le (length b.instrs) rules.most_u32) q).0 in
-      let r = (and_parts (nat_le b.params rules.most_params) (nat_le (length b.locals) rules.most_locals) p).1 in
-      grind (arith, nat_tests, r)
+  few_locals = (small_block b (all_at rules.is_small_block code.blocks n b (small_parts code accepted.small).each_block is)).0
 
   depth_before : is_value_class b.class ≡ false → (at : ℕ) → at ≤ length b.instrs → greatest_depth code b (before code b at) ≤ 4096
   depth_before program zero h = omega arith

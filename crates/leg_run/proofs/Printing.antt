@@ -4,6 +4,7 @@ use Rattle.std.specs.Prelude.{slice_get, slice_index_or}
 use Rattle.std.specs.List.{join_with_byte}
 use Rattle.std.proofs.lemmas.List.{append_assoc}
 use Rattle.rev_num.specs.declared.value.ValueKind.TheVariants as k
+use Rattle.rev_num.proofs.Lists.{false_no}
 use Rattle.rev_code.specs.declared.code.Code.{Code}
 use Rattle.rev_code.specs.declared.code.CodeBlock.{CodeBlock}
 use Rattle.rev_code.specs.declared.code.Instr.TheVariants as i
@@ -35,12 +36,6 @@ use Rattle.leg_run.specs.Printed.{bytes_from, gap_at, item_bytes, width_of, widt
 use Rattle.leg_run.specs.Standing.{AreBelow, Stands, listed_as}
 use Rattle.leg_run.proofs.Frames as f
 use Rattle.leg_run.proofs.Frames.{arguments_are}
-
-false_no : {A : Type 0} → false ≡ true → A
-false_no h = absurd (clash h)
-  where
-    clash : false ≡ true → ⊥
-    clash h = cc
 
 -- ---- what stands for items
 

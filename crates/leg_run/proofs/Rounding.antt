@@ -6,7 +6,7 @@ use Rattle.rev_code.specs.declared.code.Code.{Code}
 use Rattle.rev_code.specs.declared.code.CodeBlock.{CodeBlock}
 use Rattle.rev_code.specs.State.{State}
 use Rattle.rev_code.specs.Step as s
-use Rattle.rev_code.specs.Step.{Comes, goes, step, Steps, traps}
+use Rattle.rev_code.specs.Step.{goes, step, Steps, traps}
 use Rattle.rev_code.specs.Funs.{setting}
 use Rattle.code_rules.specs.Verdict.{first_fault}
 use Rattle.code_prices.specs.Prices.{leg_prices}
@@ -33,9 +33,9 @@ use Rattle.leg_run.specs.declared.revision.Run.{Run}
 use Rattle.leg_run.specs.declared.turn.Turn.{Turn}
 use Rattle.leg_run.specs.declared.turn.Turn.TheVariants as turn
 use Rattle.leg_run.specs.Changes.{SameRest}
-use Rattle.leg_run.specs.Ends.{Leaves, LegEnds, RoundTo, StandsAt, TurnsTo, with_frames}
+use Rattle.leg_run.specs.Ends.{Leaves, LegEnds, RoundTo, StandsAt, TurnsTo}
 use Rattle.leg_run.specs.Standing.{AreBelow, Stands, IsStanding, listed_as, state_of}
-use Rattle.leg_run.proofs.Decoding.{its_state, seen_locations}
+use Rattle.leg_run.proofs.Decoding.{its_state, leaves_state}
 use Rattle.leg_run.proofs.Frames as f
 use Rattle.leg_run.proofs.Frames.{frames_still}
 
@@ -141,24 +141,6 @@ module _ (code : Code) (ok : first_fault code ≡ None) (inputs : List ℤ) (sha
         → (d : State ℕ) × Steps (setting code inputs share) c0 d × Stands code inputs share run' seen' root' d
     round_on c0 steps r = (r.next, steps_on (setting code inputs share) c0 c r.next steps (steps_on (setting code inputs share) c r.last r.next r.steps (s.more r.goes s.none)), r.stands)
 
-  leaves_state : (run : Run) (seen : ℕ → ℕ) (root : ℕ → Option ℕ) (c : State ℕ) → Leaves code run seen root c → c ≡ with_frames (state_of code run seen root) c
-  leaves_state run seen root c l =
-      let locations = seen_locations (location_kinds code.vars) c.locations seen root l.kinds l.locations in
-      let fuel = l.fuel in let forks = l.forks in let listed = l.listed in let text = l.text in let line = l.line in
-      λ i. record {
-        block = c.block;
-        at = c.at;
-        locals = c.locals;
-        stack = c.stack;
-        below = c.below;
-        locations = locations i;
-        fuel = fuel i;
-        forks = forks i;
-        listed = listed i;
-        text = text i;
-        line = line i;
-      }
-
   stands_own : (run : Run) (seen : ℕ → ℕ) (root : ℕ → Option ℕ) (c : State ℕ) → Stands code inputs share run seen root c → IsStanding code inputs share run seen root
   stands_own run seen root c st = subst (Stands code inputs share run seen root) (its_state code inputs share run seen root c st) st
 
@@ -171,9 +153,9 @@ module _ (code : Code) (ok : first_fault code ≡ None) (inputs : List ℤ) (sha
       let x = its_state code inputs share run' seen' root' r.1 r.4 in
       (record { last = r.0; steps = steps_on (setting code inputs share) c0 c r.0 steps r.2; comes = r.3 ∙ ap (λ d. s.joins d try on) x; is = tt }, stands_own run' seen' root' r.1 r.4)
   ends_leg run' seen' root' c0 c steps end.End r =
-      (r.3.0, r.1, record { last = r.0; steps = steps_on (setting code inputs share) c0 c r.0 steps r.2; comes = r.3.1; is = tt }, leaves_state run' seen' root' r.1 r.4, r.4)
+      (r.3.0, r.1, record { last = r.0; steps = steps_on (setting code inputs share) c0 c r.0 steps r.2; comes = r.3.1; is = tt }, leaves_state code run' seen' root' r.1 r.4, r.4)
   ends_leg run' seen' root' c0 c steps (end.Trap e) r =
-      (r.1, record { last = r.0; steps = steps_on (setting code inputs share) c0 c r.0 steps r.2; comes = r.3; is = tt }, leaves_state run' seen' root' r.1 r.4, r.4)
+      (r.1, record { last = r.0; steps = steps_on (setting code inputs share) c0 c r.0 steps r.2; comes = r.3; is = tt }, leaves_state code run' seen' root' r.1 r.4, r.4)
 
 -- ---- what is handed on by slices
 

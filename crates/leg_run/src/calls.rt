@@ -17,11 +17,8 @@ use crate::turn::Turn;
 use block_run::Registers;
 use fun_run::{begin, block_at};
 use rev_code::CodeBlock;
-use rev_num::Cause;
+use rev_num::{Cause, MOST_FRAMES};
 use std::alloc::AllocError;
-
-/// The most frames that a revision has.
-const MOST_FRAMES: usize = 1000;
 
 /// Sees to it that an area has this many words.
 pub fn ensure(words: &mut Vec<u64>, size: usize) -> Result<(), AllocError>

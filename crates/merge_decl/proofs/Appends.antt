@@ -7,11 +7,11 @@ use Rattle.rev_syntax.specs.View.{expressions}
 use Rattle.merge_decl.specs.declared.uses.Use as held
 use Rattle.merge_decl.specs.FunRules.{Use, count, expression_uses, expressions_uses, links_uses, expression_form_uses}
 use Rattle.merge_decl.specs.Uses.{use_of, uses_of}
+use Rattle.std.proofs.lemmas.List.{append_assoc}
 
--- what is appended part by part is appended whole
+-- one list behind another, as the code is told by name
 pub appends : {A : Type 0} (a b c : List A) → (a ++ b) ++ c ≡ a ++ (b ++ c)
-appends [] b c = refl
-appends (x ∷ a) b c = ap (λ r. x ∷ r) (appends a b c)
+appends a b c = append_assoc a b c
 
 -- the number of arguments
 pub count_expressions : (es : List Expr) → count (expressions es) ≡ length es

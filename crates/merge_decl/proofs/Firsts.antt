@@ -1,10 +1,22 @@
 -- A list of faults has one first place and one first rank.
-use Rattle.std.proofs.Common.{◌≡◌, ℕ, inl, inr, subst, arith, List, [], ◌≤◌, ◌+◌, Bool, true, false, cond, ◌∷◌, length, Some, ap}
+use Rattle.std.proofs.Common.{◌≡◌, ℕ, inl, inr, subst, arith, List, [], ◌≤◌, ◌+◌, Bool, true, false, cond, ◌∷◌, ◌++◌, length, Some, ap, ◌⊎◌, if◌then◌else◌, Option, None, refl}
 use Rattle.merge_decl.specs.Least.{Among, IsBefore, IsFirst}
-use Rattle.rev_syntax.specs.Trees.{Declaration, fun, merge, shared, proc}
+use Rattle.rev_num.specs.declared.value.ValueKind.{ValueKind}
+use Rattle.rev_syntax.specs.Trees.{PlacedName, Parameter, Expression, Declaration, fun, merge, shared, proc}
 use Rattle.merge_decl.specs.Names.{Name, same}
 use Rattle.merge_decl.specs.FunRules.{first_fun, head}
 use Rattle.merge_decl.specs.declared.expand.FunHead.{FunHead}
+use Rattle.merge_decl.proofs.Tables.{or_else}
+
+-- what is among the first of two lists, or the second, is among both
+pub left_among : {A : Type 0} (xs ys : List A) (x : A) → Among xs x → Among (xs ++ ys) x
+left_among [] ys x h = absurd h
+left_among (y ∷ xs) ys x (inl e) = inl e
+left_among (y ∷ xs) ys x (inr h) = inr (left_among xs ys x h)
+
+pub right_among : {A : Type 0} (xs ys : List A) (x : A) → Among ys x → Among (xs ++ ys) x
+right_among [] ys x h = h
+right_among (y ∷ xs) ys x h = inr (right_among xs ys x h)
 
 module _ {F : Type 0} (place rank : F → ℕ) where
   alike : (a b : F) → IsBefore place rank a b → IsBefore place rank b a → (place a ≡ place b) × (rank a ≡ rank b)
@@ -32,3 +44,17 @@ first_from d n (fun w ps r body ∷ es) name h e = by (same name w.text) (first_
 first_from d n (merge w m j r body ∷ es) name h e = let more : d + 1 ≤ h.decl = first_from (d + 1) n es name h e in omega arith
 first_from d n (shared x ∷ es) name h e = let more : d + 1 ≤ h.decl = first_from (d + 1) n es name h e in omega arith
 first_from d n (proc w ps r body ∷ es) name h e = let more : d + 1 ≤ h.decl = first_from (d + 1) n es name h e in omega arith
+
+-- past one more fun a name that means a fun is known, or its first fun is further behind
+pub known_or_later : {A : Type 0} (known : Option A) (f : A) (d n : ℕ) (w : PlacedName) (ps : List Parameter) (r : ValueKind) (body : Expression) (es : List Declaration) (name : Name) (h : FunHead)
+    → ((g : A) × (known ≡ Some g)) ⊎ (first_fun d n (fun w ps r body ∷ es) name ≡ Some h) → ((g : A) × (or_else known (if same name w.text then Some f else None) ≡ Some g)) ⊎ (first_fun (d + 1) (n + 1) es name ≡ Some h)
+known_or_later {A} known f d n w ps r body es name h (inl g) = inl (g.0, ap (λ o. or_else o (if same name w.text then Some f else None)) g.1)
+known_or_later {A} known f d n w ps r body es name h (inr q) = by (same name w.text) q
+  where
+    found : (o : Option A) → (g : A) × (or_else o (Some f) ≡ Some g)
+    found None = (f, refl)
+    found (Some g) = (g, refl)
+
+    by : (x : Bool) → cond x (Some (head d n (length ps))) (first_fun (d + 1) (n + 1) es name) ≡ Some h → ((g : A) × (or_else known (if x then Some f else None) ≡ Some g)) ⊎ (first_fun (d + 1) (n + 1) es name ≡ Some h)
+    by true e = inl (found known)
+    by false e = inr e

@@ -1,5 +1,5 @@
 -- The plain trees of expressions, form by form.
-use Rattle.std.proofs.Common.{◌≡◌, ◌∙◌, ap, sym, ℕ, ℤ, Bool, Option, List, ◌∷◌, map, Vec, Global, Box}
+use Rattle.std.proofs.Common.{◌≡◌, ◌∙◌, ap, sym, ℕ, ℤ, Bool, List, ◌∷◌, Vec, Global, Box}
 use Rattle.rev_syntax.specs.Trees as t
 use Rattle.rev_syntax.specs.Trees.{ExpressionForm, Expression}
 use Rattle.rev_syntax.specs.View.{placed_name, expression, expression_form, expressions, link, links, expression_form_level, expression_level, link_level}

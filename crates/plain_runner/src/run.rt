@@ -1,6 +1,7 @@
 //! Runs of a program.
 
 ghost use Rattle.std.specs.Prelude.{◌≡◌, ◌≤◌, ◌+◌, IfOk};
+ghost use Rattle.rev_num.specs.Limits.{most_fuel};
 ghost use Rattle.rev_syntax.specs.View.{program as whole};
 ghost use Rattle.revision_machine.specs.Rules.{IsWithin};
 ghost use Rattle.revision_machine.specs.States.{global_of};
@@ -22,7 +23,7 @@ use std::alloc::{AllocError, Global};
 impl<'a> PlainLanguage<'a> {
     /// The state before the first step: `main` alone, with this fuel.
     pub fn start(&self, alloc: Global, fuel: u64) -> Result<GlobalState<Local<'a>>, AllocError>
-        requires { fuel ≤ 4000000000 }
+        requires { fuel ≤ most_fuel }
         ensures start { IfOk result (λ g. global_of g ≡ start_of (setting_of self.now) fuel) }
         ensures reached { IfOk result
             (λ g. IsWithin (rules_of (setting_of self.now)) (global_of g)) }
@@ -77,7 +78,7 @@ impl<'a> PlainLanguage<'a> {
 
     /// The end of a complete run with this fuel, which is the end of every complete run.
     pub fn run(&self, alloc: Global, fuel: u64) -> Result<GlobalState<Local<'a>>, AllocError>
-        requires { fuel ≤ 4000000000 }
+        requires { fuel ≤ most_fuel }
         ensures { IfOk result
             (λ g. IsEnd (calculus (setting_of self.now)) (main_of (setting_of self.now) fuel)
             (global_of g)) }
@@ -96,7 +97,7 @@ pub fn run_plain(
     share: u64,
     fuel: u64,
 ) -> Result<Outcome, AllocError>
-    requires { fuel ≤ 4000000000 }
+    requires { fuel ≤ most_fuel }
     ensures { IfOk result
         (λ o. HasOutcome
         (record {

@@ -17,7 +17,7 @@ use Rattle.rev_code.specs.Variables.{Place, scalar, array, cell_at}
 use Rattle.rev_code.specs.Step as s
 use Rattle.rev_code.specs.Step.{Comes, goes, traps, forks, joins, ends, stuck, act, input_at}
 use Rattle.plain_words.specs.Plain as p
-use Rattle.plain_words.specs.Plain.{Run, Plain, moves, writes, faults, leaves, lacks, flag, plain}
+use Rattle.plain_words.specs.Plain.{Run, Plain, moves, faults, leaves, flag, plain}
 use Rattle.plain_words.specs.Agreement.{IsWord, AreWords, IsRun, Stands, Agrees, AreInputs, PushesInt}
 use Rattle.plain_words.proofs.Numbers.{Fit, word_small, word_back, sums, differences, products, quotients, remainders, negations, int_fits, same_words, same_flags, not_flag}
 

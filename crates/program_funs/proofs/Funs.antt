@@ -1,5 +1,5 @@
 -- The funs and merges of a program, one declaration after the other.
-use Rattle.std.proofs.Common.{◌≡◌, ◌∙◌, ◌≢◌, ◌⊎◌, inl, inr, ℕ, ℤ, zero, suc, ◌+◌, ◌≤◌, Bool, true, false, cond, ◌&&◌, IsTrue, List, [], ◌∷◌, ◌++◌, length, map, Option, Some, None, refl, sym, ap, subst, arith}
+use Rattle.std.proofs.Common.{◌≡◌, ◌∙◌, ◌⊎◌, inl, inr, ℕ, ℤ, zero, suc, ◌+◌, Bool, true, false, ◌&&◌, IsTrue, List, [], ◌∷◌, ◌++◌, length, map, Option, Some, None, refl, sym, ap, subst, arith}
 use Rattle.std.specs.Prelude.{nat_le, if◌then◌else◌, slice_get}
 use Rattle.std.specs.List.{list_all}
 use Rattle.std.proofs.lemmas.Bool.{leb-false}
@@ -7,21 +7,20 @@ use Rattle.rev_num.specs.Path.{Path}
 use Rattle.rev_num.specs.declared.value.Value.TheVariants as v
 use Rattle.rev_num.specs.declared.value.ValueKind.{ValueKind}
 use Rattle.rev_num.specs.declared.value.ValueKind.TheVariants as k
-use Rattle.rev_syntax.specs.Trees.{PlacedName, Parameter, Expression, placed, ExpressionForm, Expressions, Links, int, bool, no_rev, var, cell, apply, input, inputs, pick, unary, chain, no_expressions, expression, no_links, link, Declaration, fun, merge, shared, proc, ProgramTree}
+use Rattle.rev_syntax.specs.Trees.{PlacedName, Parameter, Expression, int, Declaration, fun, merge, shared, proc, ProgramTree}
 use Rattle.rev_syntax.specs.Small.{name_formed, expression_small, parameter_formed, declaration_small}
 use Rattle.merge_decl.specs.Names.{Name, same}
-use Rattle.merge_decl.specs.Table.{find, added}
-use Rattle.merge_decl.specs.FunRules.{Use, count, expression_uses, expression_form_uses, expressions_uses, links_uses, statements_uses, later_here, broken_by, broken_in, declaration_uses, declarations_uses, uses_in, first_fun, head}
+use Rattle.merge_decl.specs.FunRules.{Use, expression_uses, statements_uses, later_here, broken_by, broken_in, declarations_uses, first_fun}
 use Rattle.merge_decl.specs.FunRules as rule
 use Rattle.merge_decl.specs.declared.expand.FunHead.{FunHead}
 use Rattle.merge_decl.specs.Value as value
-use Rattle.merge_decl.specs.Value.{Funs, FunDef, fun_value, earlier_of, funs_of}
+use Rattle.merge_decl.specs.Value.{FunDef, fun_value, earlier_of, funs_of}
 use Rattle.merge_decl.specs.Definitions.{fun_def, funs_after, funs_in, MergeDef, merge_def, merges_after, merges_in, merged}
 use Rattle.merge_decl.proofs.Tables.{or_else, or_else-none, or_else-step}
-use Rattle.rev_kinds.specs.Kinds.{Callee, Names, Locals}
-use Rattle.rev_kinds.proofs.Lists.{parts, failed, and_parts, added_unknown}
+use Rattle.rev_kinds.specs.Kinds.{Callee, Names}
+use Rattle.rev_kinds.proofs.Lists.{parts, failed, and_parts}
 use Rattle.rev_types.specs.Scopes.{fun_named, outside, within}
-use Rattle.rev_types.specs.Judgement.{ParamsNew, DeclarationsTyped}
+use Rattle.rev_types.specs.Judgement.{DeclarationsTyped}
 use Rattle.rev_types.proofs.Applying.{broken_parts, small_formed}
 use Rattle.rev_types.proofs.DeclsSound.{program_typed}
 use Rattle.revision_calculus.specs.Kinded.{IsAccepted}
@@ -33,13 +32,13 @@ use Rattle.rev_code.specs.State.{Fun}
 use Rattle.rev_code.specs.Step.{value_at}
 use Rattle.rev_code.specs.Funs.{setting, setting_of_fun, values, values_from, value_of}
 use Rattle.code_generation.specs.Numbers.{Numbers, numbers, fun_number, merge_number}
-use Rattle.code_generation.specs.Generated.{fun_block, merge_block, value_blocks, body_blocks, code_of}
-use Rattle.expression_run.specs.Applying.{AllApply, FormApplies, ArgsApply, LinksApply}
-use Rattle.expression_run.specs.Agrees.{word, coded, IsOfKind, kinds_of, FunReads}
+use Rattle.code_generation.specs.Generated.{fun_block, merge_block, value_blocks, body_blocks, code_of, kinds_of}
+use Rattle.expression_run.specs.Agrees.{word, coded, IsOfKind, FunReads}
 use Rattle.expression_run.specs.Blocks.{IsBody, merge_params}
-use Rattle.merge_decl.proofs.Firsts.{first_from}
+use Rattle.merge_decl.proofs.Firsts.{first_from, known_or_later}
 use Rattle.rev_types.proofs.MergeParams.{merge_new}
-use Rattle.expression_run.proofs.Uses.{OfUses, Use_can, applies}
+use Rattle.rev_kinds.proofs.Uses.{OfUses, uses_fine}
+use Rattle.expression_run.proofs.Uses.{Use_can, applies}
 use Rattle.expression_run.proofs.Blocks.{fun_gives, merge_gives, take_all, kinds_length}
 use Rattle.code_generation.proofs.BlockPlaces.{Stand, first_stands, rest_stands, all_stand}
 
@@ -141,10 +140,7 @@ module _ (p : ProgramTree) where
 
   can_apply : (fs : List FunDef) (known : Name → Option Callee) (before : List (Fun Path)) (at d m : ℕ) (rest : List Declaration) → Sofar fs known before at d m rest → (xs : List Use) → broken_in (rule.fun_named p) xs ≡ []
       → OfUses (Use_can inner (λ name f. FunReads (setting_of_fun code before) (n.fun name) f (funs_of fs name)) d) xs
-  can_apply fs known before at d m rest sofar [] fine = tt
-  can_apply fs known before at d m rest sofar (x ∷ xs) fine =
-      let both = parts (broken_by x (rule.fun_named p x.name.text)) (broken_in (rule.fun_named p) xs) fine in
-      (can_use fs known before at d m rest sofar x both.0, can_apply fs known before at d m rest sofar xs both.1)
+  can_apply fs known before at d m rest sofar = uses_fine (Use_can inner (λ name f. FunReads (setting_of_fun code before) (n.fun name) f (funs_of fs name)) d) (rule.fun_named p) (can_use fs known before at d m rest sofar)
 
   -- ---- one fun more
 
@@ -169,20 +165,6 @@ module _ (p : ProgramTree) where
           ));
         }
 
-    more_known : (o : Option Callee) → (g : Callee) × (or_else o (Some f) ≡ Some g)
-    more_known None = (f, refl)
-    more_known (Some g) = (g, refl)
-
-    next_head : (name : Name) (h : FunHead) (x : Bool) → cond x (Some (head d m (length ps))) (first_fun (d + 1) (m + 1) es name) ≡ Some h
-        → ((g : Callee) × (or_else (known name) (if x then Some f else None) ≡ Some g)) ⊎ (first_fun (d + 1) (m + 1) es name ≡ Some h)
-    next_head name h true q = inl (more_known (known name))
-    next_head name h false q = inr q
-
-    next_heads : (name : Name) (h : FunHead) → ((g : Callee) × (known name ≡ Some g)) ⊎ (first_fun d m (fun w ps r body ∷ es) name ≡ Some h)
-        → ((g : Callee) × (or_else (known name) (if same name w.text then Some f else None) ≡ Some g)) ⊎ (first_fun (d + 1) (m + 1) es name ≡ Some h)
-    next_heads name h (inl g) = inl (g.0, ap (λ o. or_else o (if same name w.text then Some f else None)) g.1)
-    next_heads name h (inr q) = next_head name h (same name w.text) q
-
     next_number : (name : Name) (o : Option Callee) (x : Bool) → known name ≡ o → same name w.text ≡ x → or_else o (if x then Some f else None) ≡ None → n.fun name ≡ suc at + fun_number name es
     next_number name (Some y) x q e h = absurd (let z : Some y ≡ None = h in cc)
     next_number name None true q e h = absurd (let z : Some f ≡ None = h in cc)
@@ -193,7 +175,7 @@ module _ (p : ProgramTree) where
       many = one_longer before new at sofar.many;
       fits = λ name. fits_more before new name (known name) (funs_of fs name) (same name w.text) f (fun_value (funs_of fs) (fun_def w ps body)) (sofar.fits name) (new_reads name);
       all = λ name. sofar.all name ∙ sym (or_else-step (known name) (same name w.text) f (fun_named es name));
-      heads = λ name h e. next_heads name h (sofar.heads name h e);
+      heads = λ name h e. known_or_later (known name) f d m w ps r body es name h (sofar.heads name h e);
       number = λ name h. next_number name (known name) (same name w.text) refl refl h;
     }
 

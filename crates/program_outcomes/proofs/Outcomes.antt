@@ -1,8 +1,9 @@
 -- A program's code has the program's outcome, in every complete schedule, however it began.
-use Rattle.std.proofs.Common.{◌≡◌, ◌∙◌, sym, subst, ℕ, ◌+◌, ◌*◌, List, [], ◌∷◌, ◌++◌, Some}
+use Rattle.std.proofs.Common.{◌≡◌, ◌∙◌, sym, ℕ, ◌+◌, ◌*◌, List, ◌++◌, Some}
 use Rattle.rev_num.specs.declared.outcome.Outcome.{Outcome}
-use Rattle.revision_machine.specs.Numbered.{Numbered, World, begin, Replays, Least, IsOver, CompleteSchedule}
+use Rattle.revision_machine.specs.Numbered.{World, begin, Replays, Least, IsOver, CompleteSchedule}
 use Rattle.revision_machine.proofs.ByNumber.{least_completes}
+use Rattle.revision_machine.proofs.Replays.{replays_on}
 use Rattle.revision_calculus.specs.Program.{Setting}
 use Rattle.revision_calculus.specs.Kinded.{IsAccepted}
 use Rattle.revision_calculus.specs.Complete as program
@@ -16,10 +17,6 @@ use Rattle.code_outcomes.proofs.Outcomes.{each_has_one}
 use Rattle.join_agreement.specs.Related.{run_of}
 use Rattle.generated_blocks.proofs.Accepted.{code_accepted}
 use Rattle.program_simulation.proofs.Schedules.{outcomes_agree}
-
-one_after_another : (N : Numbered) (ns ms : List ℕ) (u v w : World N.Local) → Replays N u ns v → Replays N v ms w → Replays N u (ns ++ ms) w
-one_after_another N [] ms u v w e h = subst (λ x. Replays N x ms w) (sym e) h
-one_after_another N (n ∷ ns) ms u v w h k = (h.0, h.1, one_after_another N ns ms h.0 v w h.2 k)
 
 module _ (s : Setting) (well : IsAccepted s.program) (fuel : ℕ) where
   pub of_program : (o : Outcome) → code.HasOutcome (run_of s) fuel o → program.HasOutcome s fuel o
@@ -57,7 +54,7 @@ module _ (s : Setting) (well : IsAccepted s.program) (fuel : ℕ) (o : Outcome) 
     pub each_completion : (ms : List ℕ) (w : World (Local ℕ)) → CompleteSchedule (numbered (run_of s)) (start_in (run_of s) n m.body fuel) v ms w → outcome (run_of s) w ≡ Some o
     each_completion ms w c =
         of_schedule n m (ns ++ ms) w
-        (one_after_another (numbered (run_of s)) ns ms (begin (numbered (run_of s)) (start_in (run_of s) n m.body fuel)) v w legal c.replays) c.over
+        (replays_on (numbered (run_of s)) ns ms (begin (numbered (run_of s)) (start_in (run_of s) n m.body fuel)) v w legal c.replays) c.over
 
     pub least_numbers : (ms : List ℕ) × (w : World (Local ℕ)) × Least (numbered (run_of s)) (start_in (run_of s) n m.body fuel) v ms w × (outcome (run_of s) w ≡ Some o)
     least_numbers =

@@ -6,9 +6,8 @@
 use Rattle.std.proofs.Common.{◌≡◌, ◌∙◌, ◌⊎◌, inl, inr, ℕ, Bool, true, false, ◌&&◌, List, [], ◌∷◌, Option, Some, None, refl, sym, ap, subst}
 use Rattle.std.specs.Prelude.{slice_get, map}
 use Rattle.rev_num.specs.Path.{Path}
-use Rattle.revision_machine.specs.Laws.{IsIn}
+use Rattle.rev_num.proofs.Options.{some_same}
 use Rattle.revision_machine.specs.Numbered.{at_number, number_of, or_path}
-use Rattle.revision_machine.proofs.Numbers.{number_back}
 use Rattle.revision_calculus.specs.Program.{Setting}
 use Rattle.revision_calculus.specs.State as source
 use Rattle.revision_calculus.specs.State.{Local}
@@ -25,15 +24,12 @@ use Rattle.statement_run.specs.Laws.{tables}
 use Rattle.code_machine.specs.Local as code
 use Rattle.code_machine.specs.Local.{running, done, trapped, under, handles}
 use Rattle.code_machine.specs.Renamed.{renamed_handle, renamed_word, renamed_written, renamed_location, renamed_frame, renamed_one, renamed_phase, renamed, IsNumbered}
-use Rattle.code_machine.proofs.Naming.{AllFixed, local_fixed}
+use Rattle.code_machine.proofs.Naming.{local_fixed}
 use Rattle.join_agreement.specs.Related.{run_of, IsGiven, IsAtWork, IsSame, works, is_done, is_trapped}
 use Rattle.join_agreement.proofs.Takes.{Keeps, few_kept}
 use Rattle.program_simulation.specs.Relation.{IsRelatedBy}
 use Rattle.program_simulation.specs.Agreement.{is_store, gives, instr_before, stores_given, settled_if, settled, compared, PhaseAgrees, Agrees, read, AgreesBy}
 use Rattle.code_machine.proofs.Outcomes.{all_back}
-
-some_same : {A : Type 0} (x y : A) → Some x ≡ Some y → x ≡ y
-some_same x y e = cc
 
 module _ (s : Setting) (c : State Path) where
   -- ---- nothing to store

@@ -15,12 +15,10 @@ use Rattle.revision_calculus.specs.Program.{Setting}
 use Rattle.revision_calculus.specs.State.{Location, view, view_at, Local}
 use Rattle.revision_calculus.specs.Calculus.{calculus}
 use Rattle.revision_calculus.specs.Outcome as calculus_outcome
-use Rattle.rev_code.specs.State.{seen_at}
 use Rattle.code_generation.specs.Generated.{var_of}
 use Rattle.expression_run.specs.Agrees.{word}
 use Rattle.statement_places.specs.States.{location_word, IsShared}
 use Rattle.code_machine.specs.Local as code
-use Rattle.code_machine.specs.Local.{running, done, trapped}
 use Rattle.code_machine.specs.Machines.{machine}
 use Rattle.code_machine.specs.Outcome.{value_of, value_at, show_cells, show_variable, show_all, origin_path, end_as, main_outcome, outcome_by_paths}
 use Rattle.join_agreement.specs.Related.{run_of, origin_at, IsSame, works, is_done, is_trapped}

@@ -4,7 +4,6 @@ use Rattle.rev_num.specs.Path.{Path}
 use Rattle.revision_machine.specs.Machine.{Global, start, Complete}
 use Rattle.revision_machine.specs.Numbered.{World, begin, Replays, IsOver}
 use Rattle.revision_machine.specs.Simulation.{Agrees}
-use Rattle.revision_machine.specs.Schedules.{MatchesEnd}
 use Rattle.revision_machine.proofs.Bearing.{bearing}
 use Rattle.revision_machine.proofs.Ends.{unique_end}
 use Rattle.revision_machine.proofs.Converse.{complete_law, same_end}

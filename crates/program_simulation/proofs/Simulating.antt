@@ -25,7 +25,7 @@ use Rattle.code_machine.specs.Local.{IsVerified, running, done, trapped, at_work
 use Rattle.code_machine.specs.Leg.{leg}
 use Rattle.code_machine.specs.Joining.{join_end}
 use Rattle.code_machine.specs.Machines as acts
-use Rattle.code_machine.specs.Machines.{Act, Goes, Bears, Wants, Stops, act_of, act_in, act, event_of, machine, numbered}
+use Rattle.code_machine.specs.Machines.{Act, Bears, Stops, act_of, act_in, act, event_of, machine, numbered}
 use Rattle.code_machine.specs.Renamed.{IsNumbered}
 use Rattle.code_machine.proofs.Numbering.{simulates}
 use Rattle.join_agreement.specs.Related.{run_of, IsAtWork, IsSame, works, is_done, is_trapped}

@@ -1,5 +1,5 @@
 -- What holds of each reached world.
-use Rattle.std.proofs.Common.{◌≡◌, ◌≢◌, ◌∙◌, ℕ, zero, suc, ◌+◌, ◌≤◌, true, false, List, [], ◌∷◌, ◌++◌, length, Option, Some, None, IsTrue, refl, sym, ap, subst, arith}
+use Rattle.std.proofs.Common.{◌≡◌, ◌≢◌, ◌∙◌, ℕ, zero, suc, ◌+◌, true, false, List, [], ◌∷◌, ◌++◌, length, Option, Some, None, IsTrue, refl, sym, ap, subst, arith}
 use Rattle.rev_num.specs.Path.{Path, before}
 use Rattle.rev_code.specs.declared.code.CodeBlock.{CodeBlock}
 use Rattle.rev_code.specs.State.{State}
@@ -19,12 +19,14 @@ use Rattle.revision_machine.proofs.Schedules.{schedule_law, schedule_agrees}
 use Rattle.code_machine.specs.Local.{CodeRun, IsVerified, Phase, running, done, trapped, Local, at_work, has_ended}
 use Rattle.code_machine.specs.Leg.{leg}
 use Rattle.code_machine.specs.Joining.{join}
-use Rattle.code_machine.specs.Machines.{Act, Goes, Bears, Wants, Stops, fork, act_of, act_in, act, machine, numbered, Holds, IsMain, start_in}
+use Rattle.code_machine.specs.Machines.{Act, Goes, Bears, Wants, Stops, fork, act_of, act_in, act, machine, numbered, Holds, start_in}
 use Rattle.code_machine.specs.Renamed.{renamed, IsNumbered}
-use Rattle.code_machine.specs.Worlds.{fuels, after}
+use Rattle.code_machine.specs.Worlds.{after}
 use Rattle.code_machine.proofs.Acts.{SameAct, both_go, both_bear, both_want, both_stop, act_same}
-use Rattle.code_machine.proofs.Changes.{LegOf, went, bore, took, twice, leg_ways, put_other, put_here, one_entry, replay_is}
-use Rattle.code_machine.proofs.Fuel.{fuel_of}
+use Rattle.code_machine.proofs.Changes.{LegOf, went, bore, took, twice, leg_ways, one_entry, replay_is}
+use Rattle.revision_machine.proofs.Replays.{replays_keep}
+use Rattle.revision_machine.proofs.Lists.{at_front, put_other, put_here}
+use Rattle.code_machine.proofs.Fuel.{fuel_of, two_fuels}
 use Rattle.code_machine.proofs.Holding.{holding, want_held}
 use Rattle.code_machine.proofs.Meeting.{counts, named_counts}
 use Rattle.code_machine.proofs.Numbering.{simulates, first_none, first_numbered}
@@ -74,11 +76,6 @@ of_paths : {A : Type 0} (w : List (Path × A)) (m : ℕ) (q : Path) → at_numbe
 of_paths {A} [] m q e = absurd (let z : ◌≡◌ {A = Option Path} None (Some q) = e in cc)
 of_paths (x ∷ w) zero q e = (x.0, x.1, refl)
 of_paths (x ∷ w) (suc m) q e = of_paths w m q e
-
-front : {A : Type 0} (xs ys : List A) (n : ℕ) (x : A) → at_number xs n ≡ Some x → at_number (xs ++ ys) n ≡ Some x
-front {A} [] ys n x e = absurd (let z : ◌≡◌ {A = Option A} None (Some x) = e in cc)
-front (y ∷ xs) ys zero x e = e
-front (y ∷ xs) ys (suc n) x e = front xs ys n x e
 
 -- ---- joins
 
@@ -203,46 +200,23 @@ module _ (g : CodeRun) (ok : IsVerified g) where
       subst InWorld (sym z) (put_main w n r l l' m at (goes_keeps l.state l.phase l' (goes_act g ok (act g l) l' is)))
   step_main w h m n u (bore r l f c at is z) =
       let p = put_main w n r l (f (length w)) m at (bears_keeps l.state l.phase f c (bears_act g ok (act g l) f c is) (length w)) in
-      subst InWorld (sym z) (p.0, front (put_number w n (r, Plain (f (length w)))) _ 0 _ p.1, p.2)
+      subst InWorld (sym z) (p.0, at_front (put_number w n (r, Plain (f (length w)))) _ 0 _ p.1, p.2)
   step_main w h m n u (took r l k q lq at is there stops z) =
       let p = put_main w n r l (join g l lq) m at (join_keeps g l lq) in
       let apart = (joinees g ok w h n r l at k is).1 in
       subst InWorld (sym z) (p.0, put_other (put_number w n (r, Plain (join g l lq))) k 0 (q, Joined lq) (λ e. apart (sym e)) ∙ p.1, p.2)
   step_main w h m n u (twice r l k at is z) = subst InWorld (sym z) tt
 
-  along : (ns : List ℕ) (v w : World (Local ℕ)) → IsReached g v → InWorld v → Replays (numbered g) v ns w → InWorld w
-  along [] v w h m e = subst InWorld e m
-  along (n ∷ ns) v w h m (u, e, rest) = by v h m e (λ x. along ns u w (legs_reached g v u n h e) x rest)
-    where
-      by : (v : World (Local ℕ)) → IsReached g v → InWorld v → numbers.leg (numbered g) v n ≡ Some u → (InWorld u → InWorld w) → InWorld w
-      by Both h m e rec = absurd (let z : ◌≡◌ {A = Option (World (Local ℕ))} None (Some u) = e in cc)
-      by (Listing x) h m e rec = rec (step_main x h m n u (leg_ways (numbered g) x n u e))
+  along : (ns : List ℕ) (v w : World (Local ℕ)) → IsReached g v × InWorld v → Replays (numbered g) v ns w → IsReached g w × InWorld w
+  along = replays_keep (numbered g) (λ v. IsReached g v × InWorld v)
+      (λ x n u k e. (legs_reached g (Listing x) u n k.0 e, step_main x k.0 k.1 n u (leg_ways (numbered g) x n u e)))
 
 pub main_stands : MainStands
 main_stands g ok w h =
-    along g ok h.schedule (begin (numbered g) (start_in g h.number h.main.body h.fuel)) (Listing w)
-    (start_reached g h.number h.main h.fuel h.few) (start_in g h.number h.main.body h.fuel, refl, refl) h.replays
+    (along g ok h.schedule (begin (numbered g) (start_in g h.number h.main.body h.fuel)) (Listing w)
+    (start_reached g h.number h.main h.fuel h.few, (start_in g h.number h.main.body h.fuel, refl, refl)) h.replays).1
 
 -- ---- fuel
-
-one_fuel : (w : Entries (Local ℕ)) (n : ℕ) (r : Path) (l : Local ℕ) → at_number w n ≡ Some (r, Plain l) → l.state.fuel ≤ fuels w
-one_fuel [] n r l e = absurd (let z : ◌≡◌ {A = Option (Path × Entry (Local ℕ))} None (Some (r, Plain l)) = e in cc)
-one_fuel ((p, Plain x) ∷ w) zero r l e = let s : x.state.fuel ≡ l.state.fuel = ap (λ k. k.state.fuel) (plain_same p r x l e).1 in omega (arith, s)
-one_fuel ((p, Joined x) ∷ w) zero r l e = absurd (let z : Joined x ≡ Plain l = ap (λ y. y.1) (some_pair (p, Joined x) (r, Plain l) e) in cc)
-one_fuel ((p, Plain x) ∷ w) (suc n) r l e = let a = one_fuel w n r l e in omega (arith, a)
-one_fuel ((p, Joined x) ∷ w) (suc n) r l e = one_fuel w n r l e
-
-two_fuels : (w : Entries (Local ℕ)) (n m : ℕ) (r q : Path) (l k : Local ℕ) → n ≢ m → at_number w n ≡ Some (r, Plain l) → at_number w m ≡ Some (q, Plain k) → l.state.fuel + k.state.fuel ≤ fuels w
-two_fuels [] n m r q l k apart e f = absurd (let z : ◌≡◌ {A = Option (Path × Entry (Local ℕ))} None (Some (r, Plain l)) = e in cc)
-two_fuels (x ∷ w) zero zero r q l k apart e f = absurd (apart refl)
-two_fuels ((p, Plain x) ∷ w) zero (suc m) r q l k apart e f =
-    let s : x.state.fuel ≡ l.state.fuel = ap (λ y. y.state.fuel) (plain_same p r x l e).1 in let a = one_fuel w m q k f in omega (arith, s, a)
-two_fuels ((p, Joined x) ∷ w) zero (suc m) r q l k apart e f = absurd (let z : Joined x ≡ Plain l = ap (λ y. y.1) (some_pair (p, Joined x) (r, Plain l) e) in cc)
-two_fuels ((p, Plain x) ∷ w) (suc n) zero r q l k apart e f =
-    let s : x.state.fuel ≡ k.state.fuel = ap (λ y. y.state.fuel) (plain_same p q x k f).1 in let a = one_fuel w n r l e in omega (arith, s, a)
-two_fuels ((p, Joined x) ∷ w) (suc n) zero r q l k apart e f = absurd (let z : Joined x ≡ Plain k = ap (λ y. y.1) (some_pair (p, Joined x) (q, Plain k) f) in cc)
-two_fuels ((p, Plain x) ∷ w) (suc n) (suc m) r q l k apart e f = let a = two_fuels w n m r q l k (λ z. apart (ap suc z)) e f in omega (arith, a)
-two_fuels ((p, Joined x) ∷ w) (suc n) (suc m) r q l k apart e f = two_fuels w n m r q l k (λ z. apart (ap suc z)) e f
 
 pub joins_fit : JoinsFit
 joins_fit g ok w h n r c c' there try m is q l stands stops =

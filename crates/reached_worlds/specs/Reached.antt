@@ -7,10 +7,7 @@ use Rattle.rev_code.specs.Words.{Word}
 use Rattle.revision_machine.specs.Numbered.{World, begin, Replays}
 use Rattle.code_machine.specs.Local.{CodeRun, Local}
 use Rattle.code_machine.specs.Machines.{numbered, IsMain, start_in}
-
--- the most fuel of `main` in the language
-abbrev pub most_fuel : ℕ
-most_fuel = 4000000000
+pub use Rattle.rev_num.specs.Limits.{most_fuel}
 
 pub record IsReached (g : CodeRun) (w : World (Local ℕ)) : Type 0 where
   -- the block of `main`

@@ -5,16 +5,6 @@ use Rattle.std.specs.Prelude.{slice_get}
 use Rattle.ready_queue.specs.Heap.{has}
 use Rattle.ready_queue.proofs.Heaps.{has_first, has_later, has_none, has_parts}
 
-pub alike : (m n : ℕ) → (m ≡ n) ⊎ (m ≢ n)
-alike zero zero = inl refl
-alike zero (suc n) = inr (λ e. omega (arith, e))
-alike (suc m) zero = inr (λ e. omega (arith, e))
-alike (suc m) (suc n) = by (alike m n)
-  where
-    by : (m ≡ n) ⊎ (m ≢ n) → (suc m ≡ suc n) ⊎ (suc m ≢ suc n)
-    by (inl e) = inl (ap suc e)
-    by (inr h) = inr (λ e. h (omega (arith, e)))
-
 module _ {A : Type 0} where
   pub front : (xs ys : List A) (n : ℕ) (x : A) → slice_get xs n ≡ Some x → slice_get (xs ++ ys) n ≡ Some x
   front [] ys n x e = absurd (let z : ◌≡◌ {A = Option A} None (Some x) = e in cc)

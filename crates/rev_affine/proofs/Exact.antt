@@ -16,17 +16,10 @@ use Rattle.rev_affine.specs.Live.{statement_passes, statement_form_passes, passe
 use Rattle.rev_affine.proofs.Counts.{or_left, or_right}
 use Rattle.rev_affine.specs.Affine.{Occurrence, use_of, gets, expression_occurrences, expressions_occurrences, right_side_occurrences, value_occurrences, Turns, Through, StatementThrough, StatementFormThrough, ArmsThrough, Inside, StatementInside, StatementFormInside, ArmsInside, NoValue, rev_use, UsedTwice}
 use Rattle.rev_affine.specs.SecondUses.{expression_places, expressions_places, right_side_places, value_places, ahead, statement_ahead, statement_form_ahead, arms_ahead, if_rev, expression_twice, expressions_twice, right_side_twice, twice, statement_twice, statement_form_twice, arms_twice}
+pub use Rattle.merge_decl.proofs.Firsts.{left_among}
+pub use Rattle.merge_decl.proofs.Firsts.{right_among}
 
 -- ---- lists
-
-pub left_among : {A : Type 0} (xs ys : List A) (x : A) → Among xs x → Among (xs ++ ys) x
-left_among [] ys x h = absurd h
-left_among (y ∷ xs) ys x (inl e) = inl e
-left_among (y ∷ xs) ys x (inr h) = inr (left_among xs ys x h)
-
-pub right_among : {A : Type 0} (xs ys : List A) (x : A) → Among ys x → Among (xs ++ ys) x
-right_among [] ys x h = h
-right_among (y ∷ xs) ys x h = inr (right_among xs ys x h)
 
 -- a use of the name at this place before it gets a value
 abbrev pub FoundAt : Name → ℕ → List Occurrence → Type 0

@@ -11,6 +11,7 @@ use Rattle.revision_machine.specs.PathMap.{with_at}
 use Rattle.revision_machine.specs.Laws.{local_of, Everywhere, IsForked, IsOrdered}
 use Rattle.revision_machine.proofs.Paths.{apart-same, decide_same, some_inj}
 use Rattle.rev_num.proofs.PostOrder.{same_refl, same-eq}
+use Rattle.rev_num.proofs.Options.{none_some}
 use Rattle.revision_machine.proofs.Way.{put_two, Way, writes, twice, way, Place, own, new, marks, place}
 use Rattle.revision_machine.proofs.Diamond.{two_here, two_there, two_other}
 use Rattle.revision_machine.proofs.Ends.{along, reached_forked}
@@ -286,9 +287,6 @@ module _ (s : Setting) (well : IsAccepted s.program) (once : UsesHandlesOnce s.p
         let is : owned l q ≡ hit (v.Rev (Some q)) q + frames_count phase.0 l.frames q = ap (λ p. owned (record l { phase = p }) q) phase.1 in
         let self : hit (v.Rev (Some q)) q ≡ 1 = ap (λ d. cond d 1 0) (same_refl q) in
         omega (arith, zero_, is, self)
-
-  none_some : {Q : Type 0} {A : Type 0} {a : A} → None ≡ Some a → Q
-  none_some e = absurd cc
 
   keeps : (g h : Global Local) (r : Path) → Good g → step (calculus s) g r ≡ Some h → Good h
   keeps Twice h r good st = none_some st

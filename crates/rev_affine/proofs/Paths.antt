@@ -1,6 +1,7 @@
 -- A program that keeps the affine rule uses each handle once.
 use Rattle.std.proofs.Common.{◌≡◌, ◌∙◌, ◌⊎◌, inl, inr, ℕ, zero, suc, Bool, true, false, cond, List, [], ◌∷◌, ◌++◌, Option, Some, None, refl, sym, ap, subst, true≢false, append_assoc}
 use Rattle.rev_num.specs.declared.value.ValueKind.{ValueKind}
+use Rattle.rev_num.proofs.Lists.{refuted as not_true}
 use Rattle.rev_syntax.specs.Trees.{PlacedName, Expression, placed, ExpressionForm, int, bool, no_rev, var, cell, apply, input, inputs, pick, unary, chain, Expressions, no_expressions, expression, RightSide, plain, called, forked, tried, Statement, statement, StatementForm, bind, assign, assign_cell, choose, choose_or, repeat, call, return, fork, join, print, assert, Statements, no_statements, statements, Arms, no_arms, arm, Declaration, fun, merge, shared, proc, ProgramTree}
 use Rattle.merge_decl.specs.Names.{Name, same}
 use Rattle.merge_decl.specs.Table.{find}
@@ -253,10 +254,6 @@ Never P = (ms : List Occurrence) → P ms → TwiceIn ms → ⊥
 
 abbrev Leaves : (List Occurrence → Type 0) → (Name → Bool) → Type 0
 Leaves P K = (ms : List Occurrence) → P ms → (w : PlacedName) → LeftUsed w ms → K w.text ≡ false
-
-not_true : (b : Bool) → (b ≡ true → ⊥) → b ≡ false
-not_true true h = absurd (h refl)
-not_true false h = refl
 
 -- ---- copies and stores
 

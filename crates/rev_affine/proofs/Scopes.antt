@@ -8,7 +8,6 @@ use Rattle.rev_num.specs.declared.value.Value.TheVariants as v
 use Rattle.rev_num.specs.declared.value.ValueKind.{ValueKind}
 use Rattle.rev_num.specs.declared.value.ValueKind.TheVariants as k
 use Rattle.rev_syntax.specs.Trees.{PlacedName, Parameter, statement, Statements, no_statements, statements, Declaration, fun, merge, shared, proc}
-use Rattle.rev_syntax.proofs.Lists.{same-self}
 use Rattle.merge_decl.specs.Least.{Among}
 use Rattle.merge_decl.specs.Names.{Name, same}
 use Rattle.merge_decl.specs.Table.{Table, find, added}
@@ -16,7 +15,6 @@ use Rattle.merge_decl.specs.Definitions.{names_of}
 use Rattle.merge_decl.proofs.Tables.{same_equal, or_else, or_else-none, find-added}
 use Rattle.rev_kinds.specs.declared.names.Holder.{Holder}
 use Rattle.rev_kinds.specs.Kinds.{Callee, Names, Locals}
-use Rattle.rev_kinds.specs.Typing.{ScalarHas}
 use Rattle.rev_types.specs.Scopes.{proc_named, with_params, fun_named}
 use Rattle.rev_types.specs.Judgement.{IsNew, ParamsNew, DeclarationsTyped}
 use Rattle.rev_types.specs.Layout.{Procedure, procedures_from}
@@ -26,7 +24,7 @@ use Rattle.revision_calculus.specs.Evaluation.{with_local}
 use Rattle.revision_calculus.specs.Step.{append, locals_of, frame_of}
 use Rattle.revision_calculus.specs.Held.{IsHandle}
 use Rattle.revision_calculus.specs.Kinded.{IsWithin}
-use Rattle.revision_calculus.proofs.ScopeKinds.{within_self, within_trans, statement_within, find-with_local, first_kind, find-params, apart_new, apart_within, apart_let, apart_set, apart_params}
+use Rattle.revision_calculus.proofs.ScopeKinds.{within_self, within_trans, statement_within, find-with_local, first_kind, find-params, apart_new, apart_within, apart_let, let_takes, apart_set, apart_params}
 use Rattle.rev_affine.specs.Live.{live, passes, StatementOnce, StatementsOnce}
 use Rattle.rev_affine.specs.Owned.{RestOnce, LocalsRev, FrameOwn, Fits, FramesOwn, DeclarationsOnce}
 use Rattle.rev_affine.proofs.Readings.{PlainParams, Fit}
@@ -80,10 +78,7 @@ module _ (c : Names) where
           by false e i = are.rev name u q (λ d. cc) (sym (or_else-none (find name scope)) ∙ i) g
 
   pub let_fits : (scope : Locals) (w : PlacedName) (t : ValueKind) → IsNew c scope w → Fits c (added scope w.text (Some t)) (Some w.text) (Some t)
-  let_fits scope w t new =
-      let found : find w.text (added scope w.text (Some t)) ≡ Some (Some t) =
-      find-added w.text w.text (Some t) scope ∙ ap (λ o. or_else o (if same w.text w.text then Some (Some t) else None)) new.0 ∙ ap (λ d. if d then Some (Some t) else None) (same-self w.text) in
-      (subst (λ o. ScalarHas o (c.shared w.text) t) (sym found) refl, λ h e. absurd (let clash : None ≡ Some h = sym new.1 ∙ e in cc))
+  let_fits scope w t new = (let_takes c scope w t new, λ h e. absurd (let clash : None ≡ Some h = sym new.1 ∙ e in cc))
 
   -- the name that waited has its value
   pub locals_set : (scope : Locals) (w : Name) (t : ValueKind) (x : Value) (values : Table Value) → LocalsRev c scope (Some w) values → find w scope ≡ Some (Some t) → ((q : Path) → IsHandle x q → t ≡ k.Rev) → LocalsRev c scope None (with_local values w x)

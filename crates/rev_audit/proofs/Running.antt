@@ -1,6 +1,7 @@
 -- A revision's own run, one step more.
 use Rattle.std.proofs.Common.{◌≡◌, inl, ℕ, ◌+◌, ◌<◌, ◌≤◌, ◌^◌, List, [], ◌∷◌, ◌++◌, Option, Some, None, refl, sym, ◌∙◌, subst, arith}
 use Rattle.rev_num.specs.Path.{Path, child}
+use Rattle.rev_num.specs.Limits.{most_fuel}
 use Rattle.revision_machine.specs.Machine.{Moves, Forks, Joins, Ended}
 use Rattle.revision_calculus.specs.Program.{Setting}
 use Rattle.revision_calculus.specs.State.{Local}
@@ -45,7 +46,7 @@ module _ (s : Setting) (fuel : ℕ) (parts : List Part) (well : IsAccepted s.pro
     fits_there = own_runs_fit s well fuel (part_at parts) r h.first l h.begins (passes s fuel parts r h.first l ks h.goes)
 
     -- its fuel and forks are few
-    pub few_there : fuel ≤ 4000000000 → l.fuel + l.forks < 2 ^ 32
+    pub few_there : fuel ≤ most_fuel → l.fuel + l.forks < 2 ^ 32
     few_there small = let fits = fits_there in let room = fits.room in omega arith
 
     pub on_move : (l' : Local) → Moves l' ≡ next s r l → IsUnderWay s fuel parts r l' ks × (joined_by l'.noted ≡ joined_by l.noted) × (weight l' + 1 ≤ weight l)

@@ -4,7 +4,6 @@ use Rattle.std.proofs.lemmas.Bool.{true≢false}
 use Rattle.std.proofs.lemmas.List.{take_more}
 use Rattle.std.specs.List.{slice_get}
 use Rattle.rev_num.specs.Value.{kind_of}
-use Rattle.rev_num.specs.declared.value.Value.{Value}
 use Rattle.rev_num.specs.declared.value.ValueKind.{ValueKind}
 use Rattle.rev_num.proofs.PostOrder.{same_refl, same-eq}
 use Rattle.merge_decl.specs.Names.{same}

@@ -19,7 +19,7 @@ use Rattle.revision_calculus.proofs.Meets.{counts}
 use Rattle.revision_alone.specs.declared.alone.LocalState.{LocalState}
 use Rattle.trace_diagram.specs.Shown.{shown_part}
 use Rattle.trace_diagram.specs.declared.diagram.Part.{Part}
-use Rattle.audit_rules.specs.Audited.{Computed, absent, made, joined_twice, missing, Begins, of_main, of_fork, IsComputed, of_none, of_run, Computes, goes}
+use Rattle.audit_rules.specs.Audited.{Computed, absent, made, joined_twice, missing, of_main, of_fork, of_none, of_run, Computes, goes}
 use Rattle.audit_rules.specs.Parts.{calculus_parts}
 use Rattle.audit_rules.specs.Traces.{InPostOrder, part_at, IsComputedPart, SaysYes, SaysNo}
 use Rattle.audit_rules.specs.Verdicts.{computed_part}

@@ -5,9 +5,9 @@ use Rattle.std.proofs.lemmas.Bool.Decides.{nat_tests}
 use Rattle.std.specs.Prelude.{nat_le}
 use Rattle.rev_num.specs.Path.{Path}
 use Rattle.rev_num.specs.declared.value.ValueKind.{ValueKind}
+use Rattle.rev_num.specs.Limits.{most_fuel}
 use Rattle.revision_calculus.specs.Program.{Setting}
 use Rattle.revision_calculus.specs.State.{Local, Phase}
-use Rattle.revision_calculus.specs.Join.{join}
 use Rattle.revision_calculus.specs.Calculus.{calculus}
 use Rattle.revision_calculus.specs.Kinded.{IsAccepted, location_kinds}
 use Rattle.revision_steps.specs.Ends.{phase_of}
@@ -53,7 +53,7 @@ module _ (s : Setting) (fuel : ℕ) (parts : List Part) (well : IsAccepted s.pro
       and_none true = refl
       and_none false = refl
 
-  pub takes_told : (p : Part) (o : Option AloneEnd) → part_at parts q ≡ Some p → p.fuel + l.fuel + l.forks ≤ fuel → fuel ≤ 4000000000 → OwnFits s fuel r l → ToldBy s p o → TakesOrNot s fuel parts r l q o
+  pub takes_told : (p : Part) (o : Option AloneEnd) → part_at parts q ≡ Some p → p.fuel + l.fuel + l.forks ≤ fuel → fuel ≤ most_fuel → OwnFits s fuel r l → ToldBy s p o → TakesOrNot s fuel parts r l q o
   takes_told p None e room small fits (inl none) = takes_by p None (changes_fit (places s) (location_kinds s) p.written && nat_le (p.fuel + l.fuel + l.forks) fuel) e none refl
   takes_told p None e room small fits (inr unfit) =
       takes_by p (told_phase (places s) p.end) false e refl (ap (λ b. b && nat_le (p.fuel + l.fuel + l.forks) fuel) unfit) ∙ none_taken p (told_phase (places s) p.end)

@@ -1,6 +1,7 @@
 //! The audit of a trace.
 
 ghost use Rattle.std.specs.Prelude.{◌≡◌, ◌≤◌, Some, IfOk, MatchBool};
+ghost use Rattle.rev_num.specs.Limits.{most_fuel};
 ghost use Rattle.rev_syntax.specs.View.{program as whole};
 ghost use Rattle.revision_state.specs.Views.{given};
 ghost use Rattle.trace_diagram.specs.Traces.{IsTrace};
@@ -129,7 +130,7 @@ pub fn audit(
     trace: &Trace,
 ) -> Result<Verdict, AllocError>
     requires form { IsTrace trace.now }
-    requires fuel { fuel ≤ 4000000000 }
+    requires fuel { fuel ≤ most_fuel }
     ensures { IfOk result
         (λ v. Audits
         (record {

@@ -3,6 +3,7 @@
 ghost use Rattle.std.specs.Prelude.{◌≡◌, ◌≤◌, ◌<◌, ℕ, List, Some, IfOk, length, option_copied};
 ghost use Rattle.std.specs.Prelude.{slice_get};
 ghost use Rattle.rev_num.specs.Path.{Path};
+ghost use Rattle.rev_num.specs.Limits.{most_fuel};
 ghost use Rattle.rev_syntax.specs.View.{program as whole};
 ghost use Rattle.merge_decl.specs.Table.{find};
 ghost use Rattle.revision_machine.specs.PathIndex.{IsIndexed, indexed_prop, place_by};
@@ -35,7 +36,7 @@ pub(crate) struct Stated<'a> {
     pub(crate) indices: PathTable,
     /// The number of the first part that lists a revision as joined.
     pub(crate) joiners: PathTable,
-    ghost small: { fuel ≤ 4000000000 },
+    ghost small: { fuel ≤ most_fuel },
     ghost placed: { places.items ≡ spec.places (given setting) },
     ghost numbered: { (place : List ℕ) → find place numbers
         ≡ spec.number_of (spec.places (given setting)) place },
@@ -54,7 +55,7 @@ impl<'a> Stated<'a> {
         fuel: u64,
         parts: &'a [Part],
     ) -> Result<Stated<'a>, AllocError>
-        requires { fuel ≤ 4000000000 }
+        requires { fuel ≤ most_fuel }
         ensures setting { IfOk result (λ t. given t.setting
             ≡ record {
               program = whole typed.now.expanded.program;

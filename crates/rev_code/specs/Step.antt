@@ -23,6 +23,7 @@ use Rattle.rev_code.specs.Words.{Word, int, bool, rev, kind_of, same_kind, fits,
 use Rattle.rev_code.specs.State.{Frame, Fun, Setting, State, seen_at, written_at}
 use Rattle.rev_code.specs.Variables.{Place, scalar, array, cell_at}
 use Rattle.rev_code.specs.Printing.{line_of, printed_kinds}
+pub use Rattle.rev_num.specs.Limits.{most_frames}
 
 pub data Comes (H : Type 0) : Type 0 where
   goes : State H → Comes H
@@ -205,10 +206,6 @@ apply_to c f (Some args) = value_or_trap c (drop (length args) c.stack) (value_a
 abbrev pub apply : {H : Type 0} → State H → Option CodeBlock → Option (Fun H) → Comes H
 apply c None f = stuck
 apply c (Some b) f = apply_to c f (arguments (params b) c.stack)
-
--- the most frames that a revision has
-abbrev pub most_frames : ℕ
-most_frames = 1000
 
 abbrev pub enter : {H : Type 0} → State H → ℕ → CodeBlock → List (Word H) → State H
 enter c n b args = record c {

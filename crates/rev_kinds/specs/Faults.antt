@@ -1,5 +1,5 @@
 -- The places and the numbers of the static rules and limits.
-use Rattle.std.specs.Prelude.{◌≡◌, ℕ, ◌+◌}
+use Rattle.std.specs.Prelude.{◌≡◌, ℕ}
 use Rattle.rev_report.specs.Limits.{most}
 use Rattle.rev_report.specs.declared.limit.Limit.{Limit}
 use Rattle.rev_report.specs.declared.limit.Limit.TheVariants.{Locations, Procedures, Funs, Parameters, Locals, Items, Weight}

@@ -2,7 +2,7 @@
 use Rattle.std.specs.Prelude.{ℕ, Bool, true, false, Option, Some, None, List}
 use Rattle.rev_num.specs.declared.value.ValueKind.{ValueKind}
 use Rattle.rev_num.specs.declared.value.ValueKind.TheVariants as k
-use Rattle.rev_syntax.specs.Trees.{Parameter, Expression, placed, ExpressionForm, Links, int, bool, no_rev, var, cell, apply, input, inputs, pick, unary, chain, no_links, link, RightSide, plain, called, forked, tried}
+use Rattle.rev_syntax.specs.Trees.{Parameter, Expression, placed, ExpressionForm, Links, int, bool, no_rev, var, cell, apply, input, inputs, pick, unary, chain, no_links, link, RightSide, plain, called, forked, tried, PrintItem, text, shown}
 use Rattle.rev_syntax.specs.declared.tree.UnaryOp.{UnaryOp}
 use Rattle.rev_syntax.specs.declared.tree.UnaryOp.TheVariants as u
 use Rattle.rev_syntax.specs.declared.tree.BinaryOp.{BinaryOp}
@@ -100,3 +100,8 @@ right_side_place (plain e) = expression_place e
 right_side_place (called at w args) = at
 right_side_place (forked at w args) = at
 right_side_place (tried at handle) = at
+
+-- the first token of an item of a print
+abbrev pub item_place : PrintItem → ℕ
+item_place (text at bytes) = at
+item_place (shown e) = expression_place e

@@ -15,6 +15,7 @@ use Rattle.std.proofs.lemmas.Str.Ascii.{IsAscii-cons, IsAscii-nil}
 use Rattle.std.proofs.lemmas.List.Elements.{All-cons, All-head, All-tail, All-nil}
 use Rattle.rev_num.specs.Arith.{fits_i64}
 use Rattle.rev_num.specs.Decimal.{IsDigits, IsUnsigned, IsDecimal, spelled, is_digits, number_behind, decimal_in}
+use Rattle.rev_num.proofs.Options.{none_some, some_eq}
 
 pub own : IsNumeralModel (λ ds. all_ascii_digits ds ≡ true) spelled
 own = numerals_by_weight _ tells_all_ascii_digits spelled (search rules)
@@ -42,10 +43,10 @@ digits_pass (d ∷ ds) h = let all = digits_all (d ∷ ds) h.each in grind (arit
 -- ---- the function is exact for the grammar
 
 -- a guarded value is there only where both guards hold
-both_guards : (a b : Bool) (z n : ℤ) → (if a && b then Some z else None) ≡ Some n → (a ≡ true) × (b ≡ true) × (n ≡ z)
-both_guards true true z n h = (refl, refl, grind (arith, rules))
-both_guards true false z n h = grind (arith, rules)
-both_guards false b z n h = grind (arith, rules)
+pub both_guards : {A : Type 0} (a b : Bool) (z n : A) → (if a && b then Some z else None) ≡ Some n → (a ≡ true) × (b ≡ true) × (n ≡ z)
+both_guards true true z n h = (refl, refl, sym (some_eq h))
+both_guards true false z n h = none_some h
+both_guards false b z n h = none_some h
 
 behind_some : (ds : List ℕ) (z n : ℤ) → number_behind ds z ≡ Some n → IsDigits ds × (fits_i64 n ≡ true) × (n ≡ z)
 behind_some ds z n h =

@@ -3,3 +3,4 @@ pub mod Decimals
 pub mod Dots
 pub mod Division
 pub mod Lists
+pub mod Options

@@ -1,6 +1,7 @@
 pub mod Arith
 pub mod Decimal
 pub mod Laws
+pub mod Limits
 pub mod Path
 pub mod PostOrder
 pub mod Text

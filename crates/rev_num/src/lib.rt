@@ -4,6 +4,7 @@
 
 mod items;
 mod laws;
+mod limits;
 mod number;
 mod outcome;
 mod path;
@@ -12,6 +13,7 @@ mod value;
 
 pub use items::{Bytes, Items};
 pub use laws::{decimal_laws, division_laws, post_order_laws, word_laws};
+pub use limits::MOST_FRAMES;
 pub use number::{add, div, int_of_word, mul, neg, rem, sub, word_of_int};
 pub use outcome::{Cause, Outcome, Shown, Trap};
 pub use path::Path;

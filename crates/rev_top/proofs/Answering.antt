@@ -1,5 +1,5 @@
 -- What an answer to words and a source is like: its status, what it writes on `out`, and the bytes that it answers.
-use Rattle.std.proofs.Common.{◌≡◌, ◌∙◌, refl, sym, subst, List, [], ℕ, ◌≤◌, ◌⊎◌, inl, inr, arith, true, length, ap}
+use Rattle.std.proofs.Common.{◌≡◌, ◌∙◌, refl, sym, subst, List, [], ℕ, ◌≤◌, inl, inr, arith, true, length, ap}
 use Rattle.std.specs.Prelude.{Option, Some, None, Result, Ok, Err, Bool, false, is_some}
 use Rattle.rev_io.specs.Stream.{Stream, Rose}
 use Rattle.rev_num.specs.declared.outcome.Outcome.{Outcome}
@@ -14,7 +14,6 @@ use Rattle.rev_report.specs.Outcome.{report}
 use Rattle.rev_messages.specs.Modes.{ordered, summary, traced}
 use Rattle.rev_messages.specs.Refusals.{shown, status_of}
 use Rattle.rev_messages.specs.declared.refusal.Refusal.{Refusal}
-use Rattle.rev_messages.specs.declared.refusal.Refusal.TheVariants as refusals
 use Rattle.rev_top.specs.Stages.{Onward, Then}
 use Rattle.rev_top.specs.Texts.{Checks}
 use Rattle.rev_code.specs.declared.code.Code.{Code}

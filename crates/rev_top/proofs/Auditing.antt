@@ -1,12 +1,10 @@
 -- A source that holds a text and a trace has one answer to its audit.
-use Rattle.std.proofs.Common.{◌≡◌, ◌∙◌, ◌⊎◌, inl, inr, refl, sym, subst, ap, List, [], ℕ, ◌≤◌, ◌<◌, Bool, true, false, nat_le, length, arith, rules}
-use Rattle.std.specs.Prelude.{Option, Some, None, Result, Ok, Err}
+use Rattle.std.proofs.Common.{◌≡◌, ◌∙◌, ◌⊎◌, inl, inr, refl, sym, ap, List, ℕ, Bool, true, false, nat_le, length, arith, rules}
+use Rattle.std.specs.Prelude.{Result, Ok, Err}
 use Rattle.rev_num.specs.Path.{Path}
-use Rattle.rev_words.specs.declared.Mode.TheVariants as modes
 use Rattle.rev_words.specs.declared.Words.{Words}
 use Rattle.rev_syntax.specs.Trees.{ProgramTree}
 use Rattle.rev_parse.specs.SmallTree.{most_bytes}
-use Rattle.rev_messages.specs.Modes.{agreed}
 use Rattle.rev_messages.specs.declared.refusal.Refusal.{Refusal}
 use Rattle.rev_messages.specs.declared.refusal.Refusal.TheVariants as refusals
 use Rattle.revision_calculus.specs.Kinded.{IsAccepted}
@@ -16,17 +14,15 @@ use Rattle.trace_diagram.proofs.Faults.{fault_is_no_text, one_fault}
 use Rattle.trace_readings.proofs.Texts.{each_is_read_or_fails}
 use Rattle.trace_source.specs.Dividing.{Divides, DividesOnce}
 use Rattle.trace_source.proofs.Dividing.{sources_divide_once}
-use Rattle.audit_rules.specs.Verdicts.{Audits}
 use Rattle.audit_rules.specs.declared.verdict.Verdict.{Verdict}
 use Rattle.audit_rules.specs.declared.verdict.Verdict.TheVariants as verdict
 use Rattle.audit_rules.proofs.Verdicts.{each_has_one}
 use Rattle.trace_verdicts.specs.Verdicts.{SameVerdict}
 use Rattle.trace_verdicts.proofs.OneVerdict.{text_has_one}
-use Rattle.rev_top.specs.Answer.{Answer, AuditsParts, AuditsTrace, SaysAs, setting, source_limit}
-use Rattle.rev_top.specs.Stages.{Onward, Then}
-use Rattle.rev_top.specs.Texts.{Checks}
+use Rattle.rev_top.specs.Answer.{Answer, AuditsTrace, setting}
+use Rattle.rev_top.specs.Stages.{Onward}
 use Rattle.rev_top.specs.Traces.{Judges, Parts, ReadsTrace, Splits, answer_of}
-use Rattle.rev_top.proofs.Stages.{One, one_after}
+use Rattle.rev_top.proofs.Stages.{One}
 
 -- ---- the parts of a source
 

@@ -1,5 +1,5 @@
 -- The outcome and the trace of a program's code are those of the program, and its run by threads is one of the program's code.
-use Rattle.std.proofs.Common.{◌≡◌, subst, sym, List, ℕ, ℤ}
+use Rattle.std.proofs.Common.{◌≡◌, subst, List, ℤ}
 use Rattle.std.specs.Prelude.{IfOk, Option, Result, Ok, Err}
 use Rattle.rev_num.specs.declared.outcome.Outcome.{Outcome}
 use Rattle.rev_syntax.specs.View.{program as whole}

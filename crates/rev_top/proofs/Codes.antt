@@ -8,16 +8,15 @@ use Rattle.code_rules.specs.declared.Rule.TheVariants as rule
 use Rattle.code_rules.specs.Verdict.{first_fault}
 use Rattle.code_file.specs.Fields.{Reading, Got, Failed}
 use Rattle.code_file.specs.Reads.{reading}
-use Rattle.code_file.specs.Laws.{EachIsRead, IsFile, ReadsBack}
+use Rattle.code_file.specs.Laws.{IsFile, ReadsBack}
 use Rattle.code_file.specs.declared.fault.ReadFault.{ReadFault}
 use Rattle.code_file.specs.declared.fault.ReadFault.TheVariants as read
 use Rattle.code_file.proofs.EachRead.{each_read}
-use Rattle.code_verifier.specs.Verdicts.{IsRefusal, KeepsRules, fault_of, with_rule}
+use Rattle.code_verifier.specs.Verdicts.{IsRefusal, KeepsRules, fault_of}
 use Rattle.code_verifier.specs.declared.fault.CodeFault.{CodeFault}
 use Rattle.code_verifier.specs.declared.fault.CodeFault.TheVariants as code
 use Rattle.rev_messages.specs.Refusals.{status_of}
 use Rattle.rev_messages.specs.declared.refusal.Refusal.{Refusal}
-use Rattle.rev_messages.specs.declared.refusal.Refusal.TheVariants as refusals
 use Rattle.rev_top.specs.Codes.{ChecksCode, KeepsCodeRules, ReadsFile, report_of_code, report_of_file}
 use Rattle.rev_top.specs.Stages.{Onward, Reports, Then}
 use Rattle.rev_top.specs.Stops.{Meets, stop_of}

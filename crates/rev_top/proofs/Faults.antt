@@ -1,6 +1,6 @@
 -- A text has one reading at most: one tree that keeps all rules, or one first fault.
 use Rattle.std.proofs.Common.{◌≡◌, ◌≢◌, ◌∙◌, ℕ, refl, sym, subst, ap, List, nat_eq, if◌then◌else◌}
-use Rattle.std.specs.Prelude.{Option, Some, None, Result, Ok, Err}
+use Rattle.std.specs.Prelude.{Option, Some, None, Ok, Err}
 use Rattle.rev_syntax.specs.Trees.{ProgramTree}
 use Rattle.rev_syntax.specs.Tokens.{IsFirstFault}
 use Rattle.rev_syntax.specs.declared.token.Token.{Token}
@@ -34,7 +34,7 @@ use Rattle.rev_messages.specs.Refusals.{status_of}
 use Rattle.rev_types.proofs.Accepting.{accepts}
 use Rattle.static_rules.specs.Funs.{IsFirstBrokenFun}
 use Rattle.static_rules.specs.Breaks.{IsFirstBroken}
-use Rattle.static_rules.proofs.FunFaults.{same_first_fun, funs_kept}
+use Rattle.static_rules.proofs.FunFaults.{same_first_fun}
 use Rattle.static_rules.proofs.Fronts.{same_first}
 use Rattle.rev_top.specs.Stops.{Meets, report_of_syntax, stop_of}
 use Rattle.rev_top.specs.Stages.{Reports}

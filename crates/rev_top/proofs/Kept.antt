@@ -1,14 +1,13 @@
 -- Each promise of the top call follows from what happened.
-use Rattle.std.proofs.Common.{◌≡◌, ◌∙◌, refl, sym, subst, List, [], ℕ, ◌<◌, ◌+◌, ◌++◌, ◌⊎◌, inl, inr, arith, true, ap, length, take, rules}
+use Rattle.std.proofs.Common.{◌≡◌, ◌∙◌, sym, subst, List, [], ℕ, ◌<◌, ◌+◌, ◌++◌, ◌⊎◌, inl, inr, arith, true, ap, length, rules}
 use Rattle.std.proofs.lemmas.List.{take_all}
 use Rattle.std.specs.Prelude.{Option, Some, None, is_some}
 use Rattle.rev_io.specs.Stream.{Stream, GaveAtMost, Rose, Took, TookSome}
 use Rattle.rev_words.specs.Reading.{reading}
 use Rattle.rev_words.specs.declared.Words.{Words}
-use Rattle.rev_report.specs.Report.{Output}
-use Rattle.rev_messages.specs.Refusals.{no_memory, shown}
-use Rattle.rev_top.specs.Answer.{Answer, Answers, Says, Takes, reads}
-use Rattle.rev_top.specs.Delivery.{ErrFailed, Happened, NoReport, NoRoomAtErr, NoRoomAtOut, OutFailed, Wrote, all_written, answered, err_failed, no_report, no_room_at_err, no_room_at_out, out_failed}
+use Rattle.rev_messages.specs.Refusals.{shown}
+use Rattle.rev_top.specs.Answer.{Answer, Answers, Takes, reads}
+use Rattle.rev_top.specs.Delivery.{Happened, Wrote, all_written, answered, err_failed, no_report, no_room_at_err, no_room_at_out, out_failed}
 use Rattle.rev_top.specs.Promises.{Calm, Cut, Feeds, IsPartOf, IsRefused, IsWritten, Keeps}
 use Rattle.rev_top.proofs.Answering.{Why, answer_to, at_most_5, failed, out_of, plain, unread, why}
 use Rattle.rev_top.proofs.OneAnswers.{one_answer_to}

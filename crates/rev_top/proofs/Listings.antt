@@ -1,9 +1,9 @@
 -- What `dis` lists of bytes is the code of which they are the file.
 use Rattle.std.proofs.Common.{◌≡◌, ◌∙◌, refl, sym, subst, ap, List, [], ℕ, ◌≤◌, length}
-use Rattle.std.specs.Prelude.{◌↔◌, Some, Result, Ok, Err}
+use Rattle.std.specs.Prelude.{◌↔◌, Result, Ok, Err}
 use Rattle.rev_code.specs.declared.code.Code.{Code}
 use Rattle.code_file.specs.Fields.{Got}
-use Rattle.code_file.specs.Laws.{AreBytes, IsFile, ReadIsFile, ReadsBack}
+use Rattle.code_file.specs.Laws.{AreBytes, ReadIsFile, ReadsBack}
 use Rattle.code_file.specs.Reads.{reading}
 use Rattle.code_listing.specs.Listing.{listing}
 use Rattle.code_verifier.specs.Verdicts.{KeepsRules}
@@ -12,7 +12,7 @@ use Rattle.rev_messages.specs.declared.refusal.Refusal.{Refusal}
 use Rattle.rev_words.specs.declared.Mode.{Mode}
 use Rattle.rev_words.specs.declared.Mode.TheVariants as modes
 use Rattle.rev_words.specs.declared.Words.{Words}
-use Rattle.rev_top.specs.Answer.{Answer, Fits, Lists, SaysAs, file_limit, reads_of}
+use Rattle.rev_top.specs.Answer.{Fits, Lists, SaysAs, file_limit, reads_of}
 use Rattle.rev_top.specs.Codes.{ChecksCode, KeepsCodeRules, ReadsFile}
 use Rattle.rev_top.specs.Stages.{Onward, Then}
 use Rattle.rev_top.specs.Statuses.{IsSoundFile, ListingLaw}

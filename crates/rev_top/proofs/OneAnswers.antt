@@ -1,5 +1,5 @@
 -- There is one answer to the same words and bytes.
-use Rattle.std.proofs.Common.{◌≡◌, ◌∙◌, ◌⊎◌, inl, inr, refl, sym, subst, ap, List, [], ℕ, ◌≤◌, ◌<◌, Bool, true, false, nat_le, length, arith, rules}
+use Rattle.std.proofs.Common.{◌≡◌, ◌∙◌, ◌⊎◌, inl, inr, refl, sym, subst, ap, List, [], ℕ, ◌≤◌, Bool, true, false, nat_le, length, arith, rules}
 use Rattle.std.specs.Prelude.{Option, Some, None, Result, Ok, Err}
 use Rattle.rev_num.specs.declared.outcome.Outcome.{Outcome}
 use Rattle.rev_words.specs.Load.{load_text}

@@ -1,5 +1,5 @@
 -- What a call promises of the run by threads that it hands out follows from what happened.
-use Rattle.std.proofs.Common.{◌≡◌, ◌∙◌, refl, sym, subst, ap, List, [], ℕ, ◌≤◌, ◌++◌, ◌⊎◌, inl, inr, arith, rules, true, false, length, take}
+use Rattle.std.proofs.Common.{◌≡◌, ◌∙◌, refl, sym, subst, ap, List, [], ℕ, ◌≤◌, ◌++◌, inl, inr, arith, rules, true, false, length, take}
 use Rattle.std.specs.Prelude.{Bool, Option, Some, None, Result, Ok, Err, IfOk, is_some}
 use Rattle.rev_io.specs.Stream.{Stream, Took, TookSome}
 use Rattle.rev_num.specs.declared.outcome.Outcome.{Outcome}

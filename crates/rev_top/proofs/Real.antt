@@ -1,6 +1,6 @@
 -- Want of memory is among no faults of a program, so each of them is reported.
 use Rattle.std.proofs.Common.{◌≡◌, refl, List, ℕ}
-use Rattle.std.specs.Prelude.{Option, Some, None}
+use Rattle.std.specs.Prelude.{Some}
 use Rattle.rev_syntax.specs.Tokens.{IsFirstFault}
 use Rattle.rev_syntax.specs.Trees.{ProgramTree}
 use Rattle.rev_syntax.specs.declared.scan.LexFault.{LexFault}

@@ -1,5 +1,5 @@
 -- The statuses 1, 2 and 3 have their causes, and come exactly there.
-use Rattle.std.proofs.Common.{◌≡◌, ◌∙◌, refl, sym, subst, ap, List, ℕ, length, ◌⊎◌, inl, inr, arith}
+use Rattle.std.proofs.Common.{◌≡◌, ◌∙◌, refl, sym, subst, ap, List, ℕ, length, inl, inr, arith}
 use Rattle.std.specs.Prelude.{Option, Some, None, Result, Ok, Err}
 use Rattle.rev_num.specs.declared.outcome.Outcome.{Outcome}
 use Rattle.rev_num.specs.declared.outcome.Outcome.TheVariants as o

@@ -22,7 +22,7 @@ use Rattle.thread_runs.specs.declared.ran.Ran.{Ran}
 use Rattle.thread_runs.specs.Runs.{IsRunOf, numbers_of}
 use Rattle.rev_top.specs.Answer.{Answer, Answers, Fits, Given, code_run, reads, reads_of, setting}
 use Rattle.rev_top.specs.Delivery.{Delivered, NoReport, Wrote}
-use Rattle.rev_top.specs.Promises.{Cut, IsRefused}
+use Rattle.rev_top.specs.Promises.{IsRefused}
 use Rattle.rev_top.specs.Stages.{Then}
 use Rattle.rev_top.specs.Texts.{Checks}
 use Rattle.rev_top.specs.declared.made.Made.{Made}

@@ -3,7 +3,7 @@
 -- `OneAnswer`: there is one, and no other, but for the schedule that `order` writes; `StatusLaw`: 1, 2 and 3
 -- have their causes, and come exactly there;
 -- `ListingLaw`: what `dis` lists of bytes is the code of which they are the file.
-use Rattle.std.specs.Prelude.{ℕ, List, ◌≡◌, ◌≤◌, ◌↔◌, ◌⊎◌, length, Option, Some, None, Result, Ok, Err}
+use Rattle.std.specs.Prelude.{ℕ, List, ◌≡◌, ◌≤◌, ◌↔◌, ◌⊎◌, length, Option, Some, None, Ok, Err}
 use Rattle.rev_num.specs.declared.outcome.Outcome.{Outcome}
 use Rattle.rev_num.specs.declared.outcome.Outcome.TheVariants as o
 use Rattle.rev_words.specs.Load.{load_text}

@@ -1,6 +1,7 @@
 //! The report that belongs to the words and to what the source gives.
 ghost use Rattle.std.specs.Prelude.{◌<◌, ◌≤◌, ◌^◌, ◌≡◌, IfOk, IfSome, length, map};
 ghost use Rattle.std.specs.String.{string_bytes};
+ghost use Rattle.rev_num.specs.Limits.{most_fuel};
 ghost use Rattle.rev_syntax.specs.View.{program as whole};
 ghost use Rattle.rev_words.specs.Reading.{reading};
 ghost use Rattle.rev_words.specs.declared.Words.{Words};
@@ -86,7 +87,7 @@ fn say<R: Threads + Wait + Sync, G: Gate + Sync>(
     gate: &G,
 ) -> Result<Made, Stop>
     requires limit { IsWithin (reads_of words.now.mode) (length bytes.now) }
-    requires fuel { words.now.fuel ≤ 4000000000 }
+    requires fuel { words.now.fuel ≤ most_fuel }
     requires workers { 1 ≤ words.now.workers }
     ensures says { Meets said result (SaysAs words.now.mode words.now bytes.now) }
     ensures holds { IfOk result (λ m.
@@ -157,7 +158,7 @@ fn answer_to<R: Threads + Wait + Sync, S: Source, G: Gate + Sync>(
     source: &mut S,
     gate: &G,
 ) -> Result<Made, Stop>
-    requires fuel { words.now.fuel ≤ 4000000000 }
+    requires fuel { words.now.fuel ≤ most_fuel }
     requires workers { 1 ≤ words.now.workers }
     ensures meets { Meets said result
         (Answers (Some words.now) (S.stream source.old) (S.stream source.new)) }

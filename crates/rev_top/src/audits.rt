@@ -1,5 +1,6 @@
 //! The audit of a source that holds the text of a program and a trace behind it.
 ghost use Rattle.std.specs.Prelude.{ℕ, ◌≤◌, IfOk, drop, length, take};
+ghost use Rattle.rev_num.specs.Limits.{most_fuel};
 ghost use Rattle.rev_syntax.specs.View.{program as whole};
 ghost use Rattle.rev_report.specs.Report.{output};
 ghost use Rattle.trace_diagram.specs.Traces.{IsTrace};
@@ -50,7 +51,7 @@ fn read(alloc: Global, bytes: &[u8]) -> Result<Trace, Stop>
 /// The report of the verdict of a trace.
 fn judge(alloc: Global, words: &Words, typed: &Typed, trace: &Trace) -> Result<Report, Stop>
     requires form { IsTrace trace.now }
-    requires fuel { words.now.fuel ≤ 4000000000 }
+    requires fuel { words.now.fuel ≤ most_fuel }
     ensures { Meets output result
         (Judges (setting words.now (whole typed.now.expanded.program)) words.now.fuel trace.now) }
 {
@@ -63,7 +64,7 @@ fn judge(alloc: Global, words: &Words, typed: &Typed, trace: &Trace) -> Result<R
 
 /// The report of the audit of a trace of this program.
 fn audit_bytes(alloc: Global, words: &Words, typed: &Typed, bytes: &[u8]) -> Result<Report, Stop>
-    requires { words.now.fuel ≤ 4000000000 }
+    requires { words.now.fuel ≤ most_fuel }
     ensures { Meets output result
         (AuditsTrace words.now bytes.now (whole typed.now.expanded.program)) }
 {
@@ -74,7 +75,7 @@ fn audit_bytes(alloc: Global, words: &Words, typed: &Typed, bytes: &[u8]) -> Res
 /// The report of the audit of a trace, with the text of its program.
 fn audit_parts(alloc: Global, words: &Words, text: &[u8], trace: &[u8]) -> Result<Report, Stop>
     requires limit { length text.now ≤ source_limit }
-    requires fuel { words.now.fuel ≤ 4000000000 }
+    requires fuel { words.now.fuel ≤ most_fuel }
     ensures { Meets output result
         (AuditsParts words.now (record { text = text.now; trace = trace.now })) }
 {
@@ -83,7 +84,7 @@ fn audit_parts(alloc: Global, words: &Words, text: &[u8], trace: &[u8]) -> Resul
 }
 
 pub fn audit(alloc: Global, words: &Words, bytes: &[u8]) -> Result<Report, Stop>
-    requires { words.now.fuel ≤ 4000000000 }
+    requires { words.now.fuel ≤ most_fuel }
     ensures { Meets output result (SaysAs Mode.Audit words.now bytes.now) }
 {
     let at = text_length(bytes)?;

@@ -1,5 +1,6 @@
 //! Runs of the code in a code file.
 ghost use Rattle.std.specs.Prelude.{◌≤◌};
+ghost use Rattle.rev_num.specs.Limits.{most_fuel};
 ghost use Rattle.rev_report.specs.Report.{output};
 ghost use Rattle.rev_top.specs.Answer.{RunsCode, SaysAs};
 ghost use Rattle.rev_top.specs.Stops.{Meets};
@@ -14,7 +15,7 @@ use std::alloc::Global;
 
 /// The report of a run of the code, with the values of `main` where they are asked for.
 fn exec_code(alloc: Global, words: &Words, code: Verified) -> Result<Report, Stop>
-    requires { words.now.fuel ≤ 4000000000 }
+    requires { words.now.fuel ≤ most_fuel }
     ensures { Meets output result (RunsCode words.now code.code) }
 {
     let numbers = Vec::from_slice(alloc, words.numbers.as_slice())?;
@@ -23,7 +24,7 @@ fn exec_code(alloc: Global, words: &Words, code: Verified) -> Result<Report, Sto
 }
 
 pub fn exec(alloc: Global, words: &Words, bytes: &[u8]) -> Result<Report, Stop>
-    requires { words.now.fuel ≤ 4000000000 }
+    requires { words.now.fuel ≤ most_fuel }
     ensures { Meets output result (SaysAs Mode.Exec words.now bytes.now) }
 {
     let code = checked_code(alloc, bytes)?;

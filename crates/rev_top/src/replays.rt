@@ -1,5 +1,6 @@
 //! Runs of a program that begin with a schedule.
 ghost use Rattle.std.specs.Prelude.{◌≡◌, ◌≤◌, length};
+ghost use Rattle.rev_num.specs.Limits.{most_fuel};
 ghost use Rattle.rev_syntax.specs.View.{program as whole};
 ghost use Rattle.rev_report.specs.Report.{output};
 ghost use Rattle.rev_top.specs.Answer.{Replays, SaysAs, source_limit};
@@ -33,7 +34,7 @@ fn of_replay(fault: ReplayFault) -> Stop
 /// The report of a run that begins with the schedule, with the values of `main` where they are
 /// asked for.
 fn replay_program(alloc: Global, words: &Words, typed: &Typed) -> Result<Report, Stop>
-    requires { words.now.fuel ≤ 4000000000 }
+    requires { words.now.fuel ≤ most_fuel }
     ensures { Meets output result (Replays words.now (whole typed.now.expanded.program)) }
 {
     let code = generate(alloc, typed)?;
@@ -47,7 +48,7 @@ fn replay_program(alloc: Global, words: &Words, typed: &Typed) -> Result<Report,
 
 pub fn replay(alloc: Global, words: &Words, text: &[u8]) -> Result<Report, Stop>
     requires limit { length text.now ≤ source_limit }
-    requires fuel { words.now.fuel ≤ 4000000000 }
+    requires fuel { words.now.fuel ≤ most_fuel }
     ensures { Meets output result (SaysAs Mode.Replay words.now text.now) }
 {
     let typed = checked(alloc, text)?;

@@ -1,5 +1,6 @@
 //! The modes whose runs go by threads.
 ghost use Rattle.std.specs.Prelude.{◌≡◌, ◌≤◌, IfOk, length};
+ghost use Rattle.rev_num.specs.Limits.{most_fuel};
 ghost use Rattle.rev_syntax.specs.View.{program as whole};
 ghost use Rattle.rev_words.specs.Load as spec;
 ghost use Rattle.code_generation.specs.Generated.{code_of};
@@ -32,7 +33,7 @@ fn run_of<R: Threads + Wait + Sync, G: Gate + Sync>(
     typed: &Typed,
     gate: &G,
 ) -> Result<Ran, AllocError>
-    requires fuel { words.now.fuel ≤ 4000000000 }
+    requires fuel { words.now.fuel ≤ most_fuel }
     requires workers { 1 ≤ words.now.workers }
     ensures run { IfOk result (λ r. IsRunOf
         (code_run words.now (code_of (whole typed.now.expanded.program))) words.now.fuel r) }
@@ -62,7 +63,7 @@ fn run_program<R: Threads + Wait + Sync, G: Gate + Sync>(
     typed: &Typed,
     gate: &G,
 ) -> Result<Made, Stop>
-    requires fuel { words.now.fuel ≤ 4000000000 }
+    requires fuel { words.now.fuel ≤ most_fuel }
     requires workers { 1 ≤ words.now.workers }
     ensures { Meets told result
         (RunsBy words.now (of_run words.now) (whole typed.now.expanded.program)) }
@@ -83,7 +84,7 @@ fn load_program<R: Threads + Wait + Sync, G: Gate + Sync>(
     typed: &Typed,
     gate: &G,
 ) -> Result<Made, Stop>
-    requires fuel { words.now.fuel ≤ 4000000000 }
+    requires fuel { words.now.fuel ≤ most_fuel }
     requires workers { 1 ≤ words.now.workers }
     ensures { Meets told result
         (RunsBy words.now (of_load words.now) (whole typed.now.expanded.program)) }
@@ -104,7 +105,7 @@ fn order_program<R: Threads + Wait + Sync, G: Gate + Sync>(
     typed: &Typed,
     gate: &G,
 ) -> Result<Made, Stop>
-    requires fuel { words.now.fuel ≤ 4000000000 }
+    requires fuel { words.now.fuel ≤ most_fuel }
     requires workers { 1 ≤ words.now.workers }
     ensures { Meets told result
         (RunsBy words.now of_order (whole typed.now.expanded.program)) }
@@ -125,7 +126,7 @@ pub fn run<R: Threads + Wait + Sync, G: Gate + Sync>(
     gate: &G,
 ) -> Result<Made, Stop>
     requires limit { length text.now ≤ source_limit }
-    requires fuel { words.now.fuel ≤ 4000000000 }
+    requires fuel { words.now.fuel ≤ most_fuel }
     requires workers { 1 ≤ words.now.workers }
     ensures { Meets told result (RunsText words.now (of_run words.now) text.now) }
 {
@@ -148,7 +149,7 @@ pub fn load<R: Threads + Wait + Sync, G: Gate + Sync>(
     words: &Words,
     gate: &G,
 ) -> Result<Made, Stop>
-    requires fuel { words.now.fuel ≤ 4000000000 }
+    requires fuel { words.now.fuel ≤ most_fuel }
     requires workers { 1 ≤ words.now.workers }
     ensures { Meets told result (RunsText words.now
         (of_load words.now) (spec.load_text words.now.seed words.now.size)) }
@@ -165,7 +166,7 @@ pub fn order<R: Threads + Wait + Sync, G: Gate + Sync>(
     gate: &G,
 ) -> Result<Made, Stop>
     requires limit { length text.now ≤ source_limit }
-    requires fuel { words.now.fuel ≤ 4000000000 }
+    requires fuel { words.now.fuel ≤ most_fuel }
     requires workers { 1 ≤ words.now.workers }
     ensures { Meets told result (RunsText words.now of_order text.now) }
 {

@@ -1,5 +1,6 @@
 //! The trace of a program.
 ghost use Rattle.std.specs.Prelude.{◌≤◌, IfOk, ◌≡◌, length};
+ghost use Rattle.rev_num.specs.Limits.{most_fuel};
 ghost use Rattle.rev_syntax.specs.View.{program as whole};
 ghost use Rattle.rev_report.specs.Report.{output};
 ghost use Rattle.revision_calculus.specs.Complete.{HasOutcome};
@@ -22,7 +23,7 @@ use trace_diagram::{Trace, print_trace};
 /// The outcome and the trace of the program with the input numbers, the share and the fuel of the
 /// words, both from one run of its code on one thread.
 fn traced(alloc: Global, words: &Words, typed: &Typed) -> Result<TracedRun, AllocError>
-    requires { words.now.fuel ≤ 4000000000 }
+    requires { words.now.fuel ≤ most_fuel }
     ensures outcome { IfOk result (λ t. HasOutcome
         (setting words.now (whole typed.now.expanded.program)) words.now.fuel t.outcome) }
     ensures trace { IfOk result (λ t. HasTrace
@@ -45,7 +46,7 @@ fn text_of(alloc: Global, trace: &Option<Trace>) -> Result<Vec<u8>, AllocError>
 
 /// The report of the trace of a program.
 fn trace_program(alloc: Global, words: &Words, typed: &Typed) -> Result<Report, Stop>
-    requires { words.now.fuel ≤ 4000000000 }
+    requires { words.now.fuel ≤ most_fuel }
     ensures { Meets output result (Traces words.now (whole typed.now.expanded.program)) }
 {
     let run = traced(alloc, words, typed)?;
@@ -55,7 +56,7 @@ fn trace_program(alloc: Global, words: &Words, typed: &Typed) -> Result<Report, 
 
 pub fn trace(alloc: Global, words: &Words, text: &[u8]) -> Result<Report, Stop>
     requires limit { length text.now ≤ source_limit }
-    requires fuel { words.now.fuel ≤ 4000000000 }
+    requires fuel { words.now.fuel ≤ most_fuel }
     ensures { Meets output result (SaysAs Mode.Trace words.now text.now) }
 {
     let typed = checked(alloc, text)?;

@@ -41,7 +41,7 @@ proc_params c l left locals found (b ∷ ps) h =
     let n = not_last left _ limit.0 in
     (here.0, λ g. let e : length ps + 1 < left = one_more (length ps) left g (rest.1 (one_less left n g)) in omega arith)
 
-params_left : (n : ℕ) (ps : List Parameter) → p.left_params n ps ≡ n - length ps
+pub params_left : (n : ℕ) (ps : List Parameter) → p.left_params n ps ≡ n - length ps
 params_left n [] = omega arith
 params_left n (b ∷ ps) = params_left (n - 1) ps ∙ (let e : n - 1 - length ps ≡ n - (length ps + 1) = omega arith in e ∙ (omega arith))
 

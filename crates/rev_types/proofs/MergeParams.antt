@@ -1,15 +1,13 @@
 -- The parameters of a merge are new where no shared variable is seen and their names differ.
-use Rattle.std.proofs.Common.{◌≡◌, ◌≢◌, List, [], ◌∷◌, Some, None, refl, sym}
+use Rattle.std.proofs.Common.{◌≡◌, ◌≢◌, [], ◌∷◌, Some, None, refl, sym}
 use Rattle.rev_num.specs.declared.value.ValueKind.TheVariants as k
-use Rattle.rev_syntax.specs.Trees.{PlacedName, Parameter}
+use Rattle.rev_syntax.specs.Trees.{PlacedName}
 use Rattle.merge_decl.specs.Names.{Name}
 use Rattle.merge_decl.specs.Table.{find, added}
 use Rattle.rev_kinds.specs.Kinds.{Names, Locals}
 use Rattle.rev_kinds.proofs.Lists.{added_unknown}
 use Rattle.rev_types.specs.Judgement.{ParamsNew}
-
-abbrev int_param : PlacedName → Parameter
-int_param w = record { name = w; kind_at = 0; kind = k.Int }
+use Rattle.rev_types.specs.Scopes.{int_param}
 
 pub merge_new : (c : Names) → ((name : Name) → c.shared name ≡ None) → (m j r : PlacedName) → (m.text ≢ j.text) × (m.text ≢ r.text) × (j.text ≢ r.text) → ParamsNew c [] (int_param m ∷ int_param j ∷ int_param r ∷ [])
 merge_new c closed m j r differ = ((refl, closed m.text), ((j_new, closed j.text), ((r_new, closed r.text), tt)))

@@ -3,17 +3,15 @@ use Rattle.std.proofs.Common.{◌≡◌, ◌⊎◌, ℕ, inl, inr, Bool, true, f
 use Rattle.rev_syntax.specs.Trees.{Statement, statement, StatementForm, bind, assign, assign_cell, choose, choose_or, repeat, call, return, fork, join, print, assert, Statements, no_statements, statements, Arms, no_arms, arm}
 use Rattle.rev_types.specs.Statements.{statement_returns, statement_form_returns, statements_return, arms_return, returns}
 use Rattle.rev_types.specs.Judgement.{Ends, by_return, by_if, behind, AllEnd, no_more, one_more}
+use Rattle.rev_num.proofs.Lists.{false_no as never}
 
-both_true : (x y : Bool) → cond x y false ≡ true → (x ≡ true) × (y ≡ true)
+pub both_true : (x y : Bool) → cond x y false ≡ true → (x ≡ true) × (y ≡ true)
 both_true true y h = (refl, h)
 both_true false y h = absurd (true≢false (sym h))
 
 is_both : (x y : Bool) → x ≡ true → y ≡ true → cond x y false ≡ true
 is_both true y a b = b
 is_both false y a b = absurd (true≢false (sym a))
-
-never : {A : Type 0} → false ≡ true → A
-never h = absurd (true≢false (sym h))
 
 some_end : (ss : Statements) → Ends ss ⊎ ((ss ≡ no_statements) × (false ≡ true)) → Ends ss
 some_end ss (inl e) = e

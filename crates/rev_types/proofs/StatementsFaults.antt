@@ -12,7 +12,7 @@ use Rattle.rev_kinds.specs.declared.fault.TypeFault.{TypeFault}
 use Rattle.rev_kinds.specs.declared.names.Holder.{Holder}
 use Rattle.rev_report.specs.Limits.{first_past}
 use Rattle.rev_kinds.specs.Faults.{exceeded}
-use Rattle.rev_kinds.specs.Kinds.{Callee, Names, Locals, name_kind, result_of, kind_in, right_side_kind, right_side_place, expression_place}
+use Rattle.rev_kinds.specs.Kinds.{Callee, Names, Locals, name_kind, result_of, kind_in, right_side_kind, right_side_place, expression_place, item_place}
 use Rattle.rev_kinds.specs.Rules as r
 use Rattle.rev_kinds.specs.Typing.{HasKind}
 use Rattle.rev_kinds.proofs.Lists.{whole, passes, equal, is_equal}
@@ -85,10 +85,6 @@ statement_form_scope c result l (assert e) l' h = sym h.1
 
 statement_scope : (c : Names) (result : Option ValueKind) (l : Locals) (x : Statement) (l' : Locals) → StatementTyped c result l x l' → scopes.locals_after c l x ≡ l'
 statement_scope c result l (statement at line form) l' h = statement_form_scope c result l form l' h
-
-abbrev pub item_place : PrintItem → ℕ
-item_place (text at bytes) = at
-item_place (shown e) = expression_place e
 
 -- ---- all that a statement breaks
 

@@ -57,7 +57,11 @@ abbrev pub with_params : Locals → List Parameter → Locals
 with_params l [] = l
 with_params l (p ∷ ps) = with_params (added l p.name.text (Some p.kind)) ps
 
--- the locals of a merge: its three parameters, which are ints
+-- a parameter of a merge, which is an int
+abbrev pub int_param : PlacedName → Parameter
+int_param w = record { name = w; kind_at = 0; kind = k.Int }
+
+-- the locals of a merge: its three parameters
 abbrev pub merge_locals : PlacedName → PlacedName → PlacedName → Locals
 merge_locals m j r = added (added (added [] m.text (Some k.Int)) j.text (Some k.Int)) r.text (Some k.Int)
 

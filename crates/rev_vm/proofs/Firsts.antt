@@ -4,6 +4,7 @@ use Rattle.std.specs.Prelude.{slice_get}
 use Rattle.std.proofs.lemmas.List.{length-drop}
 use Rattle.rev_num.specs.declared.value.ValueKind.{ValueKind}
 use Rattle.rev_num.specs.declared.value.ValueKind.TheVariants as k
+use Rattle.rev_num.proofs.Options.{none_some}
 use Rattle.rev_code.specs.declared.code.CodeBlock.{CodeBlock}
 use Rattle.rev_code.specs.declared.code.CodeVar.{CodeVar}
 use Rattle.rev_code.specs.Words.{Word, zero_word}
@@ -91,9 +92,6 @@ first_stands g n b is xs ls fuel good r args room roomy stand f sees root there 
     }
 
 -- ---- what a child sees
-
-none_some : {A : Type 0} {a : A} → None ≡ Some a → ⊥
-none_some e = cc
 
 mapped : (f : Location ℕ → Location ℕ) (ls : List (Location ℕ)) (l : ℕ) (x : Location ℕ) → slice_get (map f ls) l ≡ Some x → (y : Location ℕ) × (slice_get ls l ≡ Some y) × (f y ≡ x)
 mapped f [] l x h = absurd (none_some h)

@@ -12,14 +12,8 @@ use Rattle.version_map.specs.declared.end.Written.{Written}
 use Rattle.version_map.specs.Composing.{Entry}
 use Rattle.code_machine.specs.Local.{with_entry, written_from}
 use Rattle.rev_vm.specs.Meaning.{AreWritten}
-
-pub append_none : {A : Type 0} (xs : List A) → xs ++ [] ≡ xs
-append_none [] = refl
-append_none (x ∷ xs) = ap (λ ys. x ∷ ys) (append_none xs)
-
-pub append_three : {A : Type 0} (xs ys zs : List A) → (xs ++ ys) ++ zs ≡ xs ++ (ys ++ zs)
-append_three [] ys zs = refl
-append_three (x ∷ xs) ys zs = ap (λ us. x ∷ us) (append_three xs ys zs)
+pub use Rattle.std.proofs.lemmas.List.{append-nil as append_none}
+pub use Rattle.std.proofs.lemmas.List.{append_assoc as append_three}
 
 module _ (seen : ℕ → ℕ) (root : ℕ → Option ℕ) where
   -- of the k locations from this number on

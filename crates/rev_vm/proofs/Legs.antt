@@ -5,7 +5,7 @@
 use Rattle.std.proofs.Common.{◌≡◌, ◌∙◌, ℕ, suc, ◌-◌, Bool, false, List, [], ◌∷◌, ◌++◌, length, map, Option, None, refl, sym, ap, subst, arith}
 use Rattle.rev_num.specs.declared.outcome.Cause.{Cause}
 use Rattle.rev_code.specs.Words.{Word}
-use Rattle.rev_code.specs.State.{Listed, State, joined}
+use Rattle.rev_code.specs.State.{State, joined}
 use Rattle.rev_code.specs.Step.{ends, forks, joins, step, traps}
 use Rattle.code_soundness.specs.Typed.{IsRevision, location_kinds}
 use Rattle.code_soundness.specs.Whole.{notes_of}

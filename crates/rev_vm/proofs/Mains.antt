@@ -4,7 +4,7 @@
 --   main_called               `main` may begin with no arguments
 --   starts_based              a snapshot with the start words stands for the start locations
 use Rattle.std.proofs.lemmas.Option.{get_or_from_slice_get}
-use Rattle.std.proofs.Common.{◌≡◌, ◌∙◌, ℕ, zero, suc, ◌+◌, ◌-◌, ◌<◌, ◌≤◌, ◌^◌, Bool, true, false, List, [], ◌∷◌, ◌++◌, length, take, drop, get_or, replicate, Some, None, refl, sym, ap, subst, arith, true≢false}
+use Rattle.std.proofs.Common.{◌≡◌, ◌∙◌, ℕ, zero, suc, ◌+◌, ◌-◌, ◌<◌, ◌≤◌, ◌^◌, Bool, true, List, [], ◌∷◌, ◌++◌, length, take, drop, get_or, replicate, Some, None, refl, sym, ap, subst, arith, true≢false}
 use Rattle.std.specs.Prelude.{slice_get, slice_index, nat_le, nat_eq, not, ◌&&◌, IfOk, Result, Ok, Err}
 use Rattle.std.specs.List.{list_all}
 use Rattle.std.proofs.lemmas.Bool.Decides.{nat_tests}
@@ -22,6 +22,7 @@ use Rattle.rev_code.specs.Words.{start_word}
 use Rattle.code_rules.specs.Pass.{is_value_class}
 use Rattle.code_rules.specs.Tables as rules
 use Rattle.code_rules.specs.Tables.{is_main, ends_in_main, fits_class, has_result}
+use Rattle.code_rules.proofs.Limits.{small_parts}
 use Rattle.code_rules.specs.Verdict.{first_fault}
 use Rattle.code_certificate.proofs.Basics.{and_parts, some_eq}
 use Rattle.code_soundness.specs.Typed.{IsOfProgram}
@@ -33,6 +34,7 @@ use Rattle.plain_words.specs.Agreement.{IsWord}
 use Rattle.block_run.specs.Standing.{IsSeen}
 use Rattle.code_machine.specs.Local.{CodeRun, IsVerified}
 use Rattle.block_run.specs.Area.{count}
+use Rattle.block_run.proofs.Tables.{drop_more}
 use Rattle.rev_vm.specs.Opening.{AreShort, StartsWith, words_at_start}
 use Rattle.rev_vm.specs.Starts.{IsBase, IsCalled}
 use Rattle.rev_vm.proofs.Leaving.{append_three, append_none}
@@ -48,9 +50,6 @@ pub more_copies : (xs : List ℕ) (n w : ℕ) → (xs ++ replicate n w) ++ w ∷
 more_copies xs n w =
     append_three xs (replicate n w) (w ∷ [])
     ∙ ap (λ us. xs ++ us) (copies_end n w ∙ (let e : suc n ≡ n + 1 = omega arith in ap (λ m. replicate m w) e))
-
-drop_more : (v : CodeVar) (vs : List CodeVar) (n : ℕ) → drop (n + 1) vs ≡ drop (suc n + 1) (v ∷ vs)
-drop_more v vs n = let e : suc (n + 1) ≡ suc n + 1 = omega arith in ap (λ m. drop m (v ∷ vs)) e
 
 start_drop : (vs : List CodeVar) (n : ℕ) (d : CodeVar) → n < length vs
     → words_at_start (drop n vs) ≡ replicate (get_or vs n d).cells (get_or vs n d).start ++ words_at_start (drop (n + 1) vs)
@@ -121,13 +120,6 @@ last_main (a ∷ c ∷ bs) e =
     let q = last_main (c ∷ bs) (and_parts (not (is_main a.class)) (ends_in_main (c ∷ bs)) e).1 in
     (suc q.0, ap suc q.1, q.2, q.3, q.4)
 
-fourth_of : (x e f g h i j k l m n : Bool) → (x && e && f && g && h && i && j && k && l && m && n) ≡ true → g ≡ true
-fourth_of x e f true h i j k l m n q = refl
-fourth_of true true true false h i j k l m n q = absurd (true≢false (sym q))
-fourth_of false e f false h i j k l m n q = absurd (true≢false (sym q))
-fourth_of true false f false h i j k l m n q = absurd (true≢false (sym q))
-fourth_of true true false false h i j k l m n q = absurd (true≢false (sym q))
-
 module _ (code : Code) (ok : first_fault code ≡ None) where
   accepted : IsAccepted code (notes_of code)
   accepted = no_fault_accepted code ok
@@ -142,13 +134,7 @@ module _ (code : Code) (ok : first_fault code ≡ None) where
   some_blocks = let q = (last_main code.blocks ends).1 in omega (arith, q)
 
   pub few_blocks : length code.blocks ≤ 65535
-  few_blocks =
-      let a = fourth_of (nat_le (rules.locations code.vars) rules.most_locations)
-      (nat_le (rules.count_class Rattle.rev_code.specs.Step.is_procedure code.blocks) rules.most_blocks) (nat_le (rules.count_class is_value_class code.blocks) rules.most_blocks)
-      (nat_le (length code.blocks) rules.most_u16) (list_all rules.is_small_block code.blocks) (list_all rules.is_small_layout code.layouts)
-      (nat_le (length code.vars) rules.most_u16) (list_all rules.has_small_name code.vars) (nat_le (length code.texts) rules.most_u32)
-      (list_all rules.is_small_text code.texts) (nat_le (length code.layouts) rules.most_u32) accepted.small in
-      grind (arith, nat_tests, a)
+  few_blocks = (small_parts code accepted.small).blocks
 
   pub main_there : (b : CodeBlock) × (slice_get code.blocks (length code.blocks - 1) ≡ Some b) × (is_main b.class ≡ true)
   main_there =

@@ -3,6 +3,7 @@ use Rattle.std.proofs.Common.{◌≡◌, subst, ℕ, ◌≤◌, Bool, true, fals
 use Rattle.std.specs.Prelude.{ℤ, Option, Some, None, Result, Ok, Err, IfOk, codes, nat_le, ◌&&◌, if◌then◌else◌, option_and_then, option_map, unwrap_or}
 use Rattle.clap.specs.Words.{Row, Text, all_of, first_of, matches_of}
 use Rattle.rev_num.specs.Decimal.{decimal_in}
+use Rattle.rev_num.specs.Limits.{most_fuel}
 use Rattle.rev_words.specs.Answer.{Gives}
 use Rattle.rev_words.specs.Command.{command}
 use Rattle.rev_words.specs.Each.{each_said}
@@ -84,7 +85,7 @@ abbrev Lies : ℕ → ℕ → Option ℕ → Type 0
 Lies least most o = (n : ℕ) → o ≡ Some n → (least ≤ n) × (n ≤ most)
 
 assembled_keeps : (o : Option Mode) (ns : Option (List ℤ)) (ws ss fs hs : Option ℕ) (es : Option (List ℕ)) (ds zs : Option ℕ) (values : Bool) (w : Words)
-    → ((l : List ℤ) → ns ≡ Some l → length l ≤ 1024) → Lies 1 64 ws → Lies 0 65536 ss → Lies 1 4000000000 fs → Lies 0 4000000000 hs
+    → ((l : List ℤ) → ns ≡ Some l → length l ≤ 1024) → Lies 1 64 ws → Lies 0 65536 ss → Lies 1 most_fuel fs → Lies 0 most_fuel hs
     → ((l : List ℕ) → es ≡ Some l → length l ≤ 65536) → Lies 0 2147483647 ds → Lies 1 500 zs
     → assembled o ns ws ss fs hs es ds zs values ≡ Some w → KeepsRanges w
 assembled_keeps None _ _ _ _ _ _ _ _ _ w _ _ _ _ _ _ _ _ h = grind (arith, rules)
@@ -118,8 +119,8 @@ said_keeps rows w h =
     (few_numbers_in (unwrap_or (all_of (codes "numbers") rows) []))
     (setting 1 64 4 (first_of (codes "workers") rows))
     (setting 0 65536 1024 (first_of (codes "segments") rows))
-    (setting 1 4000000000 1000000000 (first_of (codes "fuel") rows))
-    (setting 0 4000000000 1000000 (first_of (codes "share") rows))
+    (setting 1 most_fuel 1000000000 (first_of (codes "fuel") rows))
+    (setting 0 most_fuel 1000000 (first_of (codes "share") rows))
     (schedule_said (first_of (codes "schedule") rows))
     (setting 0 2147483647 1 (first_of (codes "seed") rows))
     (setting 1 500 200 (first_of (codes "size") rows))
@@ -128,8 +129,8 @@ said_keeps rows w h =
     (numbers_bound (unwrap_or (all_of (codes "numbers") rows) []))
     (λ n. setting_bounds 1 64 4 (first_of (codes "workers") rows) n (omega arith) (omega arith))
     (λ n. setting_bounds 0 65536 1024 (first_of (codes "segments") rows) n (omega arith) (omega arith))
-    (λ n. setting_bounds 1 4000000000 1000000000 (first_of (codes "fuel") rows) n (omega arith) (omega arith))
-    (λ n. setting_bounds 0 4000000000 1000000 (first_of (codes "share") rows) n (omega arith) (omega arith))
+    (λ n. setting_bounds 1 most_fuel 1000000000 (first_of (codes "fuel") rows) n (omega arith) (omega arith))
+    (λ n. setting_bounds 0 most_fuel 1000000 (first_of (codes "share") rows) n (omega arith) (omega arith))
     (schedule_bound (first_of (codes "schedule") rows))
     (λ n. setting_bounds 0 2147483647 1 (first_of (codes "seed") rows) n (omega arith) (omega arith))
     (λ n. setting_bounds 1 500 200 (first_of (codes "size") rows) n (omega arith) (omega arith))

@@ -1,13 +1,13 @@
 -- The text of a schedule is read exactly where the grammar has it.
 use Rattle.std.proofs.Common.{◌≡◌, ◌∙◌, sym, ap, subst, ℕ, ◌<◌, ◌≤◌, ◌^◌, Bool, true, false, List, [], ◌∷◌, length, map, refl, arith, rules, length-append}
-use Rattle.std.specs.Prelude.{Option, Some, None, All, nat_le, nat_lt, ◌==◌, ◌&&◌, if◌then◌else◌, option_and_then, option_map}
+use Rattle.std.specs.Prelude.{Option, Some, None, All, nat_le, nat_lt, ◌==◌, if◌then◌else◌, option_and_then, option_map}
 use Rattle.std.specs.Char.{IsAsciiDigit}
 use Rattle.std.specs.List.{join_with_byte, slice_split}
 use Rattle.std.proofs.lemmas.List.{length-map}
 use Rattle.std.proofs.lemmas.List.Elements.{All-cons, All-head, All-nil, All-tail, All-weaker}
 use Rattle.std.proofs.lemmas.List.Splits.{join_with_byte-slice_split, slice_split_at, slice_split_none}
 use Rattle.rev_num.specs.Decimal.{IsDigits, is_digits, spelled}
-use Rattle.rev_num.proofs.Decimals.{digits_pass, digits_tested}
+use Rattle.rev_num.proofs.Decimals.{digits_pass, digits_tested, both_guards}
 use Rattle.rev_words.specs.Schedule.{IsSchedule, SchedulesAreExact, entry_in, entries_in, few_entries_in, schedule_in}
 
 abbrev IsSmall : ℕ → Type 0
@@ -17,11 +17,6 @@ abbrev AreDigits : List ℕ → Type 0
 AreDigits ds = IsDigits ds
 
 -- ---- one entry
-
-both_guards : (a b : Bool) (m n : ℕ) → (if a && b then Some m else None) ≡ Some n → (a ≡ true) × (b ≡ true) × (n ≡ m)
-both_guards true true m n h = (refl, refl, grind (arith, rules))
-both_guards true false m n h = grind (arith, rules)
-both_guards false b m n h = grind (arith, rules)
 
 -- the digits spell the entry, which 32 bits hold
 pub record IsEntry (ds : List ℕ) (n : ℕ) : Type 0 where

@@ -7,6 +7,7 @@ use Rattle.clap.specs.Walk.{is_empty}
 use Rattle.clap.specs.ValueTests.{accepts}
 use Rattle.clap.specs.declared.builder.ValueParser.TheVariants as vp
 use Rattle.rev_num.specs.Decimal.{decimal_in}
+use Rattle.rev_num.specs.Limits.{most_fuel}
 use Rattle.rev_words.specs.Command.{command}
 use Rattle.rev_words.specs.Each.{each_said}
 use Rattle.rev_words.specs.Schedule.{schedule_in}
@@ -75,8 +76,8 @@ said rows = do
   numbers ← few_numbers_in (unwrap_or (all_of (codes "numbers") rows) [])
   workers ← setting 1 64 4 (first_of (codes "workers") rows)
   segments ← setting 0 65536 1024 (first_of (codes "segments") rows)
-  fuel ← setting 1 4000000000 1000000000 (first_of (codes "fuel") rows)
-  share ← setting 0 4000000000 1000000 (first_of (codes "share") rows)
+  fuel ← setting 1 most_fuel 1000000000 (first_of (codes "fuel") rows)
+  share ← setting 0 most_fuel 1000000 (first_of (codes "share") rows)
   schedule ← schedule_said (first_of (codes "schedule") rows)
   seed ← setting 0 2147483647 1 (first_of (codes "seed") rows)
   size ← setting 1 500 200 (first_of (codes "size") rows)
@@ -107,8 +108,8 @@ pub record KeepsRanges (w : Words) : Type 0 where
   pub numbers : length w.numbers ≤ 1024
   pub workers : (1 ≤ w.workers) × (w.workers ≤ 64)
   pub segments : w.segments ≤ 65536
-  pub fuel : (1 ≤ w.fuel) × (w.fuel ≤ 4000000000)
-  pub share : w.share ≤ 4000000000
+  pub fuel : (1 ≤ w.fuel) × (w.fuel ≤ most_fuel)
+  pub share : w.share ≤ most_fuel
   pub schedule : length w.schedule ≤ 65536
   pub seed : w.seed ≤ 2147483647
   pub size : (1 ≤ w.size) × (w.size ≤ 500)

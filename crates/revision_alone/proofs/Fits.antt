@@ -1,8 +1,7 @@
 -- When each answer of a step comes.
-use Rattle.std.proofs.Common.{◌≡◌, ℕ, refl, sym, ap, ◌∙◌, subst}
+use Rattle.std.proofs.Common.{◌≡◌, refl, sym, subst}
 use Rattle.rev_num.specs.Path.{Path}
 use Rattle.revision_machine.specs.Machine as machine
-use Rattle.revision_machine.specs.Machine.{Event}
 use Rattle.revision_calculus.specs.Program.{Setting}
 use Rattle.revision_calculus.specs.State.{Phase, running, joining, done, trapped, Local}
 use Rattle.revision_calculus.specs.Step.{next, by_phase}

@@ -6,7 +6,6 @@ use Rattle.std.specs.Prelude.{◌≡◌, ℕ, zero, suc, pos, nat_eq, if◌then�
 use Rattle.rev_num.specs.Path.{Path, child}
 use Rattle.rev_num.specs.declared.value.Value.{Value}
 use Rattle.rev_num.specs.declared.value.Value.TheVariants as v
-use Rattle.rev_num.specs.declared.outcome.Trap.{Trap}
 use Rattle.revision_machine.specs.Machine as machine
 use Rattle.revision_machine.specs.Machine.{Event}
 use Rattle.revision_calculus.specs.Program.{Setting}

@@ -1,5 +1,5 @@
 -- The funs and the merges of a well-typed program give values of their kinds.
-use Rattle.std.proofs.Common.{◌≡◌, ◌∙◌, ◌≢◌, ◌⊎◌, inl, inr, ℕ, zero, suc, ◌+◌, ◌≤◌, Bool, true, false, cond, ◌&&◌, IsTrue, List, [], ◌∷◌, length, Option, Some, None, refl, sym, ap, subst, arith}
+use Rattle.std.proofs.Common.{◌≡◌, ◌∙◌, ◌≢◌, ◌⊎◌, inl, inr, ℕ, zero, suc, ◌+◌, Bool, true, false, cond, ◌&&◌, IsTrue, List, [], ◌∷◌, length, Option, Some, None, refl, sym, ap, subst, arith}
 use Rattle.std.specs.Prelude.{nat_le, if◌then◌else◌, slice_get}
 use Rattle.std.specs.List.{list_all}
 use Rattle.std.proofs.lemmas.Bool.{leb-false}
@@ -10,7 +10,7 @@ use Rattle.rev_syntax.specs.Trees.{PlacedName, Parameter, Expression, Declaratio
 use Rattle.rev_syntax.specs.Small.{name_formed, expression_formed, expression_small, parameter_formed, declaration_small}
 use Rattle.merge_decl.specs.Names.{Name, same}
 use Rattle.merge_decl.specs.Table.{find, added}
-use Rattle.merge_decl.specs.FunRules.{Use, count, expression_uses, statements_uses, later_here, broken_by, broken_in, declaration_uses, declarations_uses, uses_in, first_fun, head}
+use Rattle.merge_decl.specs.FunRules.{Use, expression_uses, statements_uses, later_here, broken_by, broken_in, declarations_uses, first_fun}
 use Rattle.merge_decl.specs.FunRules as rule
 use Rattle.merge_decl.specs.declared.expand.FunHead.{FunHead}
 use Rattle.merge_decl.specs.Value.{Fun, Funs, FunDef, bind, bind_all, nothing, inside, fun_value, earlier_of, funs_of}
@@ -19,15 +19,16 @@ use Rattle.merge_decl.specs.Definitions as definition
 use Rattle.merge_decl.proofs.Tables.{same_equal, or_else, or_else-none, or_else-step, find-added}
 use Rattle.rev_kinds.specs.Kinds.{Callee, Names, Locals}
 use Rattle.rev_kinds.specs.Typing.{HasKind}
-use Rattle.rev_kinds.proofs.Lists.{parts, failed, and_parts, added_unknown}
-use Rattle.rev_types.specs.Scopes.{fun_named, outside, within, with_params, merge_locals}
+use Rattle.rev_kinds.proofs.Lists.{parts, failed, and_parts}
+use Rattle.rev_types.specs.Scopes.{fun_named, outside, within, with_params, merge_locals, int_param}
+use Rattle.rev_kinds.proofs.Uses.{OfUses, uses_fine}
 use Rattle.rev_types.specs.Judgement.{ParamsNew, DeclarationsTyped, ProgramTyped}
 use Rattle.rev_types.proofs.Applying.{broken_parts, small_formed}
 use Rattle.rev_types.proofs.DeclsSound.{program_typed}
 use Rattle.revision_calculus.specs.Kinded.{IsAccepted, IsOf, IsSomeOf}
 use Rattle.revision_calculus.proofs.Values.{OfOk}
-use Rattle.revision_calculus.proofs.ValueKinds.{EnvIs, ArgsAre, FunIs, OfUses, uses_all, CanApply, value_is}
-use Rattle.merge_decl.proofs.Firsts.{first_from}
+use Rattle.revision_calculus.proofs.ValueKinds.{EnvIs, ArgsAre, FunIs, uses_all, CanApply, value_is}
+use Rattle.merge_decl.proofs.Firsts.{first_from, known_or_later}
 use Rattle.rev_types.proofs.MergeParams.{merge_new}
 
 -- ---- parameters
@@ -73,9 +74,6 @@ module _ (c : Names) (closed : (name : Name) → c.shared name ≡ None) where
   fun_is fs w ps r body n new has formed us args is t e =
       let same : r ≡ t = (let q : Some r ≡ Some t = e in cc) in
       value_is c (with_params [] ps) fs (inside (names_of ps) args) (inside_is ps args new is) n body t us formed (subst (λ u. HasKind c (with_params [] ps) body u) same has)
-
-  abbrev int_param : PlacedName → Parameter
-  int_param w = record { name = w; kind_at = 0; kind = k.Int }
 
   merge_is : (fs : List FunDef) (w m j r : PlacedName) (body : Expression) (n : ℕ) → (m.text ≢ j.text) × (m.text ≢ r.text) × (j.text ≢ r.text) → HasKind c (merge_locals m j r) body k.Int → IsTrue (expression_formed body)
       → OfUses (CanApply c (funs_of fs) n) (expression_uses n body)
@@ -138,15 +136,12 @@ module _ (p : ProgramTree) where
       by (Some h) e q = before h (failed (nat_le x.within h.decl) _ (parts (later_here x h) _ q).0) (sofar.heads x.name.text h e)
 
   can_apply : (fs : List FunDef) (known : Name → Option Callee) (d n : ℕ) (rest : List Declaration) → Sofar fs known d n rest → (xs : List Use) → broken_in (rule.fun_named p) xs ≡ [] → OfUses (CanApply inner (funs_of fs) d) xs
-  can_apply fs known d n rest sofar [] fine = tt
-  can_apply fs known d n rest sofar (x ∷ xs) fine =
-      let both = parts (broken_by x (rule.fun_named p x.name.text)) (broken_in (rule.fun_named p) xs) fine in
-      (can_use fs known d n rest sofar x both.0, can_apply fs known d n rest sofar xs both.1)
+  can_apply fs known d n rest sofar = uses_fine (CanApply inner (funs_of fs) d) (rule.fun_named p) (can_use fs known d n rest sofar)
 
   one_more : (fs : List FunDef) (known : Name → Option Callee) (d n : ℕ) (w : PlacedName) (ps : List Parameter) (r : ValueKind) (body : Expression) (es : List Declaration) → Sofar fs known d n (fun w ps r body ∷ es)
       → FunIs (record { params = ps; result = Some r }) (Some (fun_value (funs_of fs) (fun_def w ps body)))
       → Sofar (fun_def w ps body ∷ fs) (λ name. or_else (known name) (if same name w.text then Some (record { params = ps; result = Some r }) else None)) (d + 1) (n + 1) es
-  one_more fs known d n w ps r body es sofar is = record { fits = fits; all = all; heads = λ name h e. heads name h (sofar.heads name h e) }
+  one_more fs known d n w ps r body es sofar is = record { fits = fits; all = all; heads = λ name h e. known_or_later (known name) f d n w ps r body es name h (sofar.heads name h e) }
     where
       f : Callee
       f = record { params = ps; result = Some r }
@@ -159,20 +154,6 @@ module _ (p : ProgramTree) where
 
       all : (name : Name) → fun_named p.declarations name ≡ or_else (or_else (known name) (if same name w.text then Some f else None)) (fun_named es name)
       all name = sofar.all name ∙ sym (or_else-step (known name) (same name w.text) f (fun_named es name))
-
-      found : (o : Option Callee) → (g : Callee) × (or_else o (Some f) ≡ Some g)
-      found None = (f, refl)
-      found (Some g) = (g, refl)
-
-      here : (name : Name) (h : FunHead) (x : Bool) → cond x (Some (head d n (length ps))) (first_fun (d + 1) (n + 1) es name) ≡ Some h
-          → ((g : Callee) × (or_else (known name) (if x then Some f else None) ≡ Some g)) ⊎ (first_fun (d + 1) (n + 1) es name ≡ Some h)
-      here name h true q = inl (found (known name))
-      here name h false q = inr q
-
-      heads : (name : Name) (h : FunHead) → ((g : Callee) × (known name ≡ Some g)) ⊎ (first_fun d n (fun w ps r body ∷ es) name ≡ Some h)
-          → ((g : Callee) × (or_else (known name) (if same name w.text then Some f else None) ≡ Some g)) ⊎ (first_fun (d + 1) (n + 1) es name ≡ Some h)
-      heads name h (inl g) = inl (g.0, ap (λ o. or_else o (if same name w.text then Some f else None)) g.1)
-      heads name h (inr q) = here name h (same name w.text) q
 
   -- all funs can be applied, and all merges give ints
   record Declared (fs : List FunDef) (ds : List MergeDef) : Type 0 where

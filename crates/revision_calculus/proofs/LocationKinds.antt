@@ -38,6 +38,12 @@ seen_is t m is = by m.written is.written
     by None any = is.base
     by (Some x) any = any
 
+pub are_length : (ts : List ValueKind) (ms : List Location) → LocationsAre ts ms → length ms ≡ length ts
+are_length [] [] h = refl
+are_length [] (m ∷ ms) h = absurd h
+are_length (t ∷ ts) [] h = absurd h
+are_length (t ∷ ts) (m ∷ ms) h = ap suc (are_length ts ms h.1)
+
 pub seen_at_is : (ts : List ValueKind) (ms : List Location) (n : ℕ) (t : ValueKind) → LocationsAre ts ms → IsAt ts n t → IsOf t (view_at ms n)
 seen_at_is [] ms n t are at = absurd at
 seen_at_is (u ∷ ts) [] n t are at = absurd are
@@ -129,7 +135,7 @@ located before (shared x ∷ es) name = by (same name x.name.text) (located_behi
 
 -- ---- the start
 
-zero_is : (t : ValueKind) → IsOf t (zero_value t)
+pub zero_is : (t : ValueKind) → IsOf t (zero_value t)
 zero_is k.Int = refl
 zero_is k.Bool = refl
 zero_is k.Rev = refl

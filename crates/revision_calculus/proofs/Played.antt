@@ -2,6 +2,7 @@
 use Rattle.std.proofs.Common.{◌≡◌, ◌≢◌, ◌⊎◌, inl, inr, ℕ, zero, suc, Bool, true, false, ◌&&◌, List, [], ◌∷◌, Option, Some, None, is_none, refl, sym, ap, ◌∙◌, subst}
 use Rattle.std.proofs.lemmas.Bool.{and_parts}
 use Rattle.rev_num.specs.Path.{Path, child}
+use Rattle.rev_num.proofs.Options.{none_some as no_none}
 use Rattle.revision_machine.specs.Machine.{Machine, Event, Moves, Forks, Joins, Ended, Entry, Plain, Joined, Global, Twice, Live, nowhere, Revisions, start, step, step_at, Runs, Final, Complete}
 use Rattle.revision_machine.specs.Laws.{IsIn}
 use Rattle.revision_machine.proofs.Paths.{decide_same, some_inj, at_other}
@@ -48,9 +49,6 @@ module _ (M : Machine) where
   Within : Global M.Local → List Path → Type 0
   Within Twice ps = Unit {0}
   Within (Live revs) ps = (p : Path) (e : Entry M.Local) → revs p ≡ Some e → IsIn p ps
-
-  no_none : {A P : Type 0} {a : A} → None ≡ Some a → P
-  no_none e = absurd cc
 
   grown_keeps : (revs : Revisions M) (r : Path) (ps : List Path) (p : Path) → IsIn p ps → IsIn p (grown (Live revs) r ps)
   grown_keeps revs r ps p i = of_entry (revs r)

@@ -23,7 +23,7 @@ use Rattle.revision_calculus.specs.Program.{first_of, variable_named, procedure_
 use Rattle.revision_calculus.specs.State.{Location, view, write_at, fresh, Frame, Phase, running, joining, done, trapped, Local}
 use Rattle.revision_calculus.specs.Evaluation.{eval, evals, on_top, set_named, set, give, cell_location}
 use Rattle.revision_calculus.specs.Step as spec
-use Rattle.revision_calculus.specs.Step.{traps, with_answer, enter, append, select, most_frames, frame_of, calls, finish, end_frame, forker, new_child, joins, item_texts, line_of, by_right, does, begins, by_rest, by_frames, by_phase, next}
+use Rattle.revision_calculus.specs.Step.{traps, with_answer, enter, select, most_frames, frame_of, calls, finish, end_frame, forker, new_child, joins, item_texts, line_of, by_right, does, begins, by_rest, by_frames, by_phase, next}
 use Rattle.revision_calculus.specs.Join as joining_spec
 use Rattle.revision_calculus.specs.Join.{merges_of, join_location, Composition, merged, faults, and_later, compose, absorb, inherit, join_in, left_side, note}
 use Rattle.revision_calculus.specs.Calculus.{start_values, main, calculus}

@@ -10,7 +10,7 @@ use Rattle.rev_num.specs.declared.value.ValueKind.TheVariants as k
 use Rattle.rev_num.specs.declared.outcome.Cause.{Cause}
 use Rattle.rev_num.specs.declared.outcome.Cause.TheVariants as cause
 use Rattle.rev_num.specs.declared.outcome.Trap.{Trap}
-use Rattle.rev_syntax.specs.Trees.{PlacedName, Parameter, Expression, Expressions, RightSide, plain, called, tried, Statement, statement, StatementForm, bind, assign, assign_cell, choose, choose_or, repeat, call, return, fork, join, print, assert, Statements, no_statements, statements, Arms, no_arms, arm, ProgramTree}
+use Rattle.rev_syntax.specs.Trees.{PlacedName, Parameter, Expression, Expressions, RightSide, plain, called, tried, Statement, statement, bind, assign, assign_cell, choose, choose_or, repeat, call, return, fork, join, print, assert, Statements, no_statements, statements, Arms, no_arms, arm}
 use Rattle.rev_syntax.specs.Trees as t
 use Rattle.rev_syntax.specs.Small.{name_formed, expression_small, expressions_small, right_side_small, statement_small, statements_small, arms_small}
 use Rattle.revision_machine.specs.Machine.{Event, Moves, Forks, Joins, Ended, Global, Twice, Live}
@@ -47,7 +47,7 @@ use Rattle.revision_calculus.proofs.FunKinds.{rules_kept, funs_apply}
 use Rattle.revision_calculus.proofs.MergeCauses.{merge_law}
 use Rattle.revision_calculus.proofs.LocationKinds.{IsAt, seen_at_is, write_is, fresh_is, Located, located, start_is, MergesFit, merges_fit, compose_is, merge_locations}
 use Rattle.revision_calculus.proofs.ScopeKinds.{within_self, whole_typed, block_typed, block_small, returns_behind, returns_block, returns_before, shared_new, locals_wait, locals_within, locals_let, let_takes, locals_set, locals_shared, ProcIs, proc_is, call_frame, none_waits, are_trapped}
-use Rattle.rev_types.proofs.Returning.{none_end}
+use Rattle.rev_types.proofs.Returning.{none_end, both_true}
 
 if_ok : (P : Value → Type 0) (a : Answer) → OfOk P a → IfOk a P
 if_ok P (Ok x) h = h
@@ -367,10 +367,6 @@ module _ (s : Setting) (well : IsAccepted s.program) where
           by : (o : Option ValueKind) → ReturnTyped (names s) scope o None → FramesAre (names s) f.left o fs → IsKinded s r (end_frame s l l.frames None)
           by None has below = subst (λ z. IsKinded s r (end_frame s l z None)) (sym top) (return_none r l f fs locations run below)
           by (Some u) has below = absurd has
-
-  both_true : (d e : Bool) → cond d e false ≡ true → (d ≡ true) × (e ≡ true)
-  both_true true e h = (refl, h)
-  both_true false e h = absurd (true≢false (sym h))
 
   -- a statement whose effect this is, where what remains is that of the top frame
   does_are : (r : Path) (l : Local) (f : Frame) (fs : List Frame) (locations : LocationsAre (location_kinds s) l.locations) (run : l.phase ≡ running) (top : l.frames ≡ f ∷ fs)

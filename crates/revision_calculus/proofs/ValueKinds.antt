@@ -24,6 +24,7 @@ use Rattle.rev_kinds.specs.declared.names.Holder.{Holder}
 use Rattle.rev_kinds.specs.Kinds.{Callee, Names, Locals, operand_kind, given_kind, links_kind}
 use Rattle.rev_kinds.specs.Typing.{ScalarHas, ArrayHas, TakesRightSide, HasKind, ExpressionFormHas, ArgsHave, LinksHave}
 use Rattle.rev_kinds.proofs.Lists.{and_parts}
+use Rattle.rev_kinds.proofs.Uses.{OfUses, uses_parts}
 use Rattle.rev_types.proofs.Applying.{small_formed}
 use Rattle.revision_calculus.specs.Kinded.{IsOf, IsSomeOf}
 use Rattle.revision_calculus.proofs.Values.{OfOk, then_ok}
@@ -68,15 +69,6 @@ ArgsAre (p ∷ ps) (x ∷ xs) = IsOf p.kind x × ArgsAre ps xs
 abbrev pub FunIs : Callee → Option Fun → Type 0
 FunIs f None = ⊥
 FunIs f (Some g) = (args : List Value) → ArgsAre f.params args → (t : ValueKind) → f.result ≡ Some t → OfOk (IsOf t) (g args)
-
--- of each application
-abbrev pub OfUses : (Use → Type 0) → List Use → Type 0
-OfUses P [] = Unit {0}
-OfUses P (x ∷ xs) = P x × OfUses P xs
-
-uses_parts : (P : Use → Type 0) (xs ys : List Use) → OfUses P (xs ++ ys) → OfUses P xs × OfUses P ys
-uses_parts P [] ys h = (tt, h)
-uses_parts P (x ∷ xs) ys h = let rest = uses_parts P xs ys h.1 in ((h.0, rest.0), rest.1)
 
 pub uses_all : (P : Use → Type 0) → ((x : Use) → P x) → (xs : List Use) → OfUses P xs
 uses_all P all [] = tt

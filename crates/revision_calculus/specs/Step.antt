@@ -10,7 +10,7 @@ use Rattle.rev_num.specs.declared.value.Value.{Value}
 use Rattle.rev_num.specs.declared.value.Value.TheVariants as v
 use Rattle.rev_num.specs.declared.outcome.Cause.{Cause}
 use Rattle.rev_num.specs.declared.outcome.Cause.TheVariants as cause
-use Rattle.rev_syntax.specs.Trees.{Expressions, RightSide, plain, called, tried, PrintItem, text, shown, Statement, statement, StatementForm, bind, assign, assign_cell, choose, choose_or, repeat, call, return, fork, join, print, assert, Statements, no_statements, statements, Arms, no_arms, arm}
+use Rattle.rev_syntax.specs.Trees.{RightSide, plain, called, tried, PrintItem, text, shown, Statement, statement, bind, assign, assign_cell, choose, choose_or, repeat, call, return, fork, join, print, assert, Statements, no_statements, statements, Arms, no_arms, arm}
 use Rattle.rev_syntax.specs.Trees as t
 use Rattle.rev_report.specs.Lines.{space, with_line_feed}
 use Rattle.rev_report.specs.Outcome.{value_text}
@@ -22,6 +22,7 @@ use Rattle.rev_types.specs.Layout.{procedures, Procedure}
 use Rattle.revision_calculus.specs.Program.{procedure_named, Setting}
 use Rattle.revision_calculus.specs.State.{view, write_at, fresh, Frame, forked, Phase, running, joining, done, trapped, Local}
 use Rattle.revision_calculus.specs.Evaluation.{eval, evals, on_top, set, give, cell_location}
+pub use Rattle.rev_num.specs.Limits.{most_frames}
 
 -- ---- traps
 
@@ -52,9 +53,6 @@ select s l (arm test block arms) last =
     and_then (eval s l test) (λ x. if truth_of x then Ok block else select s l arms last)
 
 -- ---- frames
-
-abbrev pub most_frames : ℕ
-most_frames = 1000
 
 -- the first of these names with the first of these values, and so on
 abbrev pub locals_of : List Name → List Value → Table Value

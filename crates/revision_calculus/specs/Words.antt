@@ -4,7 +4,7 @@ use Prim.Native.String.{String}
 use Rattle.rev_num.specs.declared.value.ValueKind.{ValueKind}
 use Rattle.rev_num.specs.declared.value.ValueKind.TheVariants as kind
 use Rattle.rev_syntax.specs.Trees as t
-use Rattle.rev_syntax.specs.Trees.{PlacedName, Expression, RightSide, PrintItem, Statement, StatementForm, Statements, Parameter, Declaration, ProgramTree}
+use Rattle.rev_syntax.specs.Trees.{PlacedName, Expression, RightSide, PrintItem, Statement, Statements, Parameter, Declaration, ProgramTree}
 use Rattle.rev_syntax.specs.View.{expressions_of, statements_of, arms_of}
 use Rattle.rev_syntax.specs.declared.tree.BinaryOp.{BinaryOp}
 use Rattle.rev_syntax.specs.declared.tree.BinaryOp.TheVariants as b

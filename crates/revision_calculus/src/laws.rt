@@ -2,6 +2,7 @@
 //! program, input, fuel and share, whatever the order of the steps.
 
 ghost use Rattle.std.specs.Prelude.{ℕ, ◌+◌, ◌*◌, ◌≤◌};
+ghost use Rattle.rev_num.specs.Limits.{most_fuel};
 ghost use Rattle.rev_syntax.specs.Trees.{ProgramTree};
 ghost use Rattle.revision_machine.specs.Laws.{
   BoundLaw,
@@ -64,7 +65,7 @@ pub fn fuel_laws()
         BoundLaw (calculus s) (main s fuel) (2 * fuel + 1) }
     ensures tight { Takes (λ fuel. 2 * fuel + 1) }
     ensures count { (s : Setting) (fuel : ℕ) → CountLaw (calculus s) (main s fuel) (1 + fuel) }
-    ensures few { (s : Setting) (fuel : ℕ) → fuel ≤ 4000000000 →
+    ensures few { (s : Setting) (fuel : ℕ) → fuel ≤ most_fuel →
         CountLaw (calculus s) (main s fuel) 4294967295 }
     ensures completion { (s : Setting) (fuel : ℕ) → CompletionLaw (calculus s) (main s fuel) }
 {}

@@ -7,6 +7,7 @@ use Rattle.revision_machine.specs.Conditions.{Counts, Handles, HoldsNone}
 use Rattle.revision_machine.specs.Laws.{local_of, WellForked, IsOrdered, HandlesPrecede, HandleLaw, IsStanding, AllEnded, NoBlockedEnd, IsIn, Census}
 use Rattle.revision_machine.proofs.Paths.{some_inj}
 use Rattle.rev_num.proofs.PostOrder.{before_trans, before_irrefl}
+use Rattle.rev_num.proofs.Options.{none_some}
 use Rattle.revision_machine.proofs.Way.{Way, writes, twice, way}
 use Rattle.revision_machine.proofs.Forker.{keeps_forked, start_forked}
 use Rattle.revision_machine.proofs.Ends.{along}
@@ -63,9 +64,6 @@ lowest waits (p ∷ ps) = go (lowest waits ps) (cases_Bool (waits p))
                 not_true true e (inr i) = absurd (true≢false (sym (before_trans q p low.path e sooner) ∙ low.first q i w))
 
 module _ (M : Machine) where
-  none_some : {P : Type 0} {A : Type 0} {a : A} → None ≡ Some a → P
-  none_some e = absurd cc
-
   keeps_both : (holds : M.Local → Path → Type 0) → Counts M → Handles M holds → (g h : Global M.Local) (r : Path) → WellForked M g × HandlesPrecede M holds g → step M g r ≡ Some h → WellForked M h × HandlesPrecede M holds h
   keeps_both holds counts H Twice h r good s = none_some s
   keeps_both holds counts H (Live revs) h r good s = (keeps_forked M counts (Live revs) h r good.0 s, by h (way M revs r h s))

@@ -5,18 +5,15 @@ use Rattle.rev_num.specs.Path.{Path, same}
 use Rattle.revision_machine.specs.Machine.{Live, start}
 use Rattle.revision_machine.specs.Conditions.{Counts, PaysForks}
 use Rattle.revision_machine.specs.Laws.{IsIn, IsDistinct}
-use Rattle.revision_machine.specs.Numbered.{Numbered, Entries, World, Both, Listing, at_number, leg_at, leg, begin, Replays, machine_by, paths_of, globe_of, paths_at, IsOver, WorldCount, Least, CompleteSchedule, ScheduleCompletes, LeastCompletes, ScheduleBound}
+use Rattle.revision_machine.specs.Numbered.{Numbered, Entries, World, Both, Listing, leg_at, leg, begin, Replays, machine_by, paths_of, globe_of, paths_at, IsOver, WorldCount, Least, CompleteSchedule, ScheduleCompletes, LeastCompletes, ScheduleBound}
+use Rattle.revision_machine.proofs.Lists.{at_none}
 use Rattle.revision_machine.proofs.Numbers.{length-paths}
+use Rattle.revision_machine.proofs.Replays.{replays_on}
 use Rattle.revision_machine.proofs.Bearing.{runs_of}
 use Rattle.revision_machine.proofs.Census.{count_law}
 use Rattle.revision_machine.proofs.Totals.{no_longer}
 use Rattle.revision_machine.proofs.Schedules.{schedule_law}
 use Rattle.rev_num.proofs.PostOrder.{same_refl}
-
-at_none : {A : Type 0} (w : List A) (n : ℕ) → length w ≤ n → at_number w n ≡ None
-at_none [] n h = refl
-at_none (x ∷ w) zero h = absurd (omega arith)
-at_none (x ∷ w) (suc n) h = at_none w n (omega arith)
 
 -- a path of the list stands in the state
 in_world : {A : Type 0} (w : List (Path × A)) (p : Path) → IsIn p (paths_of w) → (e : A) × (globe_of w p ≡ Some e)
@@ -29,10 +26,6 @@ in_world {A} (x ∷ w) p (inr i) = go (in_world w p i) (same x.0 p) refl
     go later false f = (later.0, ap (λ b. cond b (Some x.1) (globe_of w p)) f ∙ later.1)
 
 module _ (N : Numbered) (main : N.Local) where
-  replays_on : (ns ms : List ℕ) (u v w : World N.Local) → Replays N u ns v → Replays N v ms w → Replays N u (ns ++ ms) w
-  replays_on [] ms u v w one two = subst (λ x. Replays N x ms w) (sym one) two
-  replays_on (n ∷ ns) ms u v w one two = (one.0, one.1, replays_on ns ms one.0 v w one.2 two)
-
   -- the least number with a leg, and the world after it
   record Lowest (w : World N.Local) : Type 0 where
     number : ℕ
@@ -89,11 +82,11 @@ module _ (N : Numbered) (main : N.Local) where
         go : Lowest v ⊎ IsOver N main v → Completed v
         go (inr over) = is_over v over
         go (inl l) =
-            let more = bound (ns ++ l.number ∷ []) l.after (replays_on ns (l.number ∷ []) (begin N main) v l.after replays (l.after, l.goes, refl)) in
+            let more = bound (ns ++ l.number ∷ []) l.after (replays_on N ns (l.number ∷ []) (begin N main) v l.after replays (l.after, l.goes, refl)) in
             let long = length-append ns (l.number ∷ []) in
             absurd (omega arith)
     complete_from (suc left) ns v replays enough =
-        go (λ l. complete_from left (ns ++ l.number ∷ []) l.after (replays_on ns (l.number ∷ []) (begin N main) v l.after replays (l.after, l.goes, refl)) (let long = length-append ns (l.number ∷ []) in omega arith)) (lowest v)
+        go (λ l. complete_from left (ns ++ l.number ∷ []) l.after (replays_on N ns (l.number ∷ []) (begin N main) v l.after replays (l.after, l.goes, refl)) (let long = length-append ns (l.number ∷ []) in omega arith)) (lowest v)
       where
         go : ((l : Lowest v) → Completed l.after) → Lowest v ⊎ IsOver N main v → Completed v
         go later (inr over) = is_over v over

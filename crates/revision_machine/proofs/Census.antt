@@ -1,6 +1,7 @@
 -- The finitely many revisions of a state, and what they have together.
-use Rattle.std.proofs.Common.{◌≡◌, ◌≢◌, ◌⊎◌, inl, inr, ℕ, ◌+◌, ◌*◌, ◌≤◌, length, List, [], ◌∷◌, Some, None, refl, sym, ap, ◌∙◌, subst, arith}
+use Rattle.std.proofs.Common.{◌≡◌, ◌≢◌, ◌⊎◌, inl, inr, ℕ, ◌+◌, ◌*◌, ◌≤◌, length, List, [], ◌∷◌, Some, refl, sym, ap, ◌∙◌, subst, arith}
 use Rattle.rev_num.specs.Path.{Path}
+use Rattle.rev_num.proofs.Options.{none_some}
 use Rattle.revision_machine.specs.PathMap.{PathMap, with_at}
 use Rattle.revision_machine.specs.Machine.{Moves, Forks, Joins, Ended, Machine, Entry, Plain, Global, Twice, Live, nowhere, Revisions, start, step, Runs}
 use Rattle.revision_machine.specs.Conditions.{Counts, Spends, PaysForks}
@@ -173,9 +174,6 @@ module _ (M : Machine) where
   spend : (cost : ℕ) (of : M.Local → ℕ) → Spends M cost of → (g h : Global M.Local) (r : Path) → WellForked M g → step M g r ≡ Some h → (n : ℕ) → Amounts M of g n → Left cost of h n
   unfolding Left
   spend cost of spends Twice h r good s n has = none_some s
-    where
-      none_some : {P : Type 0} → None ≡ Some h → P
-      none_some e = absurd cc
   spend cost of spends (Live revs) h r good s n has = by h (way M revs r h s)
     where
       by : (h : Global M.Local) → Way M revs r h → Left cost of h n
@@ -208,9 +206,6 @@ module _ (M : Machine) where
   keeps_count : (of : M.Local → ℕ) → Counts M → PaysForks M of → (most : ℕ) → (g h : Global M.Local) (r : Path) → WellForked M g × Counted of most g → step M g r ≡ Some h → WellForked M h × Counted of most h
   unfolding Counted LeftAfter
   keeps_count of counts pays most Twice h r good s = none_some s
-    where
-      none_some : {P : Type 0} → None ≡ Some h → P
-      none_some e = absurd cc
   keeps_count of counts pays most (Live revs) h r good s = (keeps_forked M counts (Live revs) h r good.0 s, by h (way M revs r h s))
     where
       by : (h : Global M.Local) → Way M revs r h → Counted of most h

@@ -9,14 +9,12 @@ use Rattle.revision_machine.specs.Laws.{AllEnded, UniqueEnd, CompletionLaw}
 use Rattle.revision_machine.specs.Simulation.{Simulates, EntryAgrees, Agrees, UnblockedLaw, CompleteLaw, ConverseLaw, SameEnd}
 use Rattle.revision_machine.proofs.Paths.{at_here, at_other}
 use Rattle.rev_num.proofs.PostOrder.{before_irrefl}
+use Rattle.rev_num.proofs.Options.{none_some}
 use Rattle.revision_machine.proofs.Blocked.{handle_law, going_on, waits_at, all_ended}
 use Rattle.revision_machine.proofs.Lift.{runs_on, quietly, plain_of, run_law, final_of}
 use Rattle.revision_machine.proofs.Bearing.{runs_of, bearing}
 
 module _ (A B : Machine) (R : Path → A.Local → B.Local → Type 0) (Known : Path → Type 0) (a : A.Local) (b : B.Local) where
-  none_some : {P : Type 0} {X : Type 0} {x : X} → None ≡ Some x → P
-  none_some e = absurd cc
-
   module _ (sim : Simulates A B R Known) (holds : A.Local → Path → Type 0) (counts : Counts A) (H : Handles A holds) (none : HoldsNone A holds a) where
     -- one of B that has not ended waits for one before it, as it does in A
     waits_for : (by : List Path) (u : Revisions A) (v : Revisions B) → Runs A (start A a) by (Live u) → ((p : Path) → EntryAgrees A B R p (u p) (v p)) → Final B (Live v) → (r : Path) → waits_at B r (v r) ≡ true → (q : Path) × (waits_at B q (v q) ≡ true) × (before q r ≡ true)

@@ -1,6 +1,7 @@
 -- The diamond from any reached state, and the one end of all complete runs.
-use Rattle.std.proofs.Common.{◌≡◌, ◌≢◌, ◌⊎◌, inl, inr, List, [], ◌∷◌, Some, None, refl, sym, ap, ◌∙◌, subst}
+use Rattle.std.proofs.Common.{◌≡◌, ◌≢◌, ◌⊎◌, inl, inr, List, [], ◌∷◌, Some, refl, sym, ap, ◌∙◌, subst}
 use Rattle.rev_num.specs.Path.{Path}
+use Rattle.rev_num.proofs.Options.{none_some}
 use Rattle.revision_machine.specs.Machine.{Machine, Global, Twice, Live, start, step, Runs, Final}
 use Rattle.revision_machine.specs.Conditions.{Counts}
 use Rattle.revision_machine.specs.Laws.{WellForked, Follows, Diamond, DiamondLaw, UniqueEnd, ForkerLaw, TwiceIsFinal, TwiceInAll}
@@ -9,9 +10,6 @@ use Rattle.revision_machine.proofs.Diamond.{diamond_live}
 use Rattle.revision_machine.proofs.Forker.{fresh_of, keeps_forked, start_forked}
 
 module _ (M : Machine) where
-  none_some : {P : Type 0} {A : Type 0} {a : A} → None ≡ Some a → P
-  none_some e = absurd cc
-
   -- what holds at a start and is kept by each step holds in each reached state
   pub along : (P : Global M.Local → Type 0) → ((g h : Global M.Local) (r : Path) → P g → step M g r ≡ Some h → P h) → (rs : List Path) (g h : Global M.Local) → P g → Runs M g rs h → P h
   along P keeps [] g h p runs = subst P runs p

@@ -1,6 +1,7 @@
 -- The conditions of the answers exclude each other, so each answer comes exactly where its condition holds.
 use Rattle.std.proofs.Common.{◌≡◌, ◌≢◌, ◌⊎◌, inl, inr, List, Option, Some, None, refl, sym, ap, ◌∙◌, subst}
 use Rattle.rev_num.specs.Path.{Path}
+use Rattle.rev_num.proofs.Options.{none_some}
 use Rattle.revision_machine.specs.Machine.{Event, Moves, Forks, Joins, Ended, Machine, Entry, Plain, Joined, Global, Twice, Live, Revisions, step, step_at, happens, join_at, join_ended}
 use Rattle.revision_machine.specs.declared.state.Revision.{Revision}
 use Rattle.revision_machine.specs.declared.one_step.StepOutcome.{StepOutcome}
@@ -8,13 +9,10 @@ use Rattle.revision_machine.specs.declared.one_step.StepOutcome.TheVariants as o
 use Rattle.revision_machine.specs.RevisionList.{globe}
 use Rattle.revision_machine.specs.States.{global_after}
 use Rattle.revision_machine.specs.StepOutcomes as answers
-use Rattle.revision_machine.specs.StepOutcomes.{WaitsOn, Waits, IsEndedEntry, HasEnded, IsMissing, Tells, IsOutcome}
+use Rattle.revision_machine.specs.StepOutcomes.{Waits, IsEndedEntry, HasEnded, IsMissing, Tells, IsOutcome}
 use Rattle.revision_machine.specs.ListStep.{Does}
 
 module _ (M : Machine) where
-  none_some : {P : Type 0} {A : Type 0} {a : A} → None ≡ Some a → P
-  none_some e = absurd cc
-
   -- the answer that the state gives
   abbrev of_met : Path → Event M.Local → StepOutcome
   of_met q Ended = outcome.Moved

@@ -1,6 +1,7 @@
 -- What each event keeps holds of each revision.
-use Rattle.std.proofs.Common.{◌≡◌, ◌≢◌, ◌⊎◌, inl, inr, [], ◌∷◌, Some, None, sym, ap, ◌∙◌, subst}
+use Rattle.std.proofs.Common.{◌≡◌, ◌≢◌, ◌⊎◌, inl, inr, [], ◌∷◌, Some, sym, ap, ◌∙◌, subst}
 use Rattle.rev_num.specs.Path.{Path}
+use Rattle.rev_num.proofs.Options.{none_some}
 use Rattle.revision_machine.specs.Machine.{Machine, Entry, Plain, Joined, Global, Twice, Live, Revisions, start, step}
 use Rattle.revision_machine.specs.Conditions.{IsKept}
 use Rattle.revision_machine.specs.Laws.{local_of, Everywhere, KeptLaw}
@@ -10,9 +11,6 @@ use Rattle.revision_machine.proofs.Diamond.{two_here, two_there, two_other}
 use Rattle.revision_machine.proofs.Ends.{along}
 
 module _ (M : Machine) (main : M.Local) (P : Path → M.Local → Type 0) (kept : IsKept M P) (first : P [] main) where
-  none_some : {Q : Type 0} {A : Type 0} {a : A} → None ≡ Some a → Q
-  none_some e = absurd cc
-
   kept_step : (revs : Revisions M) → Everywhere M P (Live revs) → (s : Path) (l l' : M.Local) (o : Path) (e : Entry M.Local) → revs s ≡ Some (Plain l) → Role M revs s l l' o e → Everywhere M P (Live (put_two revs s (Plain l') o e))
   kept_step revs all s l l' o e here x r f there = go (decide_same s r) (decide_same o r) (place M x)
     where

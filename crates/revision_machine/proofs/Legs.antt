@@ -1,5 +1,5 @@
 -- Each leg of a legal schedule is some number of steps of one revision of the other machine.
-use Rattle.std.proofs.Common.{◌≡◌, ℕ, List, [], ◌∷◌, ◌++◌, inl, inr, Some, refl, sym, ap, ◌∙◌, subst, append_assoc, append-nil}
+use Rattle.std.proofs.Common.{◌≡◌, ℕ, List, [], ◌∷◌, ◌++◌, inl, Some, refl, sym, ap, ◌∙◌, subst, append_assoc, append-nil}
 use Rattle.rev_num.specs.Path.{Path}
 use Rattle.revision_machine.specs.Machine.{Machine, Plain, Global, Live, nowhere, start}
 use Rattle.revision_machine.specs.Conditions.{Counts}
@@ -11,11 +11,7 @@ use Rattle.revision_machine.specs.Schedules.{LegsAgree, LegLaw}
 use Rattle.revision_machine.proofs.Numbers.{none_some, at_paths, paths_with, LegIs}
 use Rattle.revision_machine.proofs.Lift.{step_law, agree_put}
 use Rattle.revision_machine.proofs.Schedules.{leg_of_read, read_leg, begins}
-use Rattle.revision_machine.proofs.Bearing.{in_front}
-
-in_back : (ps qs : List Path) (p : Path) → IsIn p qs → IsIn p (ps ++ qs)
-in_back [] qs p i = i
-in_back (x ∷ ps) qs p i = inr (in_back ps qs p i)
+use Rattle.revision_machine.proofs.Bearing.{in_front, in_back}
 
 module _ (A : Machine) (N : Numbered) (R : List Path → Path → A.Local → N.Local → Type 0) (a : A.Local) (main : N.Local) where
   module _ (counts : (t : List Path) → Counts (machine_by N t)) (sim : (t : List Path) → Simulates A (machine_by N t) (R t) (λ p. IsIn p t)) (related : (t : List Path) → IsIn [] t → R t [] a main) where

@@ -14,7 +14,9 @@ pub mod Lift
 pub mod Kept
 pub mod Completion
 pub mod Converse
+pub mod Lists
 pub mod Numbers
+pub mod Replays
 pub mod Schedules
 pub mod ByNumber
 pub mod Legs

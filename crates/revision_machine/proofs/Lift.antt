@@ -10,6 +10,7 @@ use Rattle.revision_machine.specs.Simulation.{Quiet, stay, more, Simulates, Entr
 use Rattle.revision_machine.proofs.Bearing.{offspring_child, known_front, known_back}
 use Rattle.revision_machine.proofs.Paths.{overwrite, swap, child-apart, at_here, at_other}
 use Rattle.rev_num.proofs.PostOrder.{same-eq}
+use Rattle.rev_num.proofs.Options.{none_some}
 use Rattle.revision_machine.proofs.Way.{put_two, Role, itself, forked, met, Way, writes, twice, way, ended_apart}
 
 same_put : {A : Type 0} (m : PathMap A) (r : Path) (a : A) → m r ≡ Some a → m ≡ with_at m r a
@@ -126,9 +127,6 @@ module _ (A B : Machine) (R : Path → A.Local → B.Local → Type 0) where
       let apart : r ≢ q = λ t. (let clash : Some (Plain b) ≡ Some (Joined y) = sym here ∙ ap v t ∙ was in cc) in
       let one : step A (Live mid) r ≡ Some Twice = ap (step_at A mid r) (at_here u r (Plain m.before)) ∙ ap (happens A mid r m.before) m.joins ∙ ap (join_at A mid r m.before q) (at_other u r (Plain m.before) q apart ∙ z.1) in
       record { times = suc s.times; end = Twice; runs = s.runs Twice one; agrees = tt }
-
-  none_some : {P : Type 0} {X : Type 0} {a : X} → None ≡ Some a → P
-  none_some e = absurd cc
 
   pub step_law : (Known : Path → Type 0) → Simulates A B R Known → StepLaw A B R Known
   step_law Known sim Twice Twice w' r h s known = none_some s

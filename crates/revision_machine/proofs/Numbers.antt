@@ -8,11 +8,10 @@ use Rattle.revision_machine.specs.Numbered.{Wish, Goes, Bears, Wants, Stops, Num
 use Rattle.revision_machine.specs.Births.{offspring_of, offspring_at, offspring}
 use Rattle.revision_machine.proofs.Paths.{some_inj, apart-same, swap, overwrite, at_here, at_other}
 use Rattle.rev_num.proofs.PostOrder.{same_refl, same-eq}
+pub use Rattle.revision_machine.proofs.Lists.{none_some}
+use Rattle.revision_machine.proofs.Lists.{at_front, at_length, put_other}
 use Rattle.revision_machine.proofs.Way.{ended_apart}
 use Rattle.revision_machine.proofs.Bearing.{in_front}
-
-pub none_some : {P : Type 0} {A : Type 0} {a : A} → None ≡ Some a → P
-none_some e = absurd cc
 
 pub distinct_front : (ps qs : List Path) → IsDistinct (ps ++ qs) → IsDistinct ps
 distinct_front [] qs d = tt
@@ -23,7 +22,7 @@ in_at [] m q e = none_some e
 in_at (p ∷ ps) zero q e = inl (sym (some_inj e))
 in_at (p ∷ ps) (suc m) q e = inr (in_at ps m q e)
 
-number_at : (ps : List Path) (m : ℕ) (q : Path) → IsDistinct ps → at_number ps m ≡ Some q → number_of ps q ≡ m
+pub number_at : (ps : List Path) (m : ℕ) (q : Path) → IsDistinct ps → at_number ps m ≡ Some q → number_of ps q ≡ m
 number_at [] m q d e = none_some e
 number_at (p ∷ ps) zero q d e = ap (λ b. cond b zero (suc (number_of ps q))) (ap (same p) (sym (some_inj e)) ∙ same_refl p)
 number_at (p ∷ ps) (suc m) q d e =
@@ -40,24 +39,22 @@ number_back (p ∷ t) q i = go (λ j. number_back t q j) (same p q) refl i
     go later false e (inl is) = absurd (let clash : true ≡ false = sym (ap (λ v. same v q) (sym is) ∙ same_refl q) ∙ e in cc)
     go later false e (inr i) = later i
 
-pub at_length : (ps : List Path) (c : Path) (rest : List Path) → at_number (ps ++ c ∷ rest) (length ps) ≡ Some c
-at_length [] c rest = refl
-at_length (p ∷ ps) c rest = at_length ps c rest
-
 module _ {A : Type 0} where
   pub length-paths : (w : List (Path × A)) → length (paths_of w) ≡ length w
   length-paths [] = refl
   length-paths (x ∷ w) = ap suc (length-paths w)
 
+  -- an entry's path stands at its number
+  pub path_at : (w : List (Path × A)) (m : ℕ) (q : Path) (e : A) → at_number w m ≡ Some (q, e) → at_number (paths_of w) m ≡ Some q
+  path_at [] m q e f = none_some f
+  path_at (x ∷ w) zero q e f = ap (λ v. Some v.0) (some_inj f)
+  path_at (x ∷ w) (suc m) q e f = path_at w m q e f
+
   pub at_paths : (w : List (Path × A)) (rest : List Path) (m : ℕ) (q : Path) (e : A) → at_number w m ≡ Some (q, e) → at_number (paths_of w ++ rest) m ≡ Some q
-  at_paths [] rest m q e f = none_some f
-  at_paths (x ∷ w) rest zero q e f = ap (λ v. Some v.0) (some_inj f)
-  at_paths (x ∷ w) rest (suc m) q e f = at_paths w rest m q e f
+  at_paths w rest m q e f = at_front (paths_of w) rest m q (path_at w m q e f)
 
   pub in_paths : (w : List (Path × A)) (m : ℕ) (q : Path) (e : A) → at_number w m ≡ Some (q, e) → IsIn q (paths_of w)
-  in_paths [] m q e f = none_some f
-  in_paths (x ∷ w) zero q e f = inl (ap (λ v. v.0) (sym (some_inj f)))
-  in_paths (x ∷ w) (suc m) q e f = inr (in_paths w m q e f)
+  in_paths w m q e f = in_at (paths_of w) m q (path_at w m q e f)
 
   pub globe_there : (w : List (Path × A)) (m : ℕ) (q : Path) (e : A) → IsDistinct (paths_of w) → at_number w m ≡ Some (q, e) → globe_of w q ≡ Some e
   globe_there [] m q e d f = none_some f
@@ -82,16 +79,14 @@ module _ {A : Type 0} where
   globe_more [] c e out = refl
   globe_more (x ∷ w) c e out = ap (λ v. with_at v x.0 x.1) (globe_more w c e (λ i. out (inr i))) ∙ swap (globe_of w) c x.0 e x.1 (λ g. out (inl g))
 
-  paths_more : (w : List (Path × A)) (c : Path) (e : A) → paths_of (w ++ (c, e) ∷ []) ≡ paths_of w ++ c ∷ []
+  pub paths_more : (w : List (Path × A)) (c : Path) (e : A) → paths_of (w ++ (c, e) ∷ []) ≡ paths_of w ++ c ∷ []
   paths_more [] c e = refl
   paths_more (x ∷ w) c e = ap (λ v. x.0 ∷ v) (paths_more w c e)
 
-  at_put_other : (w : List (Path × A)) (n m : ℕ) (y : Path × A) → n ≢ m → at_number (put_number w n y) m ≡ at_number w m
-  at_put_other [] n m y apart = refl
-  at_put_other (x ∷ w) zero zero y apart = absurd (apart refl)
-  at_put_other (x ∷ w) zero (suc m) y apart = refl
-  at_put_other (x ∷ w) (suc n) zero y apart = refl
-  at_put_other (x ∷ w) (suc n) (suc m) y apart = at_put_other w n m y (λ e. apart (ap suc e))
+  -- the first entry has the first path
+  pub first_entry : (w : List (Path × A)) (p : Path) (rest : List Path) → paths_of w ≡ p ∷ rest → (e : A) × (at_number w 0 ≡ Some (p, e))
+  first_entry [] p rest is = absurd (let z : [] ≡ p ∷ rest = is in cc)
+  first_entry (x ∷ w) p rest is = (x.1, (let z : x.0 ≡ p = (let y : x.0 ∷ paths_of w ≡ p ∷ rest = is in cc) in ap (λ q. Some (q, x.1)) z))
 
   in_globe : (w : List (Path × A)) (c : Path) → globe_of w c ≡ None → IsIn c (paths_of w) → ⊥
   in_globe [] c e none = none
@@ -153,8 +148,8 @@ module _ (N : Numbered) where
             apart : r ≢ q
             apart = ended_apart (machine_by N []) (globe_of w) r q l lq plain_r (λ g. let clash : Joins (or_path (at_number [] m) r) ≡ Ended = sym (ap (event_by [] r (N.forks l)) e) ∙ g in cc) plain_q (ap (event_by [] q (N.forks lq)) f)
 
-            n_m : n ≢ m
-            n_m g = apart (ap (λ v. v.0) (some_inj (sym here ∙ ap (at_number w) g ∙ there)))
+            m_n : m ≢ n
+            m_n g = apart (ap (λ v. v.0) (some_inj (sym here ∙ ap (at_number w) (sym g) ∙ there)))
 
             new_state : Entry N.Local
             new_state = Plain (N.join l m lq)
@@ -166,7 +161,7 @@ module _ (N : Numbered) where
             paths₁ = paths_put w n r (Plain l) new_state here
 
             there₁ : at_number w₁ m ≡ Some (q, Plain lq)
-            there₁ = at_put_other w n m (r, new_state) n_m ∙ there
+            there₁ = put_other w n m (r, new_state) m_n ∙ there
 
             paths₂ : paths_of (put_number w₁ m (q, Joined lq)) ≡ paths_of w
             paths₂ = paths_put w₁ m q (Plain lq) (Joined lq) there₁ ∙ paths₁

@@ -1,10 +1,11 @@
 -- Laws of paths and of maps from paths.
 use Rattle.std.proofs.Common.{◌≡◌, ◌≢◌, ◌⊎◌, inl, inr, ℕ, Bool, true, false, cond, [], ◌∷◌, Some, refl, sym, ap, ◌∙◌, subst}
-use Rattle.std.proofs.lemmas.Bool.{eqb-true, eq-eqb, and_parts, and_from, true≢false}
+use Rattle.std.proofs.lemmas.Bool.{true≢false}
 use mathlib.Core.Path.{fun_ext}
 use Rattle.rev_num.specs.Path.{Path, child, same}
 use Rattle.rev_num.proofs.PostOrder.{same_refl, same-eq}
 use Rattle.revision_machine.specs.PathMap.{PathMap, with_at}
+pub use Rattle.rev_num.proofs.Options.{some_eq as some_inj}
 
 pub apart-same : (p q : Path) → p ≢ q → same p q ≡ false
 apart-same p q apart = go (same p q) refl
@@ -48,9 +49,6 @@ swap {A} m r o a b apart = fun_ext λ p. go p (same r p) refl (same o p) refl
     go p true e false f = refl
     go p false e true f = refl
     go p false e false f = refl
-
-pub some_inj : {A : Type 0} {a b : A} → Some a ≡ Some b → a ≡ b
-some_inj e = cc
 
 cons_tail : {x y : ℕ} {p q : Path} → x ∷ p ≡ y ∷ q → p ≡ q
 cons_tail e = cc

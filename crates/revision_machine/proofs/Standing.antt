@@ -1,6 +1,7 @@
 -- `main` stands in every state but Twice, and what is marked has ended.
-use Rattle.std.proofs.Common.{◌≡◌, ◌≢◌, ◌⊎◌, inl, inr, [], Some, None, sym, ap, ◌∙◌}
+use Rattle.std.proofs.Common.{◌≡◌, ◌≢◌, ◌⊎◌, inl, inr, [], Some, sym, ap, ◌∙◌}
 use Rattle.rev_num.specs.Path.{Path}
+use Rattle.rev_num.proofs.Options.{none_some as no_none}
 use Rattle.revision_machine.specs.PathMap.{with_at}
 use Rattle.revision_machine.specs.Machine.{Ended, Machine, Entry, Plain, Joined, Global, Twice, Live, nowhere, start, step}
 use Rattle.revision_machine.specs.Laws.{Stands, StandingLaw}
@@ -10,9 +11,6 @@ use Rattle.revision_machine.proofs.Diamond.{two_here, two_there, two_other}
 use Rattle.revision_machine.proofs.Ends.{along}
 
 module _ (M : Machine) where
-  no_none : {A P : Type 0} {a : A} → None ≡ Some a → P
-  no_none e = absurd cc
-
   joined_inj : {a b : M.Local} → Joined a ≡ Joined b → a ≡ b
   joined_inj e = cc
 

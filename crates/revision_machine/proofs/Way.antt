@@ -1,6 +1,7 @@
 -- Each step other than one to Twice writes the stepper's entry and one other.
 use Rattle.std.proofs.Common.{◌≡◌, ◌≢◌, Option, Some, None, refl, sym, ap, ◌∙◌, subst}
 use Rattle.rev_num.specs.Path.{Path, child}
+use Rattle.rev_num.proofs.Options.{none_some as no_none}
 use Rattle.revision_machine.specs.PathMap.{PathMap, with_at}
 use Rattle.revision_machine.specs.Machine.{Event, Moves, Forks, Joins, Ended, Machine, Entry, Plain, Joined, Global, Twice, Live, Revisions, step, step_at, happens, join_at, join_ended}
 use Rattle.revision_machine.proofs.Paths.{overwrite, swap, some_inj, child-apart}
@@ -19,9 +20,6 @@ module _ (M : Machine) where
   pub data Way (revs : Revisions M) (r : Path) : Global M.Local → Type 0 where
     writes : (l l' : M.Local) (o : Path) (e : Entry M.Local) → revs r ≡ Some (Plain l) → Role revs r l l' o e → Way revs r (Live (put_two revs r (Plain l') o e))
     twice : (l : M.Local) (q : Path) (lq : M.Local) → revs r ≡ Some (Plain l) → M.next r l ≡ Joins q → revs q ≡ Some (Joined lq) → Way revs r Twice
-
-  no_none : {A : Type 0} {P : Type 0} {a : A} → None ≡ Some a → P
-  no_none e = absurd cc
 
   no_step_once_ended : (revs : Revisions M) (r : Path) (l : M.Local) (h : Global M.Local) → happens M revs r l (M.next r l) ≡ Some h → M.next r l ≢ Ended
   no_step_once_ended revs r l h e f = no_none (subst (λ v. happens M revs r l v ≡ Some h) f e)

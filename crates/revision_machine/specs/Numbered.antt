@@ -112,10 +112,14 @@ abbrev pub shows : {L : Type 0} → World L → Global L
 shows Both = Twice
 shows (Listing w) = Live (globe_of w)
 
+-- the path that a table has for a number, and that of `main` where it has none
+abbrev pub path_in : List Path → ℕ → Path
+path_in t n = or_path (at_number t n) []
+
 -- the paths that a table has for these numbers
 abbrev pub paths_at : List Path → List ℕ → List Path
 paths_at t [] = []
-paths_at t (n ∷ ns) = or_path (at_number t n) [] ∷ paths_at t ns
+paths_at t (n ∷ ns) = path_in t n ∷ paths_at t ns
 
 module _ (N : Numbered) (main : N.Local) where
   -- by any table that begins with these paths, the schedule is a run from the start to the world's state, and the

@@ -10,15 +10,12 @@ ghost use Rattle.revision_state.specs.Views.{given};
 
 use crate::local::Local;
 use crate::own::Own;
-use rev_num::{Cause, Path, Value};
+use rev_num::{Cause, MOST_FRAMES, Path, Value};
 use rev_syntax::{Block, Expr, Name, Stmt};
 use revision_data::is_true;
 use revision_state::{Phase, Setting};
 use std::alloc::{AllocError, Global};
 use std::slice;
-
-/// What the call of a procedure may take of frames.
-const MOST_FRAMES: usize = 1000;
 
 impl<'a> Local<'a> {
     /// `name = e;`, also with a `let`.

@@ -1,13 +1,13 @@
 -- The events of legs, as those of the machine.
-use Rattle.std.proofs.Common.{◌≡◌, refl, ℕ, Bool, true, false, List, Option, Some, None, sym, ap, ◌∙◌, subst}
+use Rattle.std.proofs.Common.{◌≡◌, refl, ℕ, Bool, true, false, List, Option, Some, sym, ap, ◌∙◌, subst}
 use Rattle.std.specs.Prelude.{slice_get}
 use Rattle.rev_num.specs.declared.outcome.Cause.{Cause}
 use Rattle.rev_code.specs.declared.code.CodeBlock.{CodeBlock}
 use Rattle.rev_code.specs.Words.{Word}
 use Rattle.rev_code.specs.State.{State}
-use Rattle.rev_code.specs.Step.{Comes, goes, traps, forks, joins, ends, stuck}
+use Rattle.rev_code.specs.Step.{Comes, traps, forks, joins, ends}
 use Rattle.rev_code.specs.Events.{past_join}
-use Rattle.revision_machine.specs.Numbered.{Bears, Goes}
+use Rattle.revision_machine.specs.Numbered.{Bears}
 use Rattle.version_map.specs.declared.end.EndValue.{EndValue}
 use Rattle.version_map.specs.declared.end.Finish.{Finish}
 use Rattle.version_map.specs.declared.end.Finish.TheVariants as finish
@@ -15,12 +15,12 @@ use Rattle.hub_algebra.specs.Hub.{Stands}
 use Rattle.hub_algebra.specs.HubMachine as hub
 use Rattle.hub_workers.specs.declared.legs.Event.TheVariants as event
 use Rattle.hub_workers.specs.Legs as legs
-use Rattle.code_machine.specs.Local.{CodeRun, Phase, running, done, trapped, Local, at_work, has_ended, End, end_of}
+use Rattle.code_machine.specs.Local.{CodeRun, Phase, running, done, trapped, at_work, has_ended, End, end_of}
 use Rattle.code_machine.specs.Leg.{leg}
 use Rattle.code_machine.specs.Joining.{inherit, join_in}
 use Rattle.code_machine.specs.Machines.{fork, act_of, wish_of}
 use Rattle.code_hub.specs.CodeState.{CodeState, state_of, told, next}
-use Rattle.code_hub.specs.Values.{JoinerValue, LeftValue, is_trap, joined, is_end, code_hub}
+use Rattle.code_hub.specs.Values.{JoinerValue, LeftValue, is_trap, is_end, code_hub}
 use Rattle.code_hub.proofs.Meeting.{comes_to_join}
 use Rattle.rev_vm.specs.Legs.{trap_of}
 use Rattle.rev_vm.specs.Meaning.{IsEnd}

@@ -1,6 +1,6 @@
 -- What a value stands for is the state or the end that is a function of it.
-use Rattle.std.proofs.Common.{◌≡◌, refl, ℕ, zero, suc, Bool, true, false, List, [], ◌∷◌, ◌++◌, Some, sym, ap, ◌∙◌, subst}
-use Rattle.rev_code.specs.Words.{Word, rev}
+use Rattle.std.proofs.Common.{◌≡◌, refl, ℕ, Bool, List, [], ◌∷◌, ◌++◌, sym, ap, ◌∙◌, subst}
+use Rattle.rev_code.specs.Words.{Word}
 use Rattle.rev_code.specs.State.{State, Listed}
 use Rattle.rev_code.specs.State as listed
 use Rattle.rev_code.specs.Events as events

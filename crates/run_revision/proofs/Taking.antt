@@ -1,5 +1,5 @@
 -- A joiner and the end that it takes in.
-use Rattle.std.proofs.Common.{◌≡◌, refl, ℕ, ◌+◌, ◌<◌, ◌≤◌, ◌^◌, Bool, true, false, List, sym, ap, ◌∙◌, subst, arith}
+use Rattle.std.proofs.Common.{◌≡◌, refl, ℕ, ◌+◌, ◌<◌, ◌^◌, Bool, false, List, sym, ap, ◌∙◌, arith}
 use Rattle.rev_code.specs.State.{State}
 use Rattle.revision_machine.specs.Numbered.{Stops}
 use Rattle.version_map.specs.declared.end.CodeTrap.{CodeTrap}
@@ -7,10 +7,10 @@ use Rattle.version_map.specs.declared.end.EndValue.{EndValue}
 use Rattle.version_map.specs.declared.end.Finish.{Finish}
 use Rattle.version_map.specs.declared.end.Finish.TheVariants as finish
 use Rattle.hub_workers.specs.Legs.{HaveMet}
-use Rattle.code_machine.specs.Local.{CodeRun, Trap, Phase, running, done, trapped, Local, End, end_of}
+use Rattle.code_machine.specs.Local.{CodeRun, Trap, Phase, running, done, trapped, Local, end_of}
 use Rattle.code_machine.specs.Joining.{inherit, join_in}
 use Rattle.code_machine.specs.Machines.{act_in, wish_of}
-use Rattle.code_hub.specs.CodeState.{CodeState, state_of, told, next}
+use Rattle.code_hub.specs.CodeState.{state_of, told, next}
 use Rattle.code_hub.specs.Values.{JoinerValue, LeftValue, is_trap, joined, is_end, code_hub}
 use Rattle.code_hub.specs.Laws.{MeetingFits}
 use Rattle.code_hub.proofs.Meeting.{meetings_fit}

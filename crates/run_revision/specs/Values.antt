@@ -1,10 +1,10 @@
 -- What contracts see of revisions of code.
 --   nothing         a state of code without blocks
 --   made_by_join    a join made the trap with which a revision ended
-use Rattle.std.specs.Prelude.{ℕ, Bool, false, List, []}
+use Rattle.std.specs.Prelude.{ℕ, Bool, false, []}
 use Rattle.rev_code.specs.declared.code.Code.{Code}
 use Rattle.rev_code.specs.State.{State}
-use Rattle.code_machine.specs.Local.{CodeRun, Phase, running, done, trapped, at_work}
+use Rattle.code_machine.specs.Local.{Phase, running, done, trapped, at_work}
 use Rattle.code_machine.specs.Ends.{shows_join}
 use Rattle.code_hub.specs.CodeState.{CodeState, state_of}
 

@@ -6,8 +6,9 @@ use mathlib.Core.Logic.{dite}
 use native.Mathlib.Decide.{ℕ_discrete}
 use lib.ListN.{get_elem?}
 use Rattle.atomic_table.proofs.Lists.{set_else}
+use Rattle.version_map.specs.Overlay.{word_or}
 use Rattle.seg_core.specs.Core.{Seg, free, building, live, Core, total, is_at, times, up_is, refs}
-use Rattle.seg_core.specs.Core.{At, Has, Counted, word_or, through, base_of}
+use Rattle.seg_core.specs.Core.{At, Has, Counted, through, base_of}
 use Rattle.seg_core.specs.Steps.{CoreStep, claim, put, publish, share, hand_on, release, collapse}
 use Rattle.seg_core.specs.Steps.{joined, seg_to, list_to, Steps, no_delta, with_word, holder}
 use Rattle.seg_core.specs.Steps.{GivesTo, SameBase}

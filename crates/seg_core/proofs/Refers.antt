@@ -1,6 +1,6 @@
 -- Lists of references.
 use Rattle.std.proofs.Common.{◌≡◌, ◌≢◌, ◌⊎◌, ℕ, zero, suc, ◌+◌, ◌*◌, ◌≤◌, List, [], ◌∷◌, length}
-use Rattle.std.proofs.Common.{map, sym, refl, ap, ◌∙◌, subst, arith, inl, inr, Option, Bool, true}
+use Rattle.std.proofs.Common.{map, drop, get_or, sym, refl, ap, ◌∙◌, subst, arith, inl, inr, Option, Bool, true}
 use Rattle.std.proofs.Common.{false, cond, eqb, eq-eqb, ne_eqb, MatchBool}
 use mathlib.Core.Option as m
 use mathlib.Core.Logic.{dite}
@@ -41,30 +41,21 @@ joined_short p = dite (ℕ_discrete p 0)
     (λ ne. subst (λ (xs : List ℕ). length xs ≤ 1)
     (sym (ap (λ (b : Bool). cond b [] (p ∷ [])) (ne_eqb p 0 ne))) (omega arith))
 
-head_or : List ℕ → ℕ
-head_or [] = 0
-head_or (x ∷ xs) = x
-
-tail : List ℕ → List ℕ
-tail [] = []
-tail (x ∷ xs) = xs
-
 -- a list of a holder that begins with c has c once or twice
 pub one_or_two : (holders : List References) (h c : ℕ) (xs : List ℕ)
     → get_elem? (map list_of holders) h ≡ m.some (c ∷ xs)
     → (get_elem? (map list_of holders) h ≡ m.some (copies 1 c))
     ⊎ (get_elem? (map list_of holders) h ≡ m.some (copies 2 c))
-unfolding head_or tail
 one_or_two holders h c xs e = let q = map_from list_of holders h (c ∷ xs) e in go q.0 q.2 where
   go : (r : References) → list_of r ≡ c ∷ xs
       → (get_elem? (map list_of holders) h ≡ m.some (copies 1 c))
       ⊎ (get_elem? (map list_of holders) h ≡ m.some (copies 2 c))
   go refer.Empty q = let n : 0 ≡ suc (length xs) = ap (λ (ys : List ℕ). length ys) q in
       absurd (omega arith)
-  go (refer.Once o) q = inl (e ∙ ap (λ (ys : List ℕ). m.some (c ∷ ys)) (sym (ap tail q)))
+  go (refer.Once o) q = inl (e ∙ ap (λ (ys : List ℕ). m.some (c ∷ ys)) (sym (ap (drop 1) q)))
   go (refer.Twice o) q =
-      inr (e ∙ (ap (λ (ys : List ℕ). m.some (c ∷ ys)) (sym (ap tail q))
-      ∙ ap (λ (z : ℕ). m.some (c ∷ z ∷ [])) (ap head_or q)))
+      inr (e ∙ (ap (λ (ys : List ℕ). m.some (c ∷ ys)) (sym (ap (drop 1) q))
+      ∙ ap (λ (z : ℕ). m.some (c ∷ z ∷ [])) (ap (λ (ys : List ℕ). get_or ys 0 0) q)))
 
 is_at_few : (c p : ℕ) → is_at c p ≤ 1
 is_at_few c p = elim (eqb p c) as (λ (b : Bool). cond b 1 0 ≤ 1)

@@ -6,10 +6,10 @@
 --   refs k c       the references to c: in all lists, and the live segments whose parent it is
 --   Counted k      each live count is the number of references and at least 1
 --   base_of        the words of initial under the deltas along the parents
-use Rattle.std.specs.Prelude.{◌≡◌, ℕ, zero, suc, ◌+◌, ◌<◌, List, [], ◌∷◌, Option, None}
-use Rattle.std.specs.Prelude.{Some}
+use Rattle.std.specs.Prelude.{◌≡◌, ℕ, zero, suc, ◌+◌, ◌<◌, List, Option}
 use mathlib.Core.Option as m
 use lib.ListN.{get_elem?}
+use Rattle.version_map.specs.Overlay.{word_or}
 pub use Rattle.list_sums.specs.Sums.{total, is_at, times}
 
 pub data Seg : Type 0 where
@@ -45,10 +45,6 @@ CountIs (live d p c) n = (c ≡ n) × (0 < c)
 -- each live count is the number of references and at least 1, and nothing refers to another segment
 abbrev pub Counted : Core → Type 0
 Counted k = (c : ℕ) (x : Seg) → 0 < c → At k c x → CountIs x (refs k c)
-
-abbrev pub word_or : ℕ → Option ℕ → ℕ
-word_or d None = d
-word_or d (Some w) = w
 
 -- the word that a segment has, or its parent's
 abbrev pub through : ℕ → (ℕ → ℕ) → ℕ → m.Option Seg → ℕ

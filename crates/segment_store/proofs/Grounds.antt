@@ -8,6 +8,7 @@ use mathlib.Core.Logic.{dite}
 use native.Mathlib.Decide.{ℕ_discrete}
 use lib.ListN.{get_elem?}
 use Rattle.atomic_table.specs.Table.{State}
+use Rattle.version_map.specs.Overlay.{word_or}
 use Rattle.seg_core.specs.Core as c
 use Rattle.seg_core.specs.Core.{total, is_at}
 use Rattle.segment_store.specs.Entry.{Entry}
@@ -45,7 +46,7 @@ module _ (words stride masks : ℕ) (big : 2 + masks ≤ stride) (rows : (l : �
   -- the word by the segment's words, or below
   by_words : (e : Entry) (base : ℕ) → st.Shows words stride s.words e.seg e.body
       → Whole words stride masks e
-      → c.word_or base (worded masks s.words e.seg l) ≡ cond (eqb (bit_of e l) 1)
+      → word_or base (worded masks s.words e.seg l) ≡ cond (eqb (bit_of e l) 1)
       (word_of e (2 + masks + l)) base
   by_words e base sh w = let i : ℕ = 2 + l / 64 in let low = rows l lt in
       let mask : get_or s.words (e.seg + i) 0 ≡ word_of e i =
@@ -55,11 +56,11 @@ module _ (words stride masks : ℕ) (big : 2 + masks ≤ stride) (rows : (l : �
       let x : ℕ = get_or s.words (e.seg + (2 + masks + l)) 0 in dite (ℕ_discrete (bit_of e l) 1)
       (λ one. let word : x ≡ word_of e (2 + masks + l) =
       (sh (e.seg + (2 + masks + l)) (word_of e (2 + masks + l)) (w.values l lt one)).2 in
-      ap (λ (b : Bool). c.word_or base (cond b (Some x) None))
+      ap (λ (b : Bool). word_or base (cond b (Some x) None))
       (eq-eqb (bit_at (get_or s.words (e.seg + i) 0) (l % 64)) 1 (bit ∙ one))
       ∙ (word ∙ sym (ap (λ (b : Bool). cond b (word_of e (2 + masks + l)) base)
       (eq-eqb (bit_of e l) 1 one))))
-      (λ ne. ap (λ (b : Bool). c.word_or base (cond b (Some x) None))
+      (λ ne. ap (λ (b : Bool). word_or base (cond b (Some x) None))
       (ne_eqb (bit_at (get_or s.words (e.seg + i) 0) (l % 64)) 1 (λ z. ne (sym bit ∙ z)))
       ∙ sym (ap (λ (b : Bool). cond b (word_of e (2 + masks + l)) base)
       (ne_eqb (bit_of e l) 1 ne)))
@@ -86,7 +87,7 @@ module _ (words stride masks : ℕ) (big : 2 + masks ≤ stride) (rows : (l : �
       subst (λ (z : ℕ). is_at (st.first_of es) z ≡ 1) (sym ch.1)
       (is_at_same (st.first_of es)) in omega arith) n (omega arith) in
       ap (c.through (bare l) (λ p. c.base_of n bare k.segs p l) l) t.3
-      ∙ (ap (λ (z : ℕ). c.word_or (c.base_of n bare k.segs z l) (d l)) parent
-      ∙ (ap (λ (z : ℕ). c.word_or z (d l)) next
-      ∙ (ap (c.word_or (value masks root es l)) (sh.4 l lt)
+      ∙ (ap (λ (z : ℕ). word_or (c.base_of n bare k.segs z l) (d l)) parent
+      ∙ (ap (λ (z : ℕ). word_or z (d l)) next
+      ∙ (ap (word_or (value masks root es l)) (sh.4 l lt)
       ∙ by_words e (value masks root es l) ch.0.3 so.0)))

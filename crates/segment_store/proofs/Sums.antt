@@ -1,6 +1,6 @@
 -- Words by segment and offset, and chains.
 use Rattle.std.proofs.Common.{◌≡◌, ℕ, ◌+◌, ◌%◌, ◌<◌, ◌≤◌, ◌≢◌, cond, List, [], ◌∷◌}
-use Rattle.std.proofs.Common.{◌++◌, sym, refl, ◌∙◌, subst, arith, ⊎_elim, eq-eqb, ne_eqb}
+use Rattle.std.proofs.Common.{sym, refl, ◌∙◌, subst, arith, ⊎_elim, eq-eqb, ne_eqb}
 use mathlib.Core.Logic.{dite}
 use native.Mathlib.Decide.{dec_le}
 use Rattle.segment_store.specs.Entry.{Entry}

@@ -14,12 +14,13 @@ use Rattle.version_map.specs.Masks.{chosen, bit_in}
 use Rattle.version_map.specs.declared.delta.Delta.{Delta}
 use Rattle.version_map.specs.Deltas.{at, mask_of}
 use Rattle.segment_store.specs.Base.{IsLaid}
+use Rattle.seg_core.specs.Applies.{copies}
 use Rattle.seg_core.specs.Core.{Seg, free, building, live, Core, At, Has}
 use Rattle.seg_core.specs.Steps as core
 use Rattle.segment_store.specs.Entry.{Put, Entry}
 use Rattle.segment_store.specs.declared.board.View.{View}
 use Rattle.segment_store.specs.Store as st
-use Rattle.segment_store.specs.Shown.{copies, list_in, list_of, std_option, put_at, worded}
+use Rattle.segment_store.specs.Shown.{list_in, list_of, std_option, put_at, worded}
 use Rattle.segment_store.specs.Shown.{SegShown, Shown, Shows}
 use Rattle.segment_store.proofs.Sums.{one_segment}
 use Rattle.segment_store.proofs.Fills.{look_here, look_else}

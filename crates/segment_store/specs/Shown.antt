@@ -1,19 +1,16 @@
 -- The core that the words and views show.
-use Rattle.std.specs.Prelude.{◌≡◌, ℕ, zero, suc, ◌+◌, ◌/◌, ◌%◌, ◌<◌, ◌≤◌, List, [], ◌∷◌}
+use Rattle.std.specs.Prelude.{◌≡◌, ℕ, ◌+◌, ◌/◌, ◌%◌, ◌<◌, ◌≤◌, List, [], ◌∷◌}
 use Rattle.std.specs.Prelude.{slice_index, Option, None, Some, ◌⊎◌}
 use Rattle.std.specs.Int.{bit_at}
 use mathlib.Core.Option as m
 use lib.ListN.{get_elem?}
 use Rattle.atomic_table.specs.Table.{State}
 use Rattle.version_map.specs.Masks.{chosen}
+use Rattle.seg_core.specs.Applies.{copies}
 use Rattle.seg_core.specs.Core.{Seg, free, building, live, Core, At, Has}
 use Rattle.segment_store.specs.Entry.{Put, Entry}
 use Rattle.segment_store.specs.declared.board.View.{View}
 use Rattle.segment_store.specs.Store as st
-
-abbrev pub copies : ℕ → ℕ → List ℕ
-copies zero c = []
-copies (suc n) c = c ∷ copies n c
 
 abbrev pub list_in : List Entry → ℕ → List ℕ
 list_in [] extra = []

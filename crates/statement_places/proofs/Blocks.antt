@@ -22,11 +22,11 @@ use Rattle.code_generation.specs.Expressions.{expression_size, expression_code}
 use Rattle.code_generation.specs.Sizes.{statement_size, statements_size, leap_size, statement_prints, statements_prints}
 use Rattle.code_generation.specs.Statements.{Spot, behind_statement, in_arm, next_arm, leap, statement_code, statements_code, arms_code}
 use Rattle.code_generation.specs.Prints.{statement_kinds, statements_kinds, arms_kinds, statement_texts, statements_texts, arms_texts, statement_layouts, statements_layouts, arms_layouts}
-use Rattle.code_generation.specs.Stands.{HasAt}
+use Rattle.code_generation.specs.Stands.{HasAt, HasItems}
 use Rattle.code_generation.proofs.Standing.{parts_stand, around_stands}
-use Rattle.code_generation.proofs.Lengths.{around, two, leap_length, expression_length, statement_length, statements_length, statements_locals, statements_prints_length}
-use Rattle.statement_places.specs.Places.{Tables, Has, IsWithin, AreNames, StatementStands, BlockStands, Leads, LeadsTo, EndAt, Follows}
-use Rattle.statement_places.proofs.Parts.{has_parts, kinds_length, layouts_length, after_is, within_self, within_trans, statement_within, names_later, names_after}
+use Rattle.code_generation.proofs.Lengths.{around, two, leap_length, expression_length, statement_length, statements_length, statements_locals, statements_prints_length, statement_locals, statement_prints_length}
+use Rattle.statement_places.specs.Places.{Tables, IsWithin, AreNames, StatementStands, BlockStands, Leads, LeadsTo, EndAt, Follows}
+use Rattle.statement_places.proofs.Parts.{after_is, within_self, within_trans, statement_within, names_later, names_after}
 
 module _ (s : Setting) (g : Tables) (b : CodeBlock) where
   -- ---- the first statement of a block, and the others
@@ -42,9 +42,9 @@ module _ (s : Setting) (g : Tables) (b : CodeBlock) where
       let is = after_is (names s) b.result l x after st.typed.1 in
       let small = and_parts (statement_small x) (statements_small xs) st.small in
       let code = parts_stand b.instrs (statement_code g.numbers scope x sp) (statements_code g.numbers (scope_after scope sp.local x) xs (behind_statement g.numbers sp x)) sp.at (statement_size g.numbers x) (statement_length g.numbers scope x sp) st.code in
-      let kinds = has_parts b.locals (statement_kinds (names s) l x) (statements_kinds (names s) (locals_after (names s) l x) xs) sp.local (statement_lets x) (kinds_length (names s) l x) st.kinds in
-      let layouts = has_parts g.setting.code.layouts (statement_layouts (names s) l text x) (statements_layouts (names s) (locals_after (names s) l x) (text + length (statement_texts x)) xs) sp.layout (statement_prints x) (layouts_length (names s) l text x) st.layouts in
-      let texts = has_parts g.setting.code.texts (statement_texts x) (statements_texts xs) text (length (statement_texts x)) refl st.texts in
+      let kinds = parts_stand b.locals (statement_kinds (names s) l x) (statements_kinds (names s) (locals_after (names s) l x) xs) sp.local (statement_lets x) (statement_locals (names s) l x) st.kinds in
+      let layouts = parts_stand g.setting.code.layouts (statement_layouts (names s) l text x) (statements_layouts (names s) (locals_after (names s) l x) (text + length (statement_texts x)) xs) sp.layout (statement_prints x) (statement_prints_length (names s) l text x) st.layouts in
+      let texts = parts_stand g.setting.code.texts (statement_texts x) (statements_texts xs) text (length (statement_texts x)) refl st.texts in
       record {
         after = after;
         first = record { known = st.known; typed = st.typed.1; small = small.0; code = code.0; kinds = kinds.0; layouts = layouts.0; texts = texts.0 };
@@ -53,8 +53,8 @@ module _ (s : Setting) (g : Tables) (b : CodeBlock) where
           typed = st.typed.2;
           small = small.1;
           code = code.1;
-          kinds = subst (λ y. Has b.locals (sp.local + statement_lets x) (statements_kinds (names s) y xs)) is kinds.1;
-          layouts = subst (λ y. Has g.setting.code.layouts (sp.layout + statement_prints x) (statements_layouts (names s) y (text + length (statement_texts x)) xs)) is layouts.1;
+          kinds = subst (λ y. HasItems b.locals (sp.local + statement_lets x) (statements_kinds (names s) y xs)) is kinds.1;
+          layouts = subst (λ y. HasItems g.setting.code.layouts (sp.layout + statement_prints x) (statements_layouts (names s) y (text + length (statement_texts x)) xs)) is layouts.1;
           texts = texts.1;
         };
       }
@@ -96,9 +96,9 @@ module _ (s : Setting) (g : Tables) (b : CodeBlock) where
     pub typed : ArmsTyped (names s) b.result l arms
     pub small : IsTrue (arms_small arms)
     pub code : HasAt b.instrs sp.at (arms_code g.numbers scope has_last arms end sp)
-    pub kinds : Has b.locals sp.local (arms_kinds (names s) l arms)
-    pub layouts : Has g.setting.code.layouts sp.layout (arms_layouts (names s) l text arms)
-    pub texts : Has g.setting.code.texts text (arms_texts arms)
+    pub kinds : HasItems b.locals sp.local (arms_kinds (names s) l arms)
+    pub layouts : HasItems g.setting.code.layouts sp.layout (arms_layouts (names s) l text arms)
+    pub texts : HasItems g.setting.code.texts text (arms_texts arms)
 
   -- a test, the jump over its block, the block, the jump behind it, and the other arms
   pub record Arm (scope : Scope) (l : Locals) (sp : Spot) (text : ℕ) (has_last : Bool) (test : Expression) (body : Statements) (rest : Arms) (end : ℕ) : Type 0 where
@@ -125,9 +125,9 @@ module _ (s : Setting) (g : Tables) (b : CodeBlock) where
       (expression_length g.numbers scope test sp.at) (let z : sp.at + (expression_size test + 1) ≡ sp.at + expression_size test + 1 = omega arith in z) inner.0 in
       let small = and_parts (expression_small test && statements_small body) (arms_small rest) st.small in
       let smalls = and_parts (expression_small test) (statements_small body) small.0 in
-      let kinds = has_parts b.locals (statements_kinds (names s) l body) (arms_kinds (names s) l rest) sp.local (statements_lets body) (statements_locals (names s) l body) st.kinds in
-      let layouts = has_parts g.setting.code.layouts (statements_layouts (names s) l text body) (arms_layouts (names s) l (text + length (statements_texts body)) rest) sp.layout (statements_prints body) (statements_prints_length (names s) l text body) st.layouts in
-      let texts = has_parts g.setting.code.texts (statements_texts body) (arms_texts rest) text (length (statements_texts body)) refl st.texts in
+      let kinds = parts_stand b.locals (statements_kinds (names s) l body) (arms_kinds (names s) l rest) sp.local (statements_lets body) (statements_locals (names s) l body) st.kinds in
+      let layouts = parts_stand g.setting.code.layouts (statements_layouts (names s) l text body) (arms_layouts (names s) l (text + length (statements_texts body)) rest) sp.layout (statements_prints body) (statements_prints_length (names s) l text body) st.layouts in
+      let texts = parts_stand g.setting.code.texts (statements_texts body) (arms_texts rest) text (length (statements_texts body)) refl st.texts in
       record {
         kind = st.typed.0;
         small = smalls.0;

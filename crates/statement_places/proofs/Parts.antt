@@ -1,59 +1,22 @@
--- Lists that stand in others are taken apart, and the names in scope go on behind a statement.
-use Rattle.std.proofs.Common.{◌≡◌, ◌∙◌, ◌<◌, ◌≤◌, ℕ, suc, ◌+◌, Bool, true, false, Option, Some, None, List, [], ◌∷◌, ◌++◌, length, length-append, refl, sym, ap, subst, arith}
+-- The names in scope go on behind a statement.
+use Rattle.std.proofs.Common.{◌≡◌, ◌∙◌, ◌<◌, ◌≤◌, ℕ, suc, ◌+◌, Bool, true, false, Option, Some, None, List, refl, sym, ap, subst, arith}
 use Rattle.std.specs.Prelude.{slice_get, if◌then◌else◌}
 use Rattle.rev_num.specs.declared.value.ValueKind.{ValueKind}
-use Rattle.rev_syntax.specs.Trees.{RightSide, plain, called, forked, tried, Statement, statement, bind, assign, assign_cell, choose, choose_or, repeat, call, return, fork, join, print, assert, no_statements, statements, Arms}
+use Rattle.rev_syntax.specs.Trees.{Statement, statement, bind, assign, assign_cell, choose, choose_or, repeat, call, return, fork, join, print, assert}
 use Rattle.merge_decl.specs.Names.{Name, same}
 use Rattle.merge_decl.specs.Table.{find, added}
 use Rattle.merge_decl.proofs.Tables.{same_equal, or_else, or_else-none, find-added}
-use Rattle.rev_kinds.specs.Kinds.{Names, Locals, result_of, right_side_kind}
-use Rattle.rev_kinds.proofs.Typings.{complete}
-use Rattle.rev_types.specs.Judgement.{RightSideHas, StatementTyped}
-use Rattle.rev_types.specs.Limits.{statement_lets, arms_lets}
+use Rattle.rev_kinds.specs.Kinds.{Names, Locals}
+use Rattle.rev_types.specs.Judgement.{StatementTyped}
+use Rattle.rev_types.specs.Limits.{statement_lets}
 use Rattle.rev_types.specs.Scopes.{locals_after}
 use Rattle.code_generation.specs.Numbers.{Scope, scope_after}
-use Rattle.code_generation.specs.Sizes.{statement_prints, arms_prints}
-use Rattle.code_generation.specs.Prints.{statement_kinds, statement_layouts, arms_kinds, arms_layouts}
-use Rattle.code_generation.proofs.Lengths.{statements_locals, statements_prints_length}
-use Rattle.statement_places.specs.Places.{Has, IsWithin, AreNames}
-
-nothing : Unit {0}
-nothing = tt
-
--- ---- parts
-
-module _ {A : Type 0} (whole : List A) where
-  -- the first part, and the second, which begins as many further on
-  pub has_parts : (xs ys : List A) (at m : ℕ) → length xs ≡ m → Has whole at (xs ++ ys) → Has whole at xs × Has whole (at + m) ys
-  has_parts [] ys at m e h = (nothing, subst (λ p. Has whole p ys) (let z : at ≡ at + m = omega (arith, e) in z) h)
-  has_parts (x ∷ xs) ys at m e h =
-      let r = has_parts xs ys (suc at) (length xs) refl h.1 in
-      ((h.0, r.0), subst (λ p. Has whole p ys) (let z : suc at + length xs ≡ at + m = omega (arith, e) in z) r.1)
-
--- ---- how much a statement fills
-
-longer_by_none : {A : Type 0} (xs : List A) (m : ℕ) → length (xs ++ []) ≡ m + 0 → length xs ≡ m
-longer_by_none xs m e = let z = length-append xs [] in omega (arith, e, z)
-
-pub kinds_length : (c : Names) (l : Locals) (x : Statement) → length (statement_kinds c l x) ≡ statement_lets x
-kinds_length c l x = longer_by_none (statement_kinds c l x) (statement_lets x) (statements_locals c l (statements x no_statements))
-
-pub layouts_length : (c : Names) (l : Locals) (text : ℕ) (x : Statement) → length (statement_layouts c l text x) ≡ statement_prints x
-layouts_length c l text x = longer_by_none (statement_layouts c l text x) (statement_prints x) (statements_prints_length c l text (statements x no_statements))
-
-pub arms_kinds_length : (c : Names) (l : Locals) (arms : Arms) → length (arms_kinds c l arms) ≡ arms_lets arms
-arms_kinds_length c l arms = kinds_length c l (statement 0 0 (choose arms))
-
-pub arms_layouts_length : (c : Names) (l : Locals) (text : ℕ) (arms : Arms) → length (arms_layouts c l text arms) ≡ arms_prints arms
-arms_layouts_length c l text arms = layouts_length c l text (statement 0 0 (choose arms))
+use Rattle.code_generation.specs.Prints.{statement_kinds}
+use Rattle.code_generation.specs.Stands.{HasItems}
+use Rattle.statement_places.specs.Places.{IsWithin, AreNames}
+pub use Rattle.rev_types.proofs.StatementsSound.{right_side_is}
 
 -- ---- kinds
-
-pub right_side_is : (c : Names) (l : Locals) (r : RightSide) (t : ValueKind) → RightSideHas c l r t → right_side_kind c l r ≡ Some t
-right_side_is c l (plain e) t h = (complete c l e t h).1
-right_side_is c l (called at w args) t h = ap result_of h.1.0 ∙ h.2
-right_side_is c l (forked at w args) t h = ap Some (sym h.0)
-right_side_is c l (tried at handle) t h = ap Some (sym h.0)
 
 -- what is in scope behind a statement by its type, and by its form
 pub after_is : (c : Names) (result : Option ValueKind) (l : Locals) (x : Statement) (after : Locals) → StatementTyped c result l x after → locals_after c l x ≡ after
@@ -171,7 +134,7 @@ module _ (kinds : List ValueKind) where
   names_same scope l after next n are e = subst (λ y. AreNames kinds scope y (next + n)) (sym e) (names_later scope l next (next + n) (omega arith) are)
 
   -- behind a statement
-  pub names_after : (c : Names) (result : Option ValueKind) (scope : Scope) (l : Locals) (next : ℕ) (x : Statement) (after : Locals) → AreNames kinds scope l next → StatementTyped c result l x after → Has kinds next (statement_kinds c l x)
+  pub names_after : (c : Names) (result : Option ValueKind) (scope : Scope) (l : Locals) (next : ℕ) (x : Statement) (after : Locals) → AreNames kinds scope l next → StatementTyped c result l x after → HasItems kinds next (statement_kinds c l x)
       → AreNames kinds (scope_after scope next x) after (next + statement_lets x)
   names_after c result scope l next (statement at line (bind w r)) after are h has =
       let kind = right_side_is c l r h.1.0 h.1.1 in

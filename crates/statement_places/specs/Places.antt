@@ -1,5 +1,4 @@
 -- Where the code of statements stands in a block, and what stands there for it.
---   Has              a list stands in another from a place on
 --   AreNames         the names in scope, by the numbers of their locals and by their kinds
 --   Tables           the numbers of names, and the code with what it runs under
 --   StatementStands, BlockStands
@@ -10,7 +9,7 @@
 --   Follows          from a place on the code is that of the statements that remain
 -- The code itself is that of the translation (`statement_code`); nothing here says again what it
 -- is.
-use Rattle.std.specs.Prelude.{◌≡◌, ◌<◌, ℕ, zero, suc, ◌+◌, IsTrue, Option, Some, None, List, [], ◌∷◌, slice_get}
+use Rattle.std.specs.Prelude.{◌≡◌, ◌<◌, ℕ, zero, suc, ◌+◌, IsTrue, Option, Some, None, List, slice_get}
 use Rattle.rev_num.specs.Path.{Path}
 use Rattle.rev_num.specs.declared.value.ValueKind.{ValueKind}
 use Rattle.rev_syntax.specs.Trees.{Statement, Statements, no_statements, statements}
@@ -28,12 +27,7 @@ use Rattle.code_generation.specs.Numbers.{Numbers, Scope, scope_after}
 use Rattle.code_generation.specs.Sizes.{statement_size}
 use Rattle.code_generation.specs.Statements.{Spot, statement_code, statements_code}
 use Rattle.code_generation.specs.Prints.{statement_kinds, statements_kinds, statement_layouts, statements_layouts, statement_texts, statements_texts}
-use Rattle.code_generation.specs.Stands.{HasAt}
-
--- the second list stands in the first from this place on
-abbrev pub Has : {A : Type 0} → List A → (at : ℕ) → List A → Type 0
-Has whole at [] = Unit {0}
-Has whole at (x ∷ xs) = (slice_get whole at ≡ Some x) × Has whole (suc at) xs
+use Rattle.code_generation.specs.Stands.{HasAt, HasItems}
 
 -- what the first scope knows, the second knows by the same number
 abbrev pub IsWithin : Scope → Scope → Type 0
@@ -66,9 +60,9 @@ module _ (s : Setting) (g : Tables) (b : CodeBlock) where
     pub typed : StatementTyped (names s) b.result l x after
     pub small : IsTrue (statement_small x)
     pub code : HasAt b.instrs sp.at (statement_code g.numbers scope x sp)
-    pub kinds : Has b.locals sp.local (statement_kinds (names s) l x)
-    pub layouts : Has g.setting.code.layouts sp.layout (statement_layouts (names s) l text x)
-    pub texts : Has g.setting.code.texts text (statement_texts x)
+    pub kinds : HasItems b.locals sp.local (statement_kinds (names s) l x)
+    pub layouts : HasItems g.setting.code.layouts sp.layout (statement_layouts (names s) l text x)
+    pub texts : HasItems g.setting.code.texts text (statement_texts x)
 
   pub record BlockStands
       (scope : Scope) (l : Locals) (sp : Spot) (text : ℕ) (xs : Statements) : Type 0 where
@@ -76,9 +70,9 @@ module _ (s : Setting) (g : Tables) (b : CodeBlock) where
     pub typed : StatementsTyped (names s) b.result l xs
     pub small : IsTrue (statements_small xs)
     pub code : HasAt b.instrs sp.at (statements_code g.numbers scope xs sp)
-    pub kinds : Has b.locals sp.local (statements_kinds (names s) l xs)
-    pub layouts : Has g.setting.code.layouts sp.layout (statements_layouts (names s) l text xs)
-    pub texts : Has g.setting.code.texts text (statements_texts xs)
+    pub kinds : HasItems b.locals sp.local (statements_kinds (names s) l xs)
+    pub layouts : HasItems g.setting.code.layouts sp.layout (statements_layouts (names s) l text xs)
+    pub texts : HasItems g.setting.code.texts text (statements_texts xs)
 
   -- by so many jumps
   abbrev pub Leads : ℕ → (at to : ℕ) → Type 0

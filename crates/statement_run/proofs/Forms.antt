@@ -45,9 +45,9 @@ use Rattle.revision_calculus.proofs.ScopeKinds.{returns_behind}
 use Rattle.code_generation.specs.Sizes.{items_size, dropped_size, statement_size, statements_size, arms_size, arms_prints}
 use Rattle.code_generation.specs.Statements.{Spot, ahead, behind_arms, dropped, items_code, arms_code, statements_code}
 use Rattle.code_generation.specs.Prints.{arms_kinds, statements_kinds, arms_layouts, statements_layouts, arms_texts, statements_texts}
-use Rattle.code_generation.proofs.Lengths.{expression_length, items_length, arms_length}
+use Rattle.code_generation.proofs.Lengths.{expression_length, items_length, arms_length, arms_locals, arms_prints_length}
 use Rattle.statement_places.proofs.Locals.{locals_within}
-use Rattle.statement_places.proofs.Parts.{has_parts, arms_kinds_length, arms_layouts_length, names_later}
+use Rattle.statement_places.proofs.Parts.{names_later}
 use Rattle.statement_places.proofs.Blocks.{ArmsStand}
 use Rattle.statement_run.specs.Steps.{Carries, Walks, Did}
 use Rattle.statement_run.proofs.Calls.{Comes_to, moved, did_on, walked, unwalked, then_walks, trap, after_value, joined, returned}
@@ -210,9 +210,9 @@ module _ (s : Setting) (g : Tables) (lk : IsLinked s g) (p : Path) where
         let last_spot : Spot = behind_arms g.numbers (ahead sp 1) true arms in
         let code = behind_charge (arms_code g.numbers scope true arms end (ahead sp 1) ++ statements_code g.numbers scope last last_spot) st.code.1 in
         let parts = parts_stand b.instrs (arms_code g.numbers scope true arms end (ahead sp 1)) (statements_code g.numbers scope last last_spot) at size (arms_length g.numbers scope true arms end (ahead sp 1)) code in
-        let kinds = has_parts b.locals (arms_kinds (names s) ls arms) (statements_kinds (names s) ls last) sp.local (arms_lets arms) (arms_kinds_length (names s) ls arms) st.kinds in
-        let layouts = has_parts g.setting.code.layouts (arms_layouts (names s) ls text arms) (statements_layouts (names s) ls (text + length (arms_texts arms)) last) sp.layout (arms_prints arms) (arms_layouts_length (names s) ls text arms) st.layouts in
-        let texts = has_parts g.setting.code.texts (arms_texts arms) (statements_texts last) text (length (arms_texts arms)) refl st.texts in
+        let kinds = parts_stand b.locals (arms_kinds (names s) ls arms) (statements_kinds (names s) ls last) sp.local (arms_lets arms) (arms_locals (names s) ls arms) st.kinds in
+        let layouts = parts_stand g.setting.code.layouts (arms_layouts (names s) ls text arms) (statements_layouts (names s) ls (text + length (arms_texts arms)) last) sp.layout (arms_prints arms) (arms_prints_length (names s) ls text arms) st.layouts in
+        let texts = parts_stand g.setting.code.texts (arms_texts arms) (statements_texts last) text (length (arms_texts arms)) refl st.texts in
         let small = and_parts (arms_small arms) (statements_small last) st.small in
         let all : ArmsStand s g b scope ls (ahead sp 1) text true arms end = record { known = st.known; typed = st.typed.0.0; small = small.0; code = parts.0; kinds = kinds.0; layouts = layouts.0; texts = texts.0 } in
         let other : BlockStands s g b scope ls last_spot (text + length (arms_texts arms)) last = record {

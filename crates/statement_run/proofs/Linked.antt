@@ -13,8 +13,8 @@ use Rattle.rev_code.specs.declared.code.BlockClass.TheVariants as class
 use Rattle.rev_code.specs.declared.code.CodeBlock.{CodeBlock}
 use Rattle.rev_code.specs.Variables.{place_from}
 use Rattle.rev_code.specs.Step.{params, first_locals}
-use Rattle.code_generation.specs.Generated.{var_of}
-use Rattle.expression_run.specs.Agrees.{word, ArgsAre, kinds_of, FunReads}
+use Rattle.code_generation.specs.Generated.{var_of, kinds_of}
+use Rattle.expression_run.specs.Agrees.{word, ArgsAre, FunReads}
 use Rattle.statement_places.specs.Places.{Tables}
 use Rattle.statement_places.specs.States.{IsTop}
 

@@ -39,13 +39,14 @@ use Rattle.code_generation.specs.Expressions.{expression_size, expression_code}
 use Rattle.code_generation.specs.Sizes.{items_size}
 use Rattle.code_generation.specs.Statements.{items_code}
 use Rattle.code_generation.specs.Prints.{items_texts, value_item, layout_of}
-use Rattle.code_generation.specs.Stands.{HasAt}
+use Rattle.code_generation.specs.Stands.{HasAt, HasItems}
 use Rattle.code_generation.proofs.Standing.{parts_stand}
 use Rattle.code_generation.proofs.Lengths.{expression_length}
-use Rattle.expression_run.specs.Agrees.{word, ArgsAre, kinds_of, at_with, pushed, Onward, Gives}
+use Rattle.code_generation.specs.Generated.{kinds_of}
+use Rattle.expression_run.specs.Agrees.{word, ArgsAre, at_with, pushed, Onward, Gives}
 use Rattle.expression_run.specs.Agrees as agrees
 use Rattle.expression_run.proofs.Words.{found, left_below}
-use Rattle.statement_places.specs.Places.{Tables, Has, AreNames}
+use Rattle.statement_places.specs.Places.{Tables, AreNames}
 use Rattle.statement_run.proofs.Linked.{IsLinked}
 use Rattle.statement_run.proofs.Reading.{Ready, evaluates}
 use Rattle.statement_run.proofs.Resume.{onward, one}
@@ -129,7 +130,7 @@ module _ (s : Setting) (g : Tables) (lk : IsLinked s g) (p : Path) where
   value_first c at m to stack t items (Err e) o shows h q = h
 
   module _ (b : CodeBlock) (scope : Scope) (ls : Locals) (next : ℕ) (l : Local) (f : Frame) (fs : List Frame) (c : State Path) (rd : Ready s g b scope l f fs c) (are : AreNames b.locals scope ls next) where
-    items_run : (items : List PrintItem) (at n : ℕ) (stack : List (Word Path)) → ItemsTyped (names s) ls items → IsTrue (list_all item_small items) → HasAt b.instrs at (items_code g.numbers scope items at) → Has all_texts n (items_texts items)
+    items_run : (items : List PrintItem) (at n : ℕ) (stack : List (Word Path)) → ItemsTyped (names s) ls items → IsTrue (list_all item_small items) → HasAt b.instrs at (items_code g.numbers scope items at) → HasItems all_texts n (items_texts items)
         → ItemsGive c at stack (at + items_size items) (layout_of (names s) ls n items) (item_texts s l items)
     items_run [] at n stack typed small here has = ([], tt, refl, subst (λ q. Onward g.setting (at_with c at stack) (at_with c q stack)) (let z : at ≡ at + 0 = omega arith in z) agrees.stay)
     items_run (text q bytes ∷ items) at n stack typed small here has =
@@ -148,7 +149,7 @@ module _ (s : Setting) (g : Tables) (lk : IsLinked s g) (p : Path) where
         (λ x. items_run items m n (word x ∷ stack) typed.1 smalls.1 parts.1 has)))
 
     -- the line is written, and then what follows
-    pub prints : (items : List PrintItem) (at n layout : ℕ) → ItemsTyped (names s) ls items → IsTrue (list_all item_small items) → HasAt b.instrs at (items_code g.numbers scope items at) → Has all_texts n (items_texts items)
+    pub prints : (items : List PrintItem) (at n layout : ℕ) → ItemsTyped (names s) ls items → IsTrue (list_all item_small items) → HasAt b.instrs at (items_code g.numbers scope items at) → HasItems all_texts n (items_texts items)
         → slice_get b.instrs (at + items_size items) ≡ Some (i.Print layout) → slice_get g.setting.code.layouts layout ≡ Some (layout_of (names s) ls n items)
         → ((line : List ℕ) → Comes_to s g p (record c { at = suc (at + items_size items); stack = []; text = c.text ++ line }) (Moves (record l { text = l.text ++ line })))
         → Comes_to s g p (at_with c at []) (with_answer p l (item_texts s l items) (λ xs. Moves (record l { text = l.text ++ line_of xs })))

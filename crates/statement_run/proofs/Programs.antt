@@ -1,5 +1,5 @@
 -- What stands in the blocks of a program's code when they begin.
-use Rattle.std.proofs.Common.{◌≡◌, ◌∙◌, ◌≤◌, ℕ, zero, suc, ◌+◌, Bool, true, false, cond, IsTrue, List, [], ◌∷◌, ◌++◌, length, map, take, drop, Option, Some, None, refl, sym, ap, subst, arith, true≢false}
+use Rattle.std.proofs.Common.{◌≡◌, ◌∙◌, ◌≤◌, ℕ, zero, suc, ◌+◌, Bool, true, false, cond, IsTrue, List, [], ◌∷◌, ◌++◌, length, map, drop, Option, Some, None, refl, sym, ap, subst, arith, true≢false}
 use Rattle.std.specs.Prelude.{slice_get, if◌then◌else◌}
 use Rattle.rev_num.specs.Path.{Path}
 use Rattle.rev_num.specs.declared.value.Value.{Value}
@@ -30,29 +30,19 @@ use Rattle.code_generation.specs.Sizes.{statements_size, statements_prints}
 use Rattle.code_generation.specs.Statements.{Spot, statements_code}
 use Rattle.code_generation.specs.Prints.{statements_kinds, statements_layouts, statements_texts}
 use Rattle.code_generation.specs.Generated.{end_code, kinds_of, body_code, body_locals, fun_block, merge_block, proc_block, main_block, value_blocks, body_blocks, texts_of, layouts_of}
-use Rattle.code_generation.specs.Stands.{HasAt}
-use Rattle.code_generation.proofs.Standing.{all_there, parts_stand, whole_stands}
+use Rattle.code_generation.specs.Stands.{HasAt, HasItems}
+use Rattle.code_generation.proofs.Standing.{parts_stand, whole_stands}
 use Rattle.code_generation.proofs.Lengths.{statements_length, statements_prints_length}
 use Rattle.expression_run.specs.Agrees.{word, ArgsAre}
 use Rattle.expression_run.proofs.Blocks.{kinds_length}
 use Rattle.expression_run.proofs.Words.{word_kind}
-use Rattle.statement_places.specs.Places.{Tables, Has, AreNames, BlockStands, EndAt, Follows}
+use Rattle.statement_places.specs.Places.{Tables, AreNames, BlockStands, EndAt, Follows}
 use Rattle.statement_places.specs.States.{word_kinds, IsSame, AreLocals, IsTop}
-use Rattle.statement_places.proofs.Parts.{has_parts, within_self, names_added}
+use Rattle.statement_places.proofs.Parts.{within_self, names_added}
 use Rattle.statement_places.proofs.Blocks.{block_follows}
 
 nothing : Unit {0}
 nothing = tt
-
--- ---- lists
-
-module _ {A : Type 0} where
-  pub has_whole : (xs : List A) → Has xs 0 xs
-  has_whole xs = all_there Has (λ whole at. nothing) (λ whole at x ys here rest. (here, rest)) [] xs
-
-  pub take_front : (xs ys : List A) → take (length xs) (xs ++ ys) ≡ xs
-  take_front [] ys = refl
-  take_front (x ∷ xs) ys = ap (λ z. x ∷ z) (take_front xs ys)
 
 append_none : (xs : Statements) → append xs no_statements ≡ xs
 append_none no_statements = refl
@@ -60,7 +50,7 @@ append_none (statements x xs) = ap (λ z. statements x z) (append_none xs)
 
 -- ---- parameters
 
-params_names : (c : Names) (kinds : List ValueKind) (ps : List Parameter) (scope : Scope) (l : Locals) (m : ℕ) → ParamsNew c l ps → Has kinds m (kinds_of ps) → AreNames kinds scope l m
+params_names : (c : Names) (kinds : List ValueKind) (ps : List Parameter) (scope : Scope) (l : Locals) (m : ℕ) → ParamsNew c l ps → HasItems kinds m (kinds_of ps) → AreNames kinds scope l m
     → AreNames kinds (with_params scope m ps) (scopes.with_params l ps) (m + length ps)
 params_names c kinds [] scope l m new has are = subst (λ n. AreNames kinds scope l n) (let z : m ≡ m + 0 = omega arith in z) are
 params_names c kinds (p ∷ ps) scope l m new has are =
@@ -132,8 +122,8 @@ pub record BodyIs (s : Setting) (g : Tables) (ps : List Parameter) (result : Opt
   pub locals : b.locals ≡ body_locals (names s) ps body
   pub instrs : b.instrs ≡ body_code g.numbers ps result body layout
   pub gives : b.result ≡ result
-  pub layouts : Has g.setting.code.layouts layout (statements_layouts (names s) (scopes.with_params [] ps) text body)
-  pub texts : Has g.setting.code.texts text (statements_texts body)
+  pub layouts : HasItems g.setting.code.layouts layout (statements_layouts (names s) (scopes.with_params [] ps) text body)
+  pub texts : HasItems g.setting.code.texts text (statements_texts body)
 
 module _ (s : Setting) (g : Tables) where
   body_top : (ps : List Parameter) (result : Option ValueKind) (body : Statements) (b : CodeBlock) → BodyIs s g ps result body b → ParamsNew (names s) [] ps → StatementsTyped (names s) result (scopes.with_params [] ps) body
@@ -150,8 +140,8 @@ module _ (s : Setting) (g : Tables) where
       sp : Spot
       sp = record { at = 0; local = length ps; layout = is.layout }
 
-      all_kinds : Has b.locals 0 (kinds_of ps) × Has b.locals (0 + length ps) (statements_kinds (names s) (scopes.with_params [] ps) body)
-      all_kinds = has_parts b.locals (kinds_of ps) (statements_kinds (names s) (scopes.with_params [] ps) body) 0 (length ps) (sym (kinds_length ps)) (subst (λ z. Has b.locals 0 z) is.locals (has_whole b.locals))
+      all_kinds : HasItems b.locals 0 (kinds_of ps) × HasItems b.locals (0 + length ps) (statements_kinds (names s) (scopes.with_params [] ps) body)
+      all_kinds = parts_stand b.locals (kinds_of ps) (statements_kinds (names s) (scopes.with_params [] ps) body) 0 (length ps) (sym (kinds_length ps)) (subst (λ z. HasItems b.locals 0 z) is.locals (whole_stands b.locals))
 
       all_code : HasAt b.instrs 0 (statements_code g.numbers (with_params [] 0 ps) body (record { at = 0; local = length ps; layout = is.layout })) × HasAt b.instrs (0 + statements_size g.numbers body) (end_code result body)
       all_code =
@@ -172,7 +162,7 @@ module _ (s : Setting) (g : Tables) where
         typed = subst (λ z. StatementsTyped (names s) z (scopes.with_params [] ps) body) (sym is.gives) typed;
         small = small;
         code = all_code.0;
-        kinds = subst (λ n. Has b.locals n (statements_kinds (names s) (scopes.with_params [] ps) body)) (let z : 0 + length ps ≡ length ps = omega arith in z) all_kinds.1;
+        kinds = subst (λ n. HasItems b.locals n (statements_kinds (names s) (scopes.with_params [] ps) body)) (let z : 0 + length ps ≡ length ps = omega arith in z) all_kinds.1;
         layouts = is.layouts;
         texts = is.texts;
       }
@@ -196,14 +186,14 @@ module _ (s : Setting) (g : Tables) where
 
   -- ---- the blocks of procedures and of `main`
 
-  pub proc_body : (name : Name) (es : List Declaration) (m : Statements) (layout text d : ℕ) (f : Callee) → Has g.setting.code.layouts layout (layouts_of (names s) text es m) → Has g.setting.code.texts text (texts_of es m) → proc_named es name ≡ Some f
+  pub proc_body : (name : Name) (es : List Declaration) (m : Statements) (layout text d : ℕ) (f : Callee) → HasItems g.setting.code.layouts layout (layouts_of (names s) text es m) → HasItems g.setting.code.texts text (texts_of es m) → proc_named es name ≡ Some f
       → (k : ℕ) × ((slice_get (body_blocks g.numbers (names s) es m layout) (proc_number name es) ≡ Some (proc_block g.numbers (names s) f.params f.result (procedure_named (procedures_from d es) name).body k))
       × BodyIs s g f.params f.result (procedure_named (procedures_from d es) name).body (proc_block g.numbers (names s) f.params f.result (procedure_named (procedures_from d es) name).body k))
   proc_body name [] m layout text d f has htext h = absurd (let z : None ≡ Some f = h in cc)
   proc_body name (proc w ps r body ∷ es) m layout text d f has htext h =
-      let both = has_parts g.setting.code.layouts (statements_layouts (names s) (scopes.with_params [] ps) text body) (layouts_of (names s) (text + length (statements_texts body)) es m) layout (statements_prints body)
+      let both = parts_stand g.setting.code.layouts (statements_layouts (names s) (scopes.with_params [] ps) text body) (layouts_of (names s) (text + length (statements_texts body)) es m) layout (statements_prints body)
       (statements_prints_length (names s) (scopes.with_params [] ps) text body) has in
-      let texts = has_parts g.setting.code.texts (statements_texts body) (texts_of es m) text (length (statements_texts body)) refl htext in
+      let texts = parts_stand g.setting.code.texts (statements_texts body) (texts_of es m) text (length (statements_texts body)) refl htext in
       let here : BodyIs s g ps r body (proc_block g.numbers (names s) ps r body layout) = record { layout = layout; text = text; locals = refl; instrs = refl; gives = refl; layouts = both.0; texts = texts.0 } in
       by (same name w.text) h here (λ q. proc_body name es m (layout + statements_prints body) (text + length (statements_texts body)) (d + 1) f both.1 texts.1 q)
     where
@@ -220,16 +210,16 @@ module _ (s : Setting) (g : Tables) where
   proc_body name (shared x ∷ es) m layout text d f has htext h = proc_body name es m layout text (d + 1) f has htext h
 
   -- the only block of class `main`
-  pub main_body : (es : List Declaration) (m : Statements) (layout text n : ℕ) (b : CodeBlock) → Has g.setting.code.layouts layout (layouts_of (names s) text es m) → Has g.setting.code.texts text (texts_of es m)
+  pub main_body : (es : List Declaration) (m : Statements) (layout text n : ℕ) (b : CodeBlock) → HasItems g.setting.code.layouts layout (layouts_of (names s) text es m) → HasItems g.setting.code.texts text (texts_of es m)
       → slice_get (body_blocks g.numbers (names s) es m layout) n ≡ Some b → is_main b.class ≡ true → BodyIs s g [] None m b
   main_body [] m layout text zero b has htext h e =
       subst (λ z. BodyIs s g [] None m z) (let z : main_block g.numbers (names s) m layout ≡ b = cc in z) (record { layout = layout; text = text; locals = refl; instrs = refl; gives = refl; layouts = has; texts = htext })
   main_body [] m layout text (suc n) b has htext h e = absurd (let z : None ≡ Some b = h in cc)
   main_body (proc w ps r body ∷ es) m layout text zero b has htext h e = absurd (let z : proc_block g.numbers (names s) ps r body layout ≡ b = cc in let q : false ≡ true = ap (λ y. is_main y.class) z ∙ e in true≢false (sym q))
   main_body (proc w ps r body ∷ es) m layout text (suc n) b has htext h e =
-      let both = has_parts g.setting.code.layouts (statements_layouts (names s) (scopes.with_params [] ps) text body) (layouts_of (names s) (text + length (statements_texts body)) es m) layout (statements_prints body)
+      let both = parts_stand g.setting.code.layouts (statements_layouts (names s) (scopes.with_params [] ps) text body) (layouts_of (names s) (text + length (statements_texts body)) es m) layout (statements_prints body)
       (statements_prints_length (names s) (scopes.with_params [] ps) text body) has in
-      let texts = has_parts g.setting.code.texts (statements_texts body) (texts_of es m) text (length (statements_texts body)) refl htext in
+      let texts = parts_stand g.setting.code.texts (statements_texts body) (texts_of es m) text (length (statements_texts body)) refl htext in
       main_body es m (layout + statements_prints body) (text + length (statements_texts body)) n b both.1 texts.1 h e
   main_body (fun w ps r body ∷ es) m layout text n b has htext h e = main_body es m layout text n b has htext h e
   main_body (merge w mm j r body ∷ es) m layout text n b has htext h e = main_body es m layout text n b has htext h e

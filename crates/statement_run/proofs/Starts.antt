@@ -3,6 +3,7 @@ use Rattle.std.proofs.Common.{◌≡◌, ◌∙◌, ◌&&◌, ◌-◌, ◌^◌, 
 use Rattle.std.specs.Prelude.{slice_get, if◌then◌else◌, nat_lt}
 use Rattle.std.specs.List.{list_all}
 use Rattle.std.proofs.lemmas.Bool.Decides.{nat_tests}
+use Rattle.std.proofs.Math.Seq.{take-append_seam as take_front}
 use Rattle.rev_num.specs.Path.{Path}
 use Rattle.rev_num.specs.declared.value.Value.{Value}
 use Rattle.rev_num.specs.declared.value.Value.TheVariants as v
@@ -39,14 +40,16 @@ use Rattle.code_generation.specs.Numbers.{proc_number, has_result}
 use Rattle.code_generation.specs.Prints.{statements_kinds}
 use Rattle.code_generation.specs.Generated.{value_word, var_of, kinds_of, proc_block, value_blocks, body_blocks, texts_of, layouts_of, code_of}
 use Rattle.code_generation.proofs.Naming.{get_right, values_count, variable_lies}
+use Rattle.code_generation.specs.Stands.{HasItems}
+use Rattle.code_generation.proofs.Standing.{whole_stands}
 use Rattle.expression_run.specs.Agrees.{word}
 use Rattle.expression_run.proofs.Blocks.{kinds_length}
 use Rattle.program_funs.proofs.Funs.{program_funs}
-use Rattle.statement_places.specs.Places.{Tables, Has}
+use Rattle.statement_places.specs.Places.{Tables}
 use Rattle.statement_places.specs.States.{location_word, IsTop, StandsAt}
 use Rattle.statement_run.specs.Laws.{tables}
 use Rattle.statement_run.proofs.Linked.{IsProc, IsLinked}
-use Rattle.statement_run.proofs.Programs.{has_whole, take_front, body_begins, proc_body, main_body, main_of}
+use Rattle.statement_run.proofs.Programs.{body_begins, proc_body, main_body, main_of}
 
 nothing : Unit {0}
 nothing = tt
@@ -110,11 +113,11 @@ module _ (s : Setting) (well : IsAccepted s.program) where
   abbrev declared : List Declaration
   declared = s.program.declarations
 
-  layouts_there : Has g.setting.code.layouts 0 (layouts_of (names s) 0 declared s.program.main)
-  layouts_there = has_whole (layouts_of (names s) 0 declared s.program.main)
+  layouts_there : HasItems g.setting.code.layouts 0 (layouts_of (names s) 0 declared s.program.main)
+  layouts_there = whole_stands (layouts_of (names s) 0 declared s.program.main)
 
-  texts_there : Has g.setting.code.texts 0 (texts_of declared s.program.main)
-  texts_there = has_whole (texts_of declared s.program.main)
+  texts_there : HasItems g.setting.code.texts 0 (texts_of declared s.program.main)
+  texts_there = whole_stands (texts_of declared s.program.main)
 
   proc_linked : (name : Name) (q : Callee) → (names s).procs name ≡ Some q → IsProc s g name q
   proc_linked name q e =

@@ -29,6 +29,7 @@ use Rattle.rev_types.proofs.Weights.{expression_caps}
 use Rattle.static_rules.specs.Places.{IsBehind, Declares, in_fun, in_merge, fun_body, merge_body, fun_value, in_proc, in_main, word_of, parameter_word}
 use Rattle.static_rules.specs.Breaks.{Breaks, IsFun, unknown_merge, declared_again, parameter_again, parameter_of_shared, other_constant, cumulative_kind, fun_parameter, fun_result, no_cells, no_return, locations, procedures, declared_funs, parameters, local_parameter, too_heavy}
 use Rattle.rev_types.proofs.Returning.{ends_return}
+use Rattle.rev_types.proofs.DeclsWithin.{params_left as left_params}
 use Rattle.static_rules.proofs.Gathers.{all_one, all_unless, not_none, differ}
 use Rattle.static_rules.proofs.Expressions.{wanted_all, handle_all, expression_all}
 use Rattle.static_rules.proofs.Blocks.{among_behind, among_at, behind_by, further, longer, statements_all}
@@ -209,10 +210,6 @@ module _ (p : ProgramTree) where
     weight_all w body h =
         all_when (Breaks p) (nat_lt (most limits.Weight) (d.weight q.weights body)) _
         (λ t. h (heavy (expression_weight (weights_after [] before) body) (d.weight q.weights body) (expression_caps (weights_after [] before) q.weights f.weights body) t))
-
-    left_params : (n : ℕ) (ps : List Parameter) → d.left_params n ps ≡ n - length ps
-    left_params n [] = omega arith
-    left_params n (b ∷ ps) = left_params (n - 1) ps ∙ (let e : n - 1 - length ps ≡ n - (length ps + 1) = omega arith in e ∙ (omega arith))
 
     pub declaration_all : (e : Declaration) → IsBehind before e p.declarations → AllAre (Breaks p) (d.broken_in_declaration [] one app outer inner q e)
     declaration_all (fun w ps x body) b =

@@ -1,5 +1,5 @@
 -- The faults of declarations, from where they stand.
-use Rattle.std.proofs.Common.{◌≡◌, ◌∙◌, ◌⊎◌, inl, inr, ℕ, ◌+◌, ◌-◌, min, true, false, is_some, List, [], ◌∷◌, ◌++◌, refl, sym, ap, subst, arith, true≢false}
+use Rattle.std.proofs.Common.{◌≡◌, ◌∙◌, ◌⊎◌, inl, inr, ℕ, ◌+◌, ◌-◌, min, true, is_some, List, [], ◌∷◌, ◌++◌, refl, sym, ap, subst, arith}
 use Rattle.rev_syntax.specs.Trees.{Declaration, fun, merge, shared, proc}
 use Rattle.merge_decl.specs.Least.{Among}
 use Rattle.merge_decl.specs.Names.{Name}
@@ -12,13 +12,10 @@ use Rattle.rev_types.specs.Limits.{cells, procs, funs}
 use Rattle.rev_types.proofs.Weights.{Caps, none_caps, added_caps, expression_caps}
 use Rattle.static_rules.proofs.Blocks.{among_behind, further}
 use Rattle.rev_types.proofs.Layouts.{cells_behind}
+pub use Rattle.merge_decl.proofs.Firsts.{left_among as in_front}
+pub use Rattle.rev_num.proofs.Lists.{false_no as none_there}
 
 -- ---- lists
-
-pub in_front : {A : Type 0} (xs ys : List A) (x : A) → Among xs x → Among (xs ++ ys) x
-in_front [] ys x m = absurd m
-in_front (y ∷ xs) ys x (inl is) = inl is
-in_front (y ∷ xs) ys x (inr m) = inr (in_front xs ys x m)
 
 pub at_end : {A : Type 0} (xs : List A) (y x : A) → Among (xs ++ y ∷ []) x → Among xs x ⊎ (y ≡ x)
 at_end [] y x (inl is) = inr is
@@ -41,9 +38,6 @@ pub record Met (q : d.Passed) (before : List Declaration) : Type 0 where
   pub located : q.located ≡ min (cells before) 4097
   pub procs_left : q.procs_left ≡ 257 - procs before
   pub funs_left : q.funs_left ≡ 257 - funs before
-
-pub none_there : {A : Type 0} → false ≡ true → A
-none_there h = absurd (true≢false (sym h))
 
 pub met_none : Met d.nothing_passed []
 met_none = record {

@@ -17,7 +17,7 @@ use Rattle.rev_types.specs.Program.{faults}
 use Rattle.rev_types.specs.Accepted.{IsWellTyped}
 use Rattle.rev_types.proofs.Accepting.{well_typed, accepts}
 use Rattle.rev_types.proofs.OwnLimits.{own_limits}
-use Rattle.static_rules.specs.Front.{IsDecided, Outcome, of_funs, accepted, of_types, fault_in}
+use Rattle.static_rules.specs.Front.{Outcome, of_funs, accepted, of_types, fault_in}
 use Rattle.static_rules.specs.Breaks.{IsFirstBroken}
 use Rattle.static_rules.specs.Laws.{Decided, SameFirst, OneOutcome}
 use Rattle.static_rules.specs.Funs.{IsFirstBrokenFun}

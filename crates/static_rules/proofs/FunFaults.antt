@@ -1,18 +1,17 @@
 -- The list of faults of funs has exactly those of the rules, and the same first one.
-use Rattle.std.proofs.Common.{◌≡◌, ◌∙◌, ◌≢◌, inl, inr, ℕ, ◌+◌, ◌≤◌, Bool, true, false, cond, nat_eq, nat_le, Option, Some, None, List, [], ◌∷◌, ◌++◌, length, refl, sym, ap, subst, true≢false, arith}
+use Rattle.std.proofs.Common.{◌≡◌, ◌∙◌, ◌≢◌, inl, inr, ℕ, ◌+◌, ◌≤◌, Bool, true, false, cond, nat_eq, nat_le, Option, Some, None, List, [], ◌∷◌, ◌++◌, length, refl, sym, ap, subst, arith}
 use Rattle.std.proofs.lemmas.Bool.Decides.{nat_tests}
 use Rattle.std.specs.Cmp.Lexicographic.{same_text, other_text}
 use Rattle.rev_num.specs.declared.value.ValueKind.{ValueKind}
-use Rattle.rev_syntax.specs.Trees.{PlacedName, Parameter, Expression, Expressions, Declaration, fun, merge, shared, proc, ProgramTree}
+use Rattle.rev_syntax.specs.Trees.{PlacedName, Parameter, Expression, Declaration, fun, merge, shared, proc, ProgramTree}
 use Rattle.merge_decl.specs.Names.{Name, same}
-use Rattle.merge_decl.specs.FunRules.{Use, count, uses_in, first_fun, fun_named, later_here, arity_here, broken_by, broken_in, fun_faults, place, rank}
-use Rattle.merge_decl.specs.Least.{Among, IsFirst}
+use Rattle.merge_decl.specs.FunRules.{Use, count, uses_in, first_fun, fun_named, later_here, arity_here, broken_by, broken_in, fun_faults}
+use Rattle.merge_decl.specs.Least.{Among}
 use Rattle.merge_decl.specs.declared.expand.FunHead.{FunHead}
 use Rattle.merge_decl.specs.declared.expand.MergeFault.{MergeFault}
-use Rattle.merge_decl.specs.declared.expand.MergeFault.TheVariants.{UnknownFun, LaterFun, Arity, OutOfMemory}
+use Rattle.merge_decl.specs.declared.expand.MergeFault.TheVariants.{UnknownFun, LaterFun, Arity}
 use Rattle.rev_kinds.proofs.Lists.{equal, unequal}
-use Rattle.static_rules.specs.Places.{IsBehind}
-use Rattle.static_rules.specs.Funs.{Applies, IsFunOf, IsFirstFun, BreaksFun, unknown_fun, later_fun, other_arity, IsFirstBrokenFun}
+use Rattle.static_rules.specs.Funs.{IsFunOf, IsFirstFun, BreaksFun, unknown_fun, later_fun, other_arity}
 use Rattle.static_rules.specs.Laws.{SameFuns, SameFirstFun, FunsKept}
 use Rattle.static_rules.proofs.Blocks.{among_at, behind_by}
 use Rattle.static_rules.proofs.FunUses.{Has, has_front, has_end, IsApplied, each_applied, use_applied}

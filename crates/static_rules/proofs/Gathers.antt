@@ -15,6 +15,7 @@ use Rattle.rev_kinds.proofs.Typings.{All, one, app, same_true}
 use Rattle.rev_types.proofs.StatementsFaults.{AllAre, all_none, all_both, all_when}
 use Rattle.static_rules.specs.Places.{operands, compares}
 use Rattle.static_rules.specs.Breaks.{array_named}
+pub use Rattle.rev_num.proofs.Options.{some_same as some_is}
 
 -- ---- lists within lists
 
@@ -84,9 +85,6 @@ not_some x e = cc
 
 pub not_none : {A : Type 0} (x : A) → Some x ≡ None → ⊥
 not_none x e = cc
-
-pub some_is : {A : Type 0} (x y : A) → Some x ≡ Some y → x ≡ y
-some_is x y e = cc
 
 pub in_wants : (at : ℕ) (found : Option ValueKind) (t u : ValueKind) → found ≡ Some u → u ≢ t → Is (r.wants [] one app at found t) (WrongType at)
 in_wants at None t u e n = absurd (not_some u e)

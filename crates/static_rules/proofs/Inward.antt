@@ -1,5 +1,5 @@
 -- What a statement or an expression of a program breaks is in the checker's list.
-use Rattle.std.proofs.Common.{◌≡◌, ◌∙◌, inl, inr, ℕ, ◌+◌, ◌-◌, Bool, true, false, Option, Some, List, [], ◌∷◌, ◌++◌, slice_get, length, refl, sym, ap, subst, arith}
+use Rattle.std.proofs.Common.{◌≡◌, ◌∙◌, inl, inr, ℕ, ◌+◌, ◌-◌, Bool, true, false, Option, Some, List, [], ◌∷◌, ◌++◌, slice_get, refl, sym, ap, subst, arith}
 use Rattle.rev_num.specs.declared.value.ValueKind.{ValueKind}
 use Rattle.rev_syntax.specs.Trees.{tried, PlacedName, Parameter, Expression, Expressions, link, PrintItem, shown, statement, StatementForm, choose_or, assign, assign_cell, return, join, print, assert, Statements, Declaration, fun, merge, proc, ProgramTree}
 use Rattle.merge_decl.specs.Least.{Among}
@@ -10,6 +10,7 @@ use Rattle.rev_kinds.proofs.Typings.{All, one, app}
 use Rattle.rev_types.specs.Statements as s
 use Rattle.rev_types.specs.Scopes as scopes
 use Rattle.rev_types.specs.Program as d
+use Rattle.rev_types.proofs.DeclsWithin.{params_left as left_params}
 use Rattle.static_rules.specs.Places.{IsBehind, Declares, Site, Lies, in_proc, in_main, next, in_arm, in_else, Stands, Occurs, in_fun, in_merge, in_statement_form, in_part, Uses, read, read_cell, written, written_cell, Wanted, fun_body, merge_body, tested, asserted, joined, try_joined, returned, written_at, written_value, call_argument, fun_argument, at_index, at_position, picked_by, picked_last, operand, on_left, on_right, compared, NoHandle, fun_value, printed, compared_first, IsGiven}
 use Rattle.static_rules.proofs.Gathers.{Is, In, in_left, in_right_side, in_left_operand, in_left_handle, in_right_side_operand, in_right_side_alike}
 use Rattle.static_rules.proofs.Expressions.{arg_in, links_found, link_in, part_in}
@@ -26,10 +27,6 @@ entry_in : (outer inner : Names) (q : d.Passed) (found : All) (before : List Dec
     → In (d.broken_in_declaration [] one app outer inner (d.passed_all q before) e) (d.broken_in_declarations [] one app outer inner q found (before ++ e ∷ behind))
 entry_in outer inner q found [] e behind f m = declarations_found outer inner (d.passed_with q e) _ behind f (in_right_side found _ f m)
 entry_in outer inner q found (x ∷ before) e behind f m = entry_in outer inner (d.passed_with q x) _ before e behind f m
-
-pub left_params : (n : ℕ) (ps : List Parameter) → d.left_params n ps ≡ n - length ps
-left_params n [] = omega arith
-left_params n (b ∷ ps) = left_params (n - 1) ps ∙ (let e : n - 1 - length ps ≡ n - (length ps + 1) = omega arith in e ∙ (omega arith))
 
 module _ (p : ProgramTree) where
   abbrev outer : Names

@@ -15,7 +15,7 @@ use Rattle.rev_kinds.specs.declared.fault.TypeFault.{TypeFault}
 use Rattle.rev_kinds.specs.declared.fault.TypeFault.TheVariants.{UnknownName, Redeclared, WrongType, WrongCount, NoReturn}
 use Rattle.rev_kinds.specs.declared.names.Holder.{Holder}
 use Rattle.rev_kinds.specs.Faults.{exceeded}
-use Rattle.rev_kinds.specs.Kinds.{Callee, Names, Locals, same_kind, kind_in, name_kind, right_side_kind, right_side_place, expression_place}
+use Rattle.rev_kinds.specs.Kinds.{Callee, Names, Locals, same_kind, kind_in, name_kind, right_side_kind, right_side_place, expression_place, item_place}
 use Rattle.rev_kinds.specs.Rules as r
 use Rattle.rev_kinds.proofs.Lists.{is_equal, is_unequal, known_more}
 use Rattle.rev_kinds.proofs.Typings.{All, one, app}
@@ -25,16 +25,17 @@ use Rattle.rev_types.specs.Program as d
 use Rattle.rev_types.specs.Judgement.{name_of, IsMergeOf}
 use Rattle.rev_types.specs.Limits.{cells, procs, funs}
 use Rattle.rev_types.proofs.Weights.{expression_caps}
-use Rattle.static_rules.specs.Places.{IsBehind, Declares, Site, Stands, word_of, parameter_word, param_words, call_of, item_place}
+use Rattle.static_rules.specs.Places.{IsBehind, Declares, Site, Stands, word_of, parameter_word, param_words, call_of}
 use Rattle.static_rules.specs.Breaks.{Breaks, array_named, IsFun, parameters, parameters_of, unknown_variable, unknown_procedure, unknown_merge, declared_again, parameter_again, parameter_of_shared, let_again, other_kind, is_handle, other_right_side, other_constant, other_use, no_result, cumulative_kind, fun_parameter, fun_result, input_inside, inputs_inside, return_without, return_with, other_count, no_cells, no_return, locations, procedures, declared_funs, parameters, local_parameter, local_let, too_many_items, too_heavy}
 use Rattle.static_rules.specs.Laws.{Same}
 use Rattle.rev_types.proofs.Returning.{not_ending}
+use Rattle.rev_types.proofs.DeclsWithin.{params_left as left_params}
 use Rattle.static_rules.proofs.Gathers.{Is, In, here, in_left, in_right_side, in_when, in_unless, in_wants, in_alike, in_not_rev, in_scalar_unknown, in_array_unknown, in_scalar_other, in_array_other, alike_kinds, not_alike}
 use Rattle.static_rules.proofs.Blocks.{behind_of, further}
 use Rattle.static_rules.proofs.Back.{right_side_in, call_in, items_found}
 use Rattle.static_rules.proofs.Decls.{Met, met_none, met_all, none_there, ++-nil}
 use Rattle.static_rules.proofs.Declarations.{Scope, scope_none, scope_next, program_all}
-use Rattle.static_rules.proofs.Inward.{met, at_declaration, before_it, of_entry, left_params, stands_in, occurs_in, use_by, use_in, wanted_in, handle_in}
+use Rattle.static_rules.proofs.Inward.{met, at_declaration, before_it, of_entry, stands_in, occurs_in, use_by, use_in, wanted_in, handle_in}
 
 -- ---- the first past a limit
 

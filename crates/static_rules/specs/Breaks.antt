@@ -3,7 +3,7 @@
 -- `Breaks`: a program breaks a rule, and this is the fault, in the order of the list in the language's
 -- reference; `array_named`: whether a name is that of an array; `IsFun`: a fun or a merge;
 -- `parameters_of`: the declared parameters; `IsFirstBroken`: the broken rule at the least place.
-use Rattle.std.specs.Prelude.{◌≡◌, ◌≢◌, ℕ, ◌+◌, ◌≤◌, ◌<◌, ◌↔◌, Bool, true, false, Option, Some, None, List, [], length}
+use Rattle.std.specs.Prelude.{◌≡◌, ◌≢◌, ℕ, ◌+◌, ◌≤◌, ◌<◌, Bool, true, false, Option, Some, None, List, [], length}
 use Rattle.rev_num.specs.declared.value.ValueKind.{ValueKind}
 use Rattle.rev_num.specs.declared.value.ValueKind.TheVariants as k
 use Rattle.rev_num.specs.Value.{kind_of}
@@ -18,11 +18,11 @@ use Rattle.rev_kinds.specs.declared.fault.TypeFault.TheVariants.{UnknownName, Re
 use Rattle.rev_kinds.specs.declared.names.Holder.{Holder}
 use Rattle.rev_report.specs.Limits.{most}
 use Rattle.rev_kinds.specs.Faults.{exceeded, place, rank}
-use Rattle.rev_kinds.specs.Kinds.{Callee, Names, Locals, kind_in, name_kind, right_side_kind, right_side_place, expression_place}
+use Rattle.rev_kinds.specs.Kinds.{Callee, Names, Locals, kind_in, name_kind, right_side_kind, right_side_place, expression_place, item_place}
 use Rattle.rev_types.specs.Scopes.{outside, cells_of, size_cells}
 use Rattle.rev_types.specs.Judgement.{IsNew, IsMergeOf, name_of}
 use Rattle.rev_types.specs.Limits.{cells, procs, funs}
-use Rattle.static_rules.specs.Places.{IsBehind, Declares, Site, Stands, Occurs, Uses, Wanted, NoHandle, word_of, param_words, right_side_of, call_of, item_place}
+use Rattle.static_rules.specs.Places.{IsBehind, Declares, Site, Stands, Occurs, Uses, Wanted, NoHandle, word_of, param_words, right_side_of, call_of}
 use Rattle.rev_types.specs.Judgement.{Ends}
 
 -- whether a name is that of an array, if it is known

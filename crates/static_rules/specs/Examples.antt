@@ -4,12 +4,13 @@
 use Rattle.std.specs.Prelude.{ℕ, pos, true, Option, Some, None, List, [], ◌∷◌}
 use Rattle.rev_num.specs.declared.value.ValueKind.TheVariants as k
 use Rattle.rev_num.specs.declared.value.ValueKind.{ValueKind}
-use Rattle.rev_syntax.specs.Trees.{PlacedName, Parameter, Expression, placed, int, bool, var, inputs, chain, no_expressions, no_links, link, plain, called, shown, Statement, statement, bind, assign, repeat, call, return, print, Statements, no_statements, statements, Declaration, fun, shared, proc, ProgramTree}
+use Rattle.rev_syntax.specs.Trees.{PlacedName, Parameter, Expression, placed, int, bool, var, inputs, chain, no_expressions, no_links, link, plain, called, shown, Statement, statement, bind, assign, repeat, call, return, print, no_statements, Declaration, fun, shared, proc, ProgramTree}
 use Rattle.rev_syntax.specs.declared.tree.BinaryOp.TheVariants as b
 use Rattle.rev_report.specs.declared.limit.Limit.TheVariants as limits
 use Rattle.rev_kinds.specs.declared.fault.TypeFault.TheVariants.{UnknownName, Redeclared, WrongType, WrongCount, NoReturn}
 use Rattle.rev_kinds.specs.Faults.{exceeded}
 use Rattle.static_rules.specs.Breaks.{IsFirstBroken}
+pub use Rattle.rev_syntax.specs.View.{statements_of as block_of}
 
 -- ---- short words for trees
 
@@ -28,10 +29,6 @@ reading at byte = placed at (var (letter at byte))
 
 abbrev pub int_parameter : ℕ → ℕ → Parameter
 int_parameter at byte = record { name = letter at byte; kind_at = at; kind = k.Int }
-
-abbrev pub block_of : List Statement → Statements
-block_of [] = no_statements
-block_of (s ∷ rest) = statements s (block_of rest)
 
 abbrev pub program_of : List Declaration → List Statement → ProgramTree
 program_of declarations body = record { declarations = declarations; main_at = 0; main = block_of body }

@@ -13,7 +13,7 @@ use Rattle.rev_syntax.specs.declared.tree.BinaryOp.{BinaryOp}
 use Rattle.rev_syntax.specs.declared.tree.BinaryOp.TheVariants as b
 use Rattle.merge_decl.specs.Least.{Among}
 use Rattle.merge_decl.specs.Table.{find}
-use Rattle.rev_kinds.specs.Kinds.{Callee, Names, Locals, kind_in, name_kind, operand_kind, expression_place}
+use Rattle.rev_kinds.specs.Kinds.{Callee, Names, Locals, kind_in, name_kind, operand_kind}
 use Rattle.rev_types.specs.Scopes.{locals_after, outside, within, with_params, merge_locals}
 use Rattle.rev_types.specs.Limits.{statement_lets, statements_lets, arms_lets}
 
@@ -266,8 +266,3 @@ param_words (fun w ps r body) = map parameter_word ps
 param_words (merge w m j r body) = m ∷ j ∷ r ∷ []
 param_words (shared x) = []
 param_words (proc w ps r body) = map parameter_word ps
-
--- the first token of an item of a print
-abbrev pub item_place : PrintItem → ℕ
-item_place (text at bytes) = at
-item_place (shown e) = expression_place e

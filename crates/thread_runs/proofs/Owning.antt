@@ -19,8 +19,7 @@ use Rattle.hub_outcomes.specs.Runs as kept
 use Rattle.run_revision.specs.CodeRuns.{IsOfCode}
 use Rattle.rev_workers.specs.Runs.{IsRunOfCode}
 use Rattle.segment_store.specs.Group.{closed_group}
-use Rattle.turn_hub.specs.Names.{run_group, schedule_group}
-use Rattle.turn_hub.specs.declared.closing.order.HubSchedule.{HubSchedule}
+use Rattle.turn_hub.specs.Names.{schedule_group}
 use Rattle.thread_runs.specs.Runs.{IsRunOf, numbers_of}
 use Rattle.thread_runs.specs.declared.ran.Ran.{Ran}
 

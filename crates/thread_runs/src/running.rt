@@ -1,6 +1,7 @@
 //! A run of verified code by threads.
 
 ghost use Rattle.std.specs.Prelude.{◌≤◌, IfOk};
+ghost use Rattle.rev_num.specs.Limits.{most_fuel};
 ghost use Rattle.code_outcomes.specs.Outcomes.{HasOutcome};
 ghost use Rattle.thread_runs.specs.Runs.{IsRunOf};
 
@@ -31,7 +32,7 @@ pub fn run_threads<R: Threads + Wait + Sync, G: Gate + Sync>(
     segments: u32,
     gate: &G,
 ) -> Result<Ran, AllocError>
-    requires fuel { fuel ≤ 4000000000 }
+    requires fuel { fuel ≤ most_fuel }
     requires workers { 1 ≤ workers }
     ensures run { IfOk result (λ r. IsRunOf
         (record { code = code.code; inputs = inputs.items; share = share }) fuel r) }

@@ -16,7 +16,7 @@ use Rattle.trace_diagram.proofs.PlaceForms.{place_without}
 
 -- ---- values
 
-fits_pos : (n : ℕ) → fits_i64 (pos n) ≡ true → n < 2 ^ 64
+pub fits_pos : (n : ℕ) → fits_i64 (pos n) ≡ true → n < 2 ^ 64
 fits_pos n h = grind (arith, rules)
 
 fits_negsuc : (n : ℕ) → fits_i64 (negsuc n) ≡ true → suc n < 2 ^ 64

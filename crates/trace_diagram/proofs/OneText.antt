@@ -30,13 +30,12 @@ use Rattle.trace_diagram.specs.declared.diagram.PartEnd.TheVariants as part_end
 use Rattle.trace_diagram.specs.declared.diagram.TraceEvent.{TraceEvent}
 use Rattle.trace_diagram.specs.declared.diagram.TraceEvent.TheVariants as event
 use Rattle.trace_diagram.specs.declared.lines.Located.{Located}
-use Rattle.trace_diagram.proofs.ChangeForms.{no_space as place_no_space, space, value_without, values_text}
+use Rattle.trace_diagram.proofs.ChangeForms.{no_space as place_no_space, space, value_without, values_text, fits_pos}
 use Rattle.trace_diagram.proofs.Cutting.{append_cancel, cut_once}
 use Rattle.trace_diagram.proofs.EndForms.{cause_once, Kind, kind, merge, plain}
 use Rattle.trace_diagram.proofs.Forks.{wide}
 use Rattle.trace_diagram.proofs.LineForms.{behind_colon, line_without, merge_split, no_colon, no_space}
 use Rattle.trace_diagram.proofs.Stages.{event_no_end, head_injective, path_injective}
-use Rattle.trace_diagram.proofs.Faults.{append_nothing}
 
 -- ---- forks and joins
 
@@ -60,9 +59,6 @@ event_injective (event.Joined p m) (event.Forked q n) f g is = absurd (let k = a
 first_digit : (ds : List ℕ) → all_ascii_digits ds ≡ true → 0 < length ds → get_or ds 0 0 ≤ 57
 first_digit [] h some = absurd (omega arith)
 first_digit (d ∷ ds) h some = let parts = tells_all_ascii_digits.parts d ds h in let digit = parts.0 in omega (arith, digit)
-
-fits_pos : (n : ℕ) → fits_i64 (pos n) ≡ true → n < 2 ^ 64
-fits_pos n h = grind (arith, rules)
 
 int_first : (n : ℤ) → fits_i64 n ≡ true → get_or (signed_decimal n) 0 0 ≤ 57
 int_first (pos n) fit = let small = fits_pos n fit in first_digit (decimal n) (digits_decimal own n small) (decimal_nonempty n small)

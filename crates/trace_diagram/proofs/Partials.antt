@@ -3,6 +3,7 @@ use Rattle.std.proofs.Common.{◌≡◌, ◌≢◌, ◌∙◌, inl, inr, sym, ap
 use Rattle.std.specs.Prelude.{Option, Some, None, IfSome, is_some, IsTrue, ◌==◌, Result, Ok, Err, IfOk}
 use Rattle.std.specs.List.{flat_map, list_all, AllByRecursion}
 use Rattle.std.proofs.lemmas.Bool.{true≢false}
+use Rattle.std.proofs.lemmas.List.{append-nil, map-append}
 use Rattle.rev_num.specs.Path.{Path, before}
 use Rattle.trace_diagram.specs.Drafts.{Ascends, IsClosed, IsClosedTo, IsFinished, IsLonger, IsPartial, NotYet, PartialTrace, last_lines, open_lines, partial_lines, stage_at, stage_of, TakesBehind, TakesHead}
 use Rattle.trace_diagram.specs.Following.{Stage, in_events, in_writes, in_text, BeginsLater, Behind, Follows, Stops}
@@ -20,16 +21,8 @@ use Rattle.trace_diagram.proofs.TextLines.{text_lines-cut}
 
 -- ---- lists
 
-map_more : {A B : Type 0} (f : A → B) (xs : List A) (x : A) → map f (xs ++ x ∷ []) ≡ map f xs ++ f x ∷ []
-map_more f [] x = refl
-map_more f (y ∷ xs) x = ap (λ t. f y ∷ t) (map_more f xs x)
-
-nothing_more : {A : Type 0} (xs : List A) → xs ++ [] ≡ xs
-nothing_more [] = refl
-nothing_more (x ∷ xs) = ap (λ t. x ∷ t) (nothing_more xs)
-
 flat_more : {A B : Type 0} (f : A → List B) (xs : List A) (x : A) → flat_map f (xs ++ x ∷ []) ≡ flat_map f xs ++ f x
-flat_more f [] x = nothing_more (f x)
+flat_more f [] x = append-nil (f x)
 flat_more f (y ∷ xs) x = ap (λ t. f y ++ t) (flat_more f xs x) ∙ sym (append_assoc (f y) (flat_map f xs) (f x))
 
 pub all_more_one : {A : Type 0} (P : A → Type 0) (xs : List A) (x : A) → AllByRecursion P xs → P x → AllByRecursion P (xs ++ x ∷ [])
@@ -74,7 +67,8 @@ closed_not_yet (Some e) (Some f) ws text h k = tt
 
 -- ---- lines
 
-lines_more : (front : List (List ℕ)) (head : List ℕ) (es xs ys : List (List ℕ)) (line : List ℕ) → ys ≡ xs ++ line ∷ [] → front ++ (head ∷ (es ++ ys)) ≡ (front ++ (head ∷ (es ++ xs))) ++ line ∷ []
+-- a line behind those of a part
+pub lines_more : (front : List (List ℕ)) (head : List ℕ) (es xs ys : List (List ℕ)) (line : List ℕ) → ys ≡ xs ++ line ∷ [] → front ++ (head ∷ (es ++ ys)) ≡ (front ++ (head ∷ (es ++ xs))) ++ line ∷ []
 lines_more front head es xs ys line is =
     ap (λ t. front ++ (head ∷ (es ++ t))) is
     ∙ ap (λ t. front ++ (head ∷ t)) (sym (append_assoc es xs (line ∷ [])))
@@ -88,7 +82,7 @@ write_lines (Some e) None ws text c h k none = absurd (true≢false (sym k))
 write_lines (Some e) (Some f) ws text c h k none = subst (λ t. last_lines (Some e) (Some f) (ws ++ c ∷ []) t ≡ last_lines (Some e) (Some f) ws t ++ change_text c ∷ []) (sym none) bare
   where
     bare : last_lines (Some e) (Some f) (ws ++ c ∷ []) [] ≡ last_lines (Some e) (Some f) ws [] ++ change_text c ∷ []
-    bare = ap (λ t. end_text e ∷ fuel_text f ∷ t) (nothing_more (map change_text (ws ++ c ∷ [])) ∙ map_more change_text ws c ∙ ap (λ t. t ++ change_text c ∷ []) (sym (nothing_more (map change_text ws))))
+    bare = ap (λ t. end_text e ∷ fuel_text f ∷ t) (append-nil (map change_text (ws ++ c ∷ [])) ∙ map-append change_text ws (c ∷ []) ∙ ap (λ t. t ++ change_text c ∷ []) (sym (append-nil (map change_text ws))))
 
 pub write_extends : (p : PartialTrace) (c : Change) (line : List ℕ) → IsPartial p → IsClosed p → p.text ≡ [] → FitsChange c → change_text c ≡ line → IsLonger line p (record p { written = p.written ++ c ∷ [] })
 write_extends p c line form closed none fit is = record {
@@ -145,7 +139,7 @@ quote_lines : (e : Option PartEnd) (f : Option ℕ) (ws : List Change) (text tex
 quote_lines None f ws text text' t h k is = absurd (true≢false (sym h))
 quote_lines (Some e) None ws text text' t h k is = absurd (true≢false (sym k))
 quote_lines (Some e) (Some f) ws text text' t h k is =
-    ap (λ v. end_text e ∷ fuel_text f ∷ (map change_text ws ++ v)) (ap (map quoted) is ∙ map_more quoted (text_lines text) t)
+    ap (λ v. end_text e ∷ fuel_text f ∷ (map change_text ws ++ v)) (ap (map quoted) is ∙ map-append quoted (text_lines text) (t ∷ []))
     ∙ ap (λ v. end_text e ∷ fuel_text f ∷ v) (sym (append_assoc (map change_text ws) (map quoted (text_lines text)) (quoted t ∷ [])))
 
 some_text : (text t : List ℕ) → text ++ ended t ≢ []

@@ -2,7 +2,7 @@
 use Rattle.std.proofs.Common.{◌≡◌, ◌≢◌, ◌∙◌, inl, inr, sym, ap, subst, ℕ, Bool, true, false, ◌&&◌, ◌||◌, List, [], ◌∷◌, ◌++◌, length, refl}
 use Rattle.std.specs.Prelude.{IsTrue, MatchBool, not, ◌==◌}
 use Rattle.std.specs.List.{list_all}
-use Rattle.std.proofs.lemmas.Bool.{and_parts, true≢false}
+use Rattle.std.proofs.lemmas.Bool.{and_parts, or_left, or_parts, true≢false}
 use Rattle.trace_diagram.specs.Cuts.{IsCut, IsWithout}
 use Rattle.rev_syntax.specs.Bytes.{is_digit, is_letter, is_name_byte, is_word}
 use Rattle.trace_diagram.specs.Places.{HasCell, IsPlace, is_name, is_plain, is_reserved}
@@ -15,10 +15,6 @@ all_without f b other [] h = tt
 all_without f b other (c ∷ bs) h =
     let both = and_parts (f c) (list_all f bs) h in
     (λ same. true≢false (sym both.0 ∙ ap f same ∙ other), all_without f b other bs both.1)
-
-or_left : (x y : Bool) → x ≡ true → (x || y) ≡ true
-or_left true y h = refl
-or_left false y h = absurd (true≢false (sym h))
 
 pub name_without : (b : ℕ) → is_name_byte b ≡ false → (bs : List ℕ) → is_name bs ≡ true → IsWithout b bs
 name_without b other bs h = go bs (and_parts (is_word bs) (not (is_reserved bs)) h).0
@@ -41,12 +37,8 @@ place_without b other apart behind place (inr cell) =
     (without-append b cell.array (91 ∷ cell.index ++ 93 ∷ []) (name_without b other cell.array cell.name)
     (λ same. apart (sym same), without-append b cell.index (93 ∷ []) (plain_without b digit cell.index cell.number) (λ same. behind (sym same), tt)))
   where
-    or_right : (x y : Bool) → (x || y) ≡ false → y ≡ false
-    or_right true y h = absurd (true≢false h)
-    or_right false y h = h
-
     digit : is_digit b ≡ false
-    digit = or_right (is_letter b) (is_digit b) other
+    digit = (or_parts (is_letter b) (is_digit b) other).1
 
 -- ---- a name and no bracket
 

@@ -1,5 +1,5 @@
 -- The stages of a trace's lines: of each stage and line there is one next stage.
-use Rattle.std.proofs.Common.{◌≡◌, ◌∙◌, ◌⊎◌, inl, inr, sym, ap, subst, ℕ, ◌<◌, ◌^◌, List, [], ◌∷◌, get_or, refl, arith}
+use Rattle.std.proofs.Common.{◌≡◌, ◌∙◌, ◌⊎◌, inl, inr, sym, ap, subst, ℕ, List, [], ◌∷◌, get_or, refl, arith}
 use Rattle.std.specs.Prelude.{codes}
 use Rattle.std.proofs.lemmas.Fmt.{decimal_injective}
 use Rattle.std.specs.Fmt.{decimal}
@@ -44,7 +44,7 @@ head_injective p q f g is = path_injective p q f g (append_cancel (codes "revisi
 
 -- ---- two lines of different kinds
 
-first : (l m : List ℕ) → l ≡ m → get_or l 0 0 ≡ get_or m 0 0
+pub first : (l m : List ℕ) → l ≡ m → get_or l 0 0 ≡ get_or m 0 0
 first l m is = ap (λ b. get_or b 0 0) is
 
 event_first : (e : TraceEvent) → (get_or (event_text e) 0 0 ≡ 102) ⊎ (get_or (event_text e) 0 0 ≡ 106)

@@ -1,13 +1,12 @@
 -- The lines of a text, one after another.
-use Rattle.std.proofs.Common.{◌≡◌, ◌∙◌, sym, ap, subst, ℕ, suc, arith, Bool, true, false, List, [], ◌∷◌, ◌++◌, length, map, refl, append_assoc}
+use Rattle.std.proofs.Common.{◌≡◌, ◌∙◌, sym, ap, ℕ, suc, arith, Bool, true, false, List, [], ◌∷◌, ◌++◌, length, map, refl}
 use Rattle.std.proofs.lemmas.List.{append-nil}
-use Rattle.std.specs.Prelude.{◌==◌, if◌then◌else◌, IsTrue}
+use Rattle.std.specs.Prelude.{◌==◌, if◌then◌else◌}
 use Rattle.std.proofs.lemmas.Bool.{eqb-true, true≢false}
-use Rattle.std.specs.List.{flat_map, list_all, onto_first, AllByRecursion}
+use Rattle.std.specs.List.{flat_map, onto_first}
 use Rattle.trace_diagram.specs.Cuts.{IsCut, IsWithout}
-use Rattle.trace_diagram.specs.Lines.{is_printable, quoted}
-use Rattle.trace_diagram.specs.Traces.{IsOneLine, IsText, ended, text_lines}
-use Rattle.trace_diagram.proofs.Cutting.{append_cancel, not_without}
+use Rattle.trace_diagram.specs.Lines.{quoted}
+use Rattle.trace_diagram.specs.Traces.{IsOneLine, ended, text_lines}
 
 -- the first line, and the lines behind it
 pub text_lines-cut : (line more : List ℕ) → IsOneLine line → text_lines (line ++ 10 ∷ more) ≡ line ∷ text_lines more

@@ -13,8 +13,6 @@ use Rattle.rev_num.specs.Text.{path_text}
 pub use Rattle.rev_num.specs.Text.{cause_text, fault_text}
 use Rattle.rev_num.specs.declared.outcome.Cause.{Cause}
 use Rattle.rev_num.specs.declared.outcome.Cause.TheVariants as cause
-use Rattle.rev_num.specs.declared.value.NumFault.{NumFault}
-use Rattle.rev_num.specs.declared.value.NumFault.TheVariants as fault
 use Rattle.rev_num.specs.declared.value.Value.{Value}
 use Rattle.rev_num.specs.declared.value.Value.TheVariants as value
 use Rattle.trace_diagram.specs.Places.{IsPlace}

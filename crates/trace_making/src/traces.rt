@@ -2,6 +2,7 @@
 
 ghost use Rattle.std.specs.Prelude.{◌≡◌, ◌≤◌, IfOk};
 ghost use Rattle.std.specs.List.Sorted.{IsPermutation, IsSortedBy};
+ghost use Rattle.rev_num.specs.Limits.{most_fuel};
 ghost use Rattle.rev_syntax.specs.View.{program as whole};
 ghost use Rattle.trace_making.specs.Made.{is_sooner, parts_by, post_order};
 ghost use Rattle.trace_making.specs.Traced.{HasTrace};
@@ -65,7 +66,7 @@ pub fn trace_of(
     share: u64,
     fuel: u64,
 ) -> Result<Option<Trace>, AllocError>
-    requires { fuel ≤ 4000000000 }
+    requires { fuel ≤ most_fuel }
     ensures { IfOk result
         (λ t. HasTrace
         (record {

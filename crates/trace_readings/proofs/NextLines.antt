@@ -12,7 +12,7 @@ use Rattle.trace_diagram.specs.declared.diagram.Change.{Change}
 use Rattle.trace_diagram.specs.declared.diagram.Part.{Part}
 use Rattle.trace_diagram.specs.declared.diagram.PartEnd.{PartEnd}
 use Rattle.trace_diagram.specs.declared.diagram.TraceEvent.{TraceEvent}
-use Rattle.trace_diagram.proofs.Partials.{all_more_one, begun, closed_part, head_extends, not_later, quote_extends, write_extends}
+use Rattle.trace_diagram.proofs.Partials.{all_more_one, begun, closed_part, head_extends, lines_more, not_later, quote_extends, write_extends}
 use Rattle.trace_readings.proofs.Deciding.{Readable, spells, spells_none}
 use Rattle.trace_readings.proofs.Changes.{read_change}
 use Rattle.trace_readings.proofs.Ends.{read_end}
@@ -56,10 +56,6 @@ event_extends parts path events line e form fit is = record {
 abbrev over : List Part → Path → List TraceEvent → PartEnd → PartialTrace
 over parts path events end = record { parts = parts; path = path; events = events; end = Some end; fuel = None; written = []; text = [] }
 
-more_behind : (front : List (List ℕ)) (head : List ℕ) (events behind more : List (List ℕ)) → front ++ (head ∷ (events ++ (behind ++ more))) ≡ (front ++ (head ∷ (events ++ behind))) ++ more
-more_behind front head events behind more =
-    ap (λ t. front ++ (head ∷ t)) (sym (append_assoc events behind more)) ∙ sym (append_assoc front (head ∷ (events ++ behind)) more)
-
 end_extends : (parts : List Part) (path : Path) (events : List TraceEvent) (line : List ℕ) (e : PartEnd) → IsPartial (listed parts path events) → FitsEnd e → end_text e ≡ line → IsLonger line (listed parts path events) (over parts path events e)
 end_extends parts path events line e form fit is = record {
   form = record {
@@ -73,8 +69,7 @@ end_extends parts path events line e form fit is = record {
     text = form.text;
     not_yet = (refl, refl);
   };
-  lines = ap (λ t. flat_map part_lines parts ++ (head_text path ∷ (map event_text events ++ t ∷ []))) is
-      ∙ more_behind (flat_map part_lines parts) (head_text path) (map event_text events) [] (line ∷ []);
+  lines = lines_more (flat_map part_lines parts) (head_text path) (map event_text events) [] (end_text e ∷ []) line (ap (λ t. t ∷ []) is);
   follows = inr (record { end = e; fits = fit; is = is; to = refl });
 }
 
@@ -109,8 +104,7 @@ fuel_extends parts path events end line n form small is = record {
     text = form.text;
     not_yet = tt;
   };
-  lines = ap (λ t. flat_map part_lines parts ++ (head_text path ∷ (map event_text events ++ (end_text end ∷ t ∷ [])))) is
-      ∙ more_behind (flat_map part_lines parts) (head_text path) (map event_text events) (end_text end ∷ []) (line ∷ []);
+  lines = lines_more (flat_map part_lines parts) (head_text path) (map event_text events) (end_text end ∷ []) (end_text end ∷ fuel_text n ∷ []) line (ap (λ t. end_text end ∷ t ∷ []) is);
   follows = record { fuel = n; fits = small; is = is; to = refl };
 }
 

@@ -1,6 +1,6 @@
 -- Where the trace of a source begins.
-use Rattle.std.proofs.Common.{◌≡◌, ◌∙◌, ◌⊎◌, inl, inr, refl, sym, subst, ap, List, [], ◌∷◌, ◌++◌, ℕ, ◌+◌, ◌≤◌, ◌<◌, Bool, true, false, nat_eq, length, take, drop, arith, rules, MatchBool}
-use Rattle.std.specs.Prelude.{Option, Some, None, slice_get}
+use Rattle.std.proofs.Common.{◌≡◌, ◌∙◌, ◌⊎◌, inl, inr, refl, sym, subst, ap, List, [], ◌∷◌, ◌++◌, ℕ, ◌+◌, ◌≤◌, Bool, true, false, nat_eq, length, arith, rules, MatchBool}
+use Rattle.std.specs.Prelude.{Some, None, slice_get}
 use Rattle.std.proofs.lemmas.List.{append_assoc, append_cancel_left, append-nil, length-append}
 use Rattle.trace_diagram.specs.Traces.{IsWholeLines, ended, first_line}
 use Rattle.trace_source.specs.Dividing.{BeginsTrace, Divides, DividesOnce, IsCutAt, SourcesDivideOnce, with_trace, without_trace}

@@ -1,5 +1,5 @@
 -- The same bytes are the text of one trace, but for the numbers of the locations of merges.
-use Rattle.std.proofs.Common.{◌≡◌, ◌≢◌, ◌∙◌, sym, ap, ℕ, List, [], ◌∷◌, ◌++◌, get_or, map, refl, arith, append_assoc}
+use Rattle.std.proofs.Common.{◌≡◌, ◌≢◌, ◌∙◌, sym, ℕ, List, [], ◌∷◌, ◌++◌, get_or, map, refl, arith, append_assoc}
 use Rattle.std.specs.List.{flat_map, AllByRecursion}
 use Rattle.trace_diagram.specs.Following.{no_part}
 use Rattle.trace_diagram.specs.Lines.{change_text, end_text, event_text, fuel_text, head_text, quoted}
@@ -18,6 +18,7 @@ use Rattle.trace_diagram.proofs.OneLines.{goes_lines}
 use Rattle.trace_diagram.proofs.OneText.{parts_are_told}
 use Rattle.trace_verdicts.specs.Verdicts.{TextsHaveOneTrace}
 use Rattle.trace_diagram.proofs.Reading.{no_line}
+use Rattle.trace_diagram.proofs.Stages.{first as first_byte}
 
 -- ---- bytes are cut into lines in one way
 
@@ -90,9 +91,6 @@ behind_no_head p =
 parts_head : (ps : List Part) → Heads (flat_map part_lines ps)
 parts_head [] = tt
 parts_head (p ∷ ps) = refl
-
-first_byte : (l m : List ℕ) → l ≡ m → get_or l 0 0 ≡ get_or m 0 0
-first_byte l m is = ap (λ b. get_or b 0 0) is
 
 part_once : (xs ys rest rest' : List (List ℕ)) → AllByRecursion NoHead xs → AllByRecursion NoHead ys → Heads rest → Heads rest' → xs ++ rest ≡ ys ++ rest' → (xs ≡ ys) × (rest ≡ rest')
 part_once [] [] rest rest' f g h k is = (refl, is)

@@ -1,42 +1,21 @@
 -- Traces that are the same by their texts have verdicts that say the same.
-use Rattle.std.proofs.Common.{◌≡◌, ℕ, Bool, true, false, cond, List, [], ◌∷◌, Option, Some, None, refl, sym, ap, ◌∙◌, subst}
-use Rattle.std.proofs.lemmas.Bool.{true≢false}
-use Rattle.rev_num.specs.Path.{Path, same}
+use Rattle.std.proofs.Common.{◌≡◌, ℕ, List, Option, Some, None, refl, sym, ◌∙◌, subst}
 use Rattle.revision_calculus.specs.Program.{Setting}
 use Rattle.revision_calculus.specs.Calculus.{main, calculus}
 use Rattle.revision_calculus.specs.Kinded.{IsAccepted}
-use Rattle.trace_diagram.specs.Shown.{shown_part}
 use Rattle.trace_diagram.specs.declared.diagram.Part.{Part}
 use Rattle.trace_diagram.specs.declared.diagram.Trace.{Trace}
 use Rattle.audit_rules.specs.Parts.{calculus_parts}
-use Rattle.audit_rules.specs.Traces.{Always, SameTrace, part_at}
+use Rattle.audit_rules.specs.Traces.{Always, SameStated, SameTrace, part_at}
 use Rattle.audit_rules.specs.Verdicts.{Audits}
 use Rattle.audit_rules.specs.declared.verdict.Verdict.{Verdict}
 use Rattle.audit_rules.specs.declared.verdict.Verdict.TheVariants as verdict
 use Rattle.audit_rules.proofs.Meets.{tells}
+use Rattle.audit_rules.proofs.Traced.{lists_alike}
 use Rattle.audit_rules.proofs.Verdicts.{each_has_one}
-use Rattle.trace_verdicts.specs.Verdicts.{EachTextHasOne, SameStated, SameTracesHaveSame, SameVerdict, TextsHaveOneVerdict}
+use Rattle.trace_verdicts.specs.Verdicts.{EachTextHasOne, SameTracesHaveSame, SameVerdict, TextsHaveOneVerdict}
 use Rattle.trace_verdicts.proofs.Carried.{Alike, AllAlike, TellsByText, no_carried, yes_carried}
 use Rattle.trace_verdicts.proofs.OneTrace.{same_trace}
-
--- the parts of a revision in two such traces
-stated_same : (ps qs : List Part) → SameTrace ps qs → (r : Path) → SameStated (part_at ps r) (part_at qs r)
-stated_same [] [] e r = tt
-stated_same [] (q ∷ qs) e r = absurd cc
-stated_same (p ∷ ps) [] e r = absurd cc
-stated_same (p ∷ ps) (q ∷ qs) e r = go (same p.path r) (same q.path r) (ap (λ v. same v.path r) first) (stated_same ps qs rest r)
-  where
-    first : shown_part p ≡ shown_part q
-    first = cc
-
-    rest : SameTrace ps qs
-    rest = cc
-
-    go : (b c : Bool) → b ≡ c → SameStated (part_at ps r) (part_at qs r) → SameStated (cond b (Some p) (part_at ps r)) (cond c (Some q) (part_at qs r))
-    go true true f later = first
-    go true false f later = absurd (true≢false f)
-    go false true f later = absurd (true≢false (sym f))
-    go false false f later = later
 
 alike_by_text : (s : Setting) (fuel : ℕ) (o u : Option Part) → SameStated o u → Alike (calculus s) (calculus_parts s fuel) o u
 alike_by_text s fuel None None h = tt
@@ -48,7 +27,7 @@ by_text : (s : Setting) (fuel : ℕ) → IsAccepted s.program → TellsByText (c
 by_text s fuel well = let h = tells s fuel well in record { takes = h.takes-same; joins = h.joins-same }
 
 all_alike : (s : Setting) (fuel : ℕ) (ps qs : List Part) → SameTrace ps qs → AllAlike (calculus s) (calculus_parts s fuel) (part_at ps) (part_at qs)
-all_alike s fuel ps qs e r = alike_by_text s fuel (part_at ps r) (part_at qs r) (stated_same ps qs e r)
+all_alike s fuel ps qs e r = alike_by_text s fuel (part_at ps r) (part_at qs r) (lists_alike ps qs e r)
 
 -- a verdict of the one, as a verdict of the other
 there : List Part → Verdict → Verdict
@@ -66,7 +45,7 @@ same_there : (s : Setting) (fuel : ℕ) (t t' : Trace) (v : Verdict) → SameTra
 unfolding there
 same_there s fuel t t' verdict.Yes e h = tt
 same_there s fuel t t' (verdict.No r stated c) e h =
-    (refl, subst (λ v. SameStated v (part_at t'.parts r)) h.states (stated_same t.parts t'.parts e r), refl)
+    (refl, subst (λ v. SameStated v (part_at t'.parts r)) h.states (lists_alike t.parts t'.parts e r), refl)
 
 pub same_verdict : Always SameTracesHaveSame
 same_verdict s fuel well t t' v v' e h k =

@@ -1,26 +1,15 @@
 -- Verdicts of bytes that are a trace text.
---   SameStated     two stated parts are the same by their lines
 --   SameVerdict    two verdicts say the same
 --   HasOneVerdict  what an audit says of bytes
 -- and the laws of these.
-use Rattle.std.specs.Prelude.{◌≡◌, ℕ, List, Option, Some, None}
+use Rattle.std.specs.Prelude.{◌≡◌, ℕ, List}
 use Rattle.revision_calculus.specs.Program.{Setting}
-use Rattle.trace_diagram.specs.Shown.{shown_part}
 use Rattle.trace_diagram.specs.Traces.{IsTextOf, IsTraceText}
-use Rattle.trace_diagram.specs.declared.diagram.Part.{Part}
 use Rattle.trace_diagram.specs.declared.diagram.Trace.{Trace}
-use Rattle.audit_rules.specs.Traces.{SameTrace}
+use Rattle.audit_rules.specs.Traces.{SameStated, SameTrace}
 use Rattle.audit_rules.specs.Verdicts.{Audits}
 use Rattle.audit_rules.specs.declared.verdict.Verdict.{Verdict}
 use Rattle.audit_rules.specs.declared.verdict.Verdict.TheVariants as verdict
-
--- two stated parts of a revision, or none, are the same but for the number of a merge's location,
--- which their lines do not have
-abbrev pub SameStated : Option Part → Option Part → Type 0
-SameStated None None = Unit {0}
-SameStated None (Some q) = ⊥
-SameStated (Some p) None = ⊥
-SameStated (Some p) (Some q) = shown_part p ≡ shown_part q
 
 -- both say yes, or both say no of one revision, with the same stated and one computed part
 abbrev pub SameVerdict : Verdict → Verdict → Type 0

@@ -6,7 +6,7 @@ use Rattle.revision_machine.specs.Numbered.{at_number}
 use Rattle.hub_algebra.specs.declared.status.Status.{Status}
 use Rattle.hub_algebra.specs.declared.status.Status.TheVariants.{Ready, Out, Waiting, Over, Gone}
 use Rattle.hub_algebra.specs.Hub as pure
-use Rattle.hub_algebra.specs.Hub.{Tied, EndsAre, end_of}
+use Rattle.hub_algebra.specs.Hub.{EndsAre, end_of}
 use Rattle.hub_algebra.specs.HubMachine.{HubMachine, numbered, values}
 use Rattle.hub_algebra.proofs.Hub as hub
 use Rattle.hub_table.specs.declared.kept.Kept.{Kept}

@@ -6,7 +6,7 @@ use Rattle.revision_machine.specs.Numbered.{at_number, put_number}
 use Rattle.hub_algebra.specs.declared.status.Status.{Status}
 use Rattle.hub_algebra.specs.declared.status.Status.TheVariants.{Out, Waiting, Over}
 use Rattle.hub_algebra.specs.HubMachine.{HubMachine}
-use Rattle.hub_algebra.proofs.Replay.{put_other}
+use Rattle.revision_machine.proofs.Lists.{put_other}
 use Rattle.hub_table.specs.declared.value.Turn.{Turn}
 use Rattle.hub_table.specs.declared.state.HubState.TheVariants.{All}
 use Rattle.hub_table.specs.Counts.{times}
@@ -108,7 +108,7 @@ module _ {L R A E : Type 0} (d : HubMachine L R A E) (ends : E → L → Type 0)
   pub still_ended : (slots slots' : List (Status R A E)) (n : ℕ) (a : A) → at_number slots n ≡ Some (Waiting a) → is_ready d slots (at_number slots n) ≡ true → slots' ≡ put_number slots n Out → ended_here (at_number slots' (d.on a)) ≡ true
   still_ended slots slots' n a is ready put =
       let ended : ended_here (at_number slots (d.on a)) ≡ true = sym (ap (is_ready d slots) is) ∙ ready in
-      ap (λ z. ended_here (at_number z (d.on a))) put ∙ (ap ended_here (put_other slots n (d.on a) Out (λ e. no_more (sym (ap ended_here is) ∙ (ap (λ i. ended_here (at_number slots i)) e ∙ ended)))) ∙ ended)
+      ap (λ z. ended_here (at_number z (d.on a))) put ∙ (ap ended_here (put_other slots n (d.on a) Out (λ e. no_more (sym (ap ended_here is) ∙ (ap (λ i. ended_here (at_number slots i)) (sym e) ∙ ended)))) ∙ ended)
 
   -- it is told as if the seat had taken the turn when it was drawn
   pub told_drawn : (v w : V) (t t' : Value) (n : ℕ) (a : A) → InHand d ends w t' → IsDrawn d v w t t' n a → t'.state ≡ All → v.entered ≡ All → Passes v → Told d ends w (sees (says d ends t'.revisions.slots.items) w.log w) t'

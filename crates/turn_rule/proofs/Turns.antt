@@ -10,7 +10,7 @@ use Rattle.hub_algebra.specs.declared.status.Status.TheVariants.{Ready, Out, Wai
 use Rattle.hub_algebra.specs.Replay.{state_after}
 use Rattle.hub_algebra.specs.Hub.{Tied, Meets}
 use Rattle.hub_algebra.specs.HubMachine.{HubMachine, numbered, values}
-use Rattle.hub_algebra.proofs.Replay.{put_other, put_here}
+use Rattle.revision_machine.proofs.Lists.{put_other, put_here}
 use Rattle.hub_algebra.proofs.Hub as hub
 use Rattle.hub_table.specs.declared.value.Turn.{Turn}
 use Rattle.hub_table.specs.Counts.{is_at, times}
@@ -72,19 +72,19 @@ module _ {R A E : Type 0} where
   outs_draw slots out n s outs e none j = let o = outs j in dite (ℕ_discrete j n)
       (λ is. let a : is_at j n ≡ 1 = ap (λ i. is_at i n) is ∙ is_at_same n in let b : is_out (at_number (put_number slots n Out) j) ≡ 1 = ap (λ i. is_out (at_number (put_number slots n Out) i)) is ∙ ap is_out (put_here slots n s Out e) in
       let g : times j out ≡ 0 = outs j ∙ (ap (λ i. is_out (at_number slots i)) is ∙ (ap is_out e ∙ none)) in omega arith)
-      (λ ne. let a = is_at_other j n (λ i. ne (sym i)) in let b : is_out (at_number (put_number slots n Out) j) ≡ is_out (at_number slots j) = ap is_out (put_other slots n j Out (λ i. ne (sym i))) in omega arith)
+      (λ ne. let a = is_at_other j n (λ i. ne (sym i)) in let b : is_out (at_number (put_number slots n Out) j) ≡ is_out (at_number slots j) = ap is_out (put_other slots n j Out ne) in omega arith)
 
   -- a number is handed in
   outs_in : (slots : List (Status R A E)) (out : List ℕ) (n : ℕ) (s : Status R A E) → OutsAre slots out → at_number slots n ≡ Some Out → is_out (Some s) ≡ 0 → OutsAre (put_number slots n s) (without n out)
   outs_in slots out n s outs e none j = let o = outs j in dite (ℕ_discrete j n)
       (λ is. let a : times j (without n out) ≡ 0 = ap (λ i. times i (without n out)) is ∙ count_gone (λ (x : ℕ). x) n out in let b : is_out (at_number (put_number slots n s) j) ≡ 0 = ap (λ i. is_out (at_number (put_number slots n s) i)) is ∙ (ap is_out (put_here slots n Out s e) ∙ none) in omega arith)
-      (λ ne. let a = count_other (λ (x : ℕ). x) n j out ne in let b : is_out (at_number (put_number slots n s) j) ≡ is_out (at_number slots j) = ap is_out (put_other slots n j s (λ i. ne (sym i))) in omega arith)
+      (λ ne. let a = count_other (λ (x : ℕ). x) n j out ne in let b : is_out (at_number (put_number slots n s) j) ≡ is_out (at_number slots j) = ap is_out (put_other slots n j s ne) in omega arith)
 
   -- another status of a number that no seat has, before and after
   outs_turn : (slots : List (Status R A E)) (out : List ℕ) (n : ℕ) (x s : Status R A E) → OutsAre slots out → at_number slots n ≡ Some x → is_out (Some x) ≡ 0 → is_out (Some s) ≡ 0 → OutsAre (put_number slots n s) out
   outs_turn slots out n x s outs e was none j = dite (ℕ_discrete j n)
       (λ is. outs j ∙ (ap (λ i. is_out (at_number slots i)) is ∙ (ap is_out e ∙ (was ∙ sym (ap (λ i. is_out (at_number (put_number slots n s) i)) is ∙ (ap is_out (put_here slots n x s e) ∙ none))))))
-      (λ ne. outs j ∙ sym (ap is_out (put_other slots n j s (λ i. ne (sym i)))))
+      (λ ne. outs j ∙ sym (ap is_out (put_other slots n j s ne)))
 
 module _ {L R A E : Type 0} (d : HubMachine L R A E) (ends : E → L → Type 0) where
   abbrev Value : Type 0

@@ -17,6 +17,7 @@ use Rattle.code_machine.specs.Local.{CodeRun, IsVerified, Phase, running, done, 
 use Rattle.code_machine.specs.Machines.{fork, act_of, act_in, wish_of, numbered}
 use Rattle.code_machine.specs.Proper.{IsOver}
 use Rattle.code_machine.proofs.Typing.{worlds_proper, stops_over}
+use Rattle.code_world.proofs.Ended.{plain_same}
 use Rattle.reached_worlds.specs.Reached.{IsReached}
 use Rattle.world_notes.specs.Changes.{listed_by}
 use Rattle.world_notes.proofs.Keeping.{list_behind, leg_keeps}
@@ -44,13 +45,6 @@ both_listing u e = absurd cc
 
 listing_same : (v u : Entries (Local ℕ)) → ◌≡◌ {A = Option (World (Local ℕ))} (Some (Listing v)) (Some (Listing u)) → u ≡ v
 listing_same v u e = (let z : ◌≡◌ {A = World (Local ℕ)} (Listing v) (Listing u) = cc in let y : v ≡ u = cc in sym y)
-
-plain_same : (o : Option (Path × Entry (Local ℕ))) (p q : Path) (l k : Local ℕ) → o ≡ Some (p, Plain l) → o ≡ Some (q, Plain k) → k ≡ l
-plain_same o p q l k a b =
-    let s : ◌≡◌ {A = Option (Path × Entry (Local ℕ))} (Some (q, Plain k)) (Some (p, Plain l)) = sym b ∙ a in
-    let z : ◌≡◌ {A = Path × Entry (Local ℕ)} (q, Plain k) (p, Plain l) = cc in
-    let y : Plain k ≡ Plain l = ap (λ (x : Path × Entry (Local ℕ)). x.1) z in
-    cc
 
 -- the world after a leg of the revision n, whose list is known
 pub data Went (w u : Entries (Local ℕ)) (n : ℕ) (r : Path) (listed : List (Listed ℕ)) : Type 0 where

@@ -6,7 +6,7 @@ use Rattle.code_machine.specs.Local.{CodeRun, Local, Phase}
 use Rattle.code_world.specs.declared.answer.LegAnswer.TheVariants as answer
 use Rattle.code_world.specs.declared.world.World as rust
 use Rattle.code_world.specs.Answers.{IsInPhase, LegAnswers}
-use Rattle.code_world.proofs.Rows.{at_below}
+use Rattle.revision_machine.proofs.Lists.{at_below}
 use Rattle.world_notes.specs.declared.noted.Noted.{Noted}
 
 in_phase_below : (u : Entries (Local ℕ)) (n : ℕ) (p : Phase ℕ) → IsInPhase u n p → n < length u

@@ -1,7 +1,8 @@
 -- A note that is written in its place.
-use Rattle.std.proofs.Common.{◌≡◌, ◌≢◌, ℕ, zero, suc, ◌<◌, List, [], ◌∷◌, length, get_or, Some, refl, sym, ap, subst, arith}
+use Rattle.std.proofs.Common.{◌≡◌, ◌≢◌, ◌∙◌, ℕ, zero, suc, ◌<◌, List, [], ◌∷◌, length, get_or, Some, refl, sym, ap, subst}
 use Rattle.std.specs.Prelude.{slice_set}
 use Rattle.revision_machine.specs.Numbered.{at_number}
+use Rattle.revision_machine.proofs.Lists.{at_there}
 use Rattle.code_world.proofs.Rows.{none_some, some_same}
 use Rattle.world_notes.specs.declared.noted.Noted.{Noted}
 use Rattle.world_notes.specs.Changes.{IsChanged}
@@ -19,11 +20,6 @@ module _ {A : Type 0} where
   set_other (x ∷ xs) (suc n) zero y h = refl
   set_other (x ∷ xs) (suc n) (suc m) y h = set_other xs n m y (λ e. h (ap suc e))
 
-  there : (xs : List A) (n : ℕ) (x : A) → n < length xs → x ≡ get_or xs n x → at_number xs n ≡ Some x
-  there [] n x less is = absurd (omega (arith, less))
-  there (y ∷ xs) zero x less is = ap (λ z. Some z) (sym is)
-  there (y ∷ xs) (suc n) x less is = there xs n x (omega (arith, less)) is
-
   set_here : (xs : List A) (n : ℕ) (y z : A) → at_number (slice_set xs n y) n ≡ Some z → z ≡ y
   set_here [] n y z e = none_some e
   set_here (x ∷ xs) zero y z e = sym (some_same e)
@@ -33,5 +29,5 @@ pub changed : (n : ℕ) (Changes : Noted → Noted → Type 0) (old : List Noted
 changed n Changes old now y less is h = record {
   count = set_length old n y;
   others = λ m other. set_other old n m y other;
-  own = λ z e. (now, there old n now less is, subst (Changes now) (sym (set_here old n y z e)) h);
+  own = λ z e. (now, at_there old n now less ∙ ap (λ k. Some k) (sym is), subst (Changes now) (sym (set_here old n y z e)) h);
 }

@@ -16,7 +16,8 @@ use Rattle.code_machine.specs.Leg.{leg}
 use Rattle.code_machine.specs.Local.{CodeRun, IsVerified, Phase, running, done, trapped, Local, end_of}
 use Rattle.code_machine.specs.Machines.{numbered}
 use Rattle.code_machine.specs.Proper.{IsOver}
-use Rattle.code_machine.proofs.Changes.{decide, put_other, put_here, put_length}
+use Rattle.code_machine.proofs.Changes.{decide}
+use Rattle.revision_machine.proofs.Lists.{put_other, put_here, put_length, at_more, at_below, at_front}
 use Rattle.code_world.specs.declared.answer.LegAnswer.{LegAnswer}
 use Rattle.code_world.specs.declared.answer.LegAnswer.TheVariants as answer
 use Rattle.code_world.specs.declared.world.World as rust
@@ -24,7 +25,7 @@ use Rattle.code_world.specs.Answers.{IsInPhase, LegAnswers}
 use Rattle.code_world.specs.Endings.{IsEndAt}
 use Rattle.code_world.specs.Meetings as told
 use Rattle.code_world.specs.Meetings.{HasMeeting, MeetingOf}
-use Rattle.code_world.proofs.Rows.{some_same, at_more, at_below, more_length}
+use Rattle.code_world.proofs.Rows.{some_same, more_length}
 use Rattle.reached_worlds.specs.Reached.{IsReached}
 use Rattle.world_notes.specs.declared.noted.Noted.{Noted}
 use Rattle.world_notes.specs.Changes.{IsChanged, entries_of, HasAdded, IsBorn, IsOverNow, HasNoted, listed_by}
@@ -69,7 +70,7 @@ module _ (w u : Entries (Local ℕ)) (n : ℕ) (r : Path) (l : Local ℕ) (at : 
       by : Went w u n r ls → (k : Local ℕ) × (at_number u n ≡ Some (r, Plain k)) × (k.state.listed ≡ ls)
       by (moved k is list) = (k, ap (λ z. at_number z n) is ∙ put_here w n (r, Plain l) (r, Plain k) at, list)
       by (bore k kid q is list kids phase) =
-          (k, ap (λ z. at_number z n) is ∙ Rattle.code_world.proofs.Rows.at_front (put_number w n (r, Plain k)) ((q, Plain kid) ∷ []) n (r, Plain k) (put_here w n (r, Plain l) (r, Plain k) at), list)
+          (k, ap (λ z. at_number z n) is ∙ at_front (put_number w n (r, Plain k)) ((q, Plain kid) ∷ []) n (r, Plain k) (put_here w n (r, Plain l) (r, Plain k) at), list)
       by (met k m q lq apart there is list) =
           (k, ap (λ z. at_number z n) is ∙ put_other (put_number w n (r, Plain k)) m n (q, Joined lq) apart ∙ put_here w n (r, Plain l) (r, Plain k) at, list)
 

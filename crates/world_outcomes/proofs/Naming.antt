@@ -3,21 +3,12 @@ use Rattle.std.proofs.Common.{◌≡◌, ◌∙◌, ℕ, zero, suc, ◌<◌, ◌
 use Rattle.std.proofs.lemmas.List.{reverse-append}
 use Rattle.rev_num.specs.Path.{Path, child}
 use Rattle.revision_machine.specs.Numbered.{at_number, or_path}
+use Rattle.revision_machine.proofs.Lists.{at_there, at_none}
 use Rattle.code_world.specs.declared.table.Birth.{Birth}
 use Rattle.code_world.specs.Endings.{Names}
 use Rattle.world_outcomes.specs.Births.{forked_as, path_in}
 
 module _ {A : Type 0} where
-  pub at_there : (xs : List A) (n : ℕ) (x : A) → n < length xs → x ≡ get_or xs n x → at_number xs n ≡ Some x
-  at_there [] n x less is = absurd (omega (arith, less))
-  at_there (y ∷ xs) zero x less is = ap (λ z. Some z) (sym is)
-  at_there (y ∷ xs) (suc n) x less is = at_there xs n x (omega (arith, less)) is
-
-  pub at_none : (xs : List A) (n : ℕ) → length xs ≤ n → at_number xs n ≡ None
-  at_none [] n few = refl
-  at_none (x ∷ xs) zero few = absurd (omega (arith, few))
-  at_none (x ∷ xs) (suc n) few = at_none xs n (omega (arith, few))
-
   at_within : (xs : List A) (n : ℕ) → at_number xs n ≡ None → length xs ≤ n
   at_within [] n e = omega arith
   at_within (x ∷ xs) zero e = absurd (let z : Some x ≡ None = e in cc)
@@ -25,7 +16,7 @@ module _ {A : Type 0} where
 
 pub forked_there : (bs : List Birth) (n : ℕ) (b : Birth) → 0 < n → n < length bs → b ≡ get_or bs n b → forked_as bs n ≡ Some b
 forked_there bs zero b some less is = absurd (omega (arith, some))
-forked_there bs (suc n) b some less is = at_there bs (suc n) b less is
+forked_there bs (suc n) b some less is = at_there bs (suc n) b less ∙ ap (λ z. Some z) (sym is)
 
 pub forked_none : (bs : List Birth) (n : ℕ) → length bs ≤ n → forked_as bs n ≡ None
 forked_none bs zero few = refl

@@ -3,7 +3,7 @@ use Rattle.std.proofs.Common.{◌≡◌, ◌≢◌, ◌⊎◌, inl, inr, ◌∙�
 use Rattle.rev_num.specs.Path.{Path}
 use Rattle.revision_machine.specs.Machine.{Entry, Plain, Joined}
 use Rattle.revision_machine.specs.Numbered as numbers
-use Rattle.revision_machine.specs.Numbered.{Wants, Stops, Entries, World, Both, Listing, at_number, Replays}
+use Rattle.revision_machine.specs.Numbered.{Wants, Stops, Entries, Listing, at_number, Replays}
 use Rattle.code_machine.specs.Local.{CodeRun, IsVerified, Phase, running, done, trapped, Trap, Local}
 use Rattle.code_machine.specs.Machines.{act_in, wish_of, numbered}
 use Rattle.code_machine.specs.Proper.{IsOver}
@@ -11,7 +11,8 @@ use Rattle.code_machine.specs.Worlds.{Joins, WaitsOn, IsAmong}
 use Rattle.code_machine.proofs.Changes.{decide, legs_change, running_left, waiting_stays, waiting_has_none}
 use Rattle.code_machine.proofs.Typing.{worlds_proper, stops_over}
 use Rattle.code_world.specs.Answers.{HasStopped, IsInPhase}
-use Rattle.code_world.proofs.Rows.{none_some, at_below, below_at}
+use Rattle.code_world.proofs.Rows.{none_some}
+use Rattle.revision_machine.proofs.Lists.{at_below, below_at}
 use Rattle.reached_worlds.specs.Reached.{IsReached}
 use Rattle.reached_worlds.specs.Laws.{HasNumber}
 use Rattle.reached_worlds.proofs.Reaching.{small}

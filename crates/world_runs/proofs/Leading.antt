@@ -1,7 +1,7 @@
 -- A run to its end: one try, the least number that has a leg, and one such leg after another.
 use Rattle.std.proofs.Common.{◌≡◌, ◌⊎◌, ◌∙◌, ℕ, ◌+◌, ◌<◌, ◌≤◌, ◌^◌, List, [], ◌∷◌, ◌++◌, length, Some, None, refl, sym, ap, subst, arith}
 use Rattle.revision_machine.specs.Numbered as numbers
-use Rattle.revision_machine.specs.Numbered.{Entries, World, Both, Listing, begin, Replays, Least, IsOver}
+use Rattle.revision_machine.specs.Numbered.{Entries, World, Both, Listing, begin, Replays, Least}
 use Rattle.code_machine.specs.Local.{CodeRun, IsVerified, Local}
 use Rattle.code_machine.specs.Machines.{numbered, start_in}
 use Rattle.code_machine.proofs.Starting.{entry_bound}
@@ -13,7 +13,9 @@ use Rattle.code_world.specs.declared.table.Table.{Table}
 use Rattle.code_world.specs.Answers.{LegAnswers}
 use Rattle.code_world.specs.Counts.{slot_count}
 use Rattle.code_world.specs.Tables.{IsWorld}
-use Rattle.code_world.proofs.Rows.{at_below, slots_many}
+use Rattle.code_world.proofs.Rows.{slots_many}
+use Rattle.revision_machine.proofs.Replays.{replays_on}
+use Rattle.revision_machine.proofs.Lists.{at_below}
 use Rattle.code_world.proofs.Worlds.{world_live, world_twice}
 use Rattle.reached_worlds.specs.Reached.{IsReached}
 use Rattle.reached_worlds.proofs.Reaching.{small}
@@ -113,11 +115,6 @@ module _ (g : CodeRun) where
   leads_replays v [] w e = e
   leads_replays v (n ∷ ns) w (u, l, s, rest) = (u, l, leads_replays u ns w rest)
 
-  -- one schedule after another
-  pub replays_on : (s : World (Local ℕ)) (ns : List ℕ) (v : World (Local ℕ)) (ms : List ℕ) (w : World (Local ℕ)) → Replays (numbered g) s ns v → Replays (numbered g) v ms w → Replays (numbered g) s (ns ++ ms) w
-  replays_on s [] v ms w e r = subst (λ z. Replays (numbered g) z ms w) (sym e) r
-  replays_on s (n ∷ ns) v ms w (u, l, rest) r = (u, l, replays_on u ns v ms w rest r)
-
   pub leads_least : (main : Local ℕ) (v : World (Local ℕ)) (ns : List ℕ) (w : World (Local ℕ)) → Leads v ns w → ((m : ℕ) → numbers.leg (numbered g) w m ≡ None) → Least (numbered g) main v ns w
   leads_least main v [] w e over = (e, λ m. subst (λ z. numbers.leg (numbered g) z m ≡ None) (sym e) (over m))
   leads_least main v (n ∷ ns) w (u, l, s, rest) over = (u, l, s, leads_least main u ns w rest over)
@@ -168,7 +165,7 @@ module _ (g : CodeRun) where
   pub came_few : IsVerified g → (w : World (Local ℕ)) → IsReached g w → (turns : ℕ) (v : rust.World) (q : ReadyQueue) → Came w turns v q → turns ≤ 12000000002
   came_few ok w h turns v q c =
       let b = entry_bound g ok h.number h.main h.fuel (h.schedule ++ c.schedule) c.last
-      (replays_on (begin (numbered g) (start_in g h.number h.main.body h.fuel)) h.schedule w c.schedule c.last h.replays (leads_replays w c.schedule c.last c.leads)) in
+      (replays_on (numbered g) h.schedule c.schedule (begin (numbered g) (start_in g h.number h.main.body h.fuel)) w c.last h.replays (leads_replays w c.schedule c.last c.leads)) in
       let l = longer h.schedule c.schedule in
       let few = h.few in
       let many = c.count in

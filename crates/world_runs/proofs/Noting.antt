@@ -1,5 +1,5 @@
 -- What is known after a leg that came out so.
-use Rattle.std.proofs.Common.{◌≡◌, ◌∙◌, inl, inr, ℕ, suc, ◌+◌, ◌<◌, length, Some, refl, sym, ap, subst, arith}
+use Rattle.std.proofs.Common.{◌≡◌, ◌∙◌, inl, inr, ℕ, ◌+◌, ◌<◌, length, Some, refl, sym, ap, subst, arith}
 use Rattle.revision_machine.specs.Numbered as numbers
 use Rattle.revision_machine.specs.Numbered.{Entries, World, Both, Listing}
 use Rattle.code_machine.specs.Local.{CodeRun, done, trapped, Local}
@@ -7,7 +7,8 @@ use Rattle.code_machine.specs.Machines.{numbered}
 use Rattle.code_machine.specs.Worlds.{WaitsOn}
 use Rattle.code_world.specs.declared.answer.LegAnswer.TheVariants as answer
 use Rattle.code_world.specs.declared.world.World as rust
-use Rattle.code_world.proofs.Rows.{some_same, at_below}
+use Rattle.code_world.proofs.Rows.{some_same}
+use Rattle.revision_machine.proofs.Lists.{at_below}
 use Rattle.reached_worlds.proofs.Reaching.{legs_reached}
 use Rattle.ready_queue.specs.declared.queue.ReadyQueue.{ReadyQueue}
 use Rattle.ready_queue.specs.Queue.{HasReady, HasWaiter, KeepsAll}

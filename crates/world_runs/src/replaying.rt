@@ -1,6 +1,7 @@
 //! Replays of a schedule.
 
 ghost use Rattle.std.specs.Prelude.{◌≡◌, ◌≤◌, ◌<◌, ◌^◌, ℕ, length, IfOk, IfErr};
+ghost use Rattle.rev_num.specs.Limits.{most_fuel};
 ghost use Rattle.block_merges.specs.Merging.{AreMergesOf};
 ghost use Rattle.block_run.specs.Area.{count};
 ghost use Rattle.code_machine.specs.Local.{Local};
@@ -46,7 +47,7 @@ pub fn replay<M: MergeBy>(
     schedule: &[u32],
 ) -> Result<World, ReplayFault>
     requires setting { IsSetting setting.now }
-    requires fuel { fuel ≤ 4000000000 }
+    requires fuel { fuel ≤ most_fuel }
     requires size { M.size merges.old ≡ count setting.now.code.vars }
     requires merges { AreMergesOf (run_under setting.now) (M.merges merges.old) }
     ensures ok { IfOk result (λ v. (w : DefinedWorld (Local ℕ))

@@ -7,13 +7,11 @@ use Rattle.trace_diagram.specs.declared.diagram.PartEnd.TheVariants as part_end
 use Rattle.revision_calculus.specs.Program.{Setting}
 use Rattle.revision_calculus.specs.State as source
 use Rattle.rev_code.specs.State.{State}
-use Rattle.expression_run.specs.Agrees.{word}
 use Rattle.statement_places.specs.States.{location_word, entry, IsShared}
 use Rattle.code_machine.specs.Local as code
-use Rattle.code_machine.specs.Local.{CodeRun, Phase, running, done, trapped, written_from}
-use Rattle.code_machine.specs.Outcome.{value_of}
+use Rattle.code_machine.specs.Local.{Phase, running, done, trapped, written_from}
 use Rattle.join_agreement.specs.Related as related
-use Rattle.join_agreement.specs.Related.{run_of, IsTrap}
+use Rattle.join_agreement.specs.Related.{run_of}
 use Rattle.program_simulation.specs.Agreement.{compared, PhaseAgrees, read, AgreesBy}
 use Rattle.audit_rules.specs.Parts as calculus_parts
 use Rattle.audit_rules.specs.Parts.{place_at, cause_place, part_of}

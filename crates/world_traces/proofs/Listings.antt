@@ -4,9 +4,9 @@
 --   world_lists    a listing of a world is one of a state that agrees with it
 --   to_lists, of_lists
 --                  those of a state of the calculus are its traces
-use Rattle.std.proofs.Common.{◌≡◌, ◌≢◌, inl, inr, ℕ, suc, Bool, true, false, cond, List, [], ◌∷◌, Option, Some, None, refl, sym, ap, ◌∙◌, subst}
-use Rattle.rev_num.specs.Path.{Path, same, before}
-use Rattle.rev_num.proofs.PostOrder.{same_refl, same-eq, before_irrefl}
+use Rattle.std.proofs.Common.{◌≡◌, ◌≢◌, inl, inr, ℕ, true, cond, List, [], ◌∷◌, Option, Some, None, refl, sym, ap, ◌∙◌, subst}
+use Rattle.rev_num.specs.Path.{Path, before}
+use Rattle.rev_num.proofs.PostOrder.{same_refl, before_irrefl}
 use Rattle.merge_decl.specs.Least.{Among}
 use Rattle.trace_diagram.specs.declared.diagram.Part.{Part}
 use Rattle.revision_machine.specs.PathMap.{PathMap}

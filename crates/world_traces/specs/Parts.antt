@@ -17,7 +17,6 @@ use Rattle.trace_diagram.specs.declared.diagram.PartEnd.TheVariants as part_end
 use Rattle.trace_diagram.specs.declared.diagram.TraceEvent.{TraceEvent}
 use Rattle.trace_diagram.specs.declared.diagram.TraceEvent.TheVariants as event
 use Rattle.audit_rules.specs.Parts.{place_at, cause_place}
-use Rattle.revision_machine.specs.Numbered.{at_number, or_path}
 use Rattle.version_map.specs.Composing.{Entry}
 use Rattle.rev_code.specs.declared.code.CodeVar.{CodeVar}
 use Rattle.rev_code.specs.Words.{Word}
@@ -25,6 +24,7 @@ use Rattle.rev_code.specs.State.{Location, Listed, forked, joined}
 use Rattle.code_soundness.specs.Typed.{location_kinds}
 use Rattle.code_machine.specs.Local.{CodeRun, IsVerified, Phase, running, done, trapped, Local, end_of}
 use Rattle.code_machine.specs.Outcome.{value_of, show_all}
+pub use Rattle.revision_machine.specs.Numbered.{path_in}
 
 -- ---- places
 
@@ -83,10 +83,6 @@ module _ {H : Type 0} (path : H → Path) where
   }
 
 -- ---- worlds by number
-
--- the path of the revision with this number, where these are the paths of all
-abbrev pub path_in : List Path → ℕ → Path
-path_in paths n = or_path (at_number paths n) []
 
 abbrev pub part_in : CodeRun → List Path → Path → Local ℕ → Part
 part_in g paths r l = part_by (path_in paths) g r l

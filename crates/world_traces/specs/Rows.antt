@@ -4,7 +4,7 @@
 --   MergeFaults   the merge overflows
 --   TrapPassesOn  a child that wrote a cell of an array traps, and its joiner takes over the trap
 --   PathsStay     by two schedules revisions have other numbers and the same parts
-use Rattle.std.specs.Prelude.{◌≡◌, ℕ, pos, Bool, true, false, List, [], ◌∷◌, codes, Option, Some, None}
+use Rattle.std.specs.Prelude.{◌≡◌, ℕ, pos, Bool, true, false, List, [], ◌∷◌, codes, Some, None}
 use Rattle.rev_num.specs.declared.value.Value.TheVariants as v
 use Rattle.rev_num.specs.declared.value.ValueKind.{ValueKind}
 use Rattle.rev_num.specs.declared.value.ValueKind.TheVariants as k
@@ -22,7 +22,6 @@ use Rattle.revision_machine.specs.Numbered.{Listing, Entries, begin}
 use Rattle.rev_code.specs.declared.code.Code.{Code}
 use Rattle.rev_code.specs.declared.code.CodeBlock.{CodeBlock}
 use Rattle.rev_code.specs.declared.code.CodeVar.{CodeVar}
-use Rattle.rev_code.specs.declared.code.BlockClass.{BlockClass}
 use Rattle.rev_code.specs.declared.code.BlockClass.TheVariants as class
 use Rattle.rev_code.specs.declared.code.Instr.{Instr}
 use Rattle.rev_code.specs.declared.code.Instr.TheVariants as i

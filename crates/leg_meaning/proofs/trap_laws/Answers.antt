@@ -1,6 +1,5 @@
 use Rattle.std.proofs.Common.{refl, subst}
 use Rattle.leg_meaning.specs.Legs as leg
-use Rattle.leg_meaning.specs.Legs.{IsJoinTrap}
 use Rattle.code_machine.specs.Local.{CodeRun}
 use Rattle.code_machine.proofs.Events.{IsAt, stands}
 use Rattle.leg_meaning.proofs.trap_laws.Goals as goal

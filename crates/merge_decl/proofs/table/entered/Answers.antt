@@ -1,4 +1,4 @@
-use Rattle.std.proofs.Common.{◌≡◌, ◌∙◌, ◌++◌, ◌∷◌, [], ap, sym, subst, rules}
+use Rattle.std.proofs.Common.{◌≡◌, ◌++◌, ◌∷◌, [], sym, subst, rules}
 use Rattle.merge_decl.specs.Table.{IsIndexed, rows}
 use Rattle.merge_decl.proofs.Tables.{indexed_push, rows_push}
 use Rattle.merge_decl.proofs.table.entered.Goals as goal

@@ -1,18 +1,19 @@
 use Rattle.std.proofs.Common.{◌≡◌, ◌/◌, ◌^◌, [], None, arith}
 use Rattle.std.specs.Prelude.{min}
+use Rattle.code_soundness.proofs.Accepting.{no_fault_accepted}
+use Rattle.block_run.proofs.Tables.{most_locations}
 use Rattle.segment_store.specs.declared.store.Hold.{Hold}
 use Rattle.segment_store.specs.declared.store.Store.{Store}
 use Rattle.segment_store.specs.Names.{IsOf}
 use Rattle.rev_vm.proofs.Mains.{if_ok}
 use Rattle.rev_workers.specs.Stores.{IsOpened}
-use Rattle.rev_workers.proofs.Limits.{few_locations}
 use Rattle.rev_workers.proofs.Opened.{words_many, opened_is}
 use Rattle.rev_workers.proofs.threads.open_store.Goals as goal
 
 pub open-requires : goal.open-requires
 open-requires c =
     let m = words_many c.args.setting.now.code.vars c.in_ok-words.words c.in_ok-words.ensures.words in
-    let few = few_locations c.args.setting.now.code c.requires.faultless in
+    let few = most_locations c.args.setting.now.code (no_fault_accepted c.args.setting.now.code c.requires.faultless).small in
     omega (arith, m, few)
 
 pub returns : goal.returns

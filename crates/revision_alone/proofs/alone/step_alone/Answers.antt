@@ -1,7 +1,5 @@
 use Rattle.std.proofs.Common.{rules}
-use Rattle.revision_machine.specs.Rules.{event_of}
 use Rattle.revision_state.specs.Views.{given}
-use Rattle.revision_alone.specs.Alone.{alone_event}
 use Rattle.revision_alone.proofs.Fits.{fits}
 use Rattle.revision_alone.proofs.alone.step_alone.Goals as goal
 use Rattle.revision_alone.proofs.alone.step_alone.Goals.{in-Moved, in-Forked+in_ok-child-in-Forked, in-Joins, in-Ended}

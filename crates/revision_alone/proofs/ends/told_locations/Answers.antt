@@ -1,5 +1,5 @@
 use Rattle.std.proofs.Common.{◌+◌, ◌-◌, ◌++◌, ◌∷◌, [], sym, ap, ◌∙◌, arith, append_assoc}
-use Rattle.revision_alone.specs.Alone.{told_at, behind, told_from}
+use Rattle.revision_alone.specs.Alone.{behind, told_from}
 use Rattle.revision_alone.proofs.Told.{told_more}
 use Rattle.revision_alone.proofs.ends.told_locations.Goals as goal
 

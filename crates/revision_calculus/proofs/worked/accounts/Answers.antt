@@ -2,7 +2,7 @@ use Rattle.std.specs.Prelude.{[], ◌∷◌}
 use Rattle.std.specs.Fmt.{digits}
 use Rattle.std.proofs.Common.{refl}
 use Rattle.revision_calculus.specs.Examples as x
-use Rattle.revision_calculus.specs.Examples.{given, sharing, usual, usual_fuel}
+use Rattle.revision_calculus.specs.Examples.{sharing, usual}
 use Rattle.revision_calculus.proofs.EveryRun.{always_tells, run_latest}
 use Rattle.merge_decl.specs.Definitions.{merge_value_of}
 use Rattle.revision_calculus.proofs.worked.accounts.Goals as goal

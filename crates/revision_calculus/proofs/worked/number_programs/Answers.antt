@@ -2,7 +2,7 @@ use Rattle.std.specs.Prelude.{[], ◌∷◌, false, negsuc, pos}
 use Rattle.std.specs.Fmt.{digits}
 use Rattle.std.proofs.Common.{refl}
 use Rattle.revision_calculus.specs.Examples as x
-use Rattle.revision_calculus.specs.Examples.{given, sharing, usual, usual_fuel}
+use Rattle.revision_calculus.specs.Examples.{given, usual, usual_fuel}
 use Rattle.revision_calculus.proofs.EveryRun.{reports, run_latest}
 use Rattle.revision_calculus.proofs.worked.number_programs.Goals as goal
 

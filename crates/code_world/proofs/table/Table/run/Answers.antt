@@ -10,10 +10,9 @@ use Rattle.code_world.specs.Answers.{Answers}
 use Rattle.code_world.specs.Meetings.{join_meeting}
 use Rattle.code_world.specs.Turns.{born, ends_with}
 use Rattle.code_world.proofs.Listed.{noted_so, fork_noted, join_noted, end_noted, ends_noted, joins_noted}
-use Rattle.code_world.proofs.Rows.{at_below}
 use Rattle.code_world.proofs.Turning.{many_slots, births_below, few_forks, at_its_join, still_standing, forks_off, ends_so, runner, world_length}
 use Rattle.code_world.proofs.table.Table.run.Goals as goal
-use Rattle.code_machine.proofs.Changes.{put_length}
+use Rattle.revision_machine.proofs.Lists.{put_length, at_below}
 
 pub overflow_cast-child : goal.overflow_cast-child
 overflow_cast-child g c =

@@ -1,10 +1,9 @@
 use Rattle.std.proofs.Common.{◌∙◌, length, ap, arith}
 use Rattle.revision_machine.specs.Numbered.{put_number}
 use Rattle.code_world.specs.declared.slot.Slot.TheVariants as slot
-use Rattle.code_world.proofs.Rows.{at_below}
 use Rattle.code_world.proofs.Turning.{ended_still, Taken, taken, joiner_state, joinee_end, takes, settles}
 use Rattle.code_world.proofs.table.Table.settle.Goals as goal
-use Rattle.code_machine.proofs.Changes.{put_length}
+use Rattle.revision_machine.proofs.Lists.{put_length, at_below}
 
 pub take_joiner-at-requires : goal.take_joiner-at-requires
 take_joiner-at-requires g c = (c.requires.3.0.0, c.requires.3.0.1)

@@ -1,4 +1,4 @@
-use Rattle.std.proofs.Common.{◌∙◌, ◌<◌, length, arith, rules}
+use Rattle.std.proofs.Common.{◌∙◌, ◌<◌, length, rules}
 use Rattle.merge_decl.proofs.Tables.{shorter}
 use Rattle.merge_decl.proofs.table.NameTable.truncate.Goals as goal
 

@@ -1,7 +1,8 @@
-use Rattle.std.proofs.Common.{◌≡◌, inl, inr, ◌∙◌, true, sym, ap, subst}
+use Rattle.std.proofs.Common.{◌≡◌, ◌∙◌, true, sym, ap, subst}
 use Rattle.std.specs.Prelude.{slice_get}
+use native.Mathlib.Decide.{ℕ_discrete}
 use Rattle.ready_queue.specs.Heap.{has}
-use Rattle.ready_queue.proofs.Queues.{alike, set_here, set_other, found, has_front, has_end}
+use Rattle.ready_queue.proofs.Queues.{set_here, set_other, found, has_front, has_end}
 use Rattle.ready_queue.proofs.queue.ReadyQueue.wait.Goals as goal
 
 pub returns-clause-here : goal.returns-clause-here
@@ -14,13 +15,13 @@ returns-clause-here c = record {
 pub returns-clause-kept : goal.returns-clause-kept
 returns-clause-kept c = record {
   ready = λ n h. h;
-  waits = λ on n h. elim (alike on c.args.on) [
-    | inl is ↦ record {
+  waits = λ on n h. elim (ℕ_discrete on c.args.on) [
+    | yes is ↦ record {
       waiters = record { numbers = c.push.new.self };
       there = ap (slice_get _) is ∙ set_here c.args.self.now.waiters.items c.args.on (record { numbers = c.push.new.self }) c.requires;
       among = (let same = found c.args.self.now.waiters.items c.args.on h.waiters c.index_mut.result.now c.index_mut.ensures.value (ap (slice_get c.args.self.now.waiters.items) (sym is) ∙ h.there) in
           subst (λ xs. has xs n ≡ true) (sym c.in_ok-push.ensures.items) (has_front c.index_mut.result.now.numbers.items _ n (subst (λ w. has w.numbers.items n ≡ true) (sym same) h.among)));
     }
-    | inr other ↦ record { waiters = h.waiters; there = set_other c.args.self.now.waiters.items c.args.on on (record { numbers = c.push.new.self }) other ∙ h.there; among = h.among }
+    | no other ↦ record { waiters = h.waiters; there = set_other c.args.self.now.waiters.items c.args.on on (record { numbers = c.push.new.self }) other ∙ h.there; among = h.among }
   ];
 }

@@ -4,7 +4,7 @@ use Rattle.code_machine.specs.Local.{at_work}
 use Rattle.code_hub.specs.CodeState.{state_of}
 use Rattle.code_hub.specs.Values.{joined}
 use Rattle.rev_vm.specs.Starts.{run_under}
-use Rattle.rev_vm.specs.Values.{runner_state, joiner_state}
+use Rattle.rev_vm.specs.Values.{joiner_state}
 use Rattle.rev_vm.proofs.Values.{one_state}
 use Rattle.run_revision.proofs.Standing.{at_own}
 use Rattle.run_revision.proofs.Events.{dropped_is}

@@ -1,6 +1,5 @@
 use Rattle.std.proofs.Common.{◌≡◌, refl, sym, ap, ◌∙◌}
 use Rattle.code_hub.specs.Values.{JoinerValue}
-use Rattle.leg_run.specs.declared.setting.CodeSetting.{CodeSetting}
 use Rattle.rev_vm.specs.Starts.{run_under}
 use Rattle.rev_vm.specs.Values.{runner_state, fork_state, fork_group, joiner_state, joiner_group}
 use Rattle.rev_vm.proofs.Forking.{safe}

@@ -1,21 +1,21 @@
-use Rattle.std.proofs.Common.{◌≡◌, refl, ℕ, ◌+◌, ◌<◌, ◌^◌, true, false, sym, ap, ◌∙◌, subst}
+use Rattle.std.proofs.Common.{◌≡◌, ℕ, ◌+◌, ◌<◌, ◌^◌, true, sym, ap, ◌∙◌, subst}
 use Rattle.block_merges.specs.Merging.{AreMergesOf}
 use Rattle.block_run.specs.Area.{count}
 use Rattle.code_machine.specs.Local.{at_work, end_of, End}
-use Rattle.code_machine.specs.Joining.{join_in, inherit}
+use Rattle.code_machine.specs.Joining.{join_in}
 use Rattle.code_hub.specs.CodeState.{state_of}
 use Rattle.code_hub.specs.Values.{code_hub, is_end, joined, LeftValue}
 use Rattle.hub_workers.specs.Legs.{IsEndBy}
 use Rattle.rev_vm.specs.Meaning.{IsClaimed, IsEnd}
 use Rattle.rev_vm.specs.Starts.{run_under}
 use Rattle.rev_vm.specs.States.{end_for}
-use Rattle.rev_vm.specs.Values.{runner_state, joiner_state, joiner_group}
+use Rattle.rev_vm.specs.Values.{joiner_state, joiner_group}
 use Rattle.rev_vm.proofs.Values.{one_state, one_end}
 use Rattle.run_revision.specs.Hands.{begins}
 use Rattle.run_revision.specs.Values.{made_by_join}
 use Rattle.run_revision.proofs.Standing.{at_own, end_own}
 use Rattle.run_revision.proofs.Events.{by_phase}
-use Rattle.run_revision.proofs.Taking.{same_hand, same_end, fuels, left_is, is_done, joined_is, stopped_is, trap_for, end_stops}
+use Rattle.run_revision.proofs.Taking.{same_hand, same_end, fuels, is_done, joined_is, end_stops}
 use Rattle.run_revision.proofs.legs.CodeRevisionsLegs.settle.Goals as goal
 
 pub claim-requires : goal.claim-requires

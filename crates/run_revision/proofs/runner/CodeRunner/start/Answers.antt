@@ -1,11 +1,10 @@
-use Rattle.std.proofs.Common.{◌≡◌, [], length, ◌-◌, sym, ap, subst}
+use Rattle.std.proofs.Common.{[], length, ◌-◌, sym, ap}
 use Rattle.rev_code.specs.Events as events
 use Rattle.rev_code.specs.Variables.{start_locations}
 use Rattle.code_machine.specs.Local.{at_work}
 use Rattle.code_machine.specs.Machines.{IsMain}
 use Rattle.code_hub.specs.CodeState.{state_of}
 use Rattle.rev_vm.specs.Starts.{run_under}
-use Rattle.rev_vm.specs.Values.{runner_state}
 use Rattle.rev_vm.proofs.Mains.{main_there}
 use Rattle.rev_vm.proofs.Values.{one_state}
 use Rattle.run_revision.proofs.Standing.{at_own}
