@@ -5,8 +5,6 @@ mod births;
 mod ends;
 mod laws;
 mod outcomes;
-#[cfg(test)]
-mod tests;
 
 pub use births::births_of;
 pub use laws::birth_law;

@@ -1,6 +1,5 @@
 -- What a driver knows of the events of legs and of joins.
 use Rattle.std.proofs.Common.{◌≡◌, ℕ, Bool, List, Option, sym, subst}
-use Rattle.std.specs.Prelude.{IfSome}
 use Rattle.rev_num.specs.declared.outcome.Cause.{Cause}
 use Rattle.rev_code.specs.State.{State}
 use Rattle.rev_code.specs.Step.{ends, forks, joins, traps}
@@ -17,15 +16,12 @@ use Rattle.rev_vm.specs.declared.join.AtJoin.{AtJoin}
 use Rattle.rev_vm.specs.declared.join.Claimed.{Claimed}
 use Rattle.rev_vm.specs.declared.leg.Event.{Event}
 use Rattle.rev_vm.specs.declared.leg.Event.TheVariants as event
-use Rattle.rev_vm.specs.declared.runner.Runner.{Runner}
 use Rattle.rev_vm.specs.declared.settling.Settled.{Settled}
 use Rattle.rev_vm.specs.declared.settling.Settled.TheVariants as settled
 use Rattle.rev_vm.specs.Legs.{trap_of}
 use Rattle.rev_vm.specs.Meaning.{IsAt, IsAtFork, IsAtJoin, IsEnd}
-use Rattle.rev_vm.specs.Values.{HasClaimed, StandsAtFork, StandsAtJoin, StandsFor}
-use Rattle.machine_cases.specs.declared.driver.Turn.{Turn}
-use Rattle.machine_cases.specs.declared.driver.Turn.TheVariants as turn
-use Rattle.machine_cases.specs.Driving.{Goes, IsSettled}
+use Rattle.rev_vm.specs.Values.{HasClaimed, StandsAtFork, StandsAtJoin}
+use Rattle.machine_cases.specs.Driving.{IsSettled}
 
 module _ {P S : Type 0} {m : Ghosts P S} (g : CodeRun) where
   module _ (c : State ℕ) where
@@ -72,9 +68,3 @@ module _ {P S : Type 0} {m : Ghosts P S} (g : CodeRun) where
     pub settles : (s : Settled P S m) → Settles s → IsSettled g s
     settles (settled.Run r) h = (h.0, h.2)
     settles (settled.Trap t) h = tt
-
-  pub goes_stands : (t : Turn P S m) (r : Runner P S m) (left : Option EndValue) → t ≡ turn.Goes r left → Goes g t → (c : State ℕ) × StandsFor g r c
-  goes_stands t r left is h = let q : Goes g (turn.Goes r left) = subst (Goes g) is h in q.0
-
-  pub goes_left : (t : Turn P S m) (r : Runner P S m) (left : Option EndValue) → t ≡ turn.Goes r left → Goes g t → IfSome left (λ v. (j : End ℕ) × IsEnd g j v)
-  goes_left t r left is h = let q : Goes g (turn.Goes r left) = subst (Goes g) is h in q.1

@@ -158,26 +158,3 @@ pub fn left_under<M: MergeBy>(
         },
     }
 }
-
-/// What verified code with these inputs leaves that ends in so many legs.
-pub fn left_with(
-    alloc: Global,
-    code: Code,
-    inputs: Vec<i64>,
-    legs: u32,
-) -> Result<Option<EndValue>, AllocError>
-    requires { AreInputs inputs.items }
-{
-    match setting_of(alloc, code, inputs)? {
-        None => Ok(None),
-        Some(setting) => {
-            let mut merges = BlockMerges::of(alloc, &setting.code)?;
-            left_under(alloc, &setting, &mut merges, legs)
-        },
-    }
-}
-
-/// What verified code without inputs leaves that ends in so many legs.
-pub fn left_by(alloc: Global, code: Code, legs: u32) -> Result<Option<EndValue>, AllocError> {
-    left_with(alloc, code, Vec::new(alloc), legs)
-}

@@ -1,17 +1,13 @@
-//! The machine, run once with memory enough: its parts, and verified codes to their ends.
+//! Parts of the machine, each run once with memory enough.
 #![tactic(auto)]
 
 #[cfg(test)]
 mod codes;
 mod driver;
 #[cfg(test)]
-mod joins;
-#[cfg(test)]
 mod memories;
 #[cfg(test)]
 mod merges;
-#[cfg(test)]
-mod runs;
 #[cfg(test)]
 mod snapshots;
 #[cfg(test)]

@@ -19,6 +19,3 @@ pub use outcome::{Cause, Outcome, Shown, Trap};
 pub use path::Path;
 pub use text::{append_decimal, append_path, fault_name, read_decimal};
 pub use value::{NumFault, Value, ValueKind};
-
-#[cfg(test)]
-mod tests;
