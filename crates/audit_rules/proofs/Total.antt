@@ -65,13 +65,6 @@ left_gone (p ∷ ps) t js (inl e) fresh =
     omega arith
 left_gone (p ∷ ps) t js (inr i) fresh = let a = one_less p t js in let b = left_gone ps t js i fresh in omega arith
 
--- What begins is among any paths that have `main` and, with a stated revision, each child that its own run forks:
--- so a list of tasks that was worked off has all.
-pub begun_within : (M : Machine) (T : Telling M) (main : M.Local) (stated : PathMap T.Part) (In : Path → Type 0) → In [] → ((f : Path) (first l l' a : M.Local) (p : T.Part) → In f → Begins M T main stated f first → stated f ≡ Some p → Passes M T stated f first l → M.next f l ≡ Forks l' a → In (child f (M.forks l))) → (r : Path) (a : M.Local) → Begins M T main stated r a → In r
-begun_within M T main stated In root step r a (of_main _ _ e is) = subst In (sym e) root
-begun_within M T main stated In root step r a (of_fork _ _ f first l l' p bg so pg does at) =
-    subst In (sym at) (step f first l l' a p (begun_within M T main stated In root step f first bg) bg so pg does)
-
 module _ (M : Machine) (T : Telling M) (P : Path → M.Local → Type 0) (of : M.Local → ℕ) (most : ℕ) (counts : Counts M) (tells : Tells M T P of most) (weight : M.Local → ℕ) (spends : Spends M 1 weight) (main : M.Local) (stated : PathMap T.Part) (all : List Path) (covers : (q : Path) (p : T.Part) → stated q ≡ Some p → IsIn q all) where
   abbrev pub Ends : Path → M.Local → Type 0
   Ends r l = (c : Computed T.Part) × Computes M T stated r l c

@@ -1,14 +1,10 @@
 -- Instructions that write a location, and those that neither read nor write one.
 use Rattle.std.proofs.Common.{◌≡◌, ℕ, suc, List, ◌∷◌, Option, Some, refl, sym, subst}
 use Rattle.rev_num.specs.Words.{int_of}
-use Rattle.rev_code.specs.declared.code.CodeBlock.{CodeBlock}
 use Rattle.rev_code.specs.Variables.{Place, cell_at}
 use Rattle.plain_words.specs.Plain as p
-use Rattle.plain_words.specs.Plain.{Run, Plain}
-use Rattle.block_run.specs.declared.registers.Registers.{Registers}
-use Rattle.block_run.specs.declared.registers.Stop.{Stop}
-use Rattle.block_run.specs.declared.registers.Stop.TheVariants as stop
-use Rattle.block_run.specs.Area.{run_of, Does, Ran, IsAct}
+use Rattle.plain_words.specs.Plain.{Run}
+use Rattle.block_run.specs.Area.{Ran}
 use Rattle.block_run.specs.Remembering.{Kept}
 use Rattle.block_run.proofs.Stacks.{with_parts}
 
@@ -27,13 +23,6 @@ module _ (q q' : Run) (kept : Type 0) (wrote : ℕ → ℕ → Type 0) where
       let S : List ℕ → Type 0 = λ s. Ran (p.into_cell q (Some place) s) q' kept wrote in
       let C : Option ℕ → Type 0 = λ m. Ran (p.write_cell q rest w m) q' kept wrote in
       subst P (sym is) (subst S (sym e) (subst C (sym at) (f, h)))
-
--- no location was touched
-pub lift : (o : Plain) (b : CodeBlock) (ws ws' : List ℕ) (r r' : Registers) (s : Stop) (kept : Type 0) (wrote : ℕ → ℕ → Type 0)
-    → kept → IsAct o b ws ws' r r' s → Does o (run_of b ws r) (run_of b ws' r') s kept wrote
-lift o b ws ws' r r' stop.Goes kept wrote k h = subst (λ o. Ran o (run_of b ws' r') kept wrote) (sym h.steps) (refl, k)
-lift o b ws ws' r r' (stop.Traps cause) kept wrote k h = (h.steps, k)
-lift o b ws ws' r r' stop.Leaves kept wrote k h = (h.steps.0, h.steps.1, k)
 
 pub all_kept : (size : ℕ) (seen : ℕ → ℕ) (root : ℕ → Option ℕ) → Kept size seen seen root root
 all_kept size seen root = record { words = λ l h. refl; roots = λ l h. refl }

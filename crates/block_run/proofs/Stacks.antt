@@ -1,6 +1,5 @@
 -- Words above and below a write, and what a write does to what an instruction works on.
-use Rattle.std.proofs.Common.{◌≡◌, ◌≢◌, ℕ, zero, suc, ◌+◌, ◌-◌, ◌<◌, ◌≤◌, List, [], ◌∷◌, take, drop, length, set, get_or, refl, ap, sym, ◌∙◌, arith, subst, get_or-set_other, get_or-set_same}
-use Rattle.std.specs.Prelude.{Some, slice_get}
+use Rattle.std.proofs.Common.{◌≡◌, ◌≢◌, ℕ, zero, suc, ◌+◌, ◌-◌, ◌<◌, ◌≤◌, List, ◌∷◌, take, drop, length, set, get_or, refl, ap, sym, ◌∙◌, arith, subst, get_or-set_other, get_or-set_same}
 use Rattle.std.proofs.lemmas.List.{take-set-le, drop-set-add}
 use Rattle.std.proofs.Math.Seq.{take-set-lt}
 use Rattle.rev_code.specs.declared.code.CodeBlock.{CodeBlock}
@@ -163,10 +162,3 @@ both b ws r found =
     let at' : r.top - 2 ≡ low b r + (r.top - 2 - low b r) = omega (arith, found) in
     stack_top ws (low b r) _ _ (r.top - 1) height at
     ∙ ap (λ s. get_or ws (r.top - 1) 0 ∷ s) (stack_top ws (low b r) _ _ (r.top - 2) below at' ∙ ap (λ s. get_or ws (r.top - 2) 0 ∷ s) (sym (stack_drop ws (low b r) _ _ two)))
-
-pub local_at : (ws : List ℕ) (base n i : ℕ) → i < n → base + i < length ws → slice_get (take n (drop base ws)) i ≡ Some (get_or ws (base + i) 0)
-local_at [] base n i h k = absurd (omega (arith, k))
-local_at (w ∷ ws) zero (suc n) zero h k = refl
-local_at (w ∷ ws) zero (suc n) (suc i) h k = local_at ws zero n i (omega (arith, h)) (omega (arith, k)) ∙ ap (λ j. Some (get_or (w ∷ ws) j 0)) (let e : suc (0 + i) ≡ 0 + suc i = omega arith in e)
-local_at (w ∷ ws) zero zero i h k = absurd (omega (arith, h))
-local_at (w ∷ ws) (suc base) n i h k = local_at ws base n i h (let e : suc base + i ≡ suc (base + i) = omega arith in omega (arith, k, e)) ∙ ap (λ j. Some (get_or (w ∷ ws) j 0)) (let e : suc (base + i) ≡ suc base + i = omega arith in e)

@@ -15,10 +15,6 @@ module _ {H : Type 0} (f : H → H) where
   fixed_parts [] ys a = (tt, a)
   fixed_parts (x ∷ xs) ys a = let r = fixed_parts xs ys a.1 in ((a.0, r.0), r.1)
 
-  pub fixed_both : (xs ys : List H) → AllFixed xs → AllFixed ys → AllFixed (xs ++ ys)
-  fixed_both [] ys a b = b
-  fixed_both (x ∷ xs) ys a b = (a.0, fixed_both xs ys a.1 b)
-
   handle_fixed : (h : Option H) → AllFixed (handle_in h) → renamed_handle f h ≡ h
   handle_fixed None a = refl
   handle_fixed (Some h) a = ap Some a.0

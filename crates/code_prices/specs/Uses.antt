@@ -22,13 +22,7 @@ UsesUp code notes p c stuck = Unit {0}
 abbrev pub AreShort : Code → ℕ → Type 0
 AreShort code most = (n : ℕ) (b : CodeBlock) → slice_get code.blocks n ≡ Some b → length b.instrs ≤ most
 
--- every step of certified code uses up what it costs, at all prices that bear it, in every state, whatever a handle is
-abbrev pub EveryStepPays : Type 1
-EveryStepPays =
-    (H : Type 0) (s : Setting H) (notes : ℕ → ℕ → Note) → AllCertified s.code notes → (p : Prices) (most : ℕ) → Bears p most → AreShort s.code most
-    → (c : State H) → UsesUp s.code notes p c (step s c)
-
--- the same where handles are numbers
+-- every step of certified code uses up what it costs, at all prices that bear it, in every state in which handles are numbers
 abbrev pub EveryNumberedStepPays : Type 0
 EveryNumberedStepPays =
     (s : Setting ℕ) (notes : ℕ → ℕ → Note) → AllCertified s.code notes → (p : Prices) (most : ℕ) → Bears p most → AreShort s.code most

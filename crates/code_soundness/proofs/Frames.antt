@@ -14,7 +14,7 @@ use Rattle.rev_code.specs.Words.{Word, int, bool, rev, kind_of, same_kind}
 use Rattle.rev_code.specs.State.{Frame, Location, Setting, State, forked, joined}
 use Rattle.rev_code.specs.Step as r
 use Rattle.rev_code.specs.Step.{goes, traps, stuck, only, is_procedure, params, first_locals, most_frames}
-use Rattle.rev_code.specs.Events.{start, part, told}
+use Rattle.rev_code.specs.Events.{start, part}
 use Rattle.code_rules.specs.Shapes.{begins, param_kinds, result_kinds, one_or_none}
 use Rattle.code_rules.specs.Pass.{Note, has_class, is_value_class}
 use Rattle.code_soundness.specs.Typed.{kinds_of, IsFrame, IsWaiting, AllWaiting, AreLocations, location_kinds, IsOfProgram, IsRevision}
@@ -133,10 +133,6 @@ module _ {H : Type 0} (s : Setting H) (notes : ℕ → ℕ → Note) (ok : IsAcc
   abbrev pub join_of : Bool → Instr
   join_of true = i.TryJoin
   join_of false = i.Join
-
-  told_kinds : (try done : Bool) (rest : List (Word H)) → kinds_of (told try done rest) ≡ (if try then k.Bool ∷ kinds_of rest else kinds_of rest)
-  told_kinds true done rest = refl
-  told_kinds false done rest = refl
 
   pub join_case : is_value_class b.class ≡ false → (try : Bool) (ws : List (Word H)) → begins (k.Rev ∷ []) (kinds_of ws) ≡ true → ((h : H) → JoinsWell s notes c b c try h) → Well s notes c b (r.join c try ws)
   join_case p try (rev (Some h) ∷ rest) g next = next h

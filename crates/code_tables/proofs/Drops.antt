@@ -1,5 +1,5 @@
 -- Lists from a place on.
-use Rattle.std.proofs.Common.{◌≡◌, ◌∙◌, ℕ, zero, suc, ◌+◌, ◌<◌, ◌≤◌, Bool, true, false, ◌&&◌, not, cond, List, [], ◌∷◌, length, drop, refl, sym, ap, arith, get_or, map}
+use Rattle.std.proofs.Common.{◌≡◌, ◌∙◌, ℕ, zero, suc, ◌+◌, ◌<◌, ◌≤◌, Bool, true, cond, List, [], ◌∷◌, length, drop, refl, sym, ap, arith, get_or, map}
 use Rattle.std.specs.List.{fold}
 use Rattle.rev_code.specs.declared.code.CodeBlock.{CodeBlock}
 use Rattle.rev_code.specs.declared.code.CodeVar.{CodeVar}
@@ -9,9 +9,6 @@ use Rattle.std.proofs.lemmas.List.{drop_more}
 
 pub count_more : (f : BlockClass → Bool) (xs : List CodeBlock) (n : ℕ) (d : CodeBlock) → n < length xs → f (get_or xs n d).class ≡ true → tables.count_class f (drop n xs) ≡ suc (tables.count_class f (drop (n + 1) xs))
 count_more f xs n d h e = ap (tables.count_class f) (drop_more xs n d h) ∙ ap (λ y. cond y (suc (tables.count_class f (drop (n + 1) xs))) (tables.count_class f (drop (n + 1) xs))) e
-
-pub count_same : (f : BlockClass → Bool) (xs : List CodeBlock) (n : ℕ) (d : CodeBlock) → n < length xs → f (get_or xs n d).class ≡ false → tables.count_class f (drop n xs) ≡ tables.count_class f (drop (n + 1) xs)
-count_same f xs n d h e = ap (tables.count_class f) (drop_more xs n d h) ∙ ap (λ y. cond y (suc (tables.count_class f (drop (n + 1) xs))) (tables.count_class f (drop (n + 1) xs))) e
 
 fold_from : (xs : List ℕ) (n : ℕ) → fold ◌+◌ n xs ≡ n + fold ◌+◌ 0 xs
 fold_from [] n = omega arith
@@ -26,12 +23,6 @@ locations_more xs n d h =
     ap tables.locations (drop_more xs n d h)
     ∙ fold_from (map (λ v. v.cells) (drop (n + 1) xs)) (0 + (get_or xs n d).cells)
     ∙ ap (λ y. y + tables.locations (drop (n + 1) xs)) (let z : 0 + (get_or xs n d).cells ≡ (get_or xs n d).cells = omega arith in z)
-
-pub main_later : (xs : List CodeBlock) (n : ℕ) (d : CodeBlock) → n + 1 < length xs → tables.ends_in_main (drop n xs) ≡ not (tables.is_main (get_or xs n d).class) && tables.ends_in_main (drop (n + 1) xs)
-main_later xs n d h =
-    ap tables.ends_in_main (drop_more xs n d (omega (arith, h)))
-    ∙ ap (λ y. tables.ends_in_main (get_or xs n d ∷ y)) (drop_more xs (n + 1) d h)
-    ∙ ap (λ y. not (tables.is_main (get_or xs n d).class) && tables.ends_in_main y) (sym (drop_more xs (n + 1) d h))
 
 pub main_last : (xs : List CodeBlock) (n : ℕ) (d : CodeBlock) → length xs ≡ n + 1 → tables.ends_in_main (drop n xs) ≡ tables.is_main (get_or xs n d).class
 main_last xs n d h =

@@ -123,9 +123,6 @@ module _ (ns : List Node) (trie : IsTrie ns) (id : ℕ) (kind : ValueKind) (node
   here2 : slice_get grown_nodes id ≡ Some (with_above kind (length ns) node)
   here2 = get_set ns1 id (with_above kind (length ns) node) (let l = long1 in let i = within in omega (arith, l, i))
 
-  zero_node : ℕ
-  zero_node = 0
-
   new_above : (x : ValueKind) → above x (new_node kind id (suc node.depth)) ≡ 0
   new_above k.Int = refl
   new_above k.Bool = refl

@@ -1,6 +1,6 @@
 -- One instruction of the pass.
 use Rattle.std.proofs.Common.{◌≡◌, ◌∙◌, ℕ, zero, suc, ◌+◌, ◌^◌, ◌<◌, ◌≤◌, max, Bool, true, false, not, ◌&&◌, ◌||◌, List, [], ◌∷◌, length, Option, Some, None, refl, sym, ap, subst, arith, true≢false, drop, get_or}
-use Rattle.std.specs.Prelude.{slice_get, nat_lt, is_some, if◌then◌else◌, Err}
+use Rattle.std.specs.Prelude.{slice_get, nat_lt, is_some, if◌then◌else◌}
 use Rattle.std.proofs.lemmas.Bool.Decides.{nat_tests}
 use Rattle.rev_code.specs.declared.code.Code.{Code}
 use Rattle.rev_code.specs.declared.code.CodeBlock.{CodeBlock}
@@ -83,9 +83,6 @@ module _ (s : Scope) (at : ℕ) (x : Instr) (k : Known) (ready : IsReady s at k)
   inside : at < length s.block.now.instrs
   inside = some_within s.block.now.instrs at x here
 
-  pub step_inside : at < length s.block.now.instrs
-  step_inside = inside
-
   pub ahead_at : (o : Option Mark) → o ≡ get_or k.ahead.items at o → slice_get k.ahead.items at ≡ Some o
   ahead_at o e = get_or_some k.ahead.items at o (let l = ready.stands.long in let w = inside in omega (arith, l, w)) e
 
@@ -97,20 +94,11 @@ module _ (s : Scope) (at : ℕ) (x : Instr) (k : Known) (ready : IsReady s at k)
       meets k.shapes st.some st.empty k.last o (pass.fallen s.code.now s.block.now (before s.code.now s.block.now at)) (pass.jumped s.code.now s.block.now (length (before s.code.now s.block.now at)) (before s.code.now s.block.now at)) st.fallen
       (st.marks (length (before s.code.now s.block.now at)) o (omega arith) (ap (slice_get k.ahead.items) c ∙ e))
 
-  pub jump_broken : bad_jump s.block.now at (target x) ≡ true → broken s.code.now s.costs.now s.number s.block.now (before s.code.now s.block.now at) x (arrival s.code.now s.block.now (before s.code.now s.block.now at)) ≡ Some rule.BadJump
-  jump_broken h =
-      ap (λ d. if d then Some rule.BadJump else (if bad_operand s.code.now s.number s.block.now x then Some rule.BadOperand else broken_with s.code.now s.costs.now s.block.now (before s.code.now s.block.now at) x (arrival s.code.now s.block.now (before s.code.now s.block.now at))))
-      (ap (λ y. bad_jump s.block.now y (target x)) ready.count ∙ h)
-
   past_jump : bad_jump s.block.now at (target x) ≡ false → broken s.code.now s.costs.now s.number s.block.now (before s.code.now s.block.now at) x (arrival s.code.now s.block.now (before s.code.now s.block.now at))
       ≡ (if bad_operand s.code.now s.number s.block.now x then Some rule.BadOperand else broken_with s.code.now s.costs.now s.block.now (before s.code.now s.block.now at) x (arrival s.code.now s.block.now (before s.code.now s.block.now at)))
   past_jump h =
       ap (λ d. if d then Some rule.BadJump else (if bad_operand s.code.now s.number s.block.now x then Some rule.BadOperand else broken_with s.code.now s.costs.now s.block.now (before s.code.now s.block.now at) x (arrival s.code.now s.block.now (before s.code.now s.block.now at))))
       (ap (λ y. bad_jump s.block.now y (target x)) ready.count ∙ h)
-
-  pub operand_broken : bad_jump s.block.now at (target x) ≡ false → bad_operand s.code.now s.number s.block.now x ≡ true → broken s.code.now s.costs.now s.number s.block.now (before s.code.now s.block.now at) x (arrival s.code.now s.block.now (before s.code.now s.block.now at)) ≡ Some rule.BadOperand
-  operand_broken h g =
-      past_jump h ∙ ap (λ d. if d then Some rule.BadOperand else broken_with s.code.now s.costs.now s.block.now (before s.code.now s.block.now at) x (arrival s.code.now s.block.now (before s.code.now s.block.now at))) g
 
   past_operand : bad_jump s.block.now at (target x) ≡ false → bad_operand s.code.now s.number s.block.now x ≡ false → broken s.code.now s.costs.now s.number s.block.now (before s.code.now s.block.now at) x (arrival s.code.now s.block.now (before s.code.now s.block.now at))
       ≡ broken_with s.code.now s.costs.now s.block.now (before s.code.now s.block.now at) x (arrival s.code.now s.block.now (before s.code.now s.block.now at))
@@ -267,14 +255,6 @@ pub ready_next : (s : Scope) (at : ℕ) (x : Instr) (k' : Known) (r : Option Rul
 ready_next s at x k' r step none =
     let st : IsStep s at x k' None = subst (IsStep s at x k') none step in
     subst (λ n. IsReady s n k') (plus_one at) st.1
-
-pub scan_stop : (s : Scope) (at : ℕ) (x : Instr) (k k' : Known) (r : Option Rule) (w : Rule) → IsReady s at k → slice_get s.block.now.instrs at ≡ Some x → IsStep s at x k' r → r ≡ Some w
-    → scan s.code.now s.costs.now s.number s.block.now (before s.code.now s.block.now at) (drop at s.block.now.instrs) ≡ Err (at, w)
-scan_stop s at x k k' r w ready here step some =
-    let st : IsStep s at x k' (Some w) = subst (IsStep s at x k') some step in
-    ap (scan s.code.now s.costs.now s.number s.block.now (before s.code.now s.block.now at)) (drop_some s.block.now.instrs at x here)
-    ∙ ap (λ o. or_fault (length (before s.code.now s.block.now at)) o (scan s.code.now s.costs.now s.number s.block.now (passed s.code.now s.block.now (before s.code.now s.block.now at) x ∷ before s.code.now s.block.now at) (drop (at + 1) s.block.now.instrs))) st
-    ∙ ap (λ n. Err (n, w)) ready.count
 
 -- what `as_slice` lends
 any_default : (xs : List Instr) (n : ℕ) (d e : Instr) → n < length xs → get_or xs n d ≡ get_or xs n e

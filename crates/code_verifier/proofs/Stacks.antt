@@ -3,15 +3,11 @@ use Rattle.std.proofs.Common.{◌≡◌, ◌∙◌, ℕ, zero, suc, ◌+◌, ◌
 use Rattle.std.specs.Prelude.{◌&&◌}
 use Rattle.rev_num.specs.declared.value.ValueKind.{ValueKind}
 use Rattle.rev_num.specs.declared.value.ValueKind.TheVariants as k
-use Rattle.rev_code.specs.declared.code.Code.{Code}
-use Rattle.rev_code.specs.declared.code.CodeBlock.{CodeBlock}
 use Rattle.rev_code.specs.declared.code.LayoutItem.{LayoutItem}
 use Rattle.rev_code.specs.declared.code.LayoutItem.TheVariants as item
-use Rattle.rev_code.specs.declared.code.Instr.{Instr}
-use Rattle.rev_code.specs.declared.code.Instr.TheVariants as i
 use Rattle.rev_code.specs.Words.{same_kind}
 use Rattle.rev_code.specs.Printing.{printed_kinds}
-use Rattle.code_rules.specs.Shapes.{Shape, begins, takes, compared, any_kind, one_or_none}
+use Rattle.code_rules.specs.Shapes.{Shape, begins}
 use Rattle.code_verifier.specs.Kept.{first, rest}
 
 kinds_append : (xs ys : List LayoutItem) → printed_kinds (xs ++ ys) ≡ printed_kinds xs ++ printed_kinds ys
@@ -29,29 +25,6 @@ pub kinds_more : (xs : List LayoutItem) (n : ℕ) (d : LayoutItem) → n < lengt
 kinds_more xs n d h =
     ap (λ y. printed_kinds (take y xs)) (let z : n + 1 ≡ suc n = omega arith in z)
     ∙ ap printed_kinds (take_more xs n d h) ∙ kinds_append (take n xs) (get_or xs n d ∷ [])
-
--- what an instruction takes depends on the kind on top alone
-pub takes_top : (code : Code) (b : CodeBlock) (s : Shape) (x : Instr) → takes code b (one_or_none (first s)) x ≡ takes code b s x
-takes_top code b s i.Eq = ap (λ y. y ∷ y ∷ []) (same s)
-  where
-    same : (s : Shape) → compared (one_or_none (first s)) ≡ compared s
-    same [] = refl
-    same (k.Int ∷ s) = refl
-    same (k.Bool ∷ s) = refl
-    same (k.Rev ∷ s) = refl
-takes_top code b s i.Ne = ap (λ y. y ∷ y ∷ []) (same s)
-  where
-    same : (s : Shape) → compared (one_or_none (first s)) ≡ compared s
-    same [] = refl
-    same (k.Int ∷ s) = refl
-    same (k.Bool ∷ s) = refl
-    same (k.Rev ∷ s) = refl
-takes_top code b s i.Pop = ap (λ y. y ∷ []) (same s)
-  where
-    same : (s : Shape) → any_kind (one_or_none (first s)) ≡ any_kind s
-    same [] = refl
-    same (x ∷ s) = refl
-takes_top code b s x = refl
 
 -- ---- a stack from a depth on
 

@@ -5,7 +5,7 @@
 use Rattle.std.proofs.Common.{◌≡◌, ℕ, ◌+◌, Bool, List, [], ◌∷◌, ◌++◌, length, refl, sym, ap, ◌∙◌, arith, append_assoc, append-nil, length-append}
 use Rattle.std.specs.Prelude.{slice_set}
 use Rattle.std.proofs.Math.Seq.{set-append_seam}
-use Rattle.rev_syntax.specs.Trees.{Expression, Expressions, Links, pick, chain, no_expressions, expression, no_links, link}
+use Rattle.rev_syntax.specs.Trees.{Expression, Expressions, Links, pick, chain, expression, no_links, link}
 use Rattle.rev_syntax.specs.declared.tree.BinaryOp.{BinaryOp}
 use Rattle.rev_syntax.specs.declared.tree.BinaryOp.TheVariants as b
 use Rattle.rev_code.specs.declared.code.Instr.{Instr}
@@ -109,9 +109,6 @@ module _ (n : Numbers) (scope : Scope) where
       ap (λ k. whole n scope first code ++ links_code n scope rest k) (whole-length first code)
       ∙ ap (λ l. l ++ links_code n scope rest (length code + expression_size first)) (whole-code first code)
       ∙ append_assoc code a (links_code n scope rest (length code + expression_size first))
-
-  pub no_arguments : (code : List Instr) → code ≡ code ++ expressions_code n scope no_expressions (length code)
-  no_arguments code = sym (append-nil code)
 
   pub more_arguments : (e : Expression) (rest : Expressions) (code : List Instr)
       → arguments n scope rest (whole n scope e code) ≡ code ++ expressions_code n scope (expression e rest) (length code)

@@ -1,6 +1,6 @@
 -- The trees of expressions, by the forms of their nodes.
-use Rattle.std.proofs.Common.{◌≡◌, ◌<◌, ◌+◌, List, ◌++◌, length, sym, ap, ◌∙◌, arith}
-use Rattle.rev_syntax.specs.Trees.{Expression, placed, ExpressionForm}
+use Rattle.std.proofs.Common.{◌≡◌, ◌+◌, List, ◌++◌, length, sym, ap, ◌∙◌}
+use Rattle.rev_syntax.specs.Trees.{placed, ExpressionForm}
 use Rattle.rev_syntax.specs.View as view
 use Rattle.rev_syntax.specs.Small.{expression_count, expression_form_count}
 use Rattle.rev_syntax.specs.declared.tree.Expr.{Expr}
@@ -15,6 +15,3 @@ formed n scope e s code h = ap (λ x. code ++ expression_code n scope x (length 
 
 pub counted : (e : Expr) (s : ExpressionForm) → view.expression_form e.node ≡ s → expression_count (view.expression e) ≡ 1 + expression_form_count s
 counted e s h = ap expression_count (expression-placed e ∙ ap (λ f. placed e.at f) h)
-
-pub positive : (e : Expression) → 0 < expression_count e
-positive (placed at s) = omega arith

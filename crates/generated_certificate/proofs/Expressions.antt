@@ -59,10 +59,6 @@ depth_some (placed p (pick test x y)) = let h = depth_some test in omega (arith,
 depth_some (placed p (unary op e)) = depth_some e
 depth_some (placed p (chain first rest)) = let h = depth_some first in omega (arith, h)
 
-links_depth_some : (rest : Links) → 1 ≤ links_depth rest
-links_depth_some no_links = omega arith
-links_depth_some (link op e rest) = let h = links_depth_some rest in omega (arith, h)
-
 module _ (code : Code) (at_block : ℕ) (bl : CodeBlock) (deepest : ℕ) (n : Numbers) (c : Names) (l : Locals) (scope : Scope) (w : IsWithin bl deepest) (m : NamesMean code bl n c l scope) (ns : List Note) where
   abbrev Can : Name → Callee → Type 0
   Can name f = FunMeans code at_block n name f

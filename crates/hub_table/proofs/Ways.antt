@@ -46,9 +46,6 @@ pub list_more : (links more : List ℕ) (list : Option Chain) (ns : List ℕ) �
 list_more links more None ns h = h
 list_more links more (Some c) ns h = record { front = h.front; is = h.is; way = way_more links more c.first h.front c.last h.way }
 
-pub chain_one : (links : List ℕ) (k : ℕ) (ns : List ℕ) → ns ≡ [] → IsChain links record { first = k; last = k } (k ∷ ns)
-chain_one links k ns none = record { front = []; is = ap (λ l. k ∷ l) none; way = refl }
-
 pub chain_before : (links : List ℕ) (k : ℕ) (c : Chain) (ns : List ℕ) → k < length links → times k ns ≡ 0 → IsChain links c ns → IsChain (put_number links k c.first) record { first = k; last = c.last } (k ∷ ns)
 chain_before links k c ns within none h = let f = in_front k c.last ns h.front h.is in record {
   front = k ∷ h.front;

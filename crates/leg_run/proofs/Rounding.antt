@@ -1,6 +1,6 @@
 -- Instructions of a block, and then the one that leaves it.
 use Rattle.std.proofs.Common.{◌≡◌, ◌≢◌, ◌∙◌, ℕ, ◌+◌, ◌<◌, ◌≤◌, ℤ, List, length, map, reverse, take, Option, Some, None, refl, sym, ap, subst, arith}
-use Rattle.std.specs.Prelude.{slice_get, Result, Ok, Err, IfOk}
+use Rattle.std.specs.Prelude.{slice_get}
 use Rattle.rev_num.specs.declared.outcome.Cause.{Cause}
 use Rattle.rev_code.specs.declared.code.Code.{Code}
 use Rattle.rev_code.specs.declared.code.CodeBlock.{CodeBlock}
@@ -167,7 +167,3 @@ here_for code inputs inputs' share b c ws ws' r seen root e d h =
 pub ends_for : (code : Code) (inputs inputs' : List ℤ) (share : ℕ) (b : CodeBlock) (c : State ℕ) (v : Stop) (ws : List ℕ) (r : Registers) (seen : ℕ → ℕ) (root : ℕ → Option ℕ)
     → inputs' ≡ inputs → Ends code inputs' (program share) b c v ws r seen root → Ends code inputs (program share) b c v ws r seen root
 ends_for code inputs inputs' share b c v ws r seen root e h = subst (λ is. Ends code is (program share) b c v ws r seen root) e h
-
-pub ok_map : {T E : Type 0} (r : Result T E) (P Q : T → Type 0) → ((t : T) → P t → Q t) → IfOk r P → IfOk r Q
-ok_map (Ok t) P Q f h = f t h
-ok_map (Err e) P Q f h = h

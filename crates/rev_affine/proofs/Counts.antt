@@ -31,13 +31,6 @@ or_right false b e = e
 pub not_in : (m n : Name) (a : Bool) → same n m ≡ false → cond (same n m) false a ≡ a
 not_in m n a e = ap (λ d. cond d false a) e
 
-pub without_less : (b : Name → Bool) (m : Name) → Sub (without b m) b
-without_less b m n e = by (same n m) e
-  where
-    by : (d : Bool) → cond d false (b n) ≡ true → b n ≡ true
-    by true q = absurd (true≢false (sym q))
-    by false q = q
-
 pub without_sub : (a b : Name → Bool) (m : Name) → Sub a b → Sub (without a m) (without b m)
 without_sub a b m h n e = by (same n m) e
   where

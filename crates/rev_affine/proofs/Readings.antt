@@ -88,9 +88,6 @@ module _ (c : Names) (scope : Locals) (fs : Funs) (e : Env) (env : EnvRev c scop
       by None p (Some h) q has = rev_of_plain t (read (e.local name) (e.shared name)) (plain_read (e.local name) (e.shared name) (env.apart name h q) (env.shared name))
       by None p None q has = absurd has
 
-  plain_operand : (t : ValueKind) → (t ≡ k.Int) → (y : Value) → OfRev t y → Plain y
-  plain_operand t is y rev q i = absurd (let clash : k.Int ≡ k.Rev = sym is ∙ rev q i in cc)
-
   -- the right operand of a logical operator is no handle, and the other operators give none
   link_plain : (op : BinaryOp) (left t : ValueKind) (x : Value) (right : Answer) → TakesRightSide op left t → OfOk (OfRev t) right → OfOk Plain (linked op x right (short op x))
   link_plain b.Add left t x right takes rev = then_ok (OfRev t) Plain right (operated b.Add x) rev (λ y r. number_ok Plain plain_others (sum_of (number_of x) (number_of y)))

@@ -40,9 +40,6 @@ module _ (s : Setting) (fuel : ℕ) (parts : List Part) (well : IsAccepted s.pro
   none_taken p None = refl
   none_taken p (Some ph) = refl
 
-  no_phase : (p : Part) (b : Bool) → takes_in s r l q p None b ≡ None
-  no_phase p b = refl
-
   pub takes_no_room : (p : Part) → part_at parts q ≡ Some p → fuel < p.fuel + l.fuel + l.forks → TakesOrNot s fuel parts r l q None
   takes_no_room p e more =
       let few : nat_le (p.fuel + l.fuel + l.forks) fuel ≡ false = grind (arith, nat_tests) in

@@ -1,5 +1,5 @@
 -- The changes of a part, one after another from the last, and the end that the part tells.
-use Rattle.std.proofs.Common.{◌≡◌, ℕ, zero, suc, ◌+◌, ◌<◌, ◌≤◌, Bool, true, false, ◌&&◌, List, [], ◌∷◌, ◌++◌, length, set, replicate, drop, get_or, Option, Some, None, option_map, is_some, refl, sym, ap, ◌∙◌, arith, append_assoc}
+use Rattle.std.proofs.Common.{◌≡◌, ℕ, zero, suc, ◌+◌, ◌<◌, ◌≤◌, Bool, true, false, ◌&&◌, List, [], ◌∷◌, ◌++◌, length, set, replicate, drop, get_or, Option, Some, None, option_map, is_some, sym, ap, ◌∙◌, arith}
 use Rattle.std.proofs.lemmas.Bool.{true≢false}
 use Rattle.std.proofs.lemmas.List.{append-nil, drop_all, drop_more}
 use Rattle.std.specs.List.{slice_get}
@@ -18,7 +18,7 @@ use Rattle.trace_diagram.specs.declared.diagram.Part.{Part}
 use Rattle.audit_rules.specs.Parts.{change_at, changes_fit, is_changed, kind_fits, number_of, places, told_locations, told_phase}
 use Rattle.audit_rules.proofs.Apart.{places_apart}
 use Rattle.audit_rules.proofs.OwnRuns.{are_length, same_length}
-use Rattle.rev_audit.specs.Told.{AreSlots, Enters, TellsEnd, slots_from, with_written, write_to, written_in}
+use Rattle.rev_audit.specs.Told.{AreSlots, Enters, TellsEnd, slots_from, write_to, written_in}
 use Rattle.rev_audit.proofs.Slots.{fits_at, fits_more, free_slot, kind_at, no_changes, no_fit, number_within, set_slot, slot_at, slots_length, unfit_kind, unfit_twice, unfit_whole, used_slot, written_told}
 
 module _ (s : Setting) (well : IsAccepted s.program) where
@@ -105,18 +105,6 @@ tells_end s well p e cs slots same are ws text fuel phase = record {
 }
 
 -- ---- the writes in the slots
-
-with_more : (o : Option AloneWrite) (ws : List AloneWrite) → with_written o ws ≡ with_written o [] ++ ws
-with_more None ws = refl
-with_more (Some w) ws = refl
-
-pub written_more : (slots : List (Option AloneWrite)) (n : ℕ) (o : Option AloneWrite) (out new whole : List AloneWrite) → n < length slots → o ≡ get_or slots n o
-    → new ≡ out ++ with_written o [] → out ++ written_in (drop n slots) ≡ whole → new ++ written_in (drop (n + 1) slots) ≡ whole
-written_more slots n o out new whole less is pushed so_far =
-    let rest : List AloneWrite = written_in (drop (n + 1) slots) in
-    let front : drop n slots ≡ o ∷ drop (n + 1) slots = drop_more slots n o less ∙ ap (λ v. v ∷ drop (n + 1) slots) (sym is) in
-    let split : written_in (drop n slots) ≡ with_written o [] ++ rest = ap written_in front ∙ with_more o rest in
-    ap (λ l. l ++ rest) pushed ∙ append_assoc out (with_written o []) rest ∙ ap (λ l. out ++ l) (sym split) ∙ so_far
 
 pub written_all : (slots : List (Option AloneWrite)) (n : ℕ) (out whole : List AloneWrite) → length slots ≤ n → out ++ written_in (drop n slots) ≡ whole → out ≡ whole
 written_all slots n out whole few so_far = sym (append-nil out) ∙ ap (λ l. out ++ written_in l) (sym (drop_all n slots few)) ∙ so_far

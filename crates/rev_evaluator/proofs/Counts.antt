@@ -1,9 +1,7 @@
 -- How large expressions are, with the bodies of the funs that they may apply.
-use Rattle.std.proofs.Common.{◌≡◌, ℕ, ◌+◌, ◌*◌, ◌<◌, ◌≤◌, zero, suc, List, [], ◌∷◌, take, Option, Some, None, slice_get, option_and_then, IfSome, length, get_or, arith}
+use Rattle.std.proofs.Common.{◌≡◌, ℕ, ◌+◌, ◌*◌, ◌<◌, ◌≤◌, zero, suc, List, [], ◌∷◌, take, Option, Some, None, slice_get, option_and_then, IfSome, arith}
 use Rattle.rev_syntax.specs.Trees.{Expression, placed, Declaration, fun, merge, shared, proc}
-use Rattle.rev_syntax.specs.Small.{expression_count, links_count}
-use Rattle.rev_syntax.specs.View.{link, links}
-use Rattle.rev_syntax.specs.declared.tree.Link.{Link}
+use Rattle.rev_syntax.specs.Small.{expression_count}
 use Rattle.merge_decl.specs.Evaluation.{fun_body, body_at}
 
 -- the bodies of the funs among declarations
@@ -60,9 +58,3 @@ bodies_to-body es d body h = with_body es d body h
 pub bodies_to-before : (es : List Declaration) (f : Option ℕ) (n : ℕ) → IfSome f (λ d. d < n) → bodies_to es f ≤ bodies_before es n
 bodies_to-before es None n h = omega arith
 bodies_to-before es (Some d) n h = bodies_before-le es (suc d) n (omega arith)
-
--- a link is part of the links
-pub link-in-links : (ls : List Link) (i : ℕ) (l : Link) → i < length ls → l ≡ get_or ls i l → 1 + expression_count (link l).1 ≤ links_count (links ls)
-link-in-links [] i l h e = absurd (omega arith)
-link-in-links (x ∷ ls) zero l h e = let q : l ≡ x = e in rw q (omega arith)
-link-in-links (x ∷ ls) (suc i) l h e = let rest = link-in-links ls i l (omega arith) e in omega arith

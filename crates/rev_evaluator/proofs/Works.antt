@@ -1,5 +1,5 @@
 -- What is left to do, a turn at a time.
-use Rattle.std.proofs.Common.{◌≡◌, ◌∙◌, ◌<◌, ◌≤◌, ◌+◌, ◌-◌, ℕ, zero, suc, Bool, true, false, if◌then◌else◌, List, [], ◌∷◌, ◌++◌, map, reverse, take, drop, length, Option, Some, None, Result, Ok, Err, refl, sym, ap, arith, length-append, ◌==◌, slice_set, slice_range, get_or, length-take-le}
+use Rattle.std.proofs.Common.{◌≡◌, ◌∙◌, ◌<◌, ◌≤◌, ◌+◌, ◌-◌, ℕ, zero, suc, Bool, true, false, if◌then◌else◌, List, [], ◌∷◌, ◌++◌, map, reverse, take, drop, length, Option, Some, None, Result, Ok, Err, refl, sym, ap, arith, length-append, ◌==◌, slice_range, get_or, length-take-le}
 use Rattle.std.proofs.lemmas.Bool.Decides.{nat_tests}
 use Rattle.std.proofs.lemmas.List.{length-map, length-reverse, reverse-append}
 use Rattle.rev_num.specs.declared.value.Value.{Value}
@@ -71,10 +71,6 @@ lasts-push k xs x = ap (λ m. drop m (xs ++ x ∷ [])) (one_less k xs x) ∙ dro
 
 pub without-push : {A : Type 0} (k : ℕ) (xs : List A) (x : A) → without (suc k) (xs ++ x ∷ []) ≡ without k xs
 without-push k xs x = ap (λ m. take m (xs ++ x ∷ [])) (one_less k xs x) ∙ take-push (length xs - k) xs x (omega arith)
-
-pub map-push : {A B : Type 0} (f : A → B) (xs : List A) (x : A) → map f (xs ++ x ∷ []) ≡ map f xs ++ f x ∷ []
-map-push f [] x = refl
-map-push f (y ∷ xs) x = ap (λ r. f y ∷ r) (map-push f xs x)
 
 drop-map : {A B : Type 0} (f : A → B) (k : ℕ) (xs : List A) → map f (drop k xs) ≡ drop k (map f xs)
 drop-map f zero xs = refl
@@ -427,11 +423,6 @@ module _ (es : List Declaration) (n : ℕ) (env : Env) where
   turned ps qs vs ws t a h q k = (λ i. comes_to es n env (q i) (k i) t.next) ∙ h
 
 -- ---- the places of those that wait
-
-take-set : {A : Type 0} (xs : List A) (k : ℕ) (x : A) → k < length xs → take (suc k) (slice_set xs k x) ≡ take k xs ++ x ∷ []
-take-set [] k x h = absurd (omega arith)
-take-set (y ∷ xs) zero x h = refl
-take-set (y ∷ xs) (suc k) x h = ap (λ r. y ∷ r) (take-set xs k x (omega arith))
 
 take-at : {A : Type 0} (xs : List A) (k : ℕ) (x : A) → k < length xs → x ≡ get_or xs k x → take (suc k) xs ≡ take k xs ++ x ∷ []
 take-at [] k x h e = absurd (omega arith)

@@ -183,14 +183,6 @@ pub decimal_in-no_text : (bytes : List ℕ) → ¬ (IsUtf8 bytes) → decimal_in
 decimal_in-no_text bytes h =
     none_unless (decimal_in bytes) (λ n found. h (IsUtf8-from_ascii bytes (decimal_ascii bytes n (decimal_in-is bytes n found).1)))
 
-no_plus : (bytes : List ℕ) (n : ℤ) → get_or bytes 0 0 ≡ 43 → IsDecimal bytes n → ⊥
-no_plus [] n plus d = omega (arith, plus)
-no_plus (c ∷ cs) n plus (inl d) = let digit = All-head IsAsciiDigit c cs d.digits.each in omega (arith, digit, plus)
-no_plus (c ∷ cs) n plus (inr d) = let minus = ap (λ b. get_or b 0 0) d.minus in omega (arith, minus, plus)
-
-pub decimal_in-plus : (bytes : List ℕ) → get_or bytes 0 0 ≡ 43 → decimal_in bytes ≡ None
-decimal_in-plus bytes plus = none_unless (decimal_in bytes) (λ n found. no_plus bytes n plus (decimal_in-is bytes n found).1)
-
 -- ---- what the answer says of the grammar
 
 pub is_spelled : (bytes : List ℕ) (o : Option ℤ) → o ≡ decimal_in bytes → IfSome o (λ n. IsDecimal bytes n)

@@ -18,7 +18,7 @@ use Rattle.rev_expressions.specs.Statements.{Else, Test, Last, is_last, tests_of
 use Rattle.rev_expressions.specs.Declarations.{inner}
 use Rattle.rev_expressions.specs.Parse.{parse, inside, expr_begins}
 use Rattle.rev_expressions.specs.Lists.{more_of, more_listed}
-use Rattle.rev_expressions.proofs.Turns.{or_nothing, same_outcome, repeat_end, repeat_stop, repeat_go, found_before}
+use Rattle.rev_expressions.proofs.Turns.{or_nothing, same_outcome, repeat_stop, repeat_go, found_before}
 use Rattle.rev_expressions.proofs.Lists.{listed_is, all_is}
 use Rattle.rev_expressions.proofs.Expressions.{K, at_kind, by_kind, by_next, inside_none, inside_go, arguments_go, expr_not_null, begins_any, expr_end}
 use Rattle.rev_parse.specs.Parts.{with_last, conditional_of, more_parts, statement_form_of_name, stmt_at, form_of, form_behind, statement_begins, item_begins}
@@ -291,9 +291,6 @@ module _ (bytes : List ℕ) (n : ℕ) where
       by_kind_of : (o : Option Class) → passes alphabet (first alphabet (else_part bytes)) o ≡ passes alphabet (is_same (class.fixed s.Else)) o
       by_kind_of None = refl
       by_kind_of (Some k) = or_nothing (is_same (class.fixed s.Else) k) (first alphabet (else_choice bytes) k)
-
-  pub parts_end : (j : ℕ) (found : List Else) (ts : List Token) → j ≡ 0 → more_parts bytes n j found ts ≡ Read found ts
-  parts_end = repeat_end (parse bytes n (else_part bytes)) is_last (begins alphabet (else_part bytes))
 
   pub parts_stop : (j : ℕ) (found : List Else) (ts : List Token) → is_next alphabet (class.fixed s.Else) ts ≡ false → more_parts bytes n j found ts ≡ Read found ts
   parts_stop j found ts e = repeat_stop (parse bytes n (else_part bytes)) is_last (begins alphabet (else_part bytes)) j found ts (else_begins ts ∙ e)

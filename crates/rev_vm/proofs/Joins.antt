@@ -301,9 +301,6 @@ module _ (g : CodeRun) (run : Run) (delta : Delta) (base : ℕ → ℕ) (first :
   seen_now : AreSeen c.locations seen1 (at first)
   seen_now = kept_seen c.locations (overlay.under delta base) seen1 (at first) (at first) h.joiner.stands.stands.here.locations size many (record { words = agree; roots = λ l i. refl })
 
-  comp : Composition (Word ℕ)
-  comp = composed (merges g) (mains c.locations j.written) j.written
-
   abbrev pub Plain : Composition ℕ
   Plain = composed words (map (λ w. seen1 w.location) v.written) (entries v.written)
 

@@ -4,8 +4,8 @@
 --   main_called               `main` may begin with no arguments
 --   starts_based              a snapshot with the start words stands for the start locations
 use Rattle.std.proofs.lemmas.Option.{get_or_from_slice_get}
-use Rattle.std.proofs.Common.{◌≡◌, ◌∙◌, ℕ, zero, suc, ◌+◌, ◌-◌, ◌<◌, ◌≤◌, ◌^◌, Bool, true, List, [], ◌∷◌, ◌++◌, length, take, drop, get_or, replicate, Some, None, refl, sym, ap, subst, arith, true≢false}
-use Rattle.std.specs.Prelude.{slice_get, slice_index, nat_le, nat_eq, not, ◌&&◌, IfOk, Result, Ok, Err}
+use Rattle.std.proofs.Common.{◌≡◌, ◌∙◌, ℕ, zero, suc, ◌+◌, ◌-◌, ◌<◌, ◌≤◌, ◌^◌, Bool, true, List, [], ◌∷◌, ◌++◌, length, take, drop, replicate, Some, None, refl, sym, ap, subst, arith, true≢false}
+use Rattle.std.specs.Prelude.{slice_get, slice_index, nat_le, nat_eq, not, ◌&&◌}
 use Rattle.std.specs.List.{list_all}
 use Rattle.std.proofs.lemmas.Bool.Decides.{nat_tests}
 use Rattle.rev_num.specs.declared.value.ValueKind.{ValueKind}
@@ -34,10 +34,9 @@ use Rattle.plain_words.specs.Agreement.{IsWord}
 use Rattle.block_run.specs.Standing.{IsSeen}
 use Rattle.code_machine.specs.Local.{CodeRun, IsVerified}
 use Rattle.block_run.specs.Area.{count}
-use Rattle.block_run.proofs.Tables.{drop_more}
 use Rattle.rev_vm.specs.Opening.{AreShort, StartsWith, words_at_start}
 use Rattle.rev_vm.specs.Starts.{IsBase, IsCalled}
-use Rattle.rev_vm.proofs.Leaving.{append_three, append_none}
+use Rattle.rev_vm.proofs.Leaving.{append_three}
 use Rattle.code_soundness.proofs.Reaching.{main_runs}
 
 -- ---- words, one after another
@@ -51,32 +50,11 @@ more_copies xs n w =
     append_three xs (replicate n w) (w ∷ [])
     ∙ ap (λ us. xs ++ us) (copies_end n w ∙ (let e : suc n ≡ n + 1 = omega arith in ap (λ m. replicate m w) e))
 
-start_drop : (vs : List CodeVar) (n : ℕ) (d : CodeVar) → n < length vs
-    → words_at_start (drop n vs) ≡ replicate (get_or vs n d).cells (get_or vs n d).start ++ words_at_start (drop (n + 1) vs)
-start_drop [] n d h = absurd (omega (arith, h))
-start_drop (v ∷ vs) zero d h = refl
-start_drop (v ∷ vs) (suc n) d h =
-    start_drop vs n d (omega (arith, h)) ∙ ap (λ us. replicate (get_or vs n d).cells (get_or vs n d).start ++ words_at_start us) (drop_more v vs n)
-
-pub start_more : (vs : List CodeVar) (n : ℕ) (d : CodeVar) (ws ws' : List ℕ) → n < length vs → ws ++ words_at_start (drop n vs) ≡ words_at_start vs
-    → ws' ≡ ws ++ replicate (get_or vs n d).cells (get_or vs n d).start → ws' ++ words_at_start (drop (n + 1) vs) ≡ words_at_start vs
-start_more vs n d ws ws' h e more =
-    ap (λ us. us ++ words_at_start (drop (n + 1) vs)) more
-    ∙ append_three ws (replicate (get_or vs n d).cells (get_or vs n d).start) (words_at_start (drop (n + 1) vs))
-    ∙ ap (λ us. ws ++ us) (sym (start_drop vs n d h))
-    ∙ e
-
 drop_all : (vs : List CodeVar) (n : ℕ) → length vs ≤ n → drop n vs ≡ []
 drop_all [] zero h = refl
 drop_all [] (suc n) h = refl
 drop_all (v ∷ vs) zero h = absurd (omega (arith, h))
 drop_all (v ∷ vs) (suc n) h = drop_all vs n (omega (arith, h))
-
-pub start_done : (vs : List CodeVar) (n : ℕ) (ws : List ℕ) → length vs ≤ n → ws ++ words_at_start (drop n vs) ≡ words_at_start vs → ws ≡ words_at_start vs
-start_done vs n ws h e = sym (append_none ws) ∙ ap (λ us. ws ++ words_at_start us) (sym (drop_all vs n h)) ∙ e
-
-pub no_short : AreShort []
-no_short l w is = absurd (let z : None ≡ Some w = is in cc)
 
 pub short_more : (xs : List ℕ) (w : ℕ) → AreShort xs → w < 2 ^ 64 → AreShort (xs ++ w ∷ [])
 short_more [] w h less zero u is = let e : w ≡ u = some_eq is in subst (λ z. z < 2 ^ 64) e less
@@ -96,10 +74,6 @@ many_copies (suc n) w ws = ap suc (many_copies n w ws) ∙ (let e : suc (n + len
 pub start_many : (vs : List CodeVar) → length (words_at_start vs) ≡ count vs
 start_many [] = refl
 start_many (v ∷ vs) = many_copies v.cells v.start (words_at_start vs) ∙ ap (λ n. v.cells + n) (start_many vs)
-
-pub if_ok : {A B : Type 0} (x : Result A B) (P Q : A → Type 0) → ((a : A) → P a → Q a) → IfOk x P → IfOk x Q
-if_ok (Ok a) P Q f h = f a h
-if_ok (Err e) P Q f h = h
 
 -- ---- the main block
 
@@ -129,9 +103,6 @@ module _ (code : Code) (ok : first_fault code ≡ None) where
       let p = and_parts (rules.blocks_well code && list_all (rules.is_var code) code.vars) (rules.lines_well code) accepted.named in
       let q = and_parts (rules.blocks_well code) (list_all (rules.is_var code) code.vars) p.0 in
       (and_parts (ends_in_main code.blocks) (list_all rules.is_block code.blocks) q.0).0
-
-  pub some_blocks : 1 ≤ length code.blocks
-  some_blocks = let q = (last_main code.blocks ends).1 in omega (arith, q)
 
   pub few_blocks : length code.blocks ≤ 65535
   few_blocks = (small_parts code accepted.small).blocks

@@ -5,15 +5,14 @@
 --   StandsAtJoin       a joiner, for this state
 --   HasClaimed         a joiner that was given an end
 --   Left               what a revision left, that has ended
---   runner_state, fork_state, joiner_state, claimed_state, stopped_end   what they stand for
+--   runner_state, fork_state, joiner_state   what they stand for
 --   runner_group, ..   what their snapshots belong to
 use Rattle.std.specs.Prelude.{ℕ, List}
 use Rattle.rev_code.specs.Words.{Word}
 use Rattle.rev_code.specs.State.{State}
 use Rattle.rev_code.specs.Events as events
-use Rattle.version_map.specs.declared.end.EndValue.{EndValue}
 use Rattle.version_map.specs.declared.snapshot.Snapshot.{Ghosts}
-use Rattle.code_machine.specs.Local.{CodeRun, Local, End}
+use Rattle.code_machine.specs.Local.{CodeRun, End}
 use Rattle.rev_vm.specs.declared.end.Broken.{Broken}
 use Rattle.rev_vm.specs.declared.end.Stopped.{Stopped}
 use Rattle.rev_vm.specs.declared.fork.AtFork.{AtFork}
@@ -22,7 +21,7 @@ use Rattle.rev_vm.specs.declared.join.AtJoin.{AtJoin}
 use Rattle.rev_vm.specs.declared.join.Claimed.{Claimed}
 use Rattle.rev_vm.specs.declared.runner.Runner.{Runner}
 use Rattle.rev_vm.specs.Meaning.{IsAt, IsAtFork, IsAtJoin, IsClaimed, IsEnd}
-use Rattle.rev_vm.specs.States.{state_at, before_join, end_for, joined_at}
+use Rattle.rev_vm.specs.States.{state_at, before_join}
 
 module _ {P S : Type 0} {m : Ghosts P S} where
   -- ---- a runner
@@ -85,19 +84,12 @@ module _ {P S : Type 0} {m : Ghosts P S} where
   abbrev pub joiner_group : AtJoin P S m → List ℕ
   joiner_group a = m.group a.revision.value.memory.snapshot
 
-  -- the joiner of a revision that left this end value
-  abbrev pub joiner_with : CodeRun → AtJoin P S m → EndValue → Local ℕ
-  joiner_with g a v = joined_at g (joiner_state g a) a.is_try a.on v
-
   abbrev pub HasClaimed : CodeRun → Claimed P S m → State ℕ → End ℕ → Type 0
   HasClaimed g k c j =
       IsClaimed g k.at.revision.value.run k.at.revision.value.memory.delta
       (m.base k.at.revision.value.memory.snapshot) k.at.revision.value.memory.first.roots
       k.at.written
       k.at.is_try k.at.on k.end c j
-
-  abbrev pub claimed_state : CodeRun → Claimed P S m → Local ℕ
-  claimed_state g k = joiner_with g k.at k.end
 
   abbrev pub claimed_group : Claimed P S m → List ℕ
   claimed_group k = joiner_group k.at
@@ -106,9 +98,6 @@ module _ {P S : Type 0} {m : Ghosts P S} where
 module _ {P S : Type 0} where
   abbrev pub Left : CodeRun → Stopped P S → End ℕ → Type 0
   Left g s j = IsEnd g j s.end
-
-  abbrev pub stopped_end : CodeRun → Stopped P S → End ℕ
-  stopped_end g s = end_for g s.end
 
   module _ (m : Ghosts P S) where
     abbrev pub stopped_group : Stopped P S → List ℕ

@@ -91,9 +91,6 @@ module _ (s : Setting) (r : Path) (l : Local) (q : Path) (left : Option Name) (i
   l₁ : Local
   l₁ = note q l
 
-  note_held : (p : Path) → Holds (note q l) p → Holds l p
-  note_held p = same_held l (note q l) p refl refl in_phase
-
   before : weight l ≡ 2 * l.fuel + 2 + beyond_first l.frames
   before = ap (λ p. weight_at p l.frames l.fuel) is
 

@@ -72,12 +72,6 @@ module _ (p : ProgramTree) where
       ∙ sym (goes_on (put (take n ms) cs) n (changed m c) (join_location p k m j j.written) (compose p (suc n) (drop (suc n) ks) (drop (suc n) ms) (drop (suc n) js)) (sym at))
       ∙ ap (in_front (put (take n ms) cs)) (sym (opened ks ms js n k m j kn mn jn ke me je))
 
-  -- a location whose merge faults
-  pub composed_fault : (ks : List (Option ℕ)) (ms js : List Location) (n : ℕ) (front : List Location) (f : NumFault) (k : Option ℕ) (m j : Location) → n < length ks → n < length ms → n < length js
-      → k ≡ get_or ks n k → m ≡ get_or ms n m → j ≡ get_or js n j → change_of m (Err f) ≡ join_location p k m j j.written → in_front front (compose p n (drop n ks) (drop n ms) (drop n js)) ≡ faults n f
-  composed_fault ks ms js n front f k m j kn mn jn ke me je at =
-      ap (in_front front) (opened ks ms js n k m j kn mn jn ke me je) ∙ stops front n f (join_location p k m j j.written) (compose p (suc n) (drop (suc n) ks) (drop (suc n) ms) (drop (suc n) js)) (sym at)
-
   short : (n : ℕ) (ks : List (Option ℕ)) (ms js : List Location) → (length ks ≤ 0) ⊎ ((length ms ≤ 0) ⊎ (length js ≤ 0)) → compose p n ks ms js ≡ merged ms
   short n [] ms js e = refl
   short n (k ∷ ks) [] js e = refl

@@ -5,14 +5,14 @@ use Rattle.rev_num.specs.Path.{Path, before}
 use Rattle.revision_machine.specs.PathMap.{with_at}
 use Rattle.revision_machine.specs.Machine.{Event, Moves, Forks, Joins, Ended, Machine, Entry, Plain, Joined, Global, Twice, Live, Revisions, start, step, step_at, happens, join_at, join_ended, Runs, Final, Reached}
 use Rattle.revision_machine.specs.Conditions.{Counts, Handles, HoldsNone}
-use Rattle.revision_machine.specs.Laws.{AllEnded, UniqueEnd, CompletionLaw}
-use Rattle.revision_machine.specs.Simulation.{Simulates, EntryAgrees, Agrees, UnblockedLaw, CompleteLaw, ConverseLaw, SameEnd}
+use Rattle.revision_machine.specs.Laws.{AllEnded, UniqueEnd}
+use Rattle.revision_machine.specs.Simulation.{Simulates, EntryAgrees, Agrees, UnblockedLaw, CompleteLaw, SameEnd}
 use Rattle.revision_machine.proofs.Paths.{at_here, at_other}
 use Rattle.rev_num.proofs.PostOrder.{before_irrefl}
 use Rattle.rev_num.proofs.Options.{none_some}
 use Rattle.revision_machine.proofs.Blocked.{handle_law, going_on, waits_at, all_ended}
 use Rattle.revision_machine.proofs.Lift.{runs_on, quietly, plain_of, run_law, final_of}
-use Rattle.revision_machine.proofs.Bearing.{runs_of, bearing}
+use Rattle.revision_machine.proofs.Bearing.{runs_of}
 
 module _ (A B : Machine) (R : Path → A.Local → B.Local → Type 0) (Known : Path → Type 0) (a : A.Local) (b : B.Local) where
   module _ (sim : Simulates A B R Known) (holds : A.Local → Path → Type 0) (counts : Counts A) (H : Handles A holds) (none : HoldsNone A holds a) where
@@ -81,9 +81,3 @@ module _ (A B : Machine) (R : Path → A.Local → B.Local → Type 0) (Known : 
       let other = complete ws cs w runs known final in
       let is : g ≡ other.1 = unique (start A a) g other.1 rs other.0 (record { by = []; runs = refl }) one other.2 in
       subst (λ v. Agrees A B R v w) (sym is) other.3
-
-  pub converse_law : ((p : Path) → Known p) → CompleteLaw A B R Known a b → UniqueEnd A a → CompletionLaw B b → ConverseLaw A B R Known a b
-  converse_law all complete unique completes rs g one =
-      let two = completes (start B b) (record { by = []; runs = refl }) in
-      let run = bearing B two.0 (start B b) two.1 two.2.runs in
-      (two.0, two.1, two.2, same_end complete unique rs two.0 run.0 g two.1 one run.1 (λ c i. all c) two.2.final)

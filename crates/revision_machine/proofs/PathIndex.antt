@@ -65,10 +65,6 @@ slice_get-front (r ∷ ps) p q (suc i) e = slice_get-front ps p q i e
 pub indexed_none : (places : BTreeMap Key ℕ) → places.entries ≡ [] → IsIndexed places []
 indexed_none places none p = subst (IsPlace p []) (sym (ap (lookup (λ k. is_eq (against p k))) none)) (λ v. v)
 
--- a map that has what another has
-pub same_map : (m n : BTreeMap Key ℕ) → n.entries ≡ m.entries → place_by n ≡ place_by m
-same_map m n e = fun_ext λ p. ap (lookup (λ k. is_eq (against p k))) e
-
 kept : (ps : List Path) (p q : Path) (o : Option ℕ) → same p q ≡ false → IsPlace q ps o → IsPlace q (ps ++ p ∷ []) o
 kept ps p q None apart out = λ is. by (in-push ps p q is)
   where

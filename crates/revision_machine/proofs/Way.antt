@@ -21,9 +21,6 @@ module _ (M : Machine) where
     writes : (l l' : M.Local) (o : Path) (e : Entry M.Local) → revs r ≡ Some (Plain l) → Role revs r l l' o e → Way revs r (Live (put_two revs r (Plain l') o e))
     twice : (l : M.Local) (q : Path) (lq : M.Local) → revs r ≡ Some (Plain l) → M.next r l ≡ Joins q → revs q ≡ Some (Joined lq) → Way revs r Twice
 
-  no_step_once_ended : (revs : Revisions M) (r : Path) (l : M.Local) (h : Global M.Local) → happens M revs r l (M.next r l) ≡ Some h → M.next r l ≢ Ended
-  no_step_once_ended revs r l h e f = no_none (subst (λ v. happens M revs r l v ≡ Some h) f e)
-
   pub plain_inj : {a b : M.Local} → Some (Plain a) ≡ Some (Plain b) → a ≡ b
   plain_inj e = cc
 

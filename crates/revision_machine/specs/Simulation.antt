@@ -94,9 +94,3 @@ module _ (A B : Machine) (R : Path → A.Local → B.Local → Type 0) (Known : 
   SameEnd =
       (rs ws cs : List Path) (g : Global A.Local) (w : Global B.Local) → Complete A (start A a) rs g
       → RunsBearing B (start B b) ws w cs → AllKnown Known cs → Final B w → Agrees A B R g w
-
-  -- each complete run of A ends in a state that agrees with the end of a complete run of B
-  abbrev pub ConverseLaw : Type 0
-  ConverseLaw =
-      (rs : List Path) (g : Global A.Local) → Complete A (start A a) rs g → (ws : List Path)
-      × (w : Global B.Local) × Complete B (start B b) ws w × Agrees A B R g w

@@ -81,11 +81,6 @@ IsFree free = Unit {0}
 IsFree (building h d) = ⊥
 IsFree (live d p n) = ⊥
 
-abbrev IsBuilding : Seg → Type 0
-IsBuilding free = ⊥
-IsBuilding (building h d) = Unit {0}
-IsBuilding (live d p n) = ⊥
-
 abbrev pub IsLive : Seg → Type 0
 IsLive free = ⊥
 IsLive (building h d) = ⊥

@@ -1,6 +1,6 @@
 -- A segment is laid down word by word.
-use Rattle.std.proofs.Common.{◌≡◌, ◌≢◌, ℕ, ◌+◌, ◌<◌, Bool, cond, List, [], ◌∷◌, slice_index, sym}
-use Rattle.std.proofs.Common.{refl, ap, ◌∙◌, subst, arith, eq-eqb, ne_eqb, Option, None, Some}
+use Rattle.std.proofs.Common.{◌≡◌, ◌≢◌, ℕ, ◌+◌, ◌<◌, Bool, cond, List, ◌∷◌, slice_index, sym}
+use Rattle.std.proofs.Common.{ap, ◌∙◌, subst, arith, eq-eqb, ne_eqb, Option, None, Some}
 use mathlib.Core.Option as m
 use mathlib.Core.Logic.{dite}
 use native.Mathlib.Decide.{ℕ_discrete}
@@ -12,7 +12,7 @@ use Rattle.segment_store.specs.Entry.{Put}
 use Rattle.segment_store.specs.declared.board.View.{View}
 use Rattle.segment_store.specs.Store.{look, puts}
 use Rattle.segment_store.specs.Same.{Becomes}
-use Rattle.segment_store.specs.Base.{IsLaid, filled}
+use Rattle.segment_store.specs.Base.{filled}
 
 pub look_here : (ps : List Put) (i j w : ℕ) → i ≡ j
     → look (record { at = i; word = w } ∷ ps) j ≡ m.some w
@@ -37,31 +37,6 @@ none_some {A} w o p q = subst is_none (sym p ∙ q) tt where
   is_none (Some x) = ⊥
 
 module _ (segment parent masks : ℕ) (d : Delta) where
-  pub filling_starts : (made : List Put) → made ≡ []
-      → Filling segment parent masks d 0 0 (record { at = segment + 1; word = parent } ∷ made)
-  filling_starts made e = record {
-    parent_is = look_here made (segment + 1) (segment + 1) parent refl;
-    mask_is = λ j h. absurd (omega arith);
-    value_is = λ j w h. absurd (omega arith);
-    none_is = λ j h. look_else made (segment + 1) (segment + (2 + masks + j)) parent
-        (λ q. omega arith) ∙ ap (λ (ps : List Put). look ps (segment + (2 + masks + j))) e;
-  }
-
-  pub filling_mask : (k : ℕ) (made : List Put) → Filling segment parent masks d k 0 made → k < masks
-      → Filling segment parent masks d (k + 1) 0
-      (record { at = segment + (2 + k); word = slice_index (mask_of d) k } ∷ made)
-  filling_mask k made f h = let w : ℕ = slice_index (mask_of d) k in record {
-    parent_is = look_else made (segment + (2 + k)) (segment + 1) w (λ q. omega arith) ∙ f.parent_is;
-    mask_is = λ j lt. dite (ℕ_discrete j k)
-        (λ is. look_here made (segment + (2 + k)) (segment + (2 + j)) w (omega arith)
-        ∙ ap (λ (z : ℕ). m.some (slice_index (mask_of d) z)) (sym is))
-        (λ ne. look_else made (segment + (2 + k)) (segment + (2 + j)) w (λ q. ne (omega arith))
-        ∙ f.mask_is j (omega arith));
-    value_is = λ j x lt. absurd (omega arith);
-    none_is = λ j z. look_else made (segment + (2 + k)) (segment + (2 + masks + j)) w
-        (λ q. omega arith) ∙ f.none_is j z;
-  }
-
   pub filling_value : (l w : ℕ) (made : List Put) → Filling segment parent masks d masks l made
       → at d l ≡ Some w
       → Filling segment parent masks d masks (l + 1)
@@ -96,15 +71,6 @@ module _ (segment parent masks : ℕ) (d : Delta) where
         (λ is. absurd (none_some x (at d l) is_none (ap (at d) (sym is) ∙ e)))
         (λ ne. f.value_is j x (omega arith) e);
     none_is = λ j z. f.none_is j (λ lt. z (omega arith));
-  }
-
-  pub filled_whole : (stride n : ℕ) (made : List Put) → stride ≡ 2 + masks + n
-      → Filling segment parent masks d masks n made → IsLaid segment parent stride masks d made
-  filled_whole stride n made is f = record {
-    parent_is = f.parent_is;
-    mask_is = f.mask_is;
-    value_is = λ l w lt e. f.value_is l w (omega arith) e;
-    none_is = λ l lt e. f.none_is l (λ _. e);
   }
 
 -- one more word

@@ -79,7 +79,7 @@ arms_left n left arms e = next_left n left (s.left_arms left arms) (arms_lets ar
 block_left : (n left : ℕ) (body : Statements) → left ≡ 65 - n → s.left_statements left body ≡ 65 - (n + statements_lets body)
 block_left n left body e = let h = statements_left left body in omega arith
 
-last_left : (n left : ℕ) → left ≡ 65 - n → left ≡ 1 → n ≡ 64
+pub last_left : (n left : ℕ) → left ≡ 65 - n → left ≡ 1 → n ≡ 64
 last_left n left e h = omega arith
 
 -- ---- all that a statement breaks

@@ -32,7 +32,7 @@ use Rattle.rev_types.proofs.Returning.{ends_return}
 use Rattle.rev_types.proofs.DeclsWithin.{params_left as left_params}
 use Rattle.static_rules.proofs.Gathers.{all_one, all_unless, not_none, differ}
 use Rattle.static_rules.proofs.Expressions.{wanted_all, handle_all, expression_all}
-use Rattle.static_rules.proofs.Blocks.{among_behind, among_at, behind_by, further, longer, statements_all}
+use Rattle.static_rules.proofs.Blocks.{among_behind, among_at, behind_by, further, last_left, longer, statements_all}
 use Rattle.static_rules.proofs.Decls.{in_front, at_end, Met, met_none, met_next, none_there}
 
 -- ---- parameters
@@ -73,9 +73,6 @@ words_behind all before q qs e = ap (λ l. map parameter_word l) e ∙ map-appen
 
 last_param : (n left : ℕ) → left ≡ 9 - n → left ≡ 1 → n ≡ 8
 last_param n left e h = omega arith
-
-last_local : (n left : ℕ) → left ≡ 65 - n → left ≡ 1 → n ≡ 64
-last_local n left e h = omega arith
 
 next_param : (m n left : ℕ) → m ≡ n + 1 → left ≡ 9 - n → left - 1 ≡ 9 - m
 next_param m n left e h = omega arith
@@ -127,7 +124,7 @@ module _ (p : ProgramTree) where
       (λ t. let v = f.known q.name.text t in parameter_again {e = proc w all x body} {before = map parameter_word before} v.0 m (behind_by (map parameter_word before) q.name (map parameter_word qs) (map parameter_word all) (words_behind all before q qs e)) v.1 v.2)
       (λ t. parameter_of_shared q m (among_at before q all (behind_by before q qs all e)) t))
       (all_both (Breaks p) _ _ (all_at (Breaks p) left (exceeded q.name.at limits.Parameters) (λ t. parameters {e = proc w all x body} {before = before} m (behind_by before q qs all e) (last_param (length before) left h t)))
-      (all_at (Breaks p) locals (exceeded q.name.at limits.Locals) (λ t. local_parameter {before = before} m (behind_by before q qs all e) (last_local (length before) locals g t))))))
+      (all_at (Breaks p) locals (exceeded q.name.at limits.Locals) (λ t. local_parameter {before = before} m (behind_by before q qs all e) (last_left (length before) locals g t))))))
 
   merge_params_all : (w m j x : PlacedName) (body : Expression) → Declares p (merge w m j x body) → AllAre (Breaks p) (d.merge_params [] one app m j x)
   merge_params_all w m j x body h =

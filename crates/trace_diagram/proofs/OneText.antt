@@ -1,5 +1,5 @@
 -- What has one text is the same but for the numbers of the locations of merges.
-use Rattle.std.proofs.Common.{◌≡◌, ◌∙◌, sym, ap, subst, ℕ, ◌<◌, ◌≤◌, ◌^◌, true, false, ℤ, pos, negsuc, List, [], ◌∷◌, ◌++◌, get_or, length, map, refl, arith, rules}
+use Rattle.std.proofs.Common.{◌≡◌, ◌∙◌, sym, ap, subst, ℕ, ◌<◌, ◌≤◌, ◌^◌, true, false, ℤ, pos, negsuc, List, [], ◌∷◌, ◌++◌, get_or, length, map, refl, arith}
 use Rattle.std.specs.Prelude.{◌↔◌, codes, if◌then◌else◌, ◌==◌, Some, None}
 use Rattle.std.specs.Fmt.{decimal, signed_decimal}
 use Rattle.std.specs.List.{flat_map, AllByRecursion}
@@ -135,16 +135,6 @@ plain_for cause.JoinNone p h = refl
 plain_for cause.CallDepth p h = refl
 plain_for cause.Spent p h = refl
 plain_for (cause.Merge n f) p h = absurd h
-
-plain_shown : (c : Cause) → NoMerge c → cause_shown c ≡ c
-plain_shown cause.Overflow h = refl
-plain_shown cause.ZeroDivisor h = refl
-plain_shown cause.Index h = refl
-plain_shown cause.Assert h = refl
-plain_shown cause.JoinNone h = refl
-plain_shown cause.CallDepth h = refl
-plain_shown cause.Spent h = refl
-plain_shown (cause.Merge n f) h = absurd h
 
 plain_place : (c : Cause) (p : List ℕ) → NoMerge c → IsPlaceOf c p → p ≡ []
 plain_place cause.Overflow p h is = is

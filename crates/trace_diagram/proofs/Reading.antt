@@ -1,5 +1,5 @@
 -- What was read of a text, with one more line, with a fault, and at its end.
-use Rattle.std.proofs.Common.{◌≡◌, ◌≢◌, ◌∙◌, inl, inr, sym, ap, subst, ℕ, ◌-◌, ◌+◌, ◌≤◌, List, [], ◌∷◌, ◌++◌, length, refl, arith, append_assoc, length-append}
+use Rattle.std.proofs.Common.{◌≡◌, ◌≢◌, ◌∙◌, inl, inr, sym, ap, subst, ℕ, ◌-◌, ◌+◌, List, [], ◌∷◌, ◌++◌, length, refl, arith, append_assoc, length-append}
 use Rattle.std.specs.Prelude.{codes, not, ◌==◌}
 use Rattle.std.specs.List.{flat_map, AllByRecursion}
 use Rattle.rev_num.specs.Path.{Path}
@@ -90,10 +90,6 @@ whole_lines ls = let h = lines_ended first_line ls in inr (h.front, h.is)
 
 place_of_rest : (bytes front rest : List ℕ) → bytes ≡ front ++ rest → length front ≡ length bytes - length rest
 place_of_rest bytes front rest is =
-    let sum : length bytes ≡ length front + length rest = ap length is ∙ length-append front rest in omega (arith, sum)
-
-pub rest_within : (bytes front rest : List ℕ) → bytes ≡ front ++ rest → length rest ≤ length bytes
-rest_within bytes front rest is =
     let sum : length bytes ≡ length front + length rest = ap length is ∙ length-append front rest in omega (arith, sum)
 
 fault_at : (bytes : List ℕ) (read : List (List ℕ)) (s : Stage) (rest : List ℕ) → bytes ≡ flat_map ended (first_line ∷ read) ++ rest → BeginsTraceText (flat_map ended (first_line ∷ read)) → LeadsTo read s → (rest ≡ [] → Stops s → ⊥) → ((line more : List ℕ) (next : Stage) → IsOneLine line → rest ≡ ended line ++ more → Follows s line next → ⊥) → IsFirstFault bytes (length bytes - length rest)

@@ -40,9 +40,6 @@ module _ {L : Type 0} where
   pub one_turn : (v w x : View L) → IsSameTurn v w → IsOneTurn w x → IsOneTurn v x
   one_turn v w x h g = record { said = g.said ∙ h.said; entered = g.entered ∙ h.entered; found = g.found ∙ h.found }
 
-  pub one_rests : (v w x : View L) → IsSameTurn v w → x ≡ rests w → IsOneTurn v x
-  one_rests v w x h is = subst (IsOneTurn v) (sym is) record { said = h.said; entered = h.entered; found = h.found }
-
   -- no pass has had an entry since, and the revision of each is out
   abbrev pub Passes : View L → Type 0
   Passes v = Fresh v.log v.passes × ((k : ℕ) → named k v.passes ≤ times k v.out)

@@ -1,5 +1,5 @@
 -- Lists of seats of one hub, and what they leave.
-use Rattle.std.proofs.Common.{◌≡◌, ◌≢◌, ◌⊎◌, inl, inr, ⊎_elim, ℕ, ◌+◌, Bool, cond, List, [], ◌∷◌, ◌++◌, map, Option, sym, ap, ◌∙◌, refl, arith, eq-eqb, ne_eqb}
+use Rattle.std.proofs.Common.{◌≡◌, ◌≢◌, ◌⊎◌, inl, inr, ⊎_elim, ℕ, ◌+◌, Bool, cond, List, [], ◌∷◌, ◌++◌, map, Option, sym, ap, ◌∙◌, refl, eq-eqb, ne_eqb}
 use mathlib.Core.Logic.{dite}
 use native.Mathlib.Decide.{ℕ_discrete}
 use Rattle.atomic_table.specs.Seated.{TableId}
@@ -42,12 +42,6 @@ either_thrice : (a b c : HubState) → either_halt (either_halt a b) c ≡ eithe
 either_thrice All b c = refl
 either_thrice Twice b c = refl
 either_thrice NoMemory b c = refl
-
-pub saw_alone : (a : ℕ) → either_saw a 0 ≡ 1 → a ≡ 1
-saw_alone a h = ⊎_elim (λ e. e) (λ e. absurd (omega arith)) (one_of a 0 h)
-
-pub halt_alone : (a : HubState) → either_halt a All ≡ a
-halt_alone a = either_all a
 
 module _ {S L : Type 0} where
   pub are_more : (id : TableId) (ss : List (Seat S (View L))) (s : Seat S (View L)) → AreOf id ss → s.table_id ≡ id → AreOf id (ss ++ s ∷ [])

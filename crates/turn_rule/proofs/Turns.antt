@@ -328,13 +328,6 @@ module _ {L R A E : Type 0} (d : HubMachine L R A E) (ends : E → L → Type 0)
     seen = λ n. h.seen (λ c. n (next.3 ∙ c));
   }
 
-  -- a seat that takes the turn of a halted hub knows of it already
-  pub still_stops : (w : View L) (t : Value) → InHand d ends w t → (t.state ≡ All → ⊥) → rests w ≡ rests (stops (or_no_memory w.halt) w)
-  still_stops w t h halted =
-      let saw = h.seen halted in
-      let same : or_no_memory w.halt ≡ w.halt = keeps_halt w.halt (λ c. halted (sym h.halt ∙ c)) in
-      ap (λ (z : ℕ × HubState). rests record { parts = w.parts; start = w.start; group = w.group; has = w.has; log = w.log; out = w.out; passes = w.passes; saw = z.0; halt = z.1; said = w.said; entered = w.entered; found = w.found }) (λ i. (saw i, sym same i))
-
   -- what is told of a value is told of an equal one, as of what lies in its box
   pub told_at : (v w : View L) (t t' : Value) → t' ≡ t → Told d ends v w t → Told d ends v w t'
   told_at v w t t' is told = subst (λ x. Told d ends v w x) (sym is) told

@@ -35,12 +35,6 @@ bit_else mask l k x h ne keep = dite (ℕ_discrete (k / 64) (l / 64))
 pub chosen_one : (b w x : ℕ) → b ≡ 1 → w ≡ x → chosen b w ≡ Some x
 chosen_one b w x e q = (λ i. chosen (e i) (q i))
 
-pub chosen_none : (b w : ℕ) → b ≡ 0 → chosen b w ≡ None
-chosen_none b w e = ap (λ (z : ℕ). chosen z w) e
-
-pub unset : (mask : List ℕ) (l : ℕ) → get_or mask (l / 64) 0 ≡ 0 → bit_in mask l ≡ 0
-unset mask l e = ap (λ (z : ℕ). bit_at z (l % 64)) e ∙ bit_at-zero (l % 64)
-
 abbrev IsNone : Option ℕ → Type 0
 IsNone None = ⊥
 IsNone (Some w) = Unit {0}

@@ -1,9 +1,9 @@
 -- Paths by births.
-use Rattle.std.proofs.Common.{◌≡◌, ◌∙◌, ℕ, zero, suc, ◌<◌, ◌≤◌, List, [], ◌∷◌, ◌++◌, length, reverse, get_or, Option, Some, None, refl, sym, ap, arith}
+use Rattle.std.proofs.Common.{◌≡◌, ◌∙◌, ℕ, zero, suc, ◌<◌, ◌≤◌, List, [], ◌∷◌, ◌++◌, length, reverse, Option, Some, None, refl, sym, ap, arith}
 use Rattle.std.proofs.lemmas.List.{reverse-append}
 use Rattle.rev_num.specs.Path.{Path, child}
 use Rattle.revision_machine.specs.Numbered.{at_number, or_path}
-use Rattle.revision_machine.proofs.Lists.{at_there, at_none}
+use Rattle.revision_machine.proofs.Lists.{at_none}
 use Rattle.code_world.specs.declared.table.Birth.{Birth}
 use Rattle.code_world.specs.Endings.{Names}
 use Rattle.world_outcomes.specs.Births.{forked_as, path_in}
@@ -13,14 +13,6 @@ module _ {A : Type 0} where
   at_within [] n e = omega arith
   at_within (x ∷ xs) zero e = absurd (let z : Some x ≡ None = e in cc)
   at_within (x ∷ xs) (suc n) e = let h = at_within xs n e in omega (arith, h)
-
-pub forked_there : (bs : List Birth) (n : ℕ) (b : Birth) → 0 < n → n < length bs → b ≡ get_or bs n b → forked_as bs n ≡ Some b
-forked_there bs zero b some less is = absurd (omega (arith, some))
-forked_there bs (suc n) b some less is = at_there bs (suc n) b less ∙ ap (λ z. Some z) (sym is)
-
-pub forked_none : (bs : List Birth) (n : ℕ) → length bs ≤ n → forked_as bs n ≡ None
-forked_none bs zero few = refl
-forked_none bs (suc n) few = at_none bs (suc n) few
 
 module _ (bs : List Birth) (paths : List Path) (names : Names bs paths) where
   pub forker_before : (n : ℕ) (b : Birth) → forked_as bs n ≡ Some b → b.forker < n

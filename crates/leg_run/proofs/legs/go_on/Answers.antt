@@ -1,4 +1,5 @@
 use Rattle.std.proofs.Common.{◌∙◌, length, take, refl, ap, arith}
+use Rattle.std.proofs.lemmas.Result.{IfOk-weaker}
 use Rattle.std.specs.Prelude.{slice_get}
 use Rattle.version_map.specs.Deltas.{at}
 use Rattle.version_map.specs.Overlay.{under}
@@ -7,7 +8,7 @@ use Rattle.block_run.specs.Standing.{program}
 use Rattle.block_run.specs.declared.registers.Stop.TheVariants as stop
 use Rattle.fun_run.proofs.Running.{block_short}
 use Rattle.leg_run.proofs.Frames.{here, refilled}
-use Rattle.leg_run.proofs.Rounding.{ends_for, here_for, leaving_of, ok_map, stands_now, trapped, turned}
+use Rattle.leg_run.proofs.Rounding.{ends_for, here_for, leaving_of, stands_now, trapped, turned}
 use Rattle.leg_run.proofs.legs.go_on.Goals as goal
 
 pub run_block-requires-clause-accepted : goal.run_block-requires-clause-accepted
@@ -44,7 +45,7 @@ returns-in_default g c =
     let long = c.run_block.auto.words in
     let k = c.args.run.now.words.ok.0 in
     record {
-      rounds = ok_map c.turn_at.result _ _ (λ t turns s st.
+      rounds = IfOk-weaker c.turn_at.result _ _ (λ t turns s st.
           let l = leaving_of c.args.setting.now.code c.requires.setting.faultless c.args.setting.now.inputs.items c.args.setting.now.share c.block_at-b.result.now s c.run_block.new.words c.run_block.new.registers (under c.run_block.new.memory.delta (g.P.Snapshot.base c.run_block.new.memory.snapshot)) (at c.run_block.new.memory.first.roots) c.run_block.result (ends_for c.args.setting.now.code c.args.setting.now.inputs.items c.as_slice-inputs.result.now c.args.setting.now.share c.block_at-b.result.now s c.run_block.result c.run_block.new.words c.run_block.new.registers (under c.run_block.new.memory.delta (g.P.Snapshot.base c.run_block.new.memory.snapshot)) (at c.run_block.new.memory.first.roots) c.as_slice-inputs.ensures.value (c.run_block.ensures.ends (program c.args.setting.now.share) s (here_for c.args.setting.now.code c.args.setting.now.inputs.items c.as_slice-inputs.result.now c.args.setting.now.share c.block_at-b.result.now s c.args.run.now.words.items c.as_mut_slice-words.result.now c.args.run.now.registers (under c.args.memory.now.delta (g.P.Snapshot.base c.args.memory.now.snapshot)) (at c.args.memory.now.first.roots) c.as_slice-inputs.ensures.value c.as_mut_slice-words.ensures.value (here c.args.setting.now.code c.requires.setting.faultless c.args.setting.now.inputs.items c.args.setting.now.share c.args.run.now (under c.args.memory.now.delta (g.P.Snapshot.base c.args.memory.now.snapshot)) (at c.args.memory.now.first.roots) s st c.block_at-b.result.now c.block_at-b.ensures)))) c.in_default.not-Traps in
           turned c.args.setting.now.code c.requires.setting.faultless c.args.setting.now.inputs.items c.args.setting.now.share c.args.run.now (under c.args.memory.now.delta (g.P.Snapshot.base c.args.memory.now.snapshot)) (at c.args.memory.now.first.roots) s st c.block_at-b.result.now c.block_at-b.ensures c.run_block.new.words c.run_block.new.registers (under c.run_block.new.memory.delta (g.P.Snapshot.base c.run_block.new.memory.snapshot)) (at c.run_block.new.memory.first.roots) l.ahead
           c.turn_at.new.run (under c.turn_at.new.memory.delta (g.P.Snapshot.base c.turn_at.new.memory.snapshot)) (at c.turn_at.new.memory.first.roots) t

@@ -1,11 +1,12 @@
 use Rattle.std.proofs.Common.{◌∙◌, ℕ, [], sym, ap, subst}
+use Rattle.std.proofs.lemmas.Result.{IfOk-weaker}
 use Rattle.std.specs.Prelude.{slice_get, IfOk}
 use Rattle.rev_code.specs.Events as events
 use Rattle.rev_code.specs.State.{State}
 use Rattle.rev_code.specs.Variables.{start_locations}
 use Rattle.rev_vm.specs.Meaning.{IsAt}
 use Rattle.rev_vm.specs.Starts.{run_under}
-use Rattle.rev_vm.proofs.Mains.{if_ok, main_called, starts_based}
+use Rattle.rev_vm.proofs.Mains.{main_called, starts_based}
 use Rattle.rev_vm.proofs.opening.start_main.Goals as goal
 
 pub start-requires-clause-called : goal.start-requires-clause-called
@@ -28,7 +29,7 @@ pub returns-clause-stands : goal.returns-clause-stands
 returns-clause-stands g c =
     let q = c.main_of-main.ensures.is in
     let base = starts_based (run_under c.args.setting.now) c.requires.setting.faultless (g.P.Snapshot.base c.args.snapshot) c.requires.base in
-    if_ok c.start.result
+    IfOk-weaker c.start.result
     (λ r. IsAt (run_under c.args.setting.now) r.revision.value.run r.revision.value.memory.delta
     (g.P.Snapshot.base r.revision.value.memory.snapshot) r.revision.value.memory.first.roots
     (events.start c.main_of-main.result q.0 [] (start_locations c.args.setting.now.code.vars) c.args.fuel))
