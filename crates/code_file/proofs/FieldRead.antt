@@ -22,7 +22,7 @@ use Rattle.code_file.specs.declared.version.Version.{Version}
 use Rattle.code_file.specs.declared.version.Version.TheVariants as version
 use Rattle.code_file.specs.Counts.{HasShortName, IsShortLayout}
 use Rattle.code_file.specs.Fields.{Field, and_then, give, bytes_of, number_8, number_16, number_32, number_64, tested, more}
-use Rattle.code_file.specs.Parts.{only, flag_of, kind_of, result_of, class_of, version_of, are_cells, is_merge, is_text, Operand, Plain, Truth, Byte, Short, Long, Word, operand_of, tries, try_count, tries_in}
+use Rattle.code_file.specs.Parts.{only, flag_of, kind_of, result_of, class_of, version_of, are_cells, is_merge, is_text, Operand, Plain, Truth, Byte, Short, Long, Word, operand_of, try_count, tries_in}
 use Rattle.code_file.specs.Files.{flag_byte, kind_byte, result_byte, class_byte, var_bytes, text_bytes, item_bytes, layout_bytes, instr_bytes, version_number}
 use Rattle.code_file.specs.Laws.{Is8, Is16, Is32, Is64, IsVar, IsItem, IsInstr}
 use Rattle.code_file.specs.Reads.{name, var, vars, text, texts, item_of, layout_item, layout, layouts, with_operand, instr, instrs}

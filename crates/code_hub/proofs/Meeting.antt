@@ -22,7 +22,6 @@ use Rattle.code_machine.specs.Local.{CodeRun, IsVerified, Trap, trapped, Local, 
 use Rattle.code_machine.specs.Leg.{longest, leg}
 use Rattle.code_machine.specs.Joining.{join_in, join_end, join, inherit}
 use Rattle.code_machine.specs.Machines.{act_of, wish_of, numbered, start_in}
-use Rattle.code_machine.specs.Worlds.{fuels}
 use Rattle.code_machine.proofs.Fuel.{fuel_of, two_fuels}
 use Rattle.code_machine.proofs.Paying.{Leaves, leg_leaves}
 use Rattle.code_hub.specs.CodeState.{CodeState, state_of, told, states, shown_at, shown_all, shown_some}

@@ -1,5 +1,5 @@
 -- The evaluation of a fun or merge on the area of words.
-use Rattle.std.proofs.Common.{◌≡◌, ◌≢◌, ◌∙◌, ℕ, zero, suc, ◌+◌, ◌-◌, ◌<◌, ◌≤◌, ◌^◌, Bool, true, List, [], ◌∷◌, ◌++◌, length, take, drop, reverse, map, set, get_or, Option, Some, None, refl, sym, ap, subst, arith, ◌⊎◌, inl, inr, get_or-take, get_or-set_same}
+use Rattle.std.proofs.Common.{◌≡◌, ◌≢◌, ◌∙◌, ℕ, zero, suc, ◌+◌, ◌-◌, ◌<◌, ◌≤◌, ◌^◌, true, List, [], ◌∷◌, ◌++◌, length, take, drop, reverse, map, set, get_or, Option, Some, None, refl, sym, ap, subst, arith, ◌⊎◌, inl, inr, get_or-take, get_or-set_same}
 use Rattle.std.specs.Prelude.{slice_get, Result, Ok, Err}
 use Rattle.code_rules.specs.Tables as rules
 use Rattle.code_rules.proofs.Limits.{small_block, small_parts}

@@ -33,7 +33,7 @@ use Rattle.leg_run.specs.declared.revision.Run.{Run}
 use Rattle.leg_run.specs.declared.turn.Turn.{Turn}
 use Rattle.leg_run.specs.declared.turn.Turn.TheVariants as turn
 use Rattle.leg_run.specs.Changes.{SameRest}
-use Rattle.leg_run.specs.Ends.{Leaves, LegEnds, RoundTo, StandsAt, TurnsTo}
+use Rattle.leg_run.specs.Ends.{LegEnds, RoundTo, StandsAt, TurnsTo}
 use Rattle.leg_run.specs.Standing.{AreBelow, Stands, IsStanding, listed_as, state_of}
 use Rattle.leg_run.proofs.Decoding.{its_state, leaves_state}
 use Rattle.leg_run.proofs.Frames as f

@@ -1,5 +1,5 @@
 -- A run to the end with its notes: one try, the least number that has a leg, and one such leg after another.
-use Rattle.std.proofs.Common.{◌≡◌, ◌∙◌, ℕ, ◌+◌, List, [], ◌∷◌, length, Option, Some, None, refl, sym, ap, subst}
+use Rattle.std.proofs.Common.{◌≡◌, ◌∙◌, ℕ, ◌+◌, List, [], ◌∷◌, length, Option, Some, refl, sym, ap, subst}
 use Rattle.rev_num.specs.Path.{Path}
 use Rattle.leg_run.specs.declared.revision.Meeting.{Meeting}
 use Rattle.revision_machine.specs.Machine.{Entry, Plain}
