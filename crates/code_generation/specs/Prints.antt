@@ -1,6 +1,6 @@
 -- The tables that statements fill: the kinds of the `let`s, the texts and the layouts of the prints. Each text stands
 -- once for each use, in order, and so do the layouts.
-use Rattle.std.specs.Prelude.{ℕ, suc, ◌+◌, Option, Some, None, List, [], ◌∷◌, ◌++◌, length}
+use Rattle.std.specs.Prelude.{ℕ, suc, ◌+◌, Option, Some, List, [], ◌∷◌, ◌++◌, length}
 use Rattle.rev_num.specs.declared.value.ValueKind.{ValueKind}
 use Rattle.rev_num.specs.declared.value.ValueKind.TheVariants as k
 use Rattle.rev_syntax.specs.Trees.{PrintItem, text, shown, Statement, statement, StatementForm, bind, assign, assign_cell, choose, choose_or, repeat, call, return, fork, join, print, assert, Statements, no_statements, statements, Arms, no_arms, arm}
@@ -8,20 +8,16 @@ use Rattle.rev_kinds.specs.Kinds.{Names, Locals, kind_in, right_side_kind}
 use Rattle.rev_types.specs.Scopes.{locals_after}
 use Rattle.rev_code.specs.declared.code.LayoutItem.{LayoutItem}
 use Rattle.rev_code.specs.declared.code.LayoutItem.TheVariants as item
+use Rattle.code_rules.specs.Shapes.{kind_or_int}
 
--- ---- kinds of locals
-
--- a `let` of a program that keeps the rules has a kind
-abbrev pub local_kind : Option ValueKind → ValueKind
-local_kind (Some kind) = kind
-local_kind None = k.Int
+-- ---- kinds of locals: a `let` of a program that keeps the rules has a kind
 
 abbrev mutual
   pub statement_kinds : Names → Locals → Statement → List ValueKind
   statement_kinds c l (statement p line form) = statement_form_kinds c l form
 
   pub statement_form_kinds : Names → Locals → StatementForm → List ValueKind
-  statement_form_kinds c l (bind w r) = local_kind (right_side_kind c l r) ∷ []
+  statement_form_kinds c l (bind w r) = kind_or_int (right_side_kind c l r) ∷ []
   statement_form_kinds c l (choose arms) = arms_kinds c l arms
   statement_form_kinds c l (choose_or arms last) = arms_kinds c l arms ++ statements_kinds c l last
   statement_form_kinds c l (repeat test body) = statements_kinds c l body

@@ -2,6 +2,7 @@
 --   takes         the kinds that it takes; where any kind would do, that which it finds
 --   gives         the kinds that it leaves in their place
 --   shape_after   the shape of the stack behind it
+--   kind_or_int   the kind that is found, or that of ints
 use Rattle.std.specs.Prelude.{Bool, true, false, ◌&&◌, List, [], ◌∷◌, ◌++◌, length, drop, reverse, Option, Some, None, slice_get}
 use Rattle.rev_num.specs.declared.value.ValueKind.{ValueKind}
 use Rattle.rev_num.specs.declared.value.ValueKind.TheVariants as k
@@ -33,9 +34,9 @@ begins (x ∷ xs) (y ∷ ys) = same_kind x y && begins xs ys
 
 -- ---- what operands name; where they name nothing, which is a fault of its own, an int or nothing stands for it
 
-abbrev pub local_kind : Option ValueKind → ValueKind
-local_kind None = k.Int
-local_kind (Some x) = x
+abbrev pub kind_or_int : Option ValueKind → ValueKind
+kind_or_int None = k.Int
+kind_or_int (Some x) = x
 
 abbrev pub var_kind : Option CodeVar → ValueKind
 var_kind None = k.Int
@@ -78,7 +79,7 @@ takes code b shape (i.PushInt n) = []
 takes code b shape (i.PushBool v) = []
 takes code b shape i.PushNone = []
 takes code b shape (i.LoadLocal n) = []
-takes code b shape (i.StoreLocal n) = local_kind (slice_get b.locals n) ∷ []
+takes code b shape (i.StoreLocal n) = kind_or_int (slice_get b.locals n) ∷ []
 takes code b shape (i.LoadShared v) = []
 takes code b shape (i.StoreShared v) = var_kind (slice_get code.vars v) ∷ []
 takes code b shape (i.LoadCell v) = k.Int ∷ []
@@ -117,7 +118,7 @@ abbrev pub gives : Code → CodeBlock → Instr → List ValueKind
 gives code b (i.PushInt n) = k.Int ∷ []
 gives code b (i.PushBool v) = k.Bool ∷ []
 gives code b i.PushNone = k.Rev ∷ []
-gives code b (i.LoadLocal n) = local_kind (slice_get b.locals n) ∷ []
+gives code b (i.LoadLocal n) = kind_or_int (slice_get b.locals n) ∷ []
 gives code b (i.StoreLocal n) = []
 gives code b (i.LoadShared v) = var_kind (slice_get code.vars v) ∷ []
 gives code b (i.StoreShared v) = []

@@ -2,9 +2,10 @@
 
 ghost use Rattle.std.specs.Prelude.{◌≡◌, IfOk, List, map, slice_get};
 ghost use Rattle.rev_num.specs.Path.{Path as DefinedPath};
+ghost use Rattle.code_rules.specs.Shapes.{kind_or_int};
 ghost use Rattle.code_world.specs.Endings.{Names};
 ghost use Rattle.leg_run.specs.Standing.{listed_as};
-ghost use Rattle.rev_vm.specs.States.{entry_as, kind_or_int, phase_as};
+ghost use Rattle.rev_vm.specs.States.{entry_as, phase_as};
 ghost use Rattle.world_traces.specs.Parts as spec;
 ghost use Rattle.world_traces.specs.Parts.{path_in};
 ghost use Rattle.code_traces.specs.Made.{noted_part};

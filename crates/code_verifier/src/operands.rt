@@ -84,7 +84,7 @@ pub(crate) fn bad_operand(code: &Code, number: usize, block: &CodeBlock, x: Inst
 // ---- kinds
 
 fn local_kind(kinds: &[ValueKind], n: usize) -> ValueKind
-    ensures { result ≡ shape.local_kind (slice_get kinds.now n) }
+    ensures { result ≡ shape.kind_or_int (slice_get kinds.now n) }
 {
     match kinds.get(n) {
         None => ValueKind::Int,

@@ -3,7 +3,8 @@
 ghost use Rattle.std.specs.Prelude.{◌≡◌, ◌<◌, ◌+◌, ◌^◌, ◌++◌, ◌∷◌, [], IfOk, OnOk, length, map};
 ghost use Rattle.rev_syntax.specs.View.{print_item};
 ghost use Rattle.rev_kinds.specs.Walk.{names_of};
-ghost use Rattle.code_generation.specs.Prints.{items_texts, layout_of, local_kind, value_item};
+ghost use Rattle.code_rules.specs.Shapes.{kind_or_int};
+ghost use Rattle.code_generation.specs.Prints.{items_texts, layout_of, value_item};
 
 use rev_code::LayoutItem;
 use rev_kinds::{Checker, Locals};
@@ -13,7 +14,7 @@ use std::alloc::{AllocError, Global};
 
 /// The kind of a local: a `let` of a program that keeps the rules has one.
 pub fn kind_of_local(kind: Option<ValueKind>) -> ValueKind
-    ensures { result ≡ local_kind kind }
+    ensures { result ≡ kind_or_int kind }
 {
     match kind {
         Some(kind) => kind,

@@ -85,7 +85,7 @@ module _ (code : Code) (at_block : ℕ) (bl : CodeBlock) (deepest : ℕ) (n : Nu
       let lo : nat_lt d.0 (length bl.locals) ≡ true = grind (arith, nat_tests, less) in
       subst (λ o. Kept at (load n x o)) (sym d.1)
       (pushes code at_block bl deepest w ns at note t (i.LoadLocal d.0) (here ∙ ap (λ o. Some (load n x o)) d.1) note_is refl refl (pure_fine code at_block bl (i.LoadLocal d.0) refl refl) (ap not lo) refl refl refl
-      (λ j. record { shape = sh.local_kind (d.2 j) ∷ note.shape; paid = note.paid }) low fits)
+      (λ j. record { shape = sh.kind_or_int (d.2 j) ∷ note.shape; paid = note.paid }) low fits)
   loads x t at note None (Some h) p q has here note_is low fits =
       let none = m.free x.text p in
       let d = m.shared x.text h q in

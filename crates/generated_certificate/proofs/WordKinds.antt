@@ -7,16 +7,16 @@ use Rattle.merge_decl.specs.Table.{find}
 use Rattle.rev_kinds.specs.declared.names.Holder.{Holder}
 use Rattle.rev_kinds.specs.Kinds.{Callee, Names, Locals, name_kind, result_of, given_kind}
 use Rattle.rev_kinds.specs.Typing.{ScalarHas, ArrayHas}
-use Rattle.code_generation.specs.Prints.{local_kind}
+use Rattle.code_rules.specs.Shapes.{kind_or_int}
 use Rattle.expression_run.proofs.Typed.{Typed, FormTyped, LinksTyped}
 use Rattle.generated_certificate.specs.Expressions.{links_give, word_kind, form_kind}
 
-scalar_kind : (f : Option (Option ValueKind)) (h : Option Holder) (t : ValueKind) → ScalarHas f h t → local_kind (name_kind f h) ≡ t
-scalar_kind (Some found) h t has = ap local_kind has
+scalar_kind : (f : Option (Option ValueKind)) (h : Option Holder) (t : ValueKind) → ScalarHas f h t → kind_or_int (name_kind f h) ≡ t
+scalar_kind (Some found) h t has = ap kind_or_int has
 scalar_kind None (Some h) t has = has.1
 scalar_kind None None t has = absurd has
 
-array_kind : (f : Option (Option ValueKind)) (h : Option Holder) (t : ValueKind) → ArrayHas f h t → local_kind (name_kind f h) ≡ t
+array_kind : (f : Option (Option ValueKind)) (h : Option Holder) (t : ValueKind) → ArrayHas f h t → kind_or_int (name_kind f h) ≡ t
 array_kind (Some found) h t has = absurd has
 array_kind None (Some h) t has = has.1
 array_kind None None t has = absurd has
@@ -36,7 +36,7 @@ module _ (c : Names) (l : Locals) (Can : Name → Callee → Type 0) where
     form_kind_is no_rev t h = sym h
     form_kind_is (var w) t h = scalar_kind (find w.text l) (c.shared w.text) t h
     form_kind_is (cell w index) t h = array_kind (find w.text l) (c.shared w.text) t h.0
-    form_kind_is (apply w args) t h = ap (λ o. local_kind (result_of o)) h.1 ∙ ap local_kind h.2
+    form_kind_is (apply w args) t h = ap (λ o. kind_or_int (result_of o)) h.1 ∙ ap kind_or_int h.2
     form_kind_is (input p index) t h = sym h.0
     form_kind_is (inputs p) t h = sym h.0
     form_kind_is (pick test x y) t h = kind_is x t h.1

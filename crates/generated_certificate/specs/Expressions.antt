@@ -12,7 +12,7 @@ use Rattle.rev_syntax.specs.declared.tree.BinaryOp.TheVariants as b
 use Rattle.merge_decl.specs.Table.{find}
 use Rattle.rev_kinds.specs.Kinds.{Names, Locals, name_kind, result_of, operand_kind, given_kind}
 use Rattle.code_rules.specs.Pass.{Note}
-use Rattle.code_generation.specs.Prints.{local_kind}
+use Rattle.code_rules.specs.Shapes.{kind_or_int}
 use Rattle.generated_certificate.specs.Items.{push}
 
 -- ---- kinds
@@ -31,9 +31,9 @@ abbrev mutual
   form_kind c l (int z) = k.Int
   form_kind c l (bool x) = k.Bool
   form_kind c l no_rev = k.Rev
-  form_kind c l (var w) = local_kind (name_kind (find w.text l) (c.shared w.text))
-  form_kind c l (cell w index) = local_kind (name_kind (find w.text l) (c.shared w.text))
-  form_kind c l (apply w args) = local_kind (result_of (c.funs w.text))
+  form_kind c l (var w) = kind_or_int (name_kind (find w.text l) (c.shared w.text))
+  form_kind c l (cell w index) = kind_or_int (name_kind (find w.text l) (c.shared w.text))
+  form_kind c l (apply w args) = kind_or_int (result_of (c.funs w.text))
   form_kind c l (input p index) = k.Int
   form_kind c l (inputs p) = k.Int
   form_kind c l (pick test x y) = word_kind c l x

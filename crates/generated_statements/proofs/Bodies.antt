@@ -15,14 +15,14 @@ use Rattle.rev_code.specs.declared.code.Instr.{Instr}
 use Rattle.rev_code.specs.declared.code.Instr.TheVariants as i
 use Rattle.rev_code.specs.declared.code.Code.{Code}
 use Rattle.rev_code.specs.declared.code.CodeBlock.{CodeBlock}
-use Rattle.code_rules.specs.Shapes.{one_or_none}
+use Rattle.code_rules.specs.Shapes.{one_or_none, kind_or_int}
 use Rattle.code_rules.specs.Pass.{Note, entry, most_words}
 use Rattle.code_certificate.specs.Certificate.{Fits}
 use Rattle.code_generation.specs.Numbers.{Numbers, Scope, scope_after, scope_after_form}
 use Rattle.code_generation.specs.Expressions.{expression_size, expressions_size, expression_code, expressions_code}
 use Rattle.code_generation.specs.Sizes.{right_side_size, items_size, dropped_size, leap_size, statement_size, statement_form_size, statements_size, arms_size, statement_prints, statements_prints, arms_prints}
 use Rattle.code_generation.specs.Statements.{Spot, ahead, behind_statement, behind_arms, store, right_side_code, items_code, dropped, leap, in_arm, next_arm, statement_code, statement_form_code, statements_code, arms_code}
-use Rattle.code_generation.specs.Prints.{local_kind, layout_of, statement_kinds, statement_form_kinds, statements_kinds, arms_kinds, statement_texts, statements_texts, arms_texts, statement_layouts, statement_form_layouts, statements_layouts, arms_layouts}
+use Rattle.code_generation.specs.Prints.{layout_of, statement_kinds, statement_form_kinds, statements_kinds, arms_kinds, statement_texts, statements_texts, arms_texts, statement_layouts, statement_form_layouts, statements_layouts, arms_layouts}
 use Rattle.code_generation.specs.Stands.{HasAt, HasItems}
 use Rattle.code_generation.proofs.Standing.{parts_stand, around_stands}
 use Rattle.code_generation.proofs.Lengths.{two, around, expression_length, expressions_length, right_side_length, items_length, leap_length, statement_length, statements_length, arms_length, statement_locals, statements_locals, arms_locals, statement_prints_length, statements_prints_length, arms_prints_length}
@@ -160,7 +160,7 @@ module _ (code : Code) (at_block : ℕ) (bl : CodeBlock) (n : Numbers) (c : Name
 
   form_next : (l : Locals) (scope : Scope) (form : StatementForm) (l' : Locals) (local : ℕ) → NamesMean code bl n c l scope → StatementFormTyped c result l form l' → HasItems bl.locals local (statement_form_kinds c l form) → NamesMean code bl n c l' (scope_after_form scope local form)
   form_next l scope (bind x r) l' local m ty kinds =
-      let here = kinds.0 ∙ ap (λ o. Some (local_kind o)) (right_kind c l r ty.1.0 ty.1.1) in
+      let here = kinds.0 ∙ ap (λ o. Some (kind_or_int o)) (right_kind c l r ty.1.0 ty.1.1) in
       subst (λ z. NamesMean code bl n c z (added scope x.text local)) (sym ty.1.2) (name_bound code bl n c l scope x.text ty.1.0 local m ty.0.0 here)
   form_next l scope (assign x r) l' local m ty kinds = subst (λ z. NamesMean code bl n c z scope) (sym ty.1) m
   form_next l scope (assign_cell x index e) l' local m ty kinds = subst (λ z. NamesMean code bl n c z scope) (sym ty.1) m
@@ -194,7 +194,7 @@ module _ (code : Code) (at_block : ℕ) (bl : CodeBlock) (n : Numbers) (c : Name
         let size : ℕ = right_side_size r in
         let t : ValueKind = ty.1.0 in
         let has = ty.1.1 in
-        let is = kinds.0 ∙ ap (λ o. Some (local_kind o)) (right_kind c l r t has) in (
+        let is = kinds.0 ∙ ap (λ o. Some (kind_or_int o)) (right_kind c l r t has) in (
           right_taken l scope m r t s.at (i.StoreLocal s.local) has (and_parts (name_formed x) (right_side_small r) sm).1 here there
               (λ below empty h note. into_local code at_block bl n c w bm ns (s.at + size) s.local t below empty is h note (next_at _ _ (let z : s.at + (size + 1) ≡ suc (s.at + size) = omega arith in z) next)),
           right_first l r (s.at) there,

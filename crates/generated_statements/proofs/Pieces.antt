@@ -23,7 +23,7 @@ use Rattle.rev_code.specs.declared.code.CodeBlock.{CodeBlock}
 use Rattle.rev_code.specs.Printing.{printed_kinds}
 use Rattle.rev_code.specs.Step.{is_procedure}
 use Rattle.code_rules.specs.Shapes as sh
-use Rattle.code_rules.specs.Shapes.{Shape, takes, gives, begins, var_kind, param_kinds, result_kinds, layout_kinds, one_or_none}
+use Rattle.code_rules.specs.Shapes.{Shape, takes, gives, begins, var_kind, param_kinds, result_kinds, layout_kinds, one_or_none, kind_or_int}
 use Rattle.code_rules.specs.Pass.{Note, entry, has_class, is_scalar, is_array, is_layout, most_words}
 use Rattle.code_rules.specs.Pass as pass
 use Rattle.code_certificate.specs.Certificate.{Fits, leaves}
@@ -31,7 +31,7 @@ use Rattle.code_generation.specs.Numbers.{Numbers, Scope}
 use Rattle.code_generation.specs.Expressions.{expression_size, expressions_size, expression_code, expressions_code}
 use Rattle.code_generation.specs.Sizes.{right_side_size, items_size, returned_size, dropped_size}
 use Rattle.code_generation.specs.Statements.{store, right_side_code, items_code, returned_code, dropped}
-use Rattle.code_generation.specs.Prints.{local_kind, value_item, layout_of}
+use Rattle.code_generation.specs.Prints.{value_item, layout_of}
 use Rattle.code_generation.specs.Generated.{kinds_of}
 use Rattle.code_generation.specs.Stands.{HasAt, HasItems}
 use Rattle.code_generation.proofs.Standing.{parts_stand}
@@ -135,7 +135,7 @@ module _ (code : Code) (at_block : ℕ) (bl : CodeBlock) (n : Numbers) (c : Name
   into_local at j t below empty is here note next =
       let less = slice_get_within bl.locals j t is in
       let lo : nat_lt j (length bl.locals) ≡ true = grind (arith, nat_tests, less) in
-      takes_one at t below below (i.StoreLocal j) empty here note refl refl refl (ap not lo) (ap (λ o. sh.local_kind o ∷ []) is) refl refl empty next
+      takes_one at t below below (i.StoreLocal j) empty here note refl refl refl (ap not lo) (ap (λ o. sh.kind_or_int o ∷ []) is) refl refl empty next
 
   into_shared : (at : ℕ) (x : Name) (h : Holder) (t : ValueKind) (l : Locals) (scope : Scope) → NamesMean code bl n c l scope → (below : Note) → below.shape ≡ [] → c.shared x ≡ Some h → h.array ≡ false → h.kind ≡ t → slice_get bl.instrs at ≡ Some (i.StoreShared (n.var x)) → noted ns at ≡ push t below → Next (suc at) → Kept at (i.StoreShared (n.var x))
   into_shared at x h t l scope m below empty is scalar kind here note next =
@@ -230,7 +230,7 @@ module _ (code : Code) (at_block : ℕ) (bl : CodeBlock) (n : Numbers) (c : Name
   -- what is left of a call is dropped
   pub dropped_kept : (x : PlacedName) (p : Callee) (g : Bool) (o : Option ValueKind) (at : ℕ) → c.procs x.text ≡ Some p → p.result ≡ o → g ≡ is_some o → HasAt bl.instrs at (dropped g) → HasItems ns at (dropped_notes c x g) → Next (at + dropped_size g) → Keeps at (dropped g) × Fits (record { shape = one_or_none o ++ []; paid = false }) (noted ns at)
   dropped_kept x p true (Some t) at is res e here there next =
-      let kind : result_kind c x ≡ t = ap (λ z. local_kind (result_of z)) is ∙ ap local_kind res in
+      let kind : result_kind c x ≡ t = ap (λ z. kind_or_int (result_of z)) is ∙ ap kind_or_int res in
       let note = note_here ns at (push (result_kind c x) entry) there.0 ∙ ap (λ z. push z entry) kind in
       ((pops at t here.0 note (subst (λ z. Fits entry (noted ns z)) (let z : at + 1 ≡ suc at = omega arith in z) next), nothing), fits_eq (push t entry) (noted ns at) note)
   dropped_kept x p false None at is res e here there next = (nothing, subst (λ z. Fits entry (noted ns z)) (let z : at + 0 ≡ at = omega arith in z) next)
@@ -241,7 +241,7 @@ module _ (code : Code) (at_block : ℕ) (bl : CodeBlock) (n : Numbers) (c : Name
 
   pub right_is : (l : Locals) (r : RightSide) (t : ValueKind) → RightSideHas c l r t → right_side_small r ≡ true → (below : Note) × (below.shape ≡ []) × (behind_right_side c l r ≡ push t below)
   right_is l (plain e) t h s = (charged, refl, ap (λ z. push z charged) (kind_is c l Can e t (term_typed l e t h s).0))
-  right_is l (called p x args) t h s = (entry, refl, ap (λ z. push z entry) (ap (λ z. local_kind (result_of z)) h.1.0 ∙ ap local_kind h.2))
+  right_is l (called p x args) t h s = (entry, refl, ap (λ z. push z entry) (ap (λ z. kind_or_int (result_of z)) h.1.0 ∙ ap kind_or_int h.2))
   right_is l (forked p x args) t h s = (entry, refl, ap (λ z. push z entry) (sym h.0))
   right_is l (tried p handle) t h s = (charged, refl, ap (λ z. push z charged) (sym h.0))
 
@@ -252,7 +252,7 @@ module _ (code : Code) (at_block : ℕ) (bl : CodeBlock) (n : Numbers) (c : Name
       let size : ℕ = expressions_size args in
       let p = parts_stand bl.instrs (expressions_code n scope args at) (i.Call (n.proc x.text) ∷ []) at size (expressions_length n scope args at) here in
       let q = parts_stand ns (expressions_notes c l args charged) (behind_args c l args charged ∷ []) at size (expressions_notes_length c l args charged) there in
-      let kind : result_kind c x ≡ t = ap (λ z. local_kind (result_of z)) h.1.0 ∙ ap local_kind h.2 in
+      let kind : result_kind c x ≡ t = ap (λ z. kind_or_int (result_of z)) h.1.0 ∙ ap kind_or_int h.2 in
       let end : suc (at + size) ≡ at + (size + 1) = omega arith in
       let behind = fits_eq (push t entry) (noted ns (suc (at + size))) (ap (noted ns) end ∙ note ∙ ap (λ z. push z entry) kind) in
       let both = calls l scope m x args h.0 at h.1 (and_parts (name_formed x) (expressions_small args) s).1 p.0 q.0 p.1.0 (note_here ns (at + size) (behind_args c l args charged) q.1.0) (subst (λ o. Fits (record { shape = one_or_none o ++ []; paid = false }) (noted ns (suc (at + size)))) (sym h.2) behind) in

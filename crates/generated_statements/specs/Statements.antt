@@ -10,8 +10,8 @@ use Rattle.rev_syntax.specs.Trees.{PlacedName, Expression, RightSide, plain, cal
 use Rattle.rev_kinds.specs.Kinds.{Names, Locals, result_of}
 use Rattle.rev_types.specs.Scopes.{locals_after}
 use Rattle.code_rules.specs.Pass.{Note, entry}
+use Rattle.code_rules.specs.Shapes.{kind_or_int}
 use Rattle.code_generation.specs.Numbers.{Numbers}
-use Rattle.code_generation.specs.Prints.{local_kind}
 use Rattle.generated_certificate.specs.Items.{push, charged}
 use Rattle.generated_certificate.specs.Expressions.{word_kind, behind_args, expression_notes, expressions_notes}
 
@@ -19,7 +19,7 @@ use Rattle.generated_certificate.specs.Expressions.{word_kind, behind_args, expr
 
 -- of a procedure that has one
 abbrev pub result_kind : Names → PlacedName → ValueKind
-result_kind c w = local_kind (result_of (c.procs w.text))
+result_kind c w = kind_or_int (result_of (c.procs w.text))
 
 abbrev pub right_side_notes : Names → Locals → RightSide → List Note
 right_side_notes c l (plain e) = expression_notes c l e charged

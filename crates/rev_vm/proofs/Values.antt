@@ -4,6 +4,7 @@ use Rattle.std.specs.Prelude.{slice_get}
 use Rattle.rev_num.specs.declared.value.ValueKind.{ValueKind}
 use Rattle.rev_code.specs.Words.{Word}
 use Rattle.rev_code.specs.State.{State, joined}
+use Rattle.code_rules.specs.Shapes.{kind_or_int}
 use Rattle.code_soundness.specs.Typed.{location_kinds}
 use Rattle.version_map.specs.declared.end.CodeTrap.{CodeTrap}
 use Rattle.version_map.specs.declared.end.Finish.{Finish}
@@ -17,7 +18,7 @@ use Rattle.code_machine.specs.Joining.{join_in, note}
 use Rattle.leg_run.specs.Standing.{word_as}
 use Rattle.leg_run.proofs.Decoding.{its_state, word_of_kind}
 use Rattle.rev_vm.specs.Meaning.{AreWritten, IsPhase, IsTrap, IsWritten}
-use Rattle.rev_vm.specs.States.{all_but_last, before_join, entry_as, kind_or_int, phase_as, state_at}
+use Rattle.rev_vm.specs.States.{all_but_last, before_join, entry_as, phase_as, state_at}
 use Rattle.rev_vm.specs.Laws.{ClaimsOneState, HasOneState, JoinsInOneState, LeavesOneEnd}
 
 pub one_state : HasOneState

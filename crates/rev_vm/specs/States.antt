@@ -4,11 +4,11 @@
 --   end_for       the end of a revision that left this end value
 --   joined_at     what becomes of a joiner of a revision that left this end value
 --   is_by_join    a join made the trap with which a revision ended
-use Rattle.std.specs.Prelude.{ℕ, Bool, false, List, [], ◌∷◌, map, Option, Some, None, slice_get}
+use Rattle.std.specs.Prelude.{ℕ, Bool, false, List, [], ◌∷◌, map, slice_get}
 use Rattle.rev_num.specs.declared.value.ValueKind.{ValueKind}
-use Rattle.rev_num.specs.declared.value.ValueKind.TheVariants as k
 use Rattle.rev_code.specs.Words.{Word}
 use Rattle.rev_code.specs.State.{State}
+use Rattle.code_rules.specs.Shapes.{kind_or_int}
 use Rattle.code_soundness.specs.Typed.{location_kinds}
 use Rattle.version_map.specs.declared.delta.Delta.{Delta}
 use Rattle.version_map.specs.declared.end.EndValue.{EndValue}
@@ -43,11 +43,7 @@ before_join g run delta base first =
 
 -- ---- ends
 
--- a location beyond the last has no kind
-abbrev pub kind_or_int : Option ValueKind → ValueKind
-kind_or_int None = k.Int
-kind_or_int (Some kind) = kind
-
+-- a location beyond the last has no kind, and that of ints stands for it
 abbrev pub entry_as : List ValueKind → Written → Entry (Word ℕ)
 entry_as kinds w =
     let kind = kind_or_int (slice_get kinds w.location) in

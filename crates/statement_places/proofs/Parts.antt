@@ -138,7 +138,7 @@ module _ (kinds : List ValueKind) where
       → AreNames kinds (scope_after scope next x) after (next + statement_lets x)
   names_after c result scope l next (statement at line (bind w r)) after are h has =
       let kind = right_side_is c l r h.1.0 h.1.1 in
-      let here : slice_get kinds next ≡ Some h.1.0 = has.0 ∙ ap (λ o. Some (Rattle.code_generation.specs.Prints.local_kind o)) kind in
+      let here : slice_get kinds next ≡ Some h.1.0 = has.0 ∙ ap (λ o. Some (Rattle.code_rules.specs.Shapes.kind_or_int o)) kind in
       subst (λ n. AreNames kinds (added scope w.text next) after n) (let z : suc next ≡ next + 1 = omega arith in z)
       (subst (λ y. AreNames kinds (added scope w.text next) y (suc next)) (sym h.1.2) (names_added scope l next w.text h.1.0 are h.0.0 here))
   names_after c result scope l next (statement at line (assign w r)) after are h has = names_same scope l after next _ are h.1

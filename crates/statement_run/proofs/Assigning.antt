@@ -35,6 +35,7 @@ use Rattle.rev_code.specs.Words.{same_kind}
 use Rattle.rev_code.specs.State.{State, written_at}
 use Rattle.rev_code.specs.Step as r
 use Rattle.rev_code.specs.Step.{goes, step}
+use Rattle.code_rules.specs.Shapes.{kind_or_int}
 use Rattle.code_generation.specs.Numbers.{Scope}
 use Rattle.code_generation.specs.Expressions.{expression_size, expression_code, expressions_size, expressions_code}
 use Rattle.code_generation.specs.Stands.{HasAt}
@@ -53,7 +54,6 @@ use Rattle.rev_code.specs.Variables.{Place, cell_at}
 use Rattle.code_generation.specs.Sizes.{right_side_size}
 use Rattle.code_generation.specs.Statements.{Spot, right_side_code, store}
 use Rattle.code_generation.specs.Generated.{var_of}
-use Rattle.code_generation.specs.Prints.{local_kind}
 use Rattle.code_generation.proofs.Lengths.{around, expression_length, expressions_length, right_side_length}
 use Rattle.statement_places.proofs.Locals.{locals_let, locals_wait, written_there}
 use Rattle.statement_places.proofs.Parts.{right_side_is, names_none, names_after}
@@ -164,7 +164,7 @@ module _ (s : Setting) (g : Tables) (lk : IsLinked s g) (p : Path) where
         let known : Scope = added scope w.text sp.local in
         let names' = names_after b.locals (names s) b.result scope ls sp.local (statement pl line (bind w x)) after st.known st.typed st.kinds in
         let number : find w.text known ≡ Some sp.local = found_new scope w.text sp.local (names_none b.locals scope ls sp.local w.text st.known st.typed.0.0) in
-        let kind : slice_get b.locals sp.local ≡ Some t = st.kinds.0 ∙ ap (λ o. Some (local_kind o)) (right_side_is (names s) ls x t st.typed.1.1) in
+        let kind : slice_get b.locals sp.local ≡ Some t = st.kinds.0 ∙ ap (λ o. Some (kind_or_int o)) (right_side_is (names s) ls x t st.typed.1.1) in
         let left : LeftBy s g b (find w.text known) w.text t m = subst (λ o. LeftBy s g b o w.text t m) (sym number) (parts.1.0, kind, no_variable s w.text st.typed.0.1) in
         let bh = waiting known w.text t m (sp.at + (1 + (right_side_size x + 1))) (locals_let b.locals scope w.text sp.local f.locals c.locals rd.locals) names'.apart left (omega arith) fo re in
         right_runs b scope ls sp.local l f fs c rd st.known w.text x t at st.typed.1.1 (and_parts (name_formed w) (right_side_small x) st.small).1 parts.0 bh
