@@ -7,7 +7,7 @@ use Rattle.revision_machine.specs.PathMap.{PathMap}
 use Rattle.revision_machine.specs.Machine.{Entry, Global, Twice, Live}
 use Rattle.revision_machine.specs.Laws.{local_of, Census, HasAtMost, IsIn, IsDistinct}
 use Rattle.revision_machine.proofs.Census.{count_law}
-use Rattle.revision_machine.proofs.Paths.{apart-same}
+use Rattle.revision_machine.proofs.Paths.{apart-same, decide_in}
 use Rattle.rev_num.proofs.PostOrder.{same_refl}
 use Rattle.rev_num.proofs.PostOrder.{before_trans}
 use Rattle.rev_num.proofs.PostOrder.{before_total}
@@ -18,7 +18,6 @@ use Rattle.revision_calculus.proofs.Meets.{counts, pays_forks}
 use Rattle.trace_diagram.specs.declared.diagram.Part.{Part}
 use Rattle.audit_rules.specs.Parts.{part_of}
 use Rattle.audit_rules.specs.Traces.{part_at, InPostOrder, IsPartOf, IsTrace, EndHasTrace}
-use Rattle.audit_rules.proofs.Total.{decide_in}
 
 -- ---- parts in post-order
 

@@ -6,22 +6,9 @@ use Rattle.revision_machine.specs.PathMap.{PathMap}
 use Rattle.revision_machine.specs.Machine.{Event, Moves, Forks, Joins, Ended, Machine}
 use Rattle.revision_machine.specs.Conditions.{Counts, Spends}
 use Rattle.revision_machine.specs.Laws.{IsIn}
-use Rattle.revision_machine.proofs.Paths.{some_inj, decide_same, child-same}
+use Rattle.revision_machine.proofs.Paths.{some_inj, decide_in, child-same}
 use Rattle.audit_rules.specs.Audited.{Telling, Computed, absent, made, joined_twice, missing, JoinedEarlier, IsTwice, taken, Alone, by_move, by_fork, by_join, Passes, at_first, then_by, Computes, ends, at_twice, at_missing, goes, Begins, of_main, of_fork, IsComputed, of_none, of_run, Tells}
 use Rattle.audit_rules.proofs.Own.{none_some, move_fork, fork_join, fork_end, in_last, in_front, one_step, step_goes, step_takes, Headed, stands, steps, headed, begins_one}
-
-pub decide_in : (p : Path) (ps : List Path) → IsIn p ps ⊎ (IsIn p ps → ⊥)
-decide_in p [] = inr (λ i. i)
-decide_in p (q ∷ ps) = go (decide_same p q) (decide_in p ps)
-  where
-    go : (p ≡ q) ⊎ (p ≢ q) → IsIn p ps ⊎ (IsIn p ps → ⊥) → IsIn p (q ∷ ps) ⊎ (IsIn p (q ∷ ps) → ⊥)
-    go (inl e) d = inl (inl e)
-    go (inr apart) (inl i) = inl (inr i)
-    go (inr apart) (inr no_in) = inr not_here
-      where
-        not_here : IsIn p (q ∷ ps) → ⊥
-        not_here (inl e) = apart e
-        not_here (inr i) = no_in i
 
 -- ---- how many of these are not listed, by which joins of stated parts end
 

@@ -5,7 +5,7 @@ use Rattle.rev_num.specs.Path.{Path, child, same}
 use Rattle.revision_machine.specs.Machine as revisions
 use Rattle.revision_machine.specs.Laws.{IsIn}
 use Rattle.revision_machine.specs.Conditions.{Handles}
-use Rattle.revision_machine.proofs.Paths.{apart-same, decide_same, child-apart}
+use Rattle.revision_machine.proofs.Paths.{apart-same, decide_in, decide_same, child-apart}
 use Rattle.rev_num.proofs.PostOrder.{same_refl}
 use Rattle.code_machine.specs.Local.{CodeRun, Local, handles}
 use Rattle.code_machine.specs.Joining.{join}
@@ -80,19 +80,6 @@ module _ (q : Path) where
   unfolding away
   left p apart = ap (λ d. cond d (child q 0) p) (apart-same p q apart)
 
-  decide_in : (hs : List Path) → IsIn q hs ⊎ (IsIn q hs → ⊥)
-  decide_in [] = inr (λ none. none)
-  decide_in (h ∷ hs) = by (decide_same q h) (decide_in hs)
-    where
-      by : (q ≡ h) ⊎ (q ≢ h) → IsIn q hs ⊎ (IsIn q hs → ⊥) → IsIn q (h ∷ hs) ⊎ (IsIn q (h ∷ hs) → ⊥)
-      by (inl e) rest = inl (inl e)
-      by (inr n) (inl i) = inl (inr i)
-      by (inr n) (inr k) = inr (λ i. neither i)
-        where
-          neither : (q ≡ h) ⊎ IsIn q hs → ⊥
-          neither (inl e) = n e
-          neither (inr i) = k i
-
   not_in_fixed : (hs : List Path) → (IsIn q hs → ⊥) → AllFixed (away q) hs
   not_in_fixed [] n = tt
   not_in_fixed (h ∷ hs) n = (left h (λ e. n (inl (sym e))), not_in_fixed hs (λ i. n (inr i)))
@@ -113,7 +100,7 @@ module _ (q : Path) where
     same_again n = subst (λ z. SameAct (away q) (act g l) (act g z)) (unmoved l n) (act_same (away q) g l)
 
     pub goes_held : (l' : Local Path) → act g l ≡ Goes l' → Holds l' q → Holds l q
-    goes_held l' e i = by (decide_in (handles l))
+    goes_held l' e i = by (decide_in q (handles l))
       where
         by : Holds l q ⊎ (Holds l q → ⊥) → Holds l q
         by (inl h) = h
@@ -123,7 +110,7 @@ module _ (q : Path) where
             absurd (not_held l' y i)
 
     pub forker_held : (u : Path → Local Path) (c : Local Path) (h : Path) → act g l ≡ Bears u c → Holds (u h) q → Holds l q ⊎ (q ≡ h)
-    forker_held u c h e i = by (decide_in (handles l)) (decide_same q h)
+    forker_held u c h e i = by (decide_in q (handles l)) (decide_same q h)
       where
         by : Holds l q ⊎ (Holds l q → ⊥) → (q ≡ h) ⊎ (q ≢ h) → Holds l q ⊎ (q ≡ h)
         by (inl k) d = inl k
@@ -135,7 +122,7 @@ module _ (q : Path) where
             absurd (not_held (u h) y i)
 
     pub forked_held : (u : Path → Local Path) (c : Local Path) → act g l ≡ Bears u c → Holds c q → Holds l q
-    forked_held u c e i = by (decide_in (handles l))
+    forked_held u c e i = by (decide_in q (handles l))
       where
         by : Holds l q ⊎ (Holds l q → ⊥) → Holds l q
         by (inl k) = k
@@ -145,7 +132,7 @@ module _ (q : Path) where
             absurd (not_held c y i)
 
     pub want_held : act g l ≡ Wants q → Holds l q
-    want_held e = by (decide_in (handles l))
+    want_held e = by (decide_in q (handles l))
       where
         by : Holds l q ⊎ (Holds l q → ⊥) → Holds l q
         by (inl k) = k
@@ -155,7 +142,7 @@ module _ (q : Path) where
             absurd (moved q (sym y))
 
     pub join_held : (j : Local Path) → Holds (join g l j) q → Holds l q ⊎ Holds j q
-    join_held j i = by (decide_in (handles l)) (decide_in (handles j))
+    join_held j i = by (decide_in q (handles l)) (decide_in q (handles j))
       where
         by : Holds l q ⊎ (Holds l q → ⊥) → Holds j q ⊎ (Holds j q → ⊥) → Holds l q ⊎ Holds j q
         by (inl k) d = inl k

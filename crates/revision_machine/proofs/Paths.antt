@@ -1,10 +1,11 @@
 -- Laws of paths and of maps from paths.
-use Rattle.std.proofs.Common.{◌≡◌, ◌≢◌, ◌⊎◌, inl, inr, ℕ, Bool, true, false, cond, [], ◌∷◌, Some, refl, sym, ap, ◌∙◌, subst}
+use Rattle.std.proofs.Common.{◌≡◌, ◌≢◌, ◌⊎◌, inl, inr, ℕ, Bool, true, false, cond, List, [], ◌∷◌, Some, refl, sym, ap, ◌∙◌, subst}
 use Rattle.std.proofs.lemmas.Bool.{true≢false}
 use mathlib.Core.Path.{fun_ext}
 use Rattle.rev_num.specs.Path.{Path, child, same}
 use Rattle.rev_num.proofs.PostOrder.{same_refl, same-eq}
 use Rattle.revision_machine.specs.PathMap.{PathMap, with_at}
+use Rattle.revision_machine.specs.Laws.{IsIn}
 pub use Rattle.rev_num.proofs.Options.{some_eq as some_inj}
 
 pub apart-same : (p q : Path) → p ≢ q → same p q ≡ false
@@ -20,6 +21,20 @@ decide_same p q = go (same p q) refl
     go : (b : Bool) → same p q ≡ b → (p ≡ q) ⊎ (p ≢ q)
     go true e = inl (same-eq p q e)
     go false e = inr (λ eq. true≢false (sym (subst (λ x. same x q ≡ true) (sym eq) (same_refl q)) ∙ e))
+
+-- whether a path is in a list is decidable
+pub decide_in : (p : Path) (ps : List Path) → IsIn p ps ⊎ (IsIn p ps → ⊥)
+decide_in p [] = inr (λ i. i)
+decide_in p (q ∷ ps) = go (decide_same p q) (decide_in p ps)
+  where
+    go : (p ≡ q) ⊎ (p ≢ q) → IsIn p ps ⊎ (IsIn p ps → ⊥) → IsIn p (q ∷ ps) ⊎ (IsIn p (q ∷ ps) → ⊥)
+    go (inl e) d = inl (inl e)
+    go (inr apart) (inl i) = inl (inr i)
+    go (inr apart) (inr no_in) = inr not_here
+      where
+        not_here : IsIn p (q ∷ ps) → ⊥
+        not_here (inl e) = apart e
+        not_here (inr i) = no_in i
 
 pub at_here : {A : Type 0} (m : PathMap A) (r : Path) (a : A) → with_at m r a r ≡ Some a
 at_here m r a = ap (λ b. cond b (Some a) (m r)) (same_refl r)
