@@ -1,5 +1,5 @@
 -- Instructions on the words of values are operators on values.
-use Rattle.std.proofs.Common.{◌≡◌, ◌∙◌, ℕ, zero, suc, ℤ, pos, negsuc, Bool, true, false, not, ◌&&◌, List, [], ◌∷◌, ◌++◌, length, map, reverse, take, drop, Some, None, Result, Ok, Err, refl, sym, ap, arith, append_assoc, length-append}
+use Rattle.std.proofs.Common.{◌≡◌, ◌∙◌, ℕ, zero, suc, ℤ, Bool, true, false, not, ◌&&◌, List, [], ◌∷◌, ◌++◌, length, map, reverse, take, drop, Some, None, Result, Ok, Err, refl, sym, ap, arith, append_assoc, length-append}
 use Rattle.std.specs.Prelude.{if◌then◌else◌}
 use Rattle.std.proofs.lemmas.List.{reverse-append, reverse-reverse}
 use Rattle.rev_num.specs.Path.{Path}
@@ -9,7 +9,7 @@ use Rattle.rev_num.specs.declared.value.ValueKind.{ValueKind}
 use Rattle.rev_num.specs.declared.value.ValueKind.TheVariants as k
 use Rattle.rev_num.specs.declared.value.NumFault.{NumFault}
 use Rattle.rev_num.specs.declared.value.NumFault.TheVariants as fault
-use Rattle.rev_num.specs.Value.{kind_of}
+use Rattle.rev_num.specs.Value.{kind_of, same_number, same_truth}
 use Rattle.rev_syntax.specs.Trees.{Parameter}
 use Rattle.rev_syntax.specs.declared.tree.UnaryOp.{UnaryOp}
 use Rattle.rev_syntax.specs.declared.tree.UnaryOp.TheVariants as u
@@ -60,16 +60,6 @@ number_kind (Err fault.ZeroDivisor) = tt
 not_is : (d : Bool) → not d ≡ value.not d
 not_is true = refl
 not_is false = refl
-
-numbers_same : (m n : ℤ) → w.same_number m n ≡ value.same_number m n
-numbers_same (pos m) (pos n) = refl
-numbers_same (pos m) (negsuc n) = refl
-numbers_same (negsuc m) (pos n) = refl
-numbers_same (negsuc m) (negsuc n) = refl
-
-truths_same : (m n : Bool) → w.same_truth m n ≡ value.same_truth m n
-truths_same true n = refl
-truths_same false n = not_is n
 
 -- ---- operators
 
@@ -128,11 +118,11 @@ module _ (s : Setting Path) (bl : CodeBlock) (c : State Path) (rest : List (Word
   operate b.Le left t x y z h q p f = ints b.Le x y (p ∙ h) (f ∙ q.0) (λ m n. (refl, refl))
   operate b.Gt left t x y z h q p f = ints b.Gt x y (p ∙ h) (f ∙ q.0) (λ m n. (refl, refl))
   operate b.Ge left t x y z h q p f = ints b.Ge x y (p ∙ h) (f ∙ q.0) (λ m n. (refl, refl))
-  operate b.Eq k.Int t x y z h q p f = ints b.Eq x y p (f ∙ q) (λ m n. (flags (word (v.Int n) ∷ word (v.Int m) ∷ rest) _ _ (numbers_same m n), refl))
-  operate b.Eq k.Bool t x y z h q p f = bools b.Eq x y p (f ∙ q) (λ m n. (flags (word (v.Bool n) ∷ word (v.Bool m) ∷ rest) _ _ (truths_same m n), refl))
+  operate b.Eq k.Int t x y z h q p f = ints b.Eq x y p (f ∙ q) (λ m n. (refl, refl))
+  operate b.Eq k.Bool t x y z h q p f = bools b.Eq x y p (f ∙ q) (λ m n. (refl, refl))
   operate b.Eq k.Rev t x y z h q p f = absurd (h refl)
-  operate b.Ne k.Int t x y z h q p f = ints b.Ne x y p (f ∙ q) (λ m n. (flags (word (v.Int n) ∷ word (v.Int m) ∷ rest) _ _ (ap not (numbers_same m n) ∙ not_is (value.same_number m n)), refl))
-  operate b.Ne k.Bool t x y z h q p f = bools b.Ne x y p (f ∙ q) (λ m n. (flags (word (v.Bool n) ∷ word (v.Bool m) ∷ rest) _ _ (ap not (truths_same m n) ∙ not_is (value.same_truth m n)), refl))
+  operate b.Ne k.Int t x y z h q p f = ints b.Ne x y p (f ∙ q) (λ m n. (flags (word (v.Int n) ∷ word (v.Int m) ∷ rest) _ _ (not_is (same_number m n)), refl))
+  operate b.Ne k.Bool t x y z h q p f = bools b.Ne x y p (f ∙ q) (λ m n. (flags (word (v.Bool n) ∷ word (v.Bool m) ∷ rest) _ _ (not_is (same_truth m n)), refl))
   operate b.Ne k.Rev t x y z h q p f = absurd (h refl)
   operate b.And left t x y z h q p f = absurd z
   operate b.Or left t x y z h q p f = absurd z

@@ -3,13 +3,14 @@
 -- The definition is total. Where an operand has another kind than its operator takes, where a name
 -- has no value, and where no fun has the name of an application, some fixed answer is given. No
 -- program that keeps the rules on names and kinds meets one.
-use Rattle.std.specs.Prelude.{ℕ, ℤ, pos, negsuc, Bool, true, false, if◌then◌else◌, nat_lt, length, Option, Some, None, List, [], ◌∷◌, Result, Ok, Err, int_lt, int_le, nat_eq, slice_get}
+use Rattle.std.specs.Prelude.{ℕ, ℤ, pos, negsuc, Bool, true, false, if◌then◌else◌, nat_lt, length, Option, Some, None, List, [], ◌∷◌, Result, Ok, Err, int_lt, int_le, slice_get}
 use Rattle.rev_num.specs.declared.value.Value.{Value}
 use Rattle.rev_num.specs.declared.value.Value.TheVariants as v
 use Rattle.rev_num.specs.declared.value.NumFault.{NumFault}
 use Rattle.rev_num.specs.declared.value.NumFault.TheVariants as fault
 use Rattle.rev_num.specs.declared.outcome.Cause.{Cause}
 use Rattle.rev_num.specs.declared.outcome.Cause.TheVariants as cause
+use Rattle.rev_num.specs.Value.{same_number, same_truth}
 use Rattle.rev_num.specs.Arith.{sum_of, difference_of, product_of, quotient_of, remainder_of, negation_of}
 use Rattle.rev_syntax.specs.Trees.{Expression, placed, ExpressionForm, Expressions, Links, int, bool, no_rev, var, cell, apply, input, inputs, pick, unary, chain, no_expressions, expression, no_links, link}
 use Rattle.rev_syntax.specs.declared.tree.UnaryOp.{UnaryOp}
@@ -59,15 +60,6 @@ not false = true
 abbrev pub both : Bool → Bool → Bool
 both true b = b
 both false b = false
-
-abbrev pub same_number : ℤ → ℤ → Bool
-same_number (pos m) (pos n) = nat_eq m n
-same_number (negsuc m) (negsuc n) = nat_eq m n
-same_number _ _ = false
-
-abbrev pub same_truth : Bool → Bool → Bool
-same_truth true b = b
-same_truth false b = not b
 
 -- two ints or two bools are compared; other values count as different
 abbrev pub same_value : Value → Value → Bool

@@ -8,7 +8,7 @@ use Rattle.rev_num.specs.declared.value.NumFault.TheVariants as fault
 use Rattle.rev_num.specs.Arith.{fits_i64, checked, sum_of, difference_of, product_of, quotient_of, remainder_of, negation_of}
 use Rattle.rev_num.specs.Words.{int_of, word_of}
 use Rattle.rev_num.proofs.Division.{truncates}
-use Rattle.rev_code.specs.Words.{same_number, same_truth}
+use Rattle.rev_num.specs.Value.{same_number, same_truth}
 use Rattle.plain_words.specs.Plain.{flag}
 
 abbrev okay : ℤ → Result ℤ NumFault

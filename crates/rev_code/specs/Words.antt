@@ -2,7 +2,7 @@
 --   Word       an int, a bool, or a handle, of which `H` says what it is: a revision's number, or its path
 --   kind_of    the kind of a word
 --   fits       whether words have these kinds, one by one
-use Rattle.std.specs.Prelude.{ℕ, ℤ, pos, negsuc, Bool, true, false, ◌&&◌, not, List, [], ◌∷◌, Option, None, nat_eq}
+use Rattle.std.specs.Prelude.{ℕ, ℤ, pos, Bool, true, false, ◌&&◌, not, List, [], ◌∷◌, Option, None, nat_eq}
 use Rattle.rev_num.specs.declared.value.ValueKind.{ValueKind}
 use Rattle.rev_num.specs.declared.value.ValueKind.TheVariants as k
 use Rattle.rev_num.specs.Words.{int_of}
@@ -47,15 +47,3 @@ abbrev pub start_word : {H : Type 0} → ValueKind → ℕ → Word H
 start_word k.Int w = int (int_of w)
 start_word k.Bool w = bool (not (nat_eq w 0))
 start_word k.Rev w = rev None
-
--- ---- numbers and truth values
-
-abbrev pub same_number : ℤ → ℤ → Bool
-same_number (pos m) (pos n) = nat_eq m n
-same_number (pos m) (negsuc n) = false
-same_number (negsuc m) (pos n) = false
-same_number (negsuc m) (negsuc n) = nat_eq m n
-
-abbrev pub same_truth : Bool → Bool → Bool
-same_truth true b = b
-same_truth false b = not b
