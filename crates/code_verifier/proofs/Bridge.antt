@@ -2,6 +2,7 @@
 use Rattle.std.proofs.Common.{◌≡◌, ◌≢◌, ◌∙◌, ◌⊎◌, inl, inr, ℕ, suc, ◌<◌, ◌≤◌, Bool, true, false, not, ◌&&◌, List, [], ◌∷◌, length, Option, Some, None, refl, sym, ap, subst, arith, true≢false}
 use Rattle.std.specs.Prelude.{slice_get, slice_set, nat_lt, nat_eq, if◌then◌else◌}
 use Rattle.std.proofs.lemmas.Bool.Decides.{nat_tests}
+use Rattle.std.proofs.lemmas.List.{length-set}
 use Rattle.rev_code.specs.declared.code.Code.{Code}
 use Rattle.rev_code.specs.declared.code.CodeBlock.{CodeBlock}
 use Rattle.code_rules.specs.Shapes.{Shape, same_shape}
@@ -10,7 +11,7 @@ use Rattle.code_rules.specs.Pass.{Note, Passed, after, leads_to, joined, jumped,
 use Rattle.code_verifier.specs.declared.mark.Mark.{Mark}
 use Rattle.code_verifier.specs.Kept.{Extends, shape_at}
 use Rattle.code_verifier.specs.Marking.{AllInRange, met, other_at, clashes_at, joined_mark, kept, leap, IsMark, Marks, Stands}
-use Rattle.code_verifier.proofs.Tries.{shape_extends, get_set, length_set}
+use Rattle.code_verifier.proofs.Tries.{shape_extends, get_set}
 use Rattle.code_certificate.proofs.Basics.{within_some}
 use Rattle.rev_num.proofs.Lists.{get_set_other}
 use Rattle.rev_num.proofs.Options.{some_same as some_eq}
@@ -122,7 +123,7 @@ module _ (code : Code) (b : CodeBlock) (done : List Passed) (shapes : List Shape
       by false q = still (Some t) (λ u le. leads_not u t (λ e. grind (arith, nat_tests, q, le, len, e)))
       by true q = record {
         range = λ u m e. by_range u m e (nat_eq u t) refl;
-        long = length_set ahead t (Some (joined_mark (kept (slice_get ahead t)) x)) ∙ st.long;
+        long = length-set ahead t (Some (joined_mark (kept (slice_get ahead t)) x)) ∙ st.long;
         marks = λ u o le e. by_marks u o le e (nat_eq u t) refl;
       }
         where

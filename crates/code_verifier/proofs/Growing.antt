@@ -2,13 +2,14 @@
 use Rattle.std.proofs.Common.{◌≡◌, ◌≢◌, ◌∙◌, ◌⊎◌, inl, inr, ℕ, zero, suc, ◌+◌, ◌<◌, ◌≤◌, Bool, true, false, List, [], ◌∷◌, ◌++◌, length, Option, Some, None, refl, sym, ap, subst, arith, length-append}
 use Rattle.std.specs.Prelude.{slice_get, slice_set, nat_eq}
 use Rattle.std.proofs.lemmas.Bool.Decides.{nat_tests}
+use Rattle.std.proofs.lemmas.List.{length-set}
 use Rattle.rev_num.specs.declared.value.ValueKind.{ValueKind}
 use Rattle.rev_num.specs.declared.value.ValueKind.TheVariants as k
 use Rattle.code_rules.specs.Shapes.{Shape}
 use Rattle.code_verifier.specs.declared.node.Node.{Node}
 use Rattle.code_verifier.specs.Kept.{shape_at, IsPushed}
 use Rattle.code_verifier.specs.Trie.{shape_on, shapes_of, above, above_at, IsNode, IsTrie, new_node, with_above}
-use Rattle.code_verifier.proofs.Tries.{get_last, get_set, length_set, grown_length, grown_snoc, grown_set}
+use Rattle.code_verifier.proofs.Tries.{get_last, get_set, grown_length, grown_snoc, grown_set}
 use Rattle.code_certificate.proofs.Basics.{some_within}
 use Rattle.rev_num.proofs.Lists.{get_append, get_set_other}
 use Rattle.rev_num.proofs.Options.{some_same as some_eq}
@@ -59,7 +60,7 @@ module _ (ns : List Node) (trie : IsTrie ns) (id : ℕ) (kind : ValueKind) (node
   long1 = let l = length-append ns (new_node kind id (suc node.depth) ∷ []) in omega (arith, l)
 
   long : length grown_nodes ≡ suc (length ns)
-  long = length_set ns1 id (with_above kind (length ns) node) ∙ long1
+  long = length-set ns1 id (with_above kind (length ns) node) ∙ long1
 
   here1 : slice_get ns1 id ≡ Some node
   here1 = get_append ns (new_node kind id (suc node.depth) ∷ []) id within ∙ here

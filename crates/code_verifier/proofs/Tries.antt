@@ -25,11 +25,6 @@ get_set [] n x h = absurd (omega (arith, h))
 get_set (z ∷ xs) zero x h = refl
 get_set (z ∷ xs) (suc n) x h = get_set xs n x (omega (arith, h))
 
-pub length_set : {A : Type 0} (xs : List A) (n : ℕ) (x : A) → length (slice_set xs n x) ≡ length xs
-length_set [] n x = refl
-length_set (z ∷ xs) zero x = refl
-length_set (z ∷ xs) (suc n) x = ap suc (length_set xs n x)
-
 -- ---- growth
 
 pub grown_length : (done : List Shape) (ns : List Node) → length (grown done ns) ≡ length done + length ns

@@ -1,9 +1,11 @@
 -- The audit of the parts from the last to the first.
 use Rattle.std.proofs.Common.{◌≡◌, ◌≢◌, ◌⊎◌, inl, inr, ℕ, zero, suc, ◌+◌, ◌≤◌, ◌<◌, Bool, true, false, cond, MatchBool, replicate, List, [], ◌∷◌, ◌++◌, length, get_or, set, Option, Some, None, refl, sym, ap, ◌∙◌, subst, arith}
 use Rattle.std.proofs.lemmas.Bool.{true≢false, cases_order}
+use Rattle.std.proofs.lemmas.List.{length-set}
 use Rattle.std.proofs.lemmas.Option.{slice_get_read, slice_get_within}
 use Rattle.std.specs.List.{slice_get}
 use Rattle.rev_num.specs.Path.{Path, child, before}
+use Rattle.rev_num.proofs.Lists.{get_set_other}
 use Rattle.rev_num.proofs.PostOrder.{child_before}
 use Rattle.rev_num.proofs.PostOrder.{before_trans, before_irrefl}
 use Rattle.rev_num.proofs.PostOrder.{before_total}
@@ -35,22 +37,10 @@ use Rattle.rev_audit.proofs.OwnRuns.{among_either, comes_to, all_children, child
 
 -- ---- lists
 
-pub get_set_other : {A : Type 0} (xs : List A) (i k : ℕ) (y : A) → k ≢ i → slice_get (set xs i y) k ≡ slice_get xs k
-get_set_other [] i k y apart = refl
-get_set_other (x ∷ xs) zero zero y apart = absurd (apart refl)
-get_set_other (x ∷ xs) zero (suc k) y apart = refl
-get_set_other (x ∷ xs) (suc i) zero y apart = refl
-get_set_other (x ∷ xs) (suc i) (suc k) y apart = get_set_other xs i k y (λ e. apart (ap suc e))
-
 pub get_set_same : {A : Type 0} (xs : List A) (i : ℕ) (x y : A) → slice_get xs i ≡ Some x → slice_get (set xs i y) i ≡ Some y
 get_set_same [] i x y e = none_some e
 get_set_same (z ∷ xs) zero x y e = refl
 get_set_same (z ∷ xs) (suc i) x y e = get_set_same xs i x y e
-
-pub length_set : {A : Type 0} (xs : List A) (i : ℕ) (y : A) → length (set xs i y) ≡ length xs
-length_set [] i y = refl
-length_set (x ∷ xs) zero y = refl
-length_set (x ∷ xs) (suc i) y = ap suc (length_set xs i y)
 
 pub full_at : {A : Type 0} (xs : List A) (i : ℕ) → i < length xs → (x : A) × (slice_get xs i ≡ Some x)
 full_at [] i less = absurd (omega arith)
@@ -155,20 +145,20 @@ module _ (s : Setting) (fuel : ℕ) (parts : List Part) where
   -- one that was taken out is not of the parts before it
   pub holds_taken : (i : ℕ) (a : List (Option LocalState)) (u : Option LocalState) (x : LocalState) → Holds s fuel parts (i + 1) a u x → Holds s fuel parts i (set a i None) u x
   holds_taken i a u x h = record {
-    stated = λ k p less at is. get_set_other a i k None (λ e. absurd (omega arith)) ∙ h.stated k p (omega arith) at is;
+    stated = λ k p less at is. get_set_other a k i None (λ e. absurd (omega arith)) ∙ h.stated k p (omega arith) at is;
     others = h.others;
   }
 
   pub starts_taken : (i : ℕ) (a : List (Option LocalState)) (u : Option LocalState) → IsStarts s fuel parts a u → IsStarts s fuel parts (set a i None) u
   starts_taken i a u h = record {
-    count = length_set a i None ∙ h.count;
+    count = length-set a i None ∙ h.count;
     begun = λ k p x at e. by k p x at e (cases_order k i);
     others = h.others;
   }
     where
       by : (k : ℕ) (p : Part) (x : LocalState) → slice_get parts k ≡ Some p → slice_get (set a i None) k ≡ Some (Some x) → (k ≡ i) ⊎ ((k < i) ⊎ (i < k)) → (x.path ≡ p.path) × BeginsAt s fuel parts x.path x.local
-      by k p x at e (inr (inl less)) = h.begun k p x at (sym (get_set_other a i k None (λ f. absurd (omega arith))) ∙ e)
-      by k p x at e (inr (inr more)) = h.begun k p x at (sym (get_set_other a i k None (λ f. absurd (omega arith))) ∙ e)
+      by k p x at e (inr (inl less)) = h.begun k p x at (sym (get_set_other a k i None (λ f. absurd (omega arith))) ∙ e)
+      by k p x at e (inr (inr more)) = h.begun k p x at (sym (get_set_other a k i None (λ f. absurd (omega arith))) ∙ e)
       by k p x at e (inl is) = go (slice_get a i) refl
         where
           go : (o : Option (Option LocalState)) → slice_get a i ≡ o → (x.path ≡ p.path) × BeginsAt s fuel parts x.path x.local
@@ -200,7 +190,7 @@ module _ (s : Setting) (fuel : ℕ) (parts : List Part) where
     pub keep_stated : (a : List (Option LocalState)) (u : Option LocalState) (x : LocalState) (k : ℕ) (p : Part) → IsStarts s fuel parts a u → BeginsAt s fuel parts x.path x.local → slice_get parts k ≡ Some p → p.path ≡ x.path
         → IsStarts s fuel parts (set a k (Some x)) u × Grows a (set a k (Some x)) u u × Holds s fuel parts (length parts) (set a k (Some x)) u x
     keep_stated a u x k p h begins at is = (
-      record { count = length_set a k (Some x) ∙ h.count; begun = λ j q y f e. begun j q y f e (cases_order j k); others = h.others },
+      record { count = length-set a k (Some x) ∙ h.count; begun = λ j q y f e. begun j q y f e (cases_order j k); others = h.others },
       record { kept = λ j y e. kept j y e (cases_order j k); sooner = λ r i. i },
       record { stated = λ j q less f g. here j q f g; others = λ none. none_some (sym none ∙ subst (λ r. part_at parts r ≡ Some p) is (part_here parts k p order at)) },
     )
@@ -218,16 +208,16 @@ module _ (s : Setting) (fuel : ℕ) (parts : List Part) where
         stands = let y = full (slice_get a k) refl in get_set_same a k y.0 (Some x) y.1
 
         begun : (j : ℕ) (q : Part) (y : LocalState) → slice_get parts j ≡ Some q → slice_get (set a k (Some x)) j ≡ Some (Some y) → (j ≡ k) ⊎ ((j < k) ⊎ (k < j)) → (y.path ≡ q.path) × BeginsAt s fuel parts y.path y.local
-        begun j q y f e (inr (inl less)) = h.begun j q y f (sym (get_set_other a k j (Some x) (λ g. absurd (omega arith))) ∙ e)
-        begun j q y f e (inr (inr more)) = h.begun j q y f (sym (get_set_other a k j (Some x) (λ g. absurd (omega arith))) ∙ e)
+        begun j q y f e (inr (inl less)) = h.begun j q y f (sym (get_set_other a j k (Some x) (λ g. absurd (omega arith))) ∙ e)
+        begun j q y f e (inr (inr more)) = h.begun j q y f (sym (get_set_other a j k (Some x) (λ g. absurd (omega arith))) ∙ e)
         begun j q y f e (inl same_place) =
             let one : x ≡ y = some_inj (some_inj (sym stands ∙ subst (λ i. slice_get (set a k (Some x)) i ≡ Some (Some y)) same_place e)) in
             let part : p ≡ q = some_inj (sym at ∙ subst (λ i. slice_get parts i ≡ Some q) same_place f) in
             (sym (ap (λ v. v.path) one) ∙ sym is ∙ ap (λ v. v.path) part, subst (λ v. BeginsAt s fuel parts v.path v.local) one begins)
 
         kept : (j : ℕ) (y : LocalState) → slice_get a j ≡ Some (Some y) → (j ≡ k) ⊎ ((j < k) ⊎ (k < j)) → slice_get (set a k (Some x)) j ≡ Some (Some y)
-        kept j y e (inr (inl less)) = get_set_other a k j (Some x) (λ g. absurd (omega arith)) ∙ e
-        kept j y e (inr (inr more)) = get_set_other a k j (Some x) (λ g. absurd (omega arith)) ∙ e
+        kept j y e (inr (inl less)) = get_set_other a j k (Some x) (λ g. absurd (omega arith)) ∙ e
+        kept j y e (inr (inr more)) = get_set_other a j k (Some x) (λ g. absurd (omega arith)) ∙ e
         kept j y e (inl same_place) =
             let old = h.begun k p y at (subst (λ i. slice_get a i ≡ Some (Some y)) same_place e) in
             let one : x ≡ y = same_state x y (sym is ∙ sym old.0) begins old.1 in
