@@ -40,7 +40,7 @@ block class' params' result' locals' instrs' = record {
 abbrev main : List ValueKind → List Instr → CodeBlock
 main locals' instrs' = block class.Main 0 None locals' instrs'
 
-abbrev procedure : List Instr → CodeBlock
+abbrev pub procedure : List Instr → CodeBlock
 procedure instrs' = block class.Proc 0 None [] instrs'
 
 -- that prints an int by layout 0, and a bool by layout 1
@@ -66,7 +66,7 @@ scalar name' kind' cumulative' merge' = record {
 -- ---- runs
 
 -- with no input, and 10 fuel for a child at most
-abbrev run_of : Code → CodeRun
+abbrev pub run_of : Code → CodeRun
 run_of code' = record { code = code'; inputs = []; share = 10 }
 
 abbrev Verified : Code → Type 0
@@ -167,7 +167,7 @@ joining_by join rest = main [] (
     i.Charge 1 ∷ i.Fork 0 ∷ join
     ∷ (rest ++ (i.Charge 2 ∷ i.PushInt (pos 7) ∷ i.Print 0 ∷ i.Return ∷ [])))
 
-abbrev idle : CodeBlock
+abbrev pub idle : CodeBlock
 idle = procedure (i.Return ∷ [])
 
 -- traps at once, and has all its fuel left
@@ -219,7 +219,8 @@ JoinedTwice =
 
 -- ---- numbers follow the schedule and paths do not
 
-abbrev fork_into : ℕ → ℕ → CodeBlock
+-- keeps the handle of its child
+abbrev pub fork_into : (line variable : ℕ) → CodeBlock
 fork_into line variable =
     procedure (i.Charge line ∷ i.Fork 0 ∷ i.StoreShared variable ∷ i.Return ∷ [])
 
@@ -242,7 +243,7 @@ both_handles =
     ∷ shown (codes "q") (v.Rev (Some (1 ∷ 0 ∷ []))) ∷ []
 
 -- `main` joins both children, and then the grandchildren end
-abbrev rest_of_it : List ℕ
+abbrev pub rest_of_it : List ℕ
 rest_of_it = 1 ∷ 0 ∷ 2 ∷ 0 ∷ 0 ∷ 3 ∷ 4 ∷ []
 
 -- the grandchildren have the numbers 3 and 4 by either schedule, but not the same ones
@@ -286,7 +287,7 @@ MergesThree =
     Verified (cumulative_x 15)
     × (after (cumulative_x 15) 2 (summing 15) (0 ∷ 1 ∷ 0 ∷ 0 ∷ []) ≡ done_with [] (x_is 16))
 
-abbrev most_int : ℕ
+abbrev pub most_int : ℕ
 most_int = 9223372036854775807
 
 -- where the merge overflows, nothing is merged

@@ -26,19 +26,16 @@ use Rattle.rev_code.specs.declared.code.BlockClass.TheVariants as class
 use Rattle.rev_code.specs.declared.code.Instr.{Instr}
 use Rattle.rev_code.specs.declared.code.Instr.TheVariants as i
 use Rattle.rev_code.specs.declared.code.LayoutItem.TheVariants as item
-use Rattle.code_machine.specs.Local.{CodeRun, IsVerified, Local}
+use Rattle.code_machine.specs.Local.{IsVerified, Local}
 use Rattle.code_machine.specs.Machines.{numbered, start_in}
 use Rattle.code_machine.specs.Worlds.{replay}
 use Rattle.world_traces.specs.Traces.{IsTraceOf, IsTheOnly}
-use Rattle.code_machine.specs.Rows.{block, sum, add_one}
+use Rattle.code_machine.specs.Rows.{block, procedure, run_of, idle, fork_into, rest_of_it, sum, add_one, most_int}
 
 -- ---- codes
 
 abbrev main : List Instr → CodeBlock
 main instrs' = block class.Main 0 None (k.Rev ∷ []) instrs'
-
-abbrev procedure : List Instr → CodeBlock
-procedure instrs' = block class.Proc 0 None [] instrs'
 
 -- that prints an int by layout 0
 abbrev code_of : List CodeVar → List CodeBlock → Code
@@ -73,10 +70,6 @@ cumulative_int name' = record {
 }
 
 -- ---- rows
-
--- with no input, and at most 10 of fuel for a child
-abbrev run_of : Code → CodeRun
-run_of code' = record { code = code'; inputs = []; share = 10 }
 
 abbrev lines_of : List Part → List (List ℕ)
 lines_of parts' = let t : Trace = record { parts = parts' } in trace_lines t
@@ -153,9 +146,6 @@ Merges =
     ∷ codes "write x 16 root 0"
     ∷ codes "> 16" ∷ [])
 
-abbrev most_int : ℕ
-most_int = 9223372036854775807
-
 -- nothing is merged, and the trap has the name of the location
 abbrev pub MergeFaults : Type 0
 MergeFaults =
@@ -213,14 +203,6 @@ TrapPassesOn =
     ∷ codes "fuel 88" ∷ [])
 
 -- ---- numbers follow the schedule and paths do not
-
-abbrev idle : CodeBlock
-idle = procedure (i.Return ∷ [])
-
--- keeps the handle of its child
-abbrev fork_into : (line variable : ℕ) → CodeBlock
-fork_into line variable =
-    procedure (i.Charge line ∷ i.Fork 0 ∷ i.StoreShared variable ∷ i.Return ∷ [])
 
 abbrev fork_two : CodeBlock
 fork_two = block class.Main 0 None (k.Rev ∷ k.Rev ∷ []) (
@@ -287,10 +269,6 @@ family_lines =
     ∷ codes "fuel 86"
     ∷ codes "write p @0.0 root none"
     ∷ codes "write q @1.0 root none" ∷ []
-
--- `main` joins both children, and then the grandchildren end
-abbrev rest_of_it : List ℕ
-rest_of_it = 1 ∷ 0 ∷ 2 ∷ 0 ∷ 0 ∷ 3 ∷ 4 ∷ []
 
 -- the grandchildren, which no one joins, have the numbers 3 and 4 by either schedule, but not the
 -- same ones
