@@ -1,16 +1,9 @@
 -- What a form derives, and what its tests say of that.
 use Rattle.std.proofs.Common.{◌≡◌, ℕ, zero, suc, Bool, true, false, ◌&&◌, ◌||◌, List, [], ◌∷◌, ◌++◌, refl, sym, ap, ◌∙◌, subst, inl, inr}
+use Rattle.std.proofs.lemmas.Bool.{or_left, or_right}
 use Rattle.token_grammar.specs.Outcome.{left}
 use Rattle.token_grammar.specs.Form.{Alphabet, Form, nothing, token, level, both, either, many, Lang, Opened, Many, Derives, Rules, Nested, AnyNested}
 use Rattle.token_grammar.specs.Reader.{nullable, first}
-
-pub or_left : (a b : Bool) → a ≡ true → a || b ≡ true
-or_left true b e = refl
-or_left false b e = absurd cc
-
-pub or_right : (a b : Bool) → b ≡ true → a || b ≡ true
-or_right true b e = refl
-or_right false b e = e
 
 pub both_true : (a b : Bool) → a ≡ true → b ≡ true → a && b ≡ true
 both_true true b e h = h

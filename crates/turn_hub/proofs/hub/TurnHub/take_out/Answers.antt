@@ -1,4 +1,4 @@
-use Rattle.std.proofs.Common.{rules, ◌≡◌, sym, ap, ◌∙◌, subst, Option, Some, None}
+use Rattle.std.proofs.Common.{rules, ◌≡◌, sym, ap, ◌∙◌, subst, Some}
 use mathlib.Core.Option as m
 use Rattle.std.specs.Option.{IsSome}
 use Rattle.turn_rule.specs.Views.{first_of}
@@ -7,10 +7,6 @@ use Rattle.turn_rule.proofs.Keeps.{home_at_end}
 use Rattle.turn_hub.proofs.Closes.{closes}
 use Rattle.turn_hub.proofs.hub.TurnHub.take_out.Goals as goal
 
-abbrev value_or : {T : Type 0} → T → Option T → T
-value_or d None = d
-value_or d (Some t) = t
-
 pub unwrap-requires : goal.unwrap-requires
 unwrap-requires g c = let f = c.close_with-closed.ensures.values.2 in let seen = f.1 in let t = home_at_end _ _ _ f.0 seen.0 _ _ seen.1 c.requires.own.1.0 c.requires.own.1.2 c.requires.every in
     let is : c.take-value.result ≡ Some t.value = m.some-injective _ _ (sym c.take-value.ensures.value ∙ f.4 0 (Some t.value) t.home) in subst IsSome (sym is) (search rules)
@@ -18,5 +14,6 @@ unwrap-requires g c = let f = c.close_with-closed.ensures.values.2 in let seen =
 pub returns : goal.returns
 returns g c = let f = c.close_with-closed.ensures.values.2 in let seen = f.1 in let t = home_at_end _ _ _ f.0 seen.0 _ _ seen.1 c.requires.own.1.0 c.requires.own.1.2 c.requires.every in
     let is : c.take-value.result ≡ Some t.value = m.some-injective _ _ (sym c.take-value.ensures.value ∙ f.4 0 (Some t.value) t.home) in
-    let same = ap (λ o. (value_or t.value o).value) (sym is ∙ c.unwrap.ensures) ∙ sym c.into_inner.ensures in
+    let one = m.some-injective _ _ (sym is ∙ c.unwrap.ensures) in
+    let same = ap (λ v. v.value) one ∙ sym c.into_inner.ensures in
     subst (ClosedTurn g.L.Revision.machine g.L.Revision.ends (first_of c.args.self.turn.shared.key.views) c.args.place.me.0) same (closes _ _ _ _ _ t c.requires.over)
