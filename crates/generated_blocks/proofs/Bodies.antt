@@ -44,7 +44,7 @@ use Rattle.std.proofs.lemmas.Option.{slice_get_past}
 
 -- what stands behind all notes
 behind_all : (ns : List Note) (at : ℕ) → length ns ≤ at → Fits entry (noted ns at)
-behind_all ns at h = fits_eq entry (noted ns at) (ap Rattle.generated_certificate.specs.Items.note_or_entry (slice_get_past ns at h))
+behind_all ns at h = fits_eq entry (noted ns at) (ap Rattle.code_rules.specs.Pass.known (slice_get_past ns at h))
 
 -- ---- funs and merges
 

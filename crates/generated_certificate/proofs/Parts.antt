@@ -4,9 +4,9 @@ use Rattle.std.specs.Prelude.{slice_get}
 use Rattle.rev_code.specs.declared.code.Code.{Code}
 use Rattle.rev_code.specs.declared.code.CodeBlock.{CodeBlock}
 use Rattle.rev_code.specs.declared.code.Instr.{Instr}
-use Rattle.code_rules.specs.Pass.{Note}
+use Rattle.code_rules.specs.Pass.{Note, known}
 use Rattle.code_certificate.specs.Certificate.{Fits}
-use Rattle.generated_certificate.specs.Items.{note_or_entry, noted}
+use Rattle.generated_certificate.specs.Items.{noted}
 use Rattle.generated_certificate.specs.Kept.{IsKept, AllKept}
 
 pub nothing : Unit {0}
@@ -15,7 +15,7 @@ nothing = tt
 -- ---- notes
 
 pub note_here : (ns : List Note) (at : ℕ) (n : Note) → slice_get ns at ≡ Some n → noted ns at ≡ n
-note_here ns at n h = ap note_or_entry h
+note_here ns at n h = ap known h
 
 pub fits_eq : (n m : Note) → m ≡ n → Fits n m
 fits_eq n m e = record { shape = ap (λ z. z.shape) (sym e); paid = λ h. ap (λ z. z.paid) (sym e) ∙ h }

@@ -1,16 +1,11 @@
 -- The notes of a list.
-use Rattle.std.specs.Prelude.{ℕ, Option, Some, None, List, [], ◌∷◌, slice_get, true}
+use Rattle.std.specs.Prelude.{ℕ, List, [], ◌∷◌, slice_get, true}
 use Rattle.rev_num.specs.declared.value.ValueKind.{ValueKind}
-use Rattle.code_rules.specs.Pass.{Note, entry}
+use Rattle.code_rules.specs.Pass.{Note, known}
 
--- of a place without a note nothing is known
-abbrev pub note_or_entry : Option Note → Note
-note_or_entry None = entry
-note_or_entry (Some n) = n
-
--- the note of each place, by the list of them
+-- the note of each place, by the list of them; of a place without a note nothing is known
 abbrev pub noted : List Note → ℕ → Note
-noted ns at = note_or_entry (slice_get ns at)
+noted ns at = known (slice_get ns at)
 
 -- with a word of this kind on top
 abbrev pub push : ValueKind → Note → Note
