@@ -1,5 +1,5 @@
 -- Two elements of a list, changed in the two parts of it.
-use Rattle.std.proofs.Common.{◌≡◌, ℕ, ◌-◌, ◌<◌, List, ◌++◌, length, get_or, set, take, drop, Result, Ok, Err, OnOk, IfOk, sym, ap, ◌∙◌, arith, length-set, length-append}
+use Rattle.std.proofs.Common.{◌≡◌, ℕ, ◌-◌, ◌<◌, List, ◌++◌, length, get_or, set, take, drop, Result, Ok, Err, OnOk, sym, ap, ◌∙◌, arith, length-set, length-append}
 use Rattle.std.proofs.Math.Seq.{take-append_seam}
 use Rattle.std.proofs.lemmas.List.{set-append_left, set-append_right, get_or_append_left, get_or-append_right, get_or_default}
 
@@ -10,10 +10,6 @@ both_ok (Err e) f a b = tt
 pub one_ok : {T E : Type 0} {A B : Type 0} (r : Result T E) → (A → B) → OnOk r A → OnOk r B
 one_ok (Ok v) f a = f a
 one_ok (Err e) f a = tt
-
-pub if_ok_map : {T E : Type 0} {P Q : T → Type 0} (r : Result T E) → ((v : T) → P v → Q v) → IfOk r P → IfOk r Q
-if_ok_map (Ok v) f a = f v a
-if_ok_map (Err e) f a = tt
 
 module _ {A : Type 0} (s front back : List A) (n : ℕ) (value : s ≡ front ++ back) (len : length front ≡ n) (within : n < length s) where
   back_there : 0 < length back

@@ -1,6 +1,6 @@
 -- What was read of a trace, with one more line.
 use Rattle.std.proofs.Common.{◌≡◌, ◌≢◌, ◌∙◌, inl, inr, sym, ap, subst, ℕ, ◌<◌, ◌^◌, true, false, List, [], ◌∷◌, ◌++◌, length, map, refl, arith, rules, append_assoc}
-use Rattle.std.specs.Prelude.{Option, Some, None, IfSome, is_some, IsTrue, ◌==◌, Result, Ok, Err, IfOk}
+use Rattle.std.specs.Prelude.{Option, Some, None, IfSome, is_some, IsTrue, ◌==◌}
 use Rattle.std.specs.List.{flat_map, list_all, AllByRecursion}
 use Rattle.std.proofs.lemmas.Bool.{true≢false}
 use Rattle.std.proofs.lemmas.List.{append-nil, map-append}
@@ -266,10 +266,6 @@ finished p t form main h = record {
 }
 
 -- ---- with a call's answer
-
-pub if_ok : {A E : Type 0} (P Q : A → Type 0) (r : Result A E) → ((x : A) → P x → Q x) → IfOk r P → IfOk r Q
-if_ok P Q (Ok x) f h = f x h
-if_ok P Q (Err e) f h = tt
 
 pub behind_head : (line : List ℕ) (p : PartialTrace) (o : Option Draft) → IsNoQuote line → TakesHead line p o → TakesBehind line p o
 behind_head line p (Some d) none h = h

@@ -1,5 +1,5 @@
 use Rattle.std.proofs.Common.{arith, subst, sym}
-use Rattle.revision_machine.proofs.Splits.{if_ok_map}
+use Rattle.std.proofs.lemmas.Result.{IfOk-weaker}
 use Rattle.revision_calculus.specs.Kinded.{LocationsAre, location_kinds}
 use Rattle.revision_state.specs.Views.{given}
 use Rattle.rev_audit.proofs.Accepted.{accepted}
@@ -27,6 +27,6 @@ returns c =
     let t = c.args.stated.now in
     let x = c.args.state.now in
     let room = c.requires.fits.room in
-    if_ok_map c.told_end.result
+    IfOk-weaker c.told_end.result _ _
     (λ o told. takes_told (given t.setting) t.fuel t.parts.now (accepted t.setting) x.path x.local c.args.on.now c.in-Some.part.now o (rw c.in-Some.is at (sym c.part.ensures)) (omega arith) t.small c.requires.fits told)
     c.told_end.ensures

@@ -1,9 +1,9 @@
 use Rattle.std.proofs.Common.{subst}
+use Rattle.std.proofs.lemmas.Result.{IfOk-weaker}
 use Rattle.revision_machine.specs.Machine.{Live}
 use Rattle.revision_machine.specs.Rules.{machine_of}
 use Rattle.revision_machine.specs.RevisionList.{globe}
 use Rattle.revision_machine.specs.Progress.{Progresses, CannotStep}
-use Rattle.revision_machine.proofs.Splits.{if_ok_map}
 use Rattle.revision_machine.proofs.Reached.{goes_on}
 use Rattle.revision_machine.proofs.Runs.{more_after}
 use Rattle.revision_machine.proofs.complete_run.run_from.Goals as goal
@@ -22,4 +22,4 @@ returns-in-Moved-clause-progress g c =
     let old = c.args.list.now.items in
     let mid = c.try_step.new.list.items in
     let one = subst (λ p. Progresses M (CannotStep M old c.args.place) p old mid) c.in-Moved.is c.in_ok-try_step.ensures.progress in
-    if_ok_map c.run_these.result (more_after M (CannotStep M old c.args.place) old c.run_these.new.list.items mid one) c.run_these.ensures.progress
+    IfOk-weaker c.run_these.result _ _ (more_after M (CannotStep M old c.args.place) old c.run_these.new.list.items mid one) c.run_these.ensures.progress

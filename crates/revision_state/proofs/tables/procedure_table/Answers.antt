@@ -1,7 +1,7 @@
 use Rattle.std.proofs.Common.{[], ap, ◌∙◌}
+use Rattle.std.proofs.lemmas.Result.{IfOk-weaker}
 use Rattle.rev_syntax.specs.View.{program as whole}
 use Rattle.merge_decl.specs.Table.{find}
-use Rattle.revision_machine.proofs.Splits.{if_ok_map}
 use Rattle.revision_state.specs.Tables.{entered, proc_at}
 use Rattle.revision_state.proofs.Rows.{procedures_entered}
 use Rattle.revision_state.proofs.tables.procedure_table.Goals as goal
@@ -9,6 +9,6 @@ use Rattle.revision_state.proofs.tables.procedure_table.Goals as goal
 pub returns : goal.returns
 returns c =
     let p = whole c.args.typed.now.expanded.program in
-    if_ok_map c.enter_procedures.result
+    IfOk-weaker c.enter_procedures.result _ _
     (λ t e name. ap (find name) (e ∙ ap (entered (proc_at p.declarations) []) (c.as_slice.ensures ∙ c.args.typed.now.procs_listed)) ∙ procedures_entered p name)
     c.enter_procedures.ensures

@@ -1,7 +1,7 @@
 use Rattle.std.proofs.Common.{[], ap, ◌∙◌}
+use Rattle.std.proofs.lemmas.Result.{IfOk-weaker}
 use Rattle.rev_syntax.specs.View.{program as whole}
 use Rattle.merge_decl.specs.Table.{find}
-use Rattle.revision_machine.proofs.Splits.{if_ok_map}
 use Rattle.revision_state.specs.Tables.{entered, shared_at}
 use Rattle.revision_state.proofs.Rows.{variables_entered}
 use Rattle.revision_state.proofs.tables.variable_table.Goals as goal
@@ -9,6 +9,6 @@ use Rattle.revision_state.proofs.tables.variable_table.Goals as goal
 pub returns : goal.returns
 returns c =
     let p = whole c.args.typed.now.expanded.program in
-    if_ok_map c.enter_variables.result
+    IfOk-weaker c.enter_variables.result _ _
     (λ t e name. ap (find name) (e ∙ ap (entered (shared_at p.declarations) []) (c.as_slice.ensures ∙ c.args.typed.now.shared_listed)) ∙ variables_entered p name)
     c.enter_variables.ensures

@@ -1,7 +1,8 @@
 use Rattle.std.proofs.Common.{◌≡◌, ◌++◌, ◌∷◌, [], ◌∙◌, sym, ap, subst, append_assoc}
+use Rattle.std.proofs.lemmas.Result.{IfOk-weaker}
 use Rattle.trace_diagram.specs.Drafts.{IsLonger, partial_of}
 use Rattle.trace_diagram.specs.Traces.{ended}
-use Rattle.trace_diagram.proofs.Partials.{behind_head, if_ok, quote_extends}
+use Rattle.trace_diagram.proofs.Partials.{behind_head, quote_extends}
 use Rattle.trace_diagram.proofs.draft.Draft.take_behind.Goals as goal
 
 pub returns-in_ok-push-in-Some : goal.returns-in_ok-push-in-Some
@@ -13,4 +14,4 @@ returns-in_ok-push-in-Some c =
 
 pub returns-in-None : goal.returns-in-None
 returns-in-None c =
-    if_ok _ _ c.take_head.result (λ o. behind_head c.args.line.now (partial_of c.args.self) o c.in-None.ensures) c.take_head.ensures
+    IfOk-weaker c.take_head.result _ _ (λ o. behind_head c.args.line.now (partial_of c.args.self) o c.in-None.ensures) c.take_head.ensures
