@@ -7,6 +7,7 @@
 
 mod laws;
 mod lex;
+mod names;
 mod place;
 mod scan;
 mod token;
@@ -14,6 +15,7 @@ mod tree;
 
 pub use laws::{one_fault, one_kind, one_list, some_reading};
 pub use lex::tokens;
+pub use names::is_name;
 pub use place::line_column;
 pub use scan::{LexFault, is_digit, is_letter, is_name_byte};
 pub use token::{Fixed, Token, TokenKind};

@@ -5,7 +5,8 @@ use Rattle.std.specs.List.{list_all}
 use Rattle.std.proofs.lemmas.Bool.{and_parts, or_left, or_parts, true≢false}
 use Rattle.trace_diagram.specs.Cuts.{IsCut, IsWithout}
 use Rattle.rev_syntax.specs.Bytes.{is_digit, is_letter, is_name_byte, is_word}
-use Rattle.trace_diagram.specs.Places.{HasCell, IsPlace, is_name, is_plain, is_reserved}
+use Rattle.rev_syntax.specs.Words.{is_name, is_reserved}
+use Rattle.trace_diagram.specs.Places.{HasCell, IsPlace, is_plain}
 use Rattle.trace_diagram.proofs.Cutting.{cut_once, not_without, without-append}
 
 -- ---- bytes that names and numbers don't have

@@ -1,41 +1,10 @@
 -- Names of locations.
---   is_reserved     whether the bytes are a word of the language
---   is_name         whether the bytes are a name
---   IsPlain         digits without a needless zero
+--   is_plain        digits without a needless zero
 --   IsPlace         the bytes name a location: a variable, or a cell of an array
-use Rattle.std.specs.Prelude.{◌≡◌, ℕ, Bool, false, not, ◌&&◌, ◌||◌, ◌==◌, ◌⊎◌, nat_eq, IsTrue, List, [], ◌∷◌, ◌++◌, length, codes}
-use Rattle.std.specs.List.{list_all, list_any}
-use Rattle.std.specs.Cmp.Lexicographic.{pointwise}
-use Rattle.rev_syntax.specs.Bytes.{is_digit, is_word}
-
--- declarations and kinds
-abbrev pub first_words : List (List ℕ)
-first_words =
-    codes "fun" ∷ codes "merge" ∷ codes "versioned" ∷ codes "cumulative" ∷ codes "by" ∷ codes "proc" ∷ codes "main"
-    ∷ codes "int" ∷ codes "bool" ∷ []
-
--- statements
-abbrev pub middle_words : List (List ℕ)
-middle_words =
-    codes "rev" ∷ codes "let" ∷ codes "if" ∷ codes "else" ∷ codes "while" ∷ codes "call" ∷ codes "return"
-    ∷ codes "rfork" ∷ codes "rjoin" ∷ []
-
--- more statements, and expressions
-abbrev pub last_words : List (List ℕ)
-last_words =
-    codes "tryjoin" ∷ codes "print" ∷ codes "assert" ∷ codes "true" ∷ codes "false" ∷ codes "none" ∷ codes "input"
-    ∷ codes "inputs" ∷ codes "pick" ∷ []
-
-abbrev pub is_one_of : List (List ℕ) → List ℕ → Bool
-is_one_of words bytes = list_any (λ word. pointwise nat_eq word bytes) words
-
--- one of the words of the language
-abbrev pub is_reserved : List ℕ → Bool
-is_reserved bytes = is_one_of first_words bytes || (is_one_of middle_words bytes || is_one_of last_words bytes)
-
--- a word that is not reserved
-abbrev pub is_name : List ℕ → Bool
-is_name bytes = is_word bytes && not (is_reserved bytes)
+use Rattle.std.specs.Prelude.{◌≡◌, ℕ, Bool, false, not, ◌&&◌, ◌||◌, ◌==◌, ◌⊎◌, IsTrue, List, [], ◌∷◌, ◌++◌, length}
+use Rattle.std.specs.List.{list_all}
+use Rattle.rev_syntax.specs.Bytes.{is_digit}
+use Rattle.rev_syntax.specs.Words.{is_name}
 
 -- one or more digits, of which the first is a zero only where it is the only one
 abbrev pub is_plain : List ℕ → Bool

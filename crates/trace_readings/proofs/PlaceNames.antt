@@ -2,7 +2,8 @@
 use Rattle.std.proofs.Common.{◌⊎◌, inl, inr, subst, Bool, true, false, ℕ, List, [], ◌∷◌, refl}
 use Rattle.std.specs.Prelude.{MatchBool, ◌&&◌}
 use Rattle.trace_diagram.specs.Cuts.{IsCut}
-use Rattle.trace_diagram.specs.Places.{HasCell, IsPlace, is_name, is_plain}
+use Rattle.rev_syntax.specs.Words.{is_name}
+use Rattle.trace_diagram.specs.Places.{HasCell, IsPlace, is_plain}
 use Rattle.trace_diagram.proofs.PlaceForms.{is_cell_by, more_behind, no_bracket, no_closing, with_bracket}
 use Rattle.trace_readings.proofs.Deciding.{Pieces, last_piece, next_piece, Readable, Reader, spells, spells_none, pieces}
 

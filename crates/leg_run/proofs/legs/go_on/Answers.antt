@@ -1,7 +1,6 @@
 use Rattle.std.proofs.Common.{◌∙◌, length, take, refl, ap, arith}
 use Rattle.std.proofs.lemmas.Result.{IfOk-weaker}
 use Rattle.std.specs.Prelude.{slice_get}
-use Rattle.std.proofs.lemmas.Result.{IfOk-weaker}
 use Rattle.version_map.specs.Deltas.{at}
 use Rattle.version_map.specs.Overlay.{under}
 use Rattle.code_soundness.proofs.Accepting.{no_fault_accepted}

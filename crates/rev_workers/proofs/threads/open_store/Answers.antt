@@ -1,7 +1,6 @@
 use Rattle.std.proofs.Common.{◌≡◌, ◌/◌, ◌^◌, [], None, arith}
 use Rattle.std.proofs.lemmas.Result.{IfOk-weaker}
 use Rattle.std.specs.Prelude.{min}
-use Rattle.std.proofs.lemmas.Result.{IfOk-weaker}
 use Rattle.code_soundness.proofs.Accepting.{no_fault_accepted}
 use Rattle.block_run.proofs.Tables.{most_locations}
 use Rattle.segment_store.specs.declared.store.Hold.{Hold}
