@@ -1,6 +1,6 @@
 -- The lines of a trace follow one another, and what was read of a trace can be completed.
 use Rattle.std.proofs.Common.{◌≡◌, ◌∙◌, inl, inr, sym, ap, subst, ℕ, ◌<◌, ◌^◌, List, [], ◌∷◌, ◌++◌, map, refl, arith, append_assoc}
-use Rattle.std.specs.Prelude.{Option, Some, None, IfSome, IsTrue}
+use Rattle.std.specs.Prelude.{Option, Some, None, IfSome, IsTrue, unwrap_or}
 use Rattle.std.specs.List.{flat_map, list_all, AllByRecursion}
 use Rattle.rev_num.specs.Path.{Path, before}
 use Rattle.trace_diagram.specs.Drafts.{Ascends, IsPartial, NotYet, PartialTrace, last_lines, open_lines, partial_lines}
@@ -68,17 +68,9 @@ trace_goes t h = all_go t.parts h.each h.order
 
 -- ---- what was read can be completed
 
-abbrev end_or : Option PartEnd → PartEnd
-end_or None = part_end.Done
-end_or (Some e) = e
-
-abbrev fuel_or : Option ℕ → ℕ
-fuel_or None = 0
-fuel_or (Some n) = n
-
 -- the part with what is wanting
 abbrev completed : PartialTrace → Part
-completed p = closed_part p (end_or p.end) (fuel_or p.fuel)
+completed p = closed_part p (unwrap_or p.end part_end.Done) (unwrap_or p.fuel 0)
 
 abbrev main_part : Part
 main_part = record { path = []; events = []; end = part_end.Done; fuel = 0; written = []; text = [] }
@@ -91,11 +83,11 @@ abbrev parts_behind : Path → List Part
 parts_behind [] = []
 parts_behind (k ∷ r) = main_part ∷ []
 
-end_fits : (o : Option PartEnd) → IfSome o FitsEnd → FitsEnd (end_or o)
+end_fits : (o : Option PartEnd) → IfSome o FitsEnd → FitsEnd (unwrap_or o part_end.Done)
 end_fits None h = tt
 end_fits (Some e) h = h
 
-fuel_fits : (o : Option ℕ) → IfSome o (λ n. n < 2 ^ 64) → fuel_or o < 2 ^ 64
+fuel_fits : (o : Option ℕ) → IfSome o (λ n. n < 2 ^ 64) → unwrap_or o 0 < 2 ^ 64
 fuel_fits None h = omega arith
 fuel_fits (Some n) h = h
 
@@ -109,7 +101,7 @@ completed_form p form = record {
   text = form.text;
 }
 
-missing : (e : Option PartEnd) (f : Option ℕ) (ws : List Change) (text : List ℕ) → NotYet e f ws text → (more : List (List ℕ)) × (last_lines (Some (end_or e)) (Some (fuel_or f)) ws text ≡ last_lines e f ws text ++ more)
+missing : (e : Option PartEnd) (f : Option ℕ) (ws : List Change) (text : List ℕ) → NotYet e f ws text → (more : List (List ℕ)) × (last_lines (Some (unwrap_or e part_end.Done)) (Some (unwrap_or f 0)) ws text ≡ last_lines e f ws text ++ more)
 missing None f ws text h = (_, refl)
 missing (Some e) None ws text h = (fuel_text 0 ∷ (map change_text ws ++ map quoted (text_lines text)), refl)
 missing (Some e) (Some f) ws text h = ([], sym (nothing (last_lines (Some e) (Some f) ws text)))
