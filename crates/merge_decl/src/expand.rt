@@ -1,6 +1,6 @@
 //! Which fun each application means.
 
-ghost use Rattle.std.specs.Prelude.{◌≡◌, ◌<◌, ◌^◌, ℕ, List, [], IfErr, IfOk, OnOk, length, map};
+ghost use Rattle.std.specs.Prelude.{◌≡◌, ◌<◌, ◌^◌, [], IfErr, IfOk, OnOk, length, map};
 ghost use Rattle.std.specs.declared.alloc.AllocError.{AllocError};
 ghost use Rattle.rev_syntax.specs.Small.{IsSmall};
 ghost use Rattle.rev_syntax.specs.View.{declaration, program as whole};

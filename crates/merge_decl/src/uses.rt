@@ -7,7 +7,7 @@ ghost use Rattle.rev_syntax.specs.View.{expression, expressions};
 ghost use Rattle.merge_decl.specs.FunRules as rule;
 ghost use Rattle.merge_decl.specs.Uses.{uses_of};
 
-use rev_syntax::{Arm, Block, Decl, Expr, Form, Item, Link, Name, Node, Program, Rhs, Stmt};
+use rev_syntax::{Arm, Block, Decl, Expr, Form, Item, Link, Name, Node, Program, Rhs};
 use std::alloc::{AllocError, AllocFailed, Global};
 
 /// An application of a fun: the name, how many arguments it has, and how many of the program's

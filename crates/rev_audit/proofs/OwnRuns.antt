@@ -1,5 +1,5 @@
 -- A revision's own run, step by step: what it comes to is its computed part, and the children are those that it forks.
-use Rattle.std.proofs.Common.{◌≡◌, ◌⊎◌, inl, inr, ℕ, ◌+◌, List, [], ◌∷◌, ◌++◌, Some, refl, sym, ap, ◌∙◌, subst}
+use Rattle.std.proofs.Common.{◌≡◌, ◌⊎◌, inl, inr, ℕ, List, [], ◌∷◌, ◌++◌, Some, refl, sym, ap, ◌∙◌, subst}
 use Rattle.rev_num.specs.Path.{Path, child}
 use Rattle.merge_decl.specs.Least.{Among}
 use Rattle.revision_machine.specs.Machine.{Forks}

@@ -1,6 +1,6 @@
 //! The audit of a trace.
 
-ghost use Rattle.std.specs.Prelude.{◌≡◌, ◌≤◌, Some, IfOk, MatchBool};
+ghost use Rattle.std.specs.Prelude.{◌≤◌, Some, IfOk, MatchBool};
 ghost use Rattle.rev_num.specs.Limits.{most_fuel};
 ghost use Rattle.rev_syntax.specs.View.{program as whole};
 ghost use Rattle.revision_state.specs.Views.{given};

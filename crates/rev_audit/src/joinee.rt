@@ -1,6 +1,6 @@
 //! What comes of a join, by what is stated of the joinee.
 
-ghost use Rattle.std.specs.Prelude.{◌≡◌, IfOk, MatchBool};
+ghost use Rattle.std.specs.Prelude.{IfOk, MatchBool};
 ghost use Rattle.revision_calculus.specs.Calculus.{calculus};
 ghost use Rattle.revision_state.specs.Views.{given};
 ghost use Rattle.audit_rules.specs.Parts.{OwnFits, calculus_parts, joined_by};

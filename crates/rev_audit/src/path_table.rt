@@ -1,6 +1,6 @@
 //! A table from paths to numbers.
 
-ghost use Rattle.std.specs.Prelude.{◌≡◌, [], IfOk, OnOk};
+ghost use Rattle.std.specs.Prelude.{◌≡◌, [], OnOk};
 ghost use Rattle.revision_machine.specs.PathIndex.{IsEntered, IsIndexed, place_by};
 
 use rev_num::Path;

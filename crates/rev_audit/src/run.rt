@@ -1,7 +1,6 @@
 //! A revision's own run.
 
 ghost use Rattle.std.specs.Prelude.{◌≡◌, IfOk};
-ghost use Rattle.revision_calculus.specs.Kinded.{IsAccepted};
 ghost use Rattle.revision_state.specs.Views.{given};
 ghost use Rattle.audit_rules.specs.Parts.{joined_by};
 ghost use Rattle.audit_rules.specs.Traces.{InPostOrder};

@@ -1,8 +1,7 @@
 //! The audit of the parts from the last to the first.
 
-ghost use Rattle.std.specs.Prelude.{◌≡◌, ◌<◌, ◌+◌, Some, IfOk, MatchBool, OnOk, length};
+ghost use Rattle.std.specs.Prelude.{◌<◌, ◌+◌, Some, IfOk, MatchBool, OnOk, length};
 ghost use Rattle.revision_state.specs.Views.{given};
-ghost use Rattle.trace_diagram.specs.Traces.{MainIsLast};
 ghost use Rattle.audit_rules.specs.Traces.{InPostOrder};
 ghost use Rattle.audit_rules.specs.Verdicts.{computed_part};
 ghost use Rattle.rev_audit.specs.Sweep.{ComputedAt, Differs, IsKept, IsSamePart};

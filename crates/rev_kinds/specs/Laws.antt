@@ -2,7 +2,7 @@
 --
 -- `Sound`: what breaks no rule has the kind that the rules give; `Complete`: what has a kind breaks none;
 -- `Only`: no expression has two kinds; `Applies`: each application is that of a known fun.
-use Rattle.std.specs.Prelude.{◌≡◌, ◌≢◌, ℕ, ◌+◌, Option, Some, None, List, [], ◌∷◌, ◌++◌, length}
+use Rattle.std.specs.Prelude.{◌≡◌, ◌≢◌, ℕ, Option, Some, None, List, [], ◌∷◌, ◌++◌, length}
 use Rattle.rev_num.specs.declared.value.ValueKind.{ValueKind}
 use Rattle.rev_syntax.specs.Trees.{Expression, placed, ExpressionForm, Expressions, Links, int, bool, no_rev, var, cell, apply, input, inputs, pick, unary, chain, no_expressions, expression, no_links, link}
 use Rattle.merge_decl.specs.FunRules.{count}

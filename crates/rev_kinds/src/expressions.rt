@@ -4,7 +4,6 @@ ghost use Rattle.std.specs.Prelude.{◌≡◌, map, option_map, slice_get};
 ghost use Rattle.std.specs.Option.{option_copied};
 ghost use Rattle.rev_syntax.specs.View.{parameter, links, right_side, expression_form};
 ghost use Rattle.rev_syntax.specs.View.{expression, expressions, placed_name};
-ghost use Rattle.merge_decl.specs.Table.{find};
 ghost use Rattle.rev_kinds.specs.Kinds as kind;
 ghost use Rattle.rev_kinds.specs.Walk as rule;
 

@@ -1,9 +1,8 @@
 //! What was read of a trace.
 
-ghost use Rattle.std.specs.Prelude.{◌≡◌, ◌++◌, [], ◌∷◌, IfOk, None, Some, is_some, true};
+ghost use Rattle.std.specs.Prelude.{◌≡◌, [], IfOk, None, Some, is_some, true};
 ghost use Rattle.trace_diagram.specs.Drafts.{Closes, Finishes, IsClosed, IsPartial, Takes};
 ghost use Rattle.trace_diagram.specs.Drafts.{TakesBehind, TakesHead, partial_of};
-ghost use Rattle.trace_diagram.specs.Lines.{FitsPath};
 
 use crate::diagram::{Change, Part, PartEnd, Trace, TraceEvent};
 use crate::lines::{read_change, read_end, read_event, read_fuel, read_head, read_quoted};

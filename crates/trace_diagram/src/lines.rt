@@ -1,10 +1,10 @@
 //! Reads the lines of a trace, each from its one spelling.
 
-ghost use Rattle.std.specs.Prelude.{◌≡◌, ◌<◌, ◌^◌, ◌++◌, [], IfOk, IsTrue, MatchOption, codes};
+ghost use Rattle.std.specs.Prelude.{◌≡◌, ◌<◌, ◌^◌, IfOk, MatchOption};
 ghost use Rattle.std.specs.List.{list_all};
 ghost use Rattle.trace_diagram.specs.Lines.{FitsChange, FitsEnd, FitsEvent, FitsPath, IsPlaceOf};
-ghost use Rattle.trace_diagram.specs.Lines.{cause_text, change_text, end_text, event_text};
-ghost use Rattle.trace_diagram.specs.Lines.{fuel_text, head_text, is_printable, quoted};
+ghost use Rattle.trace_diagram.specs.Lines.{change_text, end_text, event_text};
+ghost use Rattle.trace_diagram.specs.Lines.{fuel_text, head_text, is_printable};
 ghost use Rattle.trace_diagram.specs.Reading.{IsNoQuote, IsQuote, Reads};
 ghost use Rattle.trace_diagram.specs.Ends.{EndsSo, FitsLocated, LacksMerge, LacksPlain};
 ghost use Rattle.trace_diagram.specs.Ends.{IsMerge, IsPlain, located_text, where_text};

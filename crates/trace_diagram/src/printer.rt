@@ -12,7 +12,7 @@ ghost use Rattle.rev_num.specs.Text.{path_text};
 use crate::cut::cut;
 use crate::diagram::{Change, Part, PartEnd, Trace, TraceEvent};
 use itoa::Buffer;
-use rev_num::{Cause, Path, Trap, Value, append_decimal, append_path, fault_name};
+use rev_num::{Cause, Path, Value, append_decimal, append_path, fault_name};
 use std::alloc::{AllocError, Global};
 
 /// Appends a number in decimal.

@@ -1,4 +1,4 @@
-use Rattle.std.proofs.Common.{◌≡◌, ◌∙◌, ◌++◌, ◌∷◌, [], ap, subst, rules}
+use Rattle.std.proofs.Common.{◌≡◌, ◌∙◌, ◌++◌, ◌∷◌, [], ap, subst}
 use Rattle.merge_decl.specs.Table.{IsIndexed, against, rows}
 use Rattle.std.proofs.Common.{None, nat_cmp}
 use Rattle.std.specs.BTreeMap.{UpdatesBy}

@@ -1,4 +1,4 @@
-use Rattle.std.proofs.Common.{take, drop, refl, arith, rules}
+use Rattle.std.proofs.Common.{take, drop, refl, arith}
 use Rattle.std.proofs.lemmas.List.{length-take-le}
 use Rattle.rev_top.proofs.audits.text_length.Goals as goal
 
