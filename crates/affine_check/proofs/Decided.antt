@@ -14,6 +14,7 @@ use Rattle.rev_types.specs.Tables.{shared_table, proc_table, fun_table, callees}
 use Rattle.rev_types.proofs.Named.{outer_names}
 use Rattle.rev_types.specs.Judgement.{StatementTyped, StatementsTyped, ArmsTyped, DeclarationsTyped, ProgramTyped}
 use Rattle.rev_types.specs.Scopes.{locals_after, outside, within, with_params, bound}
+use Rattle.rev_types.proofs.Scopes.{statement_scope}
 use Rattle.rev_affine.specs.Affine.{Breach, copied, stored, used_twice, in_loop, number, Breaks, IsAffine, IsFirstBroken}
 use Rattle.rev_affine.specs.Live.{statement_passes}
 use Rattle.rev_affine.specs.SecondUses.{ahead, twice, statement_twice, arms_twice}
@@ -25,7 +26,7 @@ use Rattle.affine_check.specs.Faults.{place, rank, Refuses}
 use Rattle.affine_check.specs.Walk.{Fault, both, misused, broken_in, misused_params, broken_body, broken_declaration, broken_declarations, broken_in_program}
 use Rattle.affine_check.proofs.Bounds.{or-assoc, or-false, upto, meets, any, meets-both}
 use Rattle.affine_check.proofs.Found.{copy, store, handles_arms, broken_is}
-use Rattle.affine_check.proofs.Handles.{Holds, either, left, right, never, arm_both, both_hold, pass, IsHandle, SomeHandle, Closed, was_handle, scope_free, scope_of, twice_in, any_either, any_left, any_right, none_append, follows, looped, trails, trails_of, misuse_is, misuse_of, free_ahead, complete, sound}
+use Rattle.affine_check.proofs.Handles.{Holds, either, left, right, never, arm_both, both_hold, pass, IsHandle, SomeHandle, Closed, was_handle, scope_free, twice_in, any_either, any_left, any_right, none_append, follows, looped, trails, trails_of, misuse_is, misuse_of, free_ahead, complete, sound}
 use Rattle.affine_check.proofs.InLoops.{loops_in, loops_complete, loops_sound}
 
 -- a breach as a fault
@@ -104,7 +105,7 @@ module _ (last_place last_rank : ℕ) (c : Names) where
     trails_sound result l (statements x rest) first K typed closed h =
         behind_first l first x rest K (arm_both (either (trails_of last_place last_rank c l first rest x) (trails last_place last_rank c (locals_after c l x) (first && statement_passes x) rest) h)
         (λ i. statement_sound result l typed.0 x rest first K typed.1 (λ n free. closed n free) (λ e n free. free_ahead last_place last_rank c n result typed.0 rest (K n) typed.2 (ap (λ m. find n m) e ∙ free.0, free.1) (closed n free)) i)
-        (λ i. behind_rest l first x rest K (trails_sound result (locals_after c l x) rest (first && statement_passes x) K (subst (λ m. StatementsTyped c result m rest) (scope_of c result x l typed.0 typed.1) typed.2) (λ n free. closed n (scope_free c l x n free.0, free.1)) i)))
+        (λ i. behind_rest l first x rest K (trails_sound result (locals_after c l x) rest (first && statement_passes x) K (subst (λ m. StatementsTyped c result m rest) (statement_scope c result l typed.0 x typed.1) typed.2) (λ n free. closed n (scope_free c l x n free.0, free.1)) i)))
 
     statement_sound : (result : Option ValueKind) (l l' : Locals) (x : Statement) (rest : Statements) (first : Bool) (K : Name → List ℕ) → StatementTyped c result l x l' → Closed last_place last_rank c l K → (l' ≡ l → Closed last_place last_rank c l (λ n. ahead n rest (K n)))
         → Holds (trails_of last_place last_rank c l first rest x) → InTrail l first x rest K

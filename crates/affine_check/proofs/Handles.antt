@@ -13,9 +13,9 @@ use Rattle.rev_kinds.specs.Kinds.{Names, Locals, right_side_kind}
 use Rattle.rev_kinds.specs.Typing.{HasKind, ScalarHas, ArgsHave}
 use Rattle.rev_types.specs.Judgement.{RightSideHas, ReturnTyped, StatementTyped, StatementFormTyped, StatementsTyped, ArmsTyped}
 use Rattle.rev_types.specs.Scopes.{locals_after, bound}
+use Rattle.rev_types.proofs.Scopes.{statement_scope}
 use Rattle.rev_affine.specs.Live.{statement_passes}
 use Rattle.rev_affine.specs.SecondUses.{expression_places, expressions_places, right_side_places, value_places, ahead, statement_ahead, statement_form_ahead, arms_ahead, if_rev, expression_twice, expressions_twice, right_side_twice, value_twice, twice, statement_twice, statement_form_twice, arms_twice}
-use Rattle.rev_affine.proofs.Places.{scope_behind, typed_behind}
 use Rattle.rev_affine.proofs.Meaning.{kept, still_free}
 use Rattle.affine_check.specs.declared.fault.AffineFault.{AffineFault}
 use Rattle.affine_check.specs.declared.fault.AffineFault.TheVariants.{UsedTwice}
@@ -162,9 +162,6 @@ binds_free c result l l' (statement at line (fork w args)) n typed e = absurd e
 binds_free c result l l' (statement at line (join handle)) n typed e = absurd e
 binds_free c result l l' (statement at line (print items)) n typed e = absurd e
 binds_free c result l l' (statement at line (assert test)) n typed e = absurd e
-
-pub scope_of : (c : Names) (result : Option ValueKind) (x : Statement) (l l' : Locals) → StatementTyped c result l x l' → l' ≡ locals_after c l x
-scope_of c result x l l' typed = scope_behind c x l l' (typed_behind c result x l l' typed)
 
 module _ (last_place last_rank : ℕ) where
   abbrev pub twice_in : List ℕ → Bool
@@ -489,7 +486,7 @@ module _ (last_place last_rank : ℕ) where
       complete result l (statements x rest) K typed closed h =
           complete_both l x rest K (λ n b. closed n (binds_free c result l typed.0 x n typed.1 b))
           (λ i. complete_statement result l typed.0 x rest (λ n. ahead n rest (K n)) typed.1 (λ e n free. free_ahead n result typed.0 rest (K n) typed.2 (ap (λ m. find n m) e ∙ free.0, free.1) (closed n free)) i)
-          (λ i. complete result (locals_after c l x) rest K (subst (λ m. StatementsTyped c result m rest) (scope_of c result x l typed.0 typed.1) typed.2) (λ n free. closed n (scope_free c l x n free.0, free.1)) i)
+          (λ i. complete result (locals_after c l x) rest K (subst (λ m. StatementsTyped c result m rest) (statement_scope c result l typed.0 x typed.1) typed.2) (λ n free. closed n (scope_free c l x n free.0, free.1)) i)
           h
 
       complete_statement : (result : Option ValueKind) (l l' : Locals) (x : Statement) (rest : Statements) (K : Name → List ℕ) → StatementTyped c result l x l' → (l' ≡ l → Closed l K) → Holds (twice_in (statement_twice c l x K)) → SomeHandle l (λ n. follows_statement n x (K n)) ⊎ Holds (trails_of l true rest x)

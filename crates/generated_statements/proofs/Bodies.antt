@@ -11,6 +11,7 @@ use Rattle.rev_kinds.specs.Typing.{HasKind}
 use Rattle.rev_types.specs.Judgement.{RightSideHas, StatementTyped, StatementFormTyped, StatementsTyped, ArmsTyped}
 use Rattle.rev_types.specs.Limits.{StatementPrints, StatementFormPrints, StatementsPrint, ArmsPrint, statement_lets, statements_lets, arms_lets}
 use Rattle.rev_types.specs.Scopes.{locals_after}
+use Rattle.rev_types.proofs.Scopes.{right_side_is, statement_scope}
 use Rattle.rev_code.specs.declared.code.Instr.{Instr}
 use Rattle.rev_code.specs.declared.code.Instr.TheVariants as i
 use Rattle.rev_code.specs.declared.code.Code.{Code}
@@ -37,7 +38,7 @@ use Rattle.generated_certificate.proofs.Lengths.{expression_notes_length, expres
 use Rattle.generated_statements.proofs.StatementLengths.{right_side_notes_length, items_notes_length, leap_notes_length, statement_notes_length, statements_notes_length, arms_notes_length}
 use Rattle.generated_certificate.proofs.WordKinds.{kind_is}
 use Rattle.generated_certificate.proofs.Places.{if_false, jumps_on, jumps_back}
-use Rattle.generated_statements.proofs.Scopes.{right_kind, typed_locals, name_bound}
+use Rattle.generated_statements.proofs.Scopes.{name_bound}
 use Rattle.generated_statements.proofs.Pieces.{ReturnSmall, empty_fits, term_typed, term_kept, takes_one, into_local, stores, cell_stores, checks, charges, returned_kept, calls, forks_one, pops, dropped_kept, right_is, right_kept, items_kept, items_behind, prints}
 use Rattle.rev_kinds.proofs.Lists.{and_parts}
 
@@ -160,7 +161,7 @@ module _ (code : Code) (at_block : ℕ) (bl : CodeBlock) (n : Numbers) (c : Name
 
   form_next : (l : Locals) (scope : Scope) (form : StatementForm) (l' : Locals) (local : ℕ) → NamesMean code bl n c l scope → StatementFormTyped c result l form l' → HasItems bl.locals local (statement_form_kinds c l form) → NamesMean code bl n c l' (scope_after_form scope local form)
   form_next l scope (bind x r) l' local m ty kinds =
-      let here = kinds.0 ∙ ap (λ o. Some (kind_or_int o)) (right_kind c l r ty.1.0 ty.1.1) in
+      let here = kinds.0 ∙ ap (λ o. Some (kind_or_int o)) (right_side_is c l r ty.1.0 ty.1.1) in
       subst (λ z. NamesMean code bl n c z (added scope x.text local)) (sym ty.1.2) (name_bound code bl n c l scope x.text ty.1.0 local m ty.0.0 here)
   form_next l scope (assign x r) l' local m ty kinds = subst (λ z. NamesMean code bl n c z scope) (sym ty.1) m
   form_next l scope (assign_cell x index e) l' local m ty kinds = subst (λ z. NamesMean code bl n c z scope) (sym ty.1) m
@@ -194,7 +195,7 @@ module _ (code : Code) (at_block : ℕ) (bl : CodeBlock) (n : Numbers) (c : Name
         let size : ℕ = right_side_size r in
         let t : ValueKind = ty.1.0 in
         let has = ty.1.1 in
-        let is = kinds.0 ∙ ap (λ o. Some (kind_or_int o)) (right_kind c l r t has) in (
+        let is = kinds.0 ∙ ap (λ o. Some (kind_or_int o)) (right_side_is c l r t has) in (
           right_taken l scope m r t s.at (i.StoreLocal s.local) has (and_parts (name_formed x) (right_side_small r) sm).1 here there
               (λ below empty h note. into_local code at_block bl n c w bm ns (s.at + size) s.local t below empty is h note (next_at _ _ (let z : s.at + (size + 1) ≡ suc (s.at + size) = omega arith in z) next)),
           right_first l r (s.at) there,
@@ -348,7 +349,7 @@ module _ (code : Code) (at_block : ℕ) (bl : CodeBlock) (n : Numbers) (c : Name
         let size : ℕ = statement_size n x in
         let l2 : Locals = locals_after c l x in
         let smalls = and_parts (statement_small x) (statements_small rest) sm in
-        let same_locals : ty.0 ≡ l2 = typed_locals c result l ty.0 x ty.1 in
+        let same_locals : ty.0 ≡ l2 = statement_scope c result l ty.0 x ty.1 in
         let p = parts_stand bl.instrs (statement_code n scope x s) (statements_code n (scope_after scope s.local x) rest behind) s.at size (statement_length n scope x s) here in
         let q = parts_stand ns (statement_notes c n l x) (statements_notes c n l2 rest) s.at size (statement_notes_length c n l x) there in
         let ks = parts_stand bl.locals (statement_kinds c l x) (statements_kinds c l2 rest) s.local (statement_lets x) (statement_locals c l x) kinds in

@@ -1,36 +1,15 @@
--- What is in scope behind a statement.
-use Rattle.std.proofs.Common.{◌≡◌, ◌∙◌, ℕ, Bool, true, false, Option, Some, None, refl, sym, ap}
+-- What names mean where one more is in scope.
+use Rattle.std.proofs.Common.{◌≡◌, ◌∙◌, ℕ, Bool, true, false, Some, None, refl, sym, ap}
 use Rattle.std.specs.Prelude.{slice_get, if◌then◌else◌}
 use Rattle.rev_num.specs.declared.value.ValueKind.{ValueKind}
-use Rattle.rev_syntax.specs.Trees.{Statement, statement, StatementForm, bind, assign, assign_cell, choose, choose_or, repeat, call, return, fork, join, print, assert}
 use Rattle.merge_decl.specs.Names.{Name, same}
 use Rattle.merge_decl.specs.Table.{find, added}
 use Rattle.merge_decl.proofs.Tables.{same_equal, find-added, or_else, or_else-none}
 use Rattle.rev_kinds.specs.Kinds.{Names, Locals}
-use Rattle.rev_types.specs.Judgement.{StatementTyped, StatementFormTyped}
-use Rattle.rev_types.specs.Scopes.{locals_after, statement_form_locals}
 use Rattle.rev_code.specs.declared.code.Code.{Code}
 use Rattle.rev_code.specs.declared.code.CodeBlock.{CodeBlock}
 use Rattle.code_generation.specs.Numbers.{Numbers, Scope}
 use Rattle.generated_certificate.specs.Means.{NamesMean}
-pub use Rattle.rev_types.proofs.StatementsSound.{right_side_is as right_kind}
-
-form_locals : (c : Names) (result : Option ValueKind) (l l' : Locals) (form : StatementForm) → StatementFormTyped c result l form l' → l' ≡ statement_form_locals c l form
-form_locals c result l l' (bind w r) h = h.1.2 ∙ ap (λ z. added l w.text z) (sym (right_kind c l r h.1.0 h.1.1))
-form_locals c result l l' (assign w r) h = h.1
-form_locals c result l l' (assign_cell w index e) h = h.1
-form_locals c result l l' (choose arms) h = h.1
-form_locals c result l l' (choose_or arms last) h = h.1
-form_locals c result l l' (repeat test body) h = h.1
-form_locals c result l l' (call w args) h = h.1
-form_locals c result l l' (return e) h = h.1
-form_locals c result l l' (fork w args) h = h.1
-form_locals c result l l' (join e) h = h.1
-form_locals c result l l' (print items) h = h.1
-form_locals c result l l' (assert e) h = h.1
-
-pub typed_locals : (c : Names) (result : Option ValueKind) (l l' : Locals) (x : Statement) → StatementTyped c result l x l' → l' ≡ locals_after c l x
-typed_locals c result l l' (statement p line form) h = form_locals c result l l' form h
 
 -- with one name more
 pub name_bound : (code : Code) (b : CodeBlock) (n : Numbers) (c : Names) (l : Locals) (scope : Scope) (w : Name) (t : ValueKind) (i : ℕ) → NamesMean code b n c l scope → find w l ≡ None → slice_get b.locals i ≡ Some t → NamesMean code b n c (added l w (Some t)) (added scope w i)

@@ -8,10 +8,9 @@ use Rattle.merge_decl.specs.Least.{Among}
 use Rattle.merge_decl.specs.Names.{Name, same}
 use Rattle.merge_decl.specs.Table.{find, added}
 use Rattle.rev_syntax.proofs.Lists.{same-self}
-use Rattle.rev_kinds.specs.Kinds.{Names, Locals, right_side_kind, result_of}
-use Rattle.rev_kinds.proofs.Typings.{complete}
+use Rattle.rev_kinds.specs.Kinds.{Names, Locals}
 use Rattle.rev_types.specs.Scopes.{locals_after}
-use Rattle.rev_types.specs.Judgement.{RightSideHas}
+use Rattle.rev_types.proofs.Scopes.{right_side_is}
 use Rattle.rev_affine.specs.Live.{statement_passes, statement_form_passes, passes, arms_pass, or}
 use Rattle.rev_affine.proofs.Counts.{or_left, or_right}
 use Rattle.rev_affine.specs.Affine.{Occurrence, use_of, gets, expression_occurrences, expressions_occurrences, right_side_occurrences, value_occurrences, Turns, Through, StatementThrough, StatementFormThrough, ArmsThrough, Inside, StatementInside, StatementFormInside, ArmsInside, NoValue, rev_use, UsedTwice}
@@ -439,14 +438,8 @@ expression_single p l x h = by (expression_ends p l x [] (λ n. []) (λ n. []) (
     by (inr b) = ends_none p [] (λ n. []) refl b
 
 module _ (c : Names) where
-  pub right_side_is : (l : Locals) (r : RightSide) (t : ValueKind) → RightSideHas c l r t → right_side_kind c l r ≡ Some t
-  right_side_is l (plain e) t has = (complete c l e t has).1
-  right_side_is l (called at w args) t has = ap result_of has.1.0 ∙ has.2
-  right_side_is l (forked at w args) t has = ap Some (sym has.0)
-  right_side_is l (tried at handle) t has = ap Some (sym has.0)
-
   pub scope_is : (x : Statement) (l l' : Locals) (ms : List Occurrence) → StatementThrough c l x l' ms → l' ≡ locals_after c l x
-  scope_is (statement at line (bind w r)) l l' ms path = path.0.2 ∙ ap (λ o. added l w.text o) (sym (right_side_is l r path.0.0 path.0.1))
+  scope_is (statement at line (bind w r)) l l' ms path = path.0.2 ∙ ap (λ o. added l w.text o) (sym (right_side_is c l r path.0.0 path.0.1))
   scope_is (statement at line (assign w r)) l l' ms path = path.0
   scope_is (statement at line (assign_cell w index e)) l l' ms path = path.0
   scope_is (statement at line (choose arms)) l l' ms path = path.0

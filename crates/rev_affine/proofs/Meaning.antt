@@ -12,10 +12,10 @@ use Rattle.rev_kinds.specs.Kinds.{Names, Locals}
 use Rattle.rev_kinds.specs.Typing.{HasKind, ScalarHas, ArgsHave}
 use Rattle.rev_types.specs.Judgement.{RightSideHas, ReturnTyped, StatementTyped, StatementFormTyped, StatementsTyped, ArmsTyped, DeclarationsTyped, ProgramTyped}
 use Rattle.rev_types.specs.Scopes.{outside, within, with_params}
+use Rattle.rev_types.proofs.Scopes.{statement_scope}
 use Rattle.rev_affine.specs.Affine.{Occurrence, use_of, gets, expression_occurrences, expressions_occurrences, right_side_occurrences, value_occurrences, Turns, Through, StatementThrough, StatementFormThrough, ArmsThrough, Inside, StatementInside, StatementFormInside, ArmsInside, NoValue, rev_use}
 use Rattle.rev_affine.specs.Laws.{MeansHandle, DeclarationsMeanHandles, SecondUsesMeanHandles}
 use Rattle.rev_affine.proofs.Exact.{LeftAt, left_split, right_side_none, scope_is}
-use Rattle.rev_affine.proofs.Places.{scope_behind, typed_behind}
 
 -- ---- lists
 
@@ -116,7 +116,7 @@ module _ (c : Names) where
   typed_on : (x : Statement) (rest : Statements) (result : Option ValueKind) (l : Locals) → StatementsTyped c result l (statements x rest) → (l' : Locals) (ms : List Occurrence) → StatementThrough c l x l' ms
       → StatementTyped c result l x l' × StatementsTyped c result l' rest
   typed_on x rest result l typed l' ms path =
-      let e : typed.0 ≡ l' = scope_behind c x l typed.0 (typed_behind c result x l typed.0 typed.1) ∙ sym (scope_is c x l l' ms path) in
+      let e : typed.0 ≡ l' = statement_scope c result l typed.0 x typed.1 ∙ sym (scope_is c x l l' ms path) in
       (subst (λ m. StatementTyped c result l x m) e typed.1, subst (λ m. StatementsTyped c result m rest) e typed.2)
 
   -- ---- what a statement uses

@@ -10,6 +10,7 @@ pub mod Named
 pub mod Namings
 pub mod OwnLimits
 pub mod Returning
+pub mod Scopes
 pub mod StatementsFaults
 pub mod StatementsSound
 pub mod StatementsWithin

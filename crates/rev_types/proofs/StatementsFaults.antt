@@ -1,18 +1,18 @@
 -- What holds of the limits that a typed statement breaks holds of all that it breaks.
-use Rattle.std.proofs.Common.{◌≡◌, ◌∙◌, inl, inr, ℕ, ◌-◌, Bool, true, false, cond, nat_eq, Option, Some, None, List, [], ◌∷◌, ◌++◌, refl, sym, ap, subst, length}
+use Rattle.std.proofs.Common.{◌≡◌, ◌∙◌, inl, inr, ℕ, ◌-◌, Bool, true, false, cond, nat_eq, Option, Some, None, List, [], ◌∷◌, ◌++◌, refl, ap, subst, length}
 use Rattle.rev_num.specs.declared.value.ValueKind.{ValueKind}
 use Rattle.rev_num.specs.declared.value.ValueKind.TheVariants as k
 use Rattle.rev_syntax.specs.Trees.{PlacedName, Expression, Expressions, RightSide, plain, called, forked, tried, PrintItem, text, shown, Statement, statement, StatementForm, bind, assign, assign_cell, choose, choose_or, repeat, call, return, fork, join, print, assert, Statements, no_statements, statements, Arms, no_arms, arm}
 use Rattle.merge_decl.specs.FunRules.{count}
 use Rattle.merge_decl.specs.Least.{Among}
-use Rattle.merge_decl.specs.Table.{find, added}
+use Rattle.merge_decl.specs.Table.{find}
 use Rattle.rev_report.specs.declared.limit.Limit.{Limit}
 use Rattle.rev_report.specs.declared.limit.Limit.TheVariants as limits
 use Rattle.rev_kinds.specs.declared.fault.TypeFault.{TypeFault}
 use Rattle.rev_kinds.specs.declared.names.Holder.{Holder}
 use Rattle.rev_report.specs.Limits.{first_past}
 use Rattle.rev_kinds.specs.Faults.{exceeded}
-use Rattle.rev_kinds.specs.Kinds.{Callee, Names, Locals, name_kind, result_of, kind_in, right_side_kind, right_side_place, expression_place, item_place}
+use Rattle.rev_kinds.specs.Kinds.{Callee, Names, Locals, name_kind, kind_in, right_side_kind, right_side_place, expression_place, item_place}
 use Rattle.rev_kinds.specs.Rules as r
 use Rattle.rev_kinds.specs.Typing.{HasKind}
 use Rattle.rev_kinds.proofs.Lists.{whole, passes, equal, is_equal}
@@ -20,6 +20,7 @@ use Rattle.rev_kinds.proofs.Typings.{All, one, app, wants_nothing, handle_not, a
 use Rattle.rev_types.specs.Statements as s
 use Rattle.rev_types.specs.Scopes as scopes
 use Rattle.rev_types.specs.Judgement.{CallTyped, RightSideHas, ItemTyped, ItemsTyped, ReturnTyped, StatementTyped, StatementFormTyped, StatementsTyped, ArmsTyped}
+use Rattle.rev_types.proofs.Scopes.{right_side_is, statement_scope}
 
 -- ---- expressions and right sides
 
@@ -34,16 +35,14 @@ call_nothing c l w args p h =
     (ap (λ o. r.callee_use [] one app w (count args) o) h.0 ∙ passes (nat_eq (count args) (length p.params)) _ (is_equal (count args) (length p.params) h.1))
     (ap (λ o. r.args_by [] one app c l (r.params_of [] one app o) 0 [] args) h.0 ∙ args_complete c l p.params 0 [] args refl h.2)
 
-right_side_complete : (c : Names) (l : Locals) (x : RightSide) (t : ValueKind) → RightSideHas c l x t → (r.broken_in_right_side [] one app c l x ≡ []) × (right_side_kind c l x ≡ Some t)
-right_side_complete c l (plain e) t h = complete c l e t h
-right_side_complete c l (called at w args) t h = (
-  whole _ _
-      (ap (λ o. r.result_use [] one app w.at o) h.1.0 ∙ ap (λ o. r.has_result [] one app w.at o) h.2)
-      (call_nothing c l w args h.0 h.1),
-  ap result_of h.1.0 ∙ h.2,
-)
-right_side_complete c l (forked at w args) t h = (call_nothing c l w args h.1.0 h.1.1, ap Some (sym h.0))
-right_side_complete c l (tried at e) t h = (part_nothing c l e k.Rev h.1, ap Some (sym h.0))
+right_side_nothing : (c : Names) (l : Locals) (x : RightSide) (t : ValueKind) → RightSideHas c l x t → r.broken_in_right_side [] one app c l x ≡ []
+right_side_nothing c l (plain e) t h = (complete c l e t h).0
+right_side_nothing c l (called at w args) t h =
+    whole _ _
+    (ap (λ o. r.result_use [] one app w.at o) h.1.0 ∙ ap (λ o. r.has_result [] one app w.at o) h.2)
+    (call_nothing c l w args h.0 h.1)
+right_side_nothing c l (forked at w args) t h = call_nothing c l w args h.1.0 h.1.1
+right_side_nothing c l (tried at e) t h = part_nothing c l e k.Rev h.1
 
 -- ---- statements that break no limit themselves
 
@@ -59,32 +58,13 @@ return_nothing c l (Some t) at (Some e) h = part_nothing c l e t h
 assign_nothing : (c : Names) (l : Locals) (w : PlacedName) (x : RightSide) (l' : Locals) → StatementFormTyped c None l (assign w x) l' → s.assign_by [] one app c l w x ≡ []
 assign_nothing c l w x l' h =
     let name = scalar_complete w (find w.text l) (c.shared w.text) h.0.0 h.0.1 in
-    let value = right_side_complete c l x h.0.0 h.0.2 in
-    whole _ _ name.0 (whole _ _ value.0 (alike_nothing (right_side_place x) (name_kind (find w.text l) (c.shared w.text)) (right_side_kind c l x) h.0.0 name.1 value.1))
+    whole _ _ name.0 (whole _ _ (right_side_nothing c l x h.0.0 h.0.2) (alike_nothing (right_side_place x) (name_kind (find w.text l) (c.shared w.text)) (right_side_kind c l x) h.0.0 name.1 (right_side_is c l x h.0.0 h.0.2)))
 
 cell_nothing : (c : Names) (l : Locals) (w : PlacedName) (index e : Expression) (l' : Locals) → StatementFormTyped c None l (assign_cell w index e) l' → s.cell_by [] one app c l w index e ≡ []
 cell_nothing c l w index e l' h =
     let name = array_complete w (find w.text l) (c.shared w.text) h.0.0 h.0.1 in
     let value = complete c l e h.0.0 h.0.3 in
     whole _ _ name.0 (whole _ _ (part_nothing c l index k.Int h.0.2) (whole _ _ value.0 (alike_nothing (expression_place e) (name_kind (find w.text l) (c.shared w.text)) (kind_in c l e) h.0.0 name.1 value.1)))
-
--- the locals in scope behind a typed statement are those that the rules give
-statement_form_scope : (c : Names) (result : Option ValueKind) (l : Locals) (x : StatementForm) (l' : Locals) → StatementFormTyped c result l x l' → scopes.statement_form_locals c l x ≡ l'
-statement_form_scope c result l (bind w x) l' h = ap (λ o. added l w.text o) (right_side_complete c l x h.1.0 h.1.1).1 ∙ sym h.1.2
-statement_form_scope c result l (assign w x) l' h = sym h.1
-statement_form_scope c result l (assign_cell w index e) l' h = sym h.1
-statement_form_scope c result l (choose arms) l' h = sym h.1
-statement_form_scope c result l (choose_or arms last) l' h = sym h.1
-statement_form_scope c result l (repeat test body) l' h = sym h.1
-statement_form_scope c result l (call w args) l' h = sym h.1
-statement_form_scope c result l (return e) l' h = sym h.1
-statement_form_scope c result l (fork w args) l' h = sym h.1
-statement_form_scope c result l (join e) l' h = sym h.1
-statement_form_scope c result l (print items) l' h = sym h.1
-statement_form_scope c result l (assert e) l' h = sym h.1
-
-statement_scope : (c : Names) (result : Option ValueKind) (l : Locals) (x : Statement) (l' : Locals) → StatementTyped c result l x l' → scopes.locals_after c l x ≡ l'
-statement_scope c result l (statement at line form) l' h = statement_form_scope c result l form l' h
 
 -- ---- all that a statement breaks
 
@@ -158,7 +138,7 @@ module _ (P : TypeFault → Type 0) where
   bind_faults : (c : Names) (l : Locals) (left : ℕ) (w : PlacedName) (x : RightSide) (l' : Locals) → StatementFormTyped c None l (bind w x) l' → (left ≡ 1 → P (exceeded w.at limits.Locals))
       → AllAre (s.bind_by [] one app c l left w x)
   bind_faults c l left w x l' h g =
-      all_both _ _ (all_of _ (right_side_complete c l x h.1.0 h.1.1).0)
+      all_both _ _ (all_of _ (right_side_nothing c l x h.1.0 h.1.1))
       (all_both _ _ (all_of _ (new_nothing w (find w.text l) (c.shared w.text) h.0.0 h.0.1)) (all_at left (exceeded w.at limits.Locals) g))
 
   mutual
@@ -186,7 +166,7 @@ module _ (P : TypeFault → Type 0) where
     statements_faults c result l left found no_statements a h g = a
     statements_faults c result l left found (statements x rest) a h g =
         statements_faults c result (scopes.locals_after c l x) (s.left_after left x) _ rest (all_both _ _ a (statement_faults c result l left x h.0 h.1 g.0))
-        (subst (λ m. StatementsTyped c result m rest) (sym (statement_scope c result l x h.0 h.1)) h.2) g.1
+        (subst (λ m. StatementsTyped c result m rest) (statement_scope c result l h.0 x h.1) h.2) g.1
 
     arms_faults : (c : Names) (result : Option ValueKind) (l : Locals) (left : ℕ) (found : All) (xs : Arms) → AllAre found → ArmsTyped c result l xs → ArmsHold left xs
         → AllAre (s.broken_in_arms [] one app c result l left found xs)

@@ -18,7 +18,7 @@ use Rattle.rev_kinds.specs.Rules as r
 use Rattle.rev_kinds.specs.Typing.{HasKind}
 use Rattle.rev_kinds.specs.Laws.{AllKinded, IsKnown}
 use Rattle.rev_kinds.proofs.Lists.{parts, held, and_parts, equal}
-use Rattle.rev_kinds.proofs.Typings.{All, one, app, no_handle, alike_is, scalar_sound, array_sound, args_sound, has_wanted, sound, complete, Kinded}
+use Rattle.rev_kinds.proofs.Typings.{All, one, app, no_handle, alike_is, scalar_sound, array_sound, args_sound, has_wanted, sound, Kinded}
 use Rattle.rev_types.specs.Statements as s
 use Rattle.rev_types.specs.Scopes as scopes
 use Rattle.rev_types.specs.Judgement.{CallTyped, RightSideHas, ItemTyped, ItemsTyped, ReturnTyped, StatementTyped, StatementFormTyped, StatementsTyped, ArmsTyped}
@@ -210,10 +210,3 @@ module _ (named : Name → Option FunHead) (c : Names) (known : (name : Name) (h
         let here = parts found _ more.0 in
         let both = parts (r.part_by [] one app c l test k.Bool) _ here.1 in
         (here.0, (part_typed l test k.Bool a vs.0 gs.0 both.0, statements_typed result l left [] body a vs.1 gs.1 both.1, more.1))
-
--- the kind of what a right side gives
-pub right_side_is : (c : Names) (l : Locals) (r : RightSide) (t : ValueKind) → RightSideHas c l r t → right_side_kind c l r ≡ Some t
-right_side_is c l (plain e) t h = (complete c l e t h).1
-right_side_is c l (called at w args) t h = ap result_of h.1.0 ∙ h.2
-right_side_is c l (forked at w args) t h = ap Some (sym h.0)
-right_side_is c l (tried at handle) t h = ap Some (sym h.0)

@@ -11,6 +11,7 @@ use Rattle.rev_kinds.proofs.Lists.{and_parts}
 use Rattle.rev_types.specs.Judgement.{ArmsTyped}
 use Rattle.rev_types.specs.Limits.{statement_lets, statements_lets}
 use Rattle.rev_types.specs.Scopes.{locals_after}
+use Rattle.rev_types.proofs.Scopes.{statement_scope}
 use Rattle.revision_calculus.specs.Program.{Setting}
 use Rattle.revision_calculus.specs.Kinded.{names}
 use Rattle.revision_calculus.specs.Step.{append}
@@ -26,7 +27,7 @@ use Rattle.code_generation.specs.Stands.{HasAt, HasItems}
 use Rattle.code_generation.proofs.Standing.{parts_stand, around_stands}
 use Rattle.code_generation.proofs.Lengths.{around, two, leap_length, expression_length, statement_length, statements_length, statements_locals, statements_prints_length, statement_locals, statement_prints_length}
 use Rattle.statement_places.specs.Places.{Tables, IsWithin, AreNames, StatementStands, BlockStands, Leads, LeadsTo, EndAt, Follows}
-use Rattle.statement_places.proofs.Parts.{after_is, within_self, within_trans, statement_within, names_later, names_after}
+use Rattle.statement_places.proofs.Parts.{within_self, within_trans, statement_within, names_later, names_after}
 
 module _ (s : Setting) (g : Tables) (b : CodeBlock) where
   -- ---- the first statement of a block, and the others
@@ -39,7 +40,7 @@ module _ (s : Setting) (g : Tables) (b : CodeBlock) where
   pub split : (scope : Scope) (l : Locals) (sp : Spot) (text : ℕ) (x : Statement) (xs : Statements) → BlockStands s g b scope l sp text (statements x xs) → Split scope l sp text x xs
   split scope l sp text x xs st =
       let after : Locals = st.typed.0 in
-      let is = after_is (names s) b.result l x after st.typed.1 in
+      let is = sym (statement_scope (names s) b.result l after x st.typed.1) in
       let small = and_parts (statement_small x) (statements_small xs) st.small in
       let code = parts_stand b.instrs (statement_code g.numbers scope x sp) (statements_code g.numbers (scope_after scope sp.local x) xs (behind_statement g.numbers sp x)) sp.at (statement_size g.numbers x) (statement_length g.numbers scope x sp) st.code in
       let kinds = parts_stand b.locals (statement_kinds (names s) l x) (statements_kinds (names s) (locals_after (names s) l x) xs) sp.local (statement_lets x) (statement_locals (names s) l x) st.kinds in

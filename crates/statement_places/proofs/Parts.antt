@@ -9,29 +9,11 @@ use Rattle.merge_decl.proofs.Tables.{same_equal, or_else, or_else-none, find-add
 use Rattle.rev_kinds.specs.Kinds.{Names, Locals}
 use Rattle.rev_types.specs.Judgement.{StatementTyped}
 use Rattle.rev_types.specs.Limits.{statement_lets}
-use Rattle.rev_types.specs.Scopes.{locals_after}
+use Rattle.rev_types.proofs.Scopes.{right_side_is}
 use Rattle.code_generation.specs.Numbers.{Scope, scope_after}
 use Rattle.code_generation.specs.Prints.{statement_kinds}
 use Rattle.code_generation.specs.Stands.{HasItems}
 use Rattle.statement_places.specs.Places.{IsWithin, AreNames}
-pub use Rattle.rev_types.proofs.StatementsSound.{right_side_is}
-
--- ---- kinds
-
--- what is in scope behind a statement by its type, and by its form
-pub after_is : (c : Names) (result : Option ValueKind) (l : Locals) (x : Statement) (after : Locals) → StatementTyped c result l x after → locals_after c l x ≡ after
-after_is c result l (statement at line (bind w r)) after h = ap (λ o. added l w.text o) (right_side_is c l r h.1.0 h.1.1) ∙ sym h.1.2
-after_is c result l (statement at line (assign w r)) after h = sym h.1
-after_is c result l (statement at line (assign_cell w i e)) after h = sym h.1
-after_is c result l (statement at line (choose arms)) after h = sym h.1
-after_is c result l (statement at line (choose_or arms last)) after h = sym h.1
-after_is c result l (statement at line (repeat test body)) after h = sym h.1
-after_is c result l (statement at line (call w args)) after h = sym h.1
-after_is c result l (statement at line (return e)) after h = sym h.1
-after_is c result l (statement at line (fork w args)) after h = sym h.1
-after_is c result l (statement at line (join e)) after h = sym h.1
-after_is c result l (statement at line (print items)) after h = sym h.1
-after_is c result l (statement at line (assert e)) after h = sym h.1
 
 -- ---- scopes
 

@@ -21,6 +21,7 @@ use Rattle.rev_kinds.proofs.Lists.{and_parts}
 use Rattle.rev_types.specs.Layout.{SharedVariable, variables}
 use Rattle.rev_types.specs.Judgement.{CallTyped, RightSideHas, Returns}
 use Rattle.rev_types.proofs.Applying.{small_formed}
+use Rattle.rev_types.proofs.Scopes.{right_side_is}
 use Rattle.rev_syntax.proofs.Lists.{same-self}
 use Rattle.merge_decl.proofs.Tables.{or_else, find-added}
 use Rattle.revision_machine.specs.Machine.{Event, Moves}
@@ -56,7 +57,7 @@ use Rattle.code_generation.specs.Statements.{Spot, right_side_code, store}
 use Rattle.code_generation.specs.Generated.{var_of}
 use Rattle.code_generation.proofs.Lengths.{around, expression_length, expressions_length, right_side_length}
 use Rattle.statement_places.proofs.Locals.{locals_let, locals_wait, written_there}
-use Rattle.statement_places.proofs.Parts.{right_side_is, names_none, names_after}
+use Rattle.statement_places.proofs.Parts.{names_none, names_after}
 use Rattle.statement_run.proofs.Calls.{Comes_to, moved, did_on, trap, after_value, after_then, after_all, gave, joined}
 use Rattle.statement_run.proofs.Calls as runs
 use Rattle.rev_code.proofs.SameKinds.{same_kind_self}
