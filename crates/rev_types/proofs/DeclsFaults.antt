@@ -22,7 +22,7 @@ use Rattle.rev_types.specs.Statements as s
 use Rattle.rev_types.specs.Scopes as scopes
 use Rattle.rev_types.specs.Program as p
 use Rattle.rev_types.specs.Judgement.{name_of, IsNewName, ParamsNew, FunTyped, MergeTyped, SharedTyped, ProcTyped, IsMergeOf, ByTyped, SizeTyped, FirstTyped, Returns, DeclarationTyped, DeclarationsTyped, ProgramTyped}
-use Rattle.rev_types.proofs.StatementsFaults.{AllAre, all_none, all_both, all_of, all_when, all_at, part_nothing, new_nothing, StatementsHold, statements_faults, statements_hold}
+use Rattle.rev_types.proofs.StatementsFaults.{AllAre, all_none, all_both, all_of, all_when, all_at, part_nothing, new_nothing, ListHolds, StatementsHold, statements_faults, list_holds, statements_hold}
 use Rattle.rev_types.proofs.Returning.{ends_return}
 
 -- ---- what the tables of earlier declarations do not know
@@ -117,33 +117,30 @@ returns_nothing w (Some t) body h = passes (s.returns body) _ (ends_return body 
 
 -- ---- all that a declaration breaks
 
+abbrev pub param_place : Parameter → ℕ
+param_place b = b.name.at
+
 module _ (P : TypeFault → Type 0) where
+  -- it holds of the limit where parameters break it, which count as locals too
+  abbrev ParamsHold : Limit → ℕ → List Parameter → Type 0
+  ParamsHold what left ps = ListHolds P what param_place left ps
+
   -- it holds of each limit that a declaration breaks, behind these
-
-  abbrev pub ParamsHold : ℕ → List Parameter → Type 0
-  ParamsHold left [] = Unit {0}
-  ParamsHold left (b ∷ ps) = (left ≡ 1 → P (exceeded b.name.at limits.Parameters)) × ParamsHold (left - 1) ps
-
-  -- parameters that count as locals
-  abbrev pub LocalsHold : ℕ → List Parameter → Type 0
-  LocalsHold left [] = Unit {0}
-  LocalsHold left (b ∷ ps) = (left ≡ 1 → P (exceeded b.name.at limits.Locals)) × LocalsHold (left - 1) ps
-
   abbrev pub DeclarationHolds : p.Passed → Declaration → Type 0
   DeclarationHolds q (fun w ps x body) =
-      (q.funs_left ≡ 1 → P (exceeded w.at limits.Funs)) × ParamsHold (first_past limits.Parameters) ps × (nat_lt (most limits.Weight) (p.weight q.weights body) ≡ true → P (exceeded w.at limits.Weight))
+      (q.funs_left ≡ 1 → P (exceeded w.at limits.Funs)) × ParamsHold limits.Parameters (first_past limits.Parameters) ps × (nat_lt (most limits.Weight) (p.weight q.weights body) ≡ true → P (exceeded w.at limits.Weight))
   DeclarationHolds q (merge w m j x body) =
       (q.funs_left ≡ 1 → P (exceeded w.at limits.Funs)) × (nat_lt (most limits.Weight) (p.weight q.weights body) ≡ true → P (exceeded w.at limits.Weight))
   DeclarationHolds q (shared x) =
       nat_le q.located (most limits.Locations) ≡ true → nat_lt (most limits.Locations) (p.located_after q.located (p.cells_in x.size)) ≡ true → P (exceeded x.name.at limits.Locations)
   DeclarationHolds q (proc w ps x body) =
-      (q.procs_left ≡ 1 → P (exceeded w.at limits.Procedures)) × ParamsHold (first_past limits.Parameters) ps × LocalsHold (first_past limits.Locals) ps × StatementsHold P (p.left_params (first_past limits.Locals) ps) body
+      (q.procs_left ≡ 1 → P (exceeded w.at limits.Procedures)) × ParamsHold limits.Parameters (first_past limits.Parameters) ps × ParamsHold limits.Locals (first_past limits.Locals) ps × StatementsHold P (p.left_params (first_past limits.Locals) ps) body
 
   abbrev pub DeclarationsHold : p.Passed → List Declaration → Type 0
   DeclarationsHold q [] = Unit {0}
   DeclarationsHold q (e ∷ es) = DeclarationHolds q e × DeclarationsHold (p.passed_with q e) es
 
-  fun_params : (c : Names) (l : Locals) (left : ℕ) (found : All) (ps : List Parameter) → AllAre P found → ParamsNew c l ps → ((b : Parameter) → Among ps b → b.kind ≢ k.Rev) → ParamsHold left ps
+  fun_params : (c : Names) (l : Locals) (left : ℕ) (found : All) (ps : List Parameter) → AllAre P found → ParamsNew c l ps → ((b : Parameter) → Among ps b → b.kind ≢ k.Rev) → ParamsHold limits.Parameters left ps
       → AllAre P (p.fun_params [] one app l left found ps)
   fun_params c l left found [] a h g v = a
   fun_params c l left found (b ∷ ps) a h g v =
@@ -153,7 +150,7 @@ module _ (P : TypeFault → Type 0) where
       (all_both P _ _ (all_of P _ (stops (same_kind b.kind k.Rev) _ (no_handle_kind b.kind (g b (inl refl))))) (all_at P left (exceeded b.name.at limits.Parameters) v.0)))) h.1
       (λ x m. g x (inr m)) v.1
 
-  proc_params : (c : Names) (l : Locals) (left locals : ℕ) (found : All) (ps : List Parameter) → AllAre P found → ParamsNew c l ps → ParamsHold left ps → LocalsHold locals ps
+  proc_params : (c : Names) (l : Locals) (left locals : ℕ) (found : All) (ps : List Parameter) → AllAre P found → ParamsNew c l ps → ParamsHold limits.Parameters left ps → ParamsHold limits.Locals locals ps
       → AllAre P (p.proc_params [] one app c l left locals found ps)
   proc_params c l left locals found [] a h v u = a
   proc_params c l left locals found (b ∷ ps) a h v u =
@@ -225,19 +222,14 @@ module _ (P : TypeFault → Type 0) where
 
   -- where it holds of every limit
   module _ (every : (at : ℕ) (what : Limit) → P (exceeded at what)) where
-    params_hold : (left : ℕ) (ps : List Parameter) → ParamsHold left ps
-    params_hold left [] = tt
-    params_hold left (b ∷ ps) = (λ e. every b.name.at limits.Parameters, params_hold (left - 1) ps)
-
-    locals_hold : (left : ℕ) (ps : List Parameter) → LocalsHold left ps
-    locals_hold left [] = tt
-    locals_hold left (b ∷ ps) = (λ e. every b.name.at limits.Locals, locals_hold (left - 1) ps)
+    params_hold : (what : Limit) (left : ℕ) (ps : List Parameter) → ParamsHold what left ps
+    params_hold what left ps = list_holds P every what param_place left ps
 
     declaration_holds : (q : p.Passed) (e : Declaration) → DeclarationHolds q e
-    declaration_holds q (fun w ps x body) = (λ e. every w.at limits.Funs, params_hold (first_past limits.Parameters) ps, λ e. every w.at limits.Weight)
+    declaration_holds q (fun w ps x body) = (λ e. every w.at limits.Funs, params_hold limits.Parameters (first_past limits.Parameters) ps, λ e. every w.at limits.Weight)
     declaration_holds q (merge w m j x body) = (λ e. every w.at limits.Funs, λ e. every w.at limits.Weight)
     declaration_holds q (shared x) = λ e g. every x.name.at limits.Locations
-    declaration_holds q (proc w ps x body) = (λ e. every w.at limits.Procedures, params_hold (first_past limits.Parameters) ps, locals_hold (first_past limits.Locals) ps, statements_hold P every (p.left_params (first_past limits.Locals) ps) body)
+    declaration_holds q (proc w ps x body) = (λ e. every w.at limits.Procedures, params_hold limits.Parameters (first_past limits.Parameters) ps, params_hold limits.Locals (first_past limits.Locals) ps, statements_hold P every (p.left_params (first_past limits.Locals) ps) body)
 
     declarations_hold : (q : p.Passed) (es : List Declaration) → DeclarationsHold q es
     declarations_hold q [] = tt

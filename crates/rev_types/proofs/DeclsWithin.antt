@@ -16,9 +16,9 @@ use Rattle.rev_types.specs.Scopes as scopes
 use Rattle.rev_types.specs.Program as p
 use Rattle.merge_decl.specs.Weights.{expression_weight, weights_with}
 use Rattle.rev_types.specs.Limits.{statements_lets, cells, procs, funs, DeclarationWithin, DeclarationsWithin, IsWithinLimits}
-use Rattle.rev_types.proofs.DeclsFaults.{ParamsHold, LocalsHold, DeclarationsHold, program_faults}
+use Rattle.rev_types.proofs.DeclsFaults.{param_place, DeclarationsHold, program_faults}
 use Rattle.rev_types.proofs.StatementsFaults.{AllAre}
-use Rattle.rev_types.proofs.StatementsWithin.{Never, more_left, statements_never, statements_within, not_last, one_less, one_more}
+use Rattle.rev_types.proofs.StatementsWithin.{Never, list_never, statements_never, statements_within, not_last, one_less, one_more}
 use Rattle.rev_types.proofs.Weights.{Caps, none_caps, added_caps, expression_caps}
 
 -- ---- parameters
@@ -44,20 +44,6 @@ proc_params c l left locals found (b ∷ ps) h =
 pub params_left : (n : ℕ) (ps : List Parameter) → p.left_params n ps ≡ n - length ps
 params_left n [] = omega arith
 params_left n (b ∷ ps) = params_left (n - 1) ps ∙ (let e : n - 1 - length ps ≡ n - (length ps + 1) = omega arith in e ∙ (omega arith))
-
-params_never : (left : ℕ) (ps : List Parameter) → length ps < left → ParamsHold Never left ps
-params_never left [] h = tt
-params_never left (b ∷ ps) h = (
-  λ e. more_left (length ps) left (let g : length ps + 1 < left = omega arith in g) e,
-  params_never (left - 1) ps (let g : length ps < left - 1 = omega arith in g),
-)
-
-locals_never : (left : ℕ) (ps : List Parameter) → length ps < left → LocalsHold Never left ps
-locals_never left [] h = tt
-locals_never left (b ∷ ps) h = (
-  λ e. more_left (length ps) left (let g : length ps + 1 < left = omega arith in g) e,
-  locals_never (left - 1) ps (let g : length ps < left - 1 = omega arith in g),
-)
 
 -- ---- weights
 
@@ -198,7 +184,7 @@ declarations_never q ws c [] a room h = tt
 declarations_never q ws c (fun w ps x body ∷ es) a room h = (
   (
     λ e. last_never (funs es) q.funs_left room.funs_fit e,
-    params_never (first_past limits.Parameters) ps (let g = h.0.0 in omega arith),
+    list_never limits.Parameters param_place (first_past limits.Parameters) ps (let g = h.0.0 in omega arith),
     λ t. weight_never (expression_weight ws body) (p.weight q.weights body) (expression_caps ws q.weights a body) h.0.1 t,
   ),
   declarations_never (p.passed_with q (fun w ps x body)) (weights_with ws (fun w ps x body)) c es (weights_cap q ws (fun w ps x body) a) (record {
@@ -233,8 +219,8 @@ declarations_never q ws c (shared x ∷ es) a room h = (
 declarations_never q ws c (proc w ps x body ∷ es) a room h = (
   (
     λ e. last_never (procs es) q.procs_left room.procs_fit e,
-    params_never (first_past limits.Parameters) ps (let g = h.0.0 in omega arith),
-    locals_never (first_past limits.Locals) ps (let g = h.0.0 in omega arith),
+    list_never limits.Parameters param_place (first_past limits.Parameters) ps (let g = h.0.0 in omega arith),
+    list_never limits.Locals param_place (first_past limits.Locals) ps (let g = h.0.0 in omega arith),
     statements_never (p.left_params (first_past limits.Locals) ps) body (let g = h.0.1.0 in let e = params_left (first_past limits.Locals) ps in omega arith) h.0.1.1,
   ),
   declarations_never (p.passed_with q (proc w ps x body)) ws c es a (record {

@@ -92,12 +92,12 @@ module _ (P : TypeFault → Type 0) where
   pub all_at : (left : ℕ) (g : TypeFault) → (left ≡ 1 → P g) → AllAre (cond (nat_eq left 1) (g ∷ []) [])
   all_at left g h = all_when (nat_eq left 1) g (λ e. h (equal left 1 e))
 
+  -- it holds of the limit where a list breaks it, of which this many are left
+  abbrev pub ListHolds : {A : Type 0} → Limit → (A → ℕ) → ℕ → List A → Type 0
+  ListHolds what place left [] = Unit {0}
+  ListHolds what place left (x ∷ xs) = (left ≡ 1 → P (exceeded (place x) what)) × ListHolds what place (left - 1) xs
+
   -- it holds of each limit that a statement breaks, where this many locals are left
-
-  abbrev pub ItemsHold : ℕ → List PrintItem → Type 0
-  ItemsHold left [] = Unit {0}
-  ItemsHold left (x ∷ xs) = (left ≡ 1 → P (exceeded (item_place x) limits.Items)) × ItemsHold (left - 1) xs
-
   abbrev mutual
     pub StatementHolds : ℕ → Statement → Type 0
     StatementHolds left (statement at line form) = StatementFormHolds left form
@@ -107,7 +107,7 @@ module _ (P : TypeFault → Type 0) where
     StatementFormHolds left (choose arms) = ArmsHold left arms
     StatementFormHolds left (choose_or arms last) = ArmsHold left arms × StatementsHold (s.left_arms left arms) last
     StatementFormHolds left (repeat test body) = StatementsHold left body
-    StatementFormHolds left (print items) = ItemsHold (first_past limits.Items) items
+    StatementFormHolds left (print items) = ListHolds limits.Items item_place (first_past limits.Items) items
     StatementFormHolds left (assign w x) = Unit {0}
     StatementFormHolds left (assign_cell w index e) = Unit {0}
     StatementFormHolds left (call w args) = Unit {0}
@@ -131,7 +131,7 @@ module _ (P : TypeFault → Type 0) where
       let handle = ap (λ o. r.not_rev [] one app (expression_place e) o) both.1 ∙ handle_not (expression_place e) h.0 h.2 in
       all_both _ _ (all_of _ (whole _ _ both.0 handle)) (all_at left (exceeded (expression_place e) limits.Items) g)
 
-  items_faults : (c : Names) (l : Locals) (left : ℕ) (found : All) (xs : List PrintItem) → AllAre found → ItemsTyped c l xs → ItemsHold left xs → AllAre (s.items_by [] one app c l left found xs)
+  items_faults : (c : Names) (l : Locals) (left : ℕ) (found : All) (xs : List PrintItem) → AllAre found → ItemsTyped c l xs → ListHolds limits.Items item_place left xs → AllAre (s.items_by [] one app c l left found xs)
   items_faults c l left found [] a h g = a
   items_faults c l left found (x ∷ xs) a h g = items_faults c l (left - 1) _ xs (all_both _ _ a (item_faults c l left x h.0 g.0)) h.1 g.1
 
@@ -177,9 +177,9 @@ module _ (P : TypeFault → Type 0) where
 
   -- where it holds of every limit
   module _ (every : (at : ℕ) (what : Limit) → P (exceeded at what)) where
-    items_hold : (left : ℕ) (xs : List PrintItem) → ItemsHold left xs
-    items_hold left [] = tt
-    items_hold left (x ∷ xs) = (λ e. every (item_place x) limits.Items, items_hold (left - 1) xs)
+    pub list_holds : {A : Type 0} (what : Limit) (place : A → ℕ) (left : ℕ) (xs : List A) → ListHolds what place left xs
+    list_holds what place left [] = tt
+    list_holds what place left (x ∷ xs) = (λ e. every (place x) what, list_holds what place (left - 1) xs)
 
     mutual
       statement_holds : (left : ℕ) (x : Statement) → StatementHolds left x
@@ -190,7 +190,7 @@ module _ (P : TypeFault → Type 0) where
       statement_form_holds left (choose arms) = arms_hold left arms
       statement_form_holds left (choose_or arms last) = (arms_hold left arms, statements_hold (s.left_arms left arms) last)
       statement_form_holds left (repeat test body) = statements_hold left body
-      statement_form_holds left (print items) = items_hold (first_past limits.Items) items
+      statement_form_holds left (print items) = list_holds limits.Items item_place (first_past limits.Items) items
       statement_form_holds left (assign w x) = tt
       statement_form_holds left (assign_cell w index e) = tt
       statement_form_holds left (call w args) = tt

@@ -4,17 +4,18 @@ use Rattle.rev_num.specs.declared.value.ValueKind.{ValueKind}
 use Rattle.rev_num.specs.declared.value.ValueKind.TheVariants as k
 use Rattle.rev_syntax.specs.Trees.{PrintItem, text, shown, Statement, statement, StatementForm, bind, assign, assign_cell, choose, choose_or, repeat, call, return, fork, join, print, assert, Statements, no_statements, statements, Arms, no_arms, arm}
 use Rattle.merge_decl.specs.Table.{find}
+use Rattle.rev_report.specs.declared.limit.Limit.{Limit}
 use Rattle.rev_report.specs.declared.limit.Limit.TheVariants as limits
 use Rattle.rev_kinds.specs.declared.fault.TypeFault.{TypeFault}
 use Rattle.rev_report.specs.Limits.{first_past}
-use Rattle.rev_kinds.specs.Kinds.{Names, Locals, kind_in, expression_place}
+use Rattle.rev_kinds.specs.Kinds.{Names, Locals, kind_in, expression_place, item_place}
 use Rattle.rev_kinds.specs.Rules as r
 use Rattle.rev_kinds.proofs.Lists.{parts, failed, unequal}
 use Rattle.rev_kinds.proofs.Typings.{All, one, app}
 use Rattle.rev_types.specs.Statements as s
 use Rattle.rev_types.specs.Scopes as scopes
 use Rattle.rev_types.specs.Limits.{statement_lets, statement_form_lets, statements_lets, arms_lets, StatementPrints, StatementFormPrints, StatementsPrint, ArmsPrint}
-use Rattle.rev_types.proofs.StatementsFaults.{ItemsHold, StatementHolds, StatementFormHolds, StatementsHold, ArmsHold}
+use Rattle.rev_types.proofs.StatementsFaults.{ListHolds, StatementHolds, StatementFormHolds, StatementsHold, ArmsHold}
 
 -- ---- how many locals are left
 
@@ -68,14 +69,14 @@ some_left a n m e h = omega arith
 abbrev pub Never : TypeFault → Type 0
 Never f = ⊥
 
-pub more_left : (n left : ℕ) → n + 1 < left → left ≡ 1 → ⊥
+more_left : (n left : ℕ) → n + 1 < left → left ≡ 1 → ⊥
 more_left n left h e = omega arith
 
-items_never : (left : ℕ) (xs : List PrintItem) → length xs < left → ItemsHold Never left xs
-items_never left [] h = tt
-items_never left (x ∷ xs) h = (
+pub list_never : {A : Type 0} (what : Limit) (place : A → ℕ) (left : ℕ) (xs : List A) → length xs < left → ListHolds Never what place left xs
+list_never what place left [] h = tt
+list_never what place left (x ∷ xs) h = (
   λ e. more_left (length xs) left (let g : length xs + 1 < left = omega arith in g) e,
-  items_never (left - 1) xs (let g : length xs < left - 1 = omega arith in g),
+  list_never what place (left - 1) xs (let g : length xs < left - 1 = omega arith in g),
 )
 
 mutual
@@ -90,7 +91,7 @@ mutual
     statements_never (s.left_arms left arms) last (second_part (arms_lets arms) (statements_lets last) left (s.left_arms left arms) (arms_left left arms) h) g.1,
   )
   statement_form_never left (repeat test body) h g = statements_never left body h g
-  statement_form_never left (print items) h g = items_never (first_past limits.Items) items (let f : length items < first_past limits.Items = omega arith in f)
+  statement_form_never left (print items) h g = list_never limits.Items item_place (first_past limits.Items) items (let f : length items < first_past limits.Items = omega arith in f)
   statement_form_never left (assign w x) h g = tt
   statement_form_never left (assign_cell w index e) h g = tt
   statement_form_never left (call w args) h g = tt
