@@ -1,5 +1,5 @@
 -- A merge that is declared is found by its name.
-use Rattle.std.proofs.Common.{◌≡◌, ◌∙◌, ◌⊎◌, inl, inr, ℕ, suc, ◌+◌, Bool, true, false, List, [], ◌∷◌, ◌++◌, Option, Some, None, refl, sym, ap, subst, arith, true≢false}
+use Rattle.std.proofs.Common.{◌≡◌, ◌∙◌, ◌⊎◌, inl, inr, ℕ, suc, ◌+◌, Bool, true, false, List, [], ◌∷◌, Option, Some, None, refl, sym, ap, subst, arith, true≢false}
 use Rattle.std.specs.Prelude.{option_map, if◌then◌else◌}
 use Rattle.rev_syntax.specs.Trees.{Declaration, fun, merge, shared, proc}
 use Rattle.rev_syntax.proofs.Lists.{same-self}
@@ -7,15 +7,6 @@ use Rattle.merge_decl.specs.Least.{Among}
 use Rattle.merge_decl.specs.Names.{Name, same}
 use Rattle.rev_types.specs.Judgement.{IsMergeOf}
 use Rattle.rev_types.specs.Layout.{merge_at}
-
-pub among_front : {A : Type 0} (xs : List A) (y x : A) → Among xs x → Among (xs ++ y ∷ []) x
-among_front [] y x h = absurd h
-among_front (z ∷ xs) y x (inl e) = inl e
-among_front (z ∷ xs) y x (inr h) = inr (among_front xs y x h)
-
-pub among_last : {A : Type 0} (xs : List A) (y x : A) → y ≡ x → Among (xs ++ y ∷ []) x
-among_last [] y x e = inl e
-among_last (z ∷ xs) y x e = inr (among_last xs y x e)
 
 pub counted : (o : Option ℕ) (m : ℕ) → option_map (λ n. 1 + n) o ≡ Some m → (j : ℕ) × (o ≡ Some j) × (m ≡ suc j)
 counted None m h = absurd (let z : None ≡ Some m = h in cc)

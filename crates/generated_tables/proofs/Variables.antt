@@ -1,5 +1,5 @@
 -- Each variable of the code is one.
-use Rattle.std.proofs.Common.{◌≡◌, ◌∙◌, ◌≢◌, inl, inr, ◌<◌, ◌≤◌, ℕ, zero, suc, ◌+◌, Bool, true, false, not, ◌&&◌, IsTrue, List, [], ◌∷◌, ◌++◌, length, append_assoc, map, Option, Some, None, refl, sym, ap, subst, arith}
+use Rattle.std.proofs.Common.{◌≡◌, ◌∙◌, ◌≢◌, ◌<◌, ◌≤◌, ℕ, zero, suc, ◌+◌, Bool, true, false, not, ◌&&◌, IsTrue, List, [], ◌∷◌, ◌++◌, length, append_assoc, map, Option, Some, None, refl, sym, ap, subst, arith}
 use Rattle.std.specs.Prelude.{slice_get, nat_eq, is_some, option_map, if◌then◌else◌}
 use Rattle.std.specs.List.{list_all, sum_by}
 use Rattle.std.proofs.lemmas.List.Sums.{sum-map, sum_by-cons}
@@ -13,6 +13,7 @@ use Rattle.rev_syntax.specs.Trees.{PlacedName, Constant, ArraySize, SharedDeclar
 use Rattle.rev_syntax.specs.Small.{name_formed, by_formed, size_formed, first_formed, declaration_small}
 use Rattle.merge_decl.specs.Least.{Among}
 use Rattle.merge_decl.specs.Names.{Name, same}
+use Rattle.merge_decl.proofs.Firsts.{more_among}
 use Rattle.rev_kinds.specs.Kinds.{Names}
 use Rattle.rev_kinds.proofs.Lists.{and_parts}
 use Rattle.rev_types.specs.Limits.{cells, funs}
@@ -27,7 +28,7 @@ use Rattle.rev_code.specs.declared.code.CodeVar.{CodeVar}
 use Rattle.code_rules.specs.Tables.{has_cells, is_start, is_int_merge, merges_well, is_var, locations}
 use Rattle.code_generation.specs.Numbers.{Numbers, merge_number}
 use Rattle.code_generation.specs.Generated.{value_word, merge_entry, var_of, merge_block, value_blocks}
-use Rattle.code_generation.proofs.Merges.{among_front, among_last, counted, merge_known}
+use Rattle.code_generation.proofs.Merges.{counted, merge_known}
 use Rattle.generated_tables.proofs.Names.{name_well}
 use Rattle.code_generation.proofs.Naming.{get_left}
 use Rattle.code_generation.proofs.BlockRules.{both}
@@ -102,11 +103,6 @@ funs_both (merge w m j r body ∷ xs) ys = let r = funs_both xs ys in omega (ari
 funs_both (shared x ∷ xs) ys = funs_both xs ys
 funs_both (proc w ps r body ∷ xs) ys = funs_both xs ys
 
--- what was passed is among what stands before, with one more
-more : (before passed : List Declaration) (x : Declaration) → ((e : Declaration) → Among passed e → Among before e) → (e : Declaration) → Among (x ∷ passed) e → Among (before ++ x ∷ []) e
-more before passed x sub e (inl h) = among_last before x e h
-more before passed x sub e (inr h) = among_front before x e (sub e h)
-
 -- ---- all variables
 
 module _ (outer inner : Names) (code : Code) (n : Numbers) (all : List Declaration) (tail : List CodeBlock) (blocks : code.blocks ≡ value_blocks n all ++ tail) (few : funs all ≤ 256) where
@@ -145,16 +141,16 @@ module _ (outer inner : Names) (code : Code) (n : Numbers) (all : List Declarati
       let f3 = and_parts (name_formed x.name) (by_formed x.by) f2.0 in
       both (is_var code (var_of all (variable_behind before x))) (list_all (is_var code) (map (var_of all) (variables_behind (before ++ shared x ∷ []) es)))
       (var_well before (shared x ∷ es) passed x whole sub ty.0 f3.0)
-      (vars_well (before ++ shared x ∷ []) es (shared x ∷ passed) (whole ∙ sym (append_assoc before (shared x ∷ []) es)) (more before passed (shared x) sub) ty.1 smalls.1)
+      (vars_well (before ++ shared x ∷ []) es (shared x ∷ passed) (whole ∙ sym (append_assoc before (shared x ∷ []) es)) (more_among passed before (shared x) sub) ty.1 smalls.1)
   vars_well before (fun w ps r body ∷ es) passed whole sub ty small =
       let smalls = and_parts (declaration_small (fun w ps r body)) (list_all declaration_small es) small in
-      vars_well (before ++ fun w ps r body ∷ []) es (fun w ps r body ∷ passed) (whole ∙ sym (append_assoc before (fun w ps r body ∷ []) es)) (more before passed (fun w ps r body) sub) ty.1 smalls.1
+      vars_well (before ++ fun w ps r body ∷ []) es (fun w ps r body ∷ passed) (whole ∙ sym (append_assoc before (fun w ps r body ∷ []) es)) (more_among passed before (fun w ps r body) sub) ty.1 smalls.1
   vars_well before (merge w m j r body ∷ es) passed whole sub ty small =
       let smalls = and_parts (declaration_small (merge w m j r body)) (list_all declaration_small es) small in
-      vars_well (before ++ merge w m j r body ∷ []) es (merge w m j r body ∷ passed) (whole ∙ sym (append_assoc before (merge w m j r body ∷ []) es)) (more before passed (merge w m j r body) sub) ty.1 smalls.1
+      vars_well (before ++ merge w m j r body ∷ []) es (merge w m j r body ∷ passed) (whole ∙ sym (append_assoc before (merge w m j r body ∷ []) es)) (more_among passed before (merge w m j r body) sub) ty.1 smalls.1
   vars_well before (proc w ps r body ∷ es) passed whole sub ty small =
       let smalls = and_parts (declaration_small (proc w ps r body)) (list_all declaration_small es) small in
-      vars_well (before ++ proc w ps r body ∷ []) es (proc w ps r body ∷ passed) (whole ∙ sym (append_assoc before (proc w ps r body ∷ []) es)) (more before passed (proc w ps r body) sub) ty.1 smalls.1
+      vars_well (before ++ proc w ps r body ∷ []) es (proc w ps r body ∷ passed) (whole ∙ sym (append_assoc before (proc w ps r body ∷ []) es)) (more_among passed before (proc w ps r body) sub) ty.1 smalls.1
 
 -- ---- locations
 

@@ -3,7 +3,7 @@
 --   merge_alike        the merge of the words of three values is the word of that of the values
 --   merges_laid        the code has the merges of the program, by location, each declared
 --   merges_alike       wherever the joinee wrote
-use Rattle.std.proofs.Common.{◌≡◌, ◌∙◌, inl, inr, ℕ, zero, suc, ◌+◌, Bool, true, false, List, [], ◌∷◌, ◌++◌, length, map, replicate, Option, Some, None, option_map, refl, sym, ap, subst, append_assoc, length-append, arith}
+use Rattle.std.proofs.Common.{◌≡◌, ◌∙◌, ℕ, zero, suc, ◌+◌, Bool, true, false, List, [], ◌∷◌, ◌++◌, length, map, replicate, Option, Some, None, option_map, refl, sym, ap, subst, append_assoc, length-append, arith}
 use Rattle.std.specs.Prelude.{slice_get, if◌then◌else◌, is_some, Result, Ok, Err}
 use Rattle.std.proofs.lemmas.List.{length-replicate}
 use Rattle.rev_num.specs.Path.{Path}
@@ -19,6 +19,7 @@ use Rattle.merge_decl.specs.Names.{Name, same}
 use Rattle.merge_decl.specs.Value.{Answer, FunDef}
 use Rattle.merge_decl.specs.Definitions.{fun_def, MergeDef, merge_def, merges_after, merges_in, merged, merge_value_of}
 use Rattle.merge_decl.specs.Evaluation.{merge_answer}
+use Rattle.merge_decl.proofs.Firsts.{more_among}
 use Rattle.rev_kinds.specs.Kinds.{Names}
 use Rattle.rev_types.specs.Judgement.{ByTyped, DeclarationsTyped}
 use Rattle.rev_types.specs.Layout.{merge_at, merge_of, variable_behind, variables_behind}
@@ -31,7 +32,7 @@ use Rattle.rev_code.specs.Funs.{values}
 use Rattle.version_map.specs.Composing.{Merges}
 use Rattle.code_generation.specs.Numbers.{merge_number}
 use Rattle.code_generation.specs.Generated.{merge_entry, var_of, code_of}
-use Rattle.code_generation.proofs.Merges.{among_front, among_last, counted, merge_known}
+use Rattle.code_generation.proofs.Merges.{counted, merge_known}
 use Rattle.expression_run.specs.Agrees.{word, coded}
 use Rattle.program_funs.proofs.Funs.{program_merges}
 use Rattle.join_rule.specs.Composes.{merge_value, merge_there}
@@ -148,27 +149,23 @@ module _ (p : ProgramTree) (outer inner : Names) where
   split : (laid es : List Declaration) (e : Declaration) → p.declarations ≡ laid ++ e ∷ es → p.declarations ≡ (laid ++ e ∷ []) ++ es
   split laid es e h = h ∙ sym (append_assoc laid (e ∷ []) es)
 
-  known_on : (before laid : List Declaration) (d : Declaration) → ((e : Declaration) → Among before e → Among laid e) → (e : Declaration) → Among (d ∷ before) e → Among (laid ++ d ∷ []) e
-  known_on before laid d known e (inl i) = among_last laid d e i
-  known_on before laid d known e (inr i) = among_front laid d e (known e i)
-
   pub laid_from : (before laid es : List Declaration) → DeclarationsTyped outer inner before es → ((e : Declaration) → Among before e → Among laid e) → p.declarations ≡ laid ++ es → AreLaid p laid es
   laid_from before laid [] typed known all = record { same = refl; declared = tt; count = refl }
   laid_from before laid (fun w ps r body ∷ es) typed known all =
       let d : Declaration = fun w ps r body in
-      let l = laid_from (d ∷ before) (laid ++ d ∷ []) es typed.1 (known_on before laid d known) (split laid es d all) in
+      let l = laid_from (d ∷ before) (laid ++ d ∷ []) es typed.1 (more_among before laid d known) (split laid es d all) in
       record { same = l.same; declared = l.declared; count = l.count }
   laid_from before laid (merge w m j r body ∷ es) typed known all =
       let d : Declaration = merge w m j r body in
-      let l = laid_from (d ∷ before) (laid ++ d ∷ []) es typed.1 (known_on before laid d known) (split laid es d all) in
+      let l = laid_from (d ∷ before) (laid ++ d ∷ []) es typed.1 (more_among before laid d known) (split laid es d all) in
       record { same = l.same; declared = l.declared; count = l.count }
   laid_from before laid (proc w ps r body ∷ es) typed known all =
       let d : Declaration = proc w ps r body in
-      let l = laid_from (d ∷ before) (laid ++ d ∷ []) es typed.1 (known_on before laid d known) (split laid es d all) in
+      let l = laid_from (d ∷ before) (laid ++ d ∷ []) es typed.1 (more_among before laid d known) (split laid es d all) in
       record { same = l.same; declared = l.declared; count = l.count }
   laid_from before laid (shared x ∷ es) typed known all =
       let d : Declaration = shared x in
-      let l = laid_from (d ∷ before) (laid ++ d ∷ []) es typed.1 (known_on before laid d known) (split laid es d all) in
+      let l = laid_from (d ∷ before) (laid ++ d ∷ []) es typed.1 (more_among before laid d known) (split laid es d all) in
       let c = one_coded before laid (shared x ∷ es) x.by x.holds typed.0.by known all in
       let later : List (Option ℕ) = merges_of (variables_behind (laid ++ d ∷ []) es) in
       record {

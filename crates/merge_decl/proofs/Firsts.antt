@@ -18,6 +18,11 @@ pub right_among : {A : Type 0} (xs ys : List A) (x : A) → Among ys x → Among
 right_among [] ys x h = h
 right_among (y ∷ xs) ys x h = inr (right_among xs ys x h)
 
+-- what is among some is among others, where both have one more
+pub more_among : {A : Type 0} (xs ys : List A) (y : A) → ((x : A) → Among xs x → Among ys x) → (x : A) → Among (y ∷ xs) x → Among (ys ++ y ∷ []) x
+more_among xs ys y known x (inl e) = right_among ys (y ∷ []) x (inl e)
+more_among xs ys y known x (inr h) = left_among ys (y ∷ []) x (known x h)
+
 module _ {F : Type 0} (place rank : F → ℕ) where
   alike : (a b : F) → IsBefore place rank a b → IsBefore place rank b a → (place a ≡ place b) × (rank a ≡ rank b)
   alike a b (inl h) (inl k) = absurd (omega arith)
