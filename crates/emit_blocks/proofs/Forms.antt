@@ -1,4 +1,4 @@
--- The plain trees of an `if`, of an arm and of a statement, and how long the code of a statement is.
+-- The plain trees of an `if` and of an arm, and how long the code of a statement is.
 use Rattle.std.specs.declared.alloc.Global.{Global}
 use Rattle.std.proofs.Common.{◌≡◌, ℕ, ◌+◌, Option, Some, Vec, List, [], ◌∷◌, ◌++◌, length, sym, ap, ◌∙◌, arith, length-append}
 use Rattle.rev_syntax.specs.Trees.{Expression, Statement, statement, StatementForm, Statements, choose_or}
@@ -8,8 +8,9 @@ use Rattle.rev_syntax.specs.declared.tree.Form.{Form}
 use Rattle.rev_syntax.specs.declared.tree.Stmt.{Stmt}
 use Rattle.rev_syntax.specs.declared.tree.Arm.{Arm, out-Arm}
 use Rattle.rev_syntax.specs.declared.tree.Form.TheOpen.{Form-F}
-use Rattle.rev_syntax.specs.declared.tree.Form.TheFolds.{fold-roll-Form, fold_out-Stmt, fold_out-Arm}
+use Rattle.rev_syntax.specs.declared.tree.Form.TheFolds.{fold-roll-Form, fold_out-Arm}
 use Rattle.rev_syntax.specs.declared.tree.Form.TheVariants.{If, rolls-If}
+use Rattle.rev_syntax.proofs.Shapes.{stmt_is}
 use Rattle.rev_code.specs.declared.code.Instr.{Instr}
 use Rattle.rev_code.specs.declared.code.Instr.TheVariants as i
 use Rattle.code_generation.specs.Numbers.{Numbers, Scope}
@@ -24,9 +25,6 @@ if_else_is f all o last is some =
     ∙ ap (λ x. statement_form (If all x)) some
     ∙ ap statement_form (sym (rolls-If all (Some last)))
     ∙ fold-roll-Form StatementForm (Expression × Statements) Statements Statement statement_form_level arm_level block_level statement_level (Form-F.If all (Some last))
-
-pub stmt_is : (s : Stmt) → stmt s ≡ statement s.at s.line (statement_form s.form)
-stmt_is s = fold_out-Stmt StatementForm (Expression × Statements) Statements Statement statement_form_level arm_level block_level statement_level s
 
 pub pair_is : (a : Arm) → arm a ≡ (expression (out-Arm a).test, block (out-Arm a).body)
 pair_is a = fold_out-Arm StatementForm (Expression × Statements) Statements Statement statement_form_level arm_level block_level statement_level a

@@ -1,12 +1,9 @@
 -- The last statement of a block.
 use Rattle.std.proofs.Common.{◌≡◌, Bool, false, List, ◌∷◌, refl, ap, sym}
 use Rattle.rev_syntax.specs.Trees.{Statement, statement, Statements, no_statements, statements}
-use Rattle.rev_syntax.specs.Trees.{Expression, StatementForm}
-use Rattle.rev_syntax.specs.View.{statement_form, block, stmts, statement_form_level, arm_level, block_level, statement_level}
-use Rattle.rev_syntax.specs.declared.tree.Block.{Block, out-Block}
+use Rattle.rev_syntax.specs.View.{statement_form, stmts}
 use Rattle.rev_syntax.specs.declared.tree.Stmt.{Stmt}
-use Rattle.rev_syntax.specs.declared.tree.Form.TheFolds.{fold_out-Block}
-use Rattle.emit_blocks.proofs.Forms.{stmt_is}
+use Rattle.rev_syntax.proofs.Shapes.{stmt_is}
 use Rattle.code_generation.specs.Generated.{is_return, ends_in_return}
 use Rattle.emit_program.specs.Parts.{ends_behind}
 
@@ -17,9 +14,6 @@ some_end before (statement p line form) (statements x rest) = some_end (is_retur
 pub ends_are : (xs : Statements) → ends_behind false xs ≡ ends_in_return xs
 ends_are no_statements = refl
 ends_are (statements x rest) = some_end false x rest
-
-pub block_is : (b : Block) → block b ≡ stmts (out-Block b).stmts.items
-block_is b = fold_out-Block StatementForm (Expression × Statements) Statements Statement statement_form_level arm_level block_level statement_level b
 
 -- one more statement
 pub ends_more : (before : Bool) (s : Stmt) (rest : List Stmt) → ends_behind (is_return (statement_form s.form)) (stmts rest) ≡ ends_behind before (stmts (s ∷ rest))

@@ -5,3 +5,4 @@ pub mod Exact
 pub mod Reading
 pub mod Unique
 pub mod Spans
+pub mod Shapes

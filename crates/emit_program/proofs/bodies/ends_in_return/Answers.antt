@@ -3,7 +3,8 @@ use Rattle.std.proofs.lemmas.List.{drop_more, at_drop_all}
 use Rattle.rev_syntax.specs.View.{stmts}
 use Rattle.code_generation.specs.Generated.{ends_in_return}
 use Rattle.emit_program.specs.Parts.{ends_behind}
-use Rattle.emit_program.proofs.Ends.{ends_are, ends_more, block_is}
+use Rattle.rev_syntax.proofs.Shapes.{block_is}
+use Rattle.emit_program.proofs.Ends.{ends_are, ends_more}
 use Rattle.emit_program.proofs.bodies.ends_in_return.Goals as goal
 
 pub loop-s-init : goal.loop-s-init

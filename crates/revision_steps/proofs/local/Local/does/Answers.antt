@@ -3,7 +3,8 @@ use Rattle.std.proofs.lemmas.Result.{IfOk-weaker}
 use Rattle.rev_syntax.specs.Trees.{statement, repeat}
 use Rattle.rev_syntax.specs.View.{expression, placed_name, stmt, stmts}
 use Rattle.revision_state.specs.Views.{given}
-use Rattle.revision_steps.proofs.Shapes.{stmt-AssignCell, stmt-While, block_stmts}
+use Rattle.rev_syntax.proofs.Shapes.{block_is}
+use Rattle.revision_steps.proofs.Shapes.{stmt-AssignCell, stmt-While}
 use Rattle.revision_steps.proofs.Steps.{cell_does, while_does}
 use Rattle.revision_steps.proofs.local.Local.does.Goals as goal
 
@@ -20,7 +21,7 @@ returns-in-While c =
     let this = c.args.this.now in
     let e =
     stmt-While this c.in-While.test c.in-While.body c.in-While.is
-    ∙ ap (λ b. statement this.at this.line (repeat (expression c.in-While.test) b)) (block_stmts c.in-While.body ∙ ap stmts (sym c.deref-in-While.ensures.value))
+    ∙ ap (λ b. statement this.at this.line (repeat (expression c.in-While.test) b)) (block_is c.in-While.body ∙ ap stmts (sym c.deref-in-While.ensures.value))
     in
     IfOk-weaker c.repeat.result _ _
     (λ n h. h ∙ while_does (given c.args.setting.now) c.args.path.now c.args.self.now (stmt this) this.at this.line (expression c.in-While.test) (stmts c.deref-in-While.result.now) e)
