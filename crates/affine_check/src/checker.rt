@@ -19,8 +19,8 @@ use crate::copies::{copied, copied_args, copied_items, copied_right, copied_valu
 use crate::fault::{AffineFault, first};
 use crate::trail::{Trail, statements};
 use merge_decl::NameTable;
-use rev_kinds::{Checker, Locals, same_kind};
-use rev_num::ValueKind;
+use rev_kinds::{Checker, Locals};
+use rev_num::{ValueKind, same_kind};
 use rev_syntax::{Arm, Block, Decl, Form, Name, Param, Program, Rhs, Stmt};
 use rev_types::{Typed, name_tables};
 use std::alloc::{AllocError, Global};

@@ -7,8 +7,8 @@ ghost use Rattle.rev_syntax.specs.View.{placed_name, print_item, right_side};
 ghost use Rattle.affine_check.specs.Walk as rule;
 
 use crate::fault::{AffineFault, first};
-use rev_kinds::{Locals, same_kind};
-use rev_num::ValueKind;
+use rev_kinds::Locals;
+use rev_num::{ValueKind, same_kind};
 use rev_syntax::{Expr, Item, Link, Name, Node, Rhs};
 
 /// Whether a name means a handle, where it means this as a local.

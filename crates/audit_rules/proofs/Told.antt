@@ -3,17 +3,16 @@ use Rattle.std.proofs.Common.{◌≡◌, ◌≢◌, ◌⊎◌, inl, inr, ℕ, ze
 use Rattle.std.proofs.lemmas.Bool.{and_from, and_parts, true≢false}
 use Rattle.std.specs.Prelude.{nat_le}
 use Rattle.rev_num.specs.Path.{Path}
-use Rattle.rev_num.specs.Value.{kind_of}
+use Rattle.rev_num.specs.Value.{kind_of, same_kind}
 use Rattle.rev_num.specs.declared.value.Value.{Value}
 use Rattle.rev_num.specs.declared.value.ValueKind.{ValueKind}
-use Rattle.rev_num.specs.declared.value.ValueKind.TheVariants as kind
 use Rattle.rev_num.specs.declared.outcome.Cause.{Cause}
 use Rattle.rev_num.specs.declared.outcome.Cause.TheVariants as cause
 use Rattle.rev_num.specs.declared.outcome.Trap.{Trap}
 use Rattle.merge_decl.specs.Names.{Name, same}
 use Rattle.merge_decl.specs.Least.{Among}
-use Rattle.rev_kinds.specs.Kinds.{same_kind}
 use Rattle.rev_num.proofs.PostOrder.{same_refl, same-eq}
+use Rattle.rev_num.proofs.SameKinds.{same_kind_self, same_kind_is}
 use Rattle.revision_calculus.specs.Program.{Setting}
 use Rattle.revision_calculus.specs.State.{Location, Phase, running, joining, done, trapped, Local}
 use Rattle.revision_calculus.specs.Kinded.{IsOf, IsOfIfAny, location_kinds, LocationsAre, LocationIs}
@@ -135,12 +134,7 @@ told_ended ps (joining q left) apart h not_run not_join = absurd (not_join q lef
 -- ---- kinds
 
 kind_same : (t : ValueKind) (x : Value) → IsOf t x → same_kind (kind_of x) t ≡ true
-kind_same t x e = ap (λ k. same_kind k t) e ∙ go t
-  where
-    go : (t : ValueKind) → same_kind t t ≡ true
-    go kind.Int = refl
-    go kind.Bool = refl
-    go kind.Rev = refl
+kind_same t x e = ap (λ k. same_kind k t) e ∙ same_kind_self t
 
 fit_skip : (p : List ℕ) (ps : List (List ℕ)) (t : ValueKind) (ts : List ValueKind) (cs : List Change) → is_changed cs p ≡ false → changes_fit (p ∷ ps) (t ∷ ts) cs ≡ changes_fit ps ts cs
 fit_skip p ps t ts [] e = refl
@@ -207,17 +201,6 @@ takes_shown s fuel r q l p = go (told_shown (places s) p.end)
 
 -- ---- a part that can be taken has values of their kinds
 
-same_kinds : (a b : ValueKind) → same_kind a b ≡ true → a ≡ b
-same_kinds kind.Int kind.Int e = refl
-same_kinds kind.Int kind.Bool e = absurd (true≢false (sym e))
-same_kinds kind.Int kind.Rev e = absurd (true≢false (sym e))
-same_kinds kind.Bool kind.Int e = absurd (true≢false (sym e))
-same_kinds kind.Bool kind.Bool e = refl
-same_kinds kind.Bool kind.Rev e = absurd (true≢false (sym e))
-same_kinds kind.Rev kind.Int e = absurd (true≢false (sym e))
-same_kinds kind.Rev kind.Bool e = absurd (true≢false (sym e))
-same_kinds kind.Rev kind.Rev e = refl
-
 -- each of these that has one of the places is of the kind there
 abbrev Fit : List (List ℕ) → List ValueKind → List Change → Type 0
 Fit ps ts cs = (c : Change) → Among cs c → is_known ps c.place ≡ true → kind_fits ps ts c ≡ true
@@ -260,7 +243,7 @@ told_kinded (p ∷ ps) (t ∷ ts) cs apart size fit = (first (change_at cs p) re
         let pc : same p c.place ≡ true = subst (λ x. same p x ≡ true) (sym cp) (same_refl p) in
         let k : is_known (p ∷ ps) c.place ≡ true = ap (λ b. cond b true (is_known ps c.place)) pc in
         let both = and_parts (same_kind (kind_of c.value) t) (same_kind (kind_of c.root) t) (known c pc (fit c h.0 k)) in
-        record { base = same_kinds (kind_of c.root) t both.1; written = same_kinds (kind_of c.value) t both.0 }
+        record { base = same_kind_is (kind_of c.root) t both.1; written = same_kind_is (kind_of c.value) t both.0 }
 
     rest : Fit ps ts cs
     rest c i k = go (same p c.place) refl

@@ -1,14 +1,13 @@
 -- The trace of a final state of the calculus, and what a joiner takes from a stated part.
 use Rattle.std.specs.Prelude.{◌≡◌, ℕ, zero, suc, ◌+◌, ◌≤◌, nat_le, Bool, true, false, ◌&&◌, List, [], ◌∷◌, map, Option, Some, None, if◌then◌else◌}
 use Rattle.rev_num.specs.Path.{Path}
-use Rattle.rev_num.specs.Value.{kind_of}
+use Rattle.rev_num.specs.Value.{kind_of, same_kind}
 use Rattle.rev_num.specs.declared.value.Value.{Value}
 use Rattle.rev_num.specs.declared.value.ValueKind.{ValueKind}
 use Rattle.rev_num.specs.declared.outcome.Cause.{Cause}
 use Rattle.rev_num.specs.declared.outcome.Cause.TheVariants as cause
 use Rattle.rev_num.specs.declared.outcome.Trap.{Trap}
 use Rattle.merge_decl.specs.Names.{same}
-use Rattle.rev_kinds.specs.Kinds.{same_kind}
 use Rattle.revision_machine.specs.PathMap.{PathMap}
 use Rattle.rev_types.specs.Layout.{variables}
 use Rattle.revision_calculus.specs.Program.{zero_value, Setting}

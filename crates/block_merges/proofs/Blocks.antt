@@ -8,10 +8,11 @@ use Rattle.rev_num.specs.declared.value.ValueKind.{ValueKind}
 use Rattle.rev_num.specs.declared.value.ValueKind.TheVariants as k
 use Rattle.rev_num.specs.declared.outcome.Cause.{Cause}
 use Rattle.rev_num.specs.Words.{int_of, word_of}
+use Rattle.rev_num.specs.Value.{same_kind}
 use Rattle.rev_code.specs.declared.code.Code.{Code}
 use Rattle.rev_code.specs.declared.code.CodeBlock.{CodeBlock}
 use Rattle.rev_code.specs.declared.code.CodeVar.{CodeVar}
-use Rattle.rev_code.specs.Words.{Word, int, bool, rev, kind_of, same_kind}
+use Rattle.rev_code.specs.Words.{Word, int, bool, rev, kind_of}
 use Rattle.rev_code.specs.Step.{params, cause_of}
 use Rattle.rev_code.specs.Funs.{values}
 use Rattle.code_rules.specs.Pass.{is_value_class}

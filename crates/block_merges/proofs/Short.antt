@@ -12,13 +12,13 @@ use Rattle.rev_num.specs.declared.value.ValueKind.TheVariants as k
 use Rattle.rev_num.specs.declared.value.NumFault.{NumFault}
 use Rattle.rev_num.specs.declared.outcome.Cause.{Cause}
 use Rattle.rev_num.specs.declared.outcome.Cause.TheVariants as cause
-use Rattle.rev_num.specs.Value.{same_number, same_truth}
+use Rattle.rev_num.specs.Value.{same_kind, same_number, same_truth}
 use Rattle.rev_code.specs.declared.code.Code.{Code}
 use Rattle.rev_code.specs.declared.code.CodeBlock.{CodeBlock}
 use Rattle.rev_code.specs.declared.code.Instr.{Instr}
 use Rattle.rev_code.specs.declared.code.Instr.TheVariants as i
 use Rattle.rev_code.specs.declared.code.LayoutItem.{LayoutItem}
-use Rattle.rev_code.specs.Words.{Word, int, bool, rev, fits, kind_of, same_kind, zero_word}
+use Rattle.rev_code.specs.Words.{Word, int, bool, rev, fits, kind_of, zero_word}
 use Rattle.rev_code.specs.State.{State, Frame, Fun, Location, Setting, seen_at, written_at}
 use Rattle.rev_code.specs.Variables.{Place, scalar, array, cell_at}
 use Rattle.rev_code.specs.Printing.{printed_kinds}

@@ -2,13 +2,11 @@
 use Rattle.std.proofs.Common.{◌≡◌, ◌∙◌, ℕ, zero, suc, ◌+◌, ◌<◌, ◌≤◌, Bool, true, false, not, ◌&&◌, ◌||◌, List, [], ◌∷◌, ◌++◌, length, Option, Some, None, refl, sym, ap, arith, true≢false, take}
 use Rattle.std.specs.Prelude.{slice_get, nat_lt, if◌then◌else◌}
 use Rattle.std.proofs.lemmas.Bool.Decides.{nat_tests}
-use Rattle.rev_num.specs.declared.value.ValueKind.{ValueKind}
-use Rattle.rev_num.specs.declared.value.ValueKind.TheVariants as k
+use Rattle.rev_num.specs.Value.{same_kind}
+use Rattle.rev_num.proofs.SameKinds.{same_kind_self, same_kind_is}
 use Rattle.rev_code.specs.declared.code.Code.{Code}
 use Rattle.rev_code.specs.declared.code.CodeBlock.{CodeBlock}
 use Rattle.rev_code.specs.declared.code.Instr.{Instr}
-use Rattle.rev_code.specs.Words.{same_kind}
-use Rattle.rev_code.proofs.SameKinds.{same_kind_self}
 use Rattle.code_rules.specs.declared.Rule.{Rule}
 use Rattle.code_rules.specs.Shapes.{Shape, same_shape}
 use Rattle.code_rules.specs.Pass.{Passed, gone, passed, before}
@@ -18,22 +16,11 @@ pub use Rattle.rev_num.proofs.Options.{none_some}
 
 -- ---- kinds and tests
 
-pub kind_is : (x y : ValueKind) → same_kind x y ≡ true → x ≡ y
-kind_is k.Int k.Int h = refl
-kind_is k.Bool k.Bool h = refl
-kind_is k.Rev k.Rev h = refl
-kind_is k.Int k.Bool h = absurd (true≢false (sym h))
-kind_is k.Int k.Rev h = absurd (true≢false (sym h))
-kind_is k.Bool k.Int h = absurd (true≢false (sym h))
-kind_is k.Bool k.Rev h = absurd (true≢false (sym h))
-kind_is k.Rev k.Int h = absurd (true≢false (sym h))
-kind_is k.Rev k.Bool h = absurd (true≢false (sym h))
-
 pub same_is : (xs ys : Shape) → same_shape xs ys ≡ true → xs ≡ ys
 same_is [] [] h = refl
 same_is [] (y ∷ ys) h = absurd (true≢false (sym h))
 same_is (x ∷ xs) [] h = absurd (true≢false (sym h))
-same_is (x ∷ xs) (y ∷ ys) h = let z = and_parts (same_kind x y) (same_shape xs ys) h in let a = kind_is x y z.0 in let b = same_is xs ys z.1 in λ i. a i ∷ b i
+same_is (x ∷ xs) (y ∷ ys) h = let z = and_parts (same_kind x y) (same_shape xs ys) h in let a = same_kind_is x y z.0 in let b = same_is xs ys z.1 in λ i. a i ∷ b i
 
 pub not_false : (d : Bool) → not d ≡ false → d ≡ true
 not_false true h = refl

@@ -7,11 +7,12 @@ use Rattle.rev_num.specs.declared.outcome.Cause.{Cause}
 use Rattle.rev_num.specs.declared.outcome.Cause.TheVariants as cause
 use Rattle.rev_num.specs.declared.value.NumFault.TheVariants as fault
 use Rattle.rev_num.specs.Arith.{sum_of, difference_of, product_of, quotient_of, remainder_of, negation_of}
+use Rattle.rev_num.specs.Value.{same_kind}
 use Rattle.rev_code.specs.declared.code.CodeBlock.{CodeBlock}
 use Rattle.rev_code.specs.declared.code.LayoutItem.{LayoutItem}
 use Rattle.rev_code.specs.declared.code.Instr.{Instr}
 use Rattle.rev_code.specs.declared.code.Instr.TheVariants as i
-use Rattle.rev_code.specs.Words.{Word, int, bool, rev, kind_of, same_kind}
+use Rattle.rev_code.specs.Words.{Word, int, bool, rev, kind_of}
 use Rattle.rev_code.specs.State.{State, Frame, Fun, Setting, seen_at}
 use Rattle.rev_code.specs.Variables.{Place, scalar, array, cell_at}
 use Rattle.rev_code.specs.Printing.{printed_kinds}

@@ -8,13 +8,14 @@ use Rattle.rev_num.specs.declared.value.NumFault.{NumFault}
 use Rattle.rev_num.specs.declared.outcome.Cause.{Cause}
 use Rattle.rev_num.specs.declared.outcome.Cause.TheVariants as cause
 use Rattle.rev_num.specs.Arith.{sum_of, difference_of, product_of, quotient_of, remainder_of, negation_of}
+use Rattle.rev_num.specs.Value.{same_kind}
 use Rattle.rev_code.specs.declared.code.Code.{Code}
 use Rattle.rev_code.specs.declared.code.CodeBlock.{CodeBlock}
 use Rattle.rev_code.specs.declared.code.Instr.{Instr}
 use Rattle.rev_code.specs.declared.code.Instr.TheVariants as i
 use Rattle.rev_code.specs.declared.code.LayoutItem.{LayoutItem}
 use Rattle.rev_code.specs.declared.code.LayoutItem.TheVariants as item
-use Rattle.rev_code.specs.Words.{Word, int, bool, rev, kind_of, same_kind, fits, zero_word}
+use Rattle.rev_code.specs.Words.{Word, int, bool, rev, kind_of, fits, zero_word}
 use Rattle.rev_code.specs.State.{Location, Frame, Fun, State, Setting, seen, seen_at, written_at}
 use Rattle.rev_code.specs.Variables.{Place, scalar, array, cell_at}
 use Rattle.rev_code.specs.Printing.{printed_kinds, word_text, pieces}

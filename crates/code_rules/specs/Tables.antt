@@ -5,6 +5,7 @@ use Rattle.std.specs.List.{list_all}
 use Rattle.std.specs.Cmp.Lexicographic.{pointwise}
 use Rattle.rev_num.specs.declared.value.ValueKind.{ValueKind}
 use Rattle.rev_num.specs.declared.value.ValueKind.TheVariants as k
+use Rattle.rev_num.specs.Value.{same_kind}
 use Rattle.rev_code.specs.declared.code.Code.{Code}
 use Rattle.rev_code.specs.declared.code.CodeBlock.{CodeBlock}
 use Rattle.rev_code.specs.declared.code.CodeVar.{CodeVar}
@@ -12,7 +13,6 @@ use Rattle.rev_code.specs.declared.code.BlockClass.{BlockClass}
 use Rattle.rev_code.specs.declared.code.BlockClass.TheVariants as class
 use Rattle.rev_code.specs.declared.code.LayoutItem.{LayoutItem}
 use Rattle.rev_code.specs.declared.code.LayoutItem.TheVariants as item
-use Rattle.rev_code.specs.Words.{same_kind}
 use Rattle.rev_code.specs.Step.{is_procedure}
 use Rattle.code_rules.specs.Pass.{is_value_class}
 

@@ -8,11 +8,13 @@ use Rattle.rev_num.specs.declared.value.NumFault.{NumFault}
 use Rattle.rev_num.specs.declared.value.NumFault.TheVariants as fault
 use Rattle.rev_num.specs.declared.outcome.Cause.{Cause}
 use Rattle.rev_num.specs.declared.outcome.Cause.TheVariants as cause
+use Rattle.rev_num.specs.Value.{same_kind}
+use Rattle.rev_num.proofs.SameKinds.{same_kind_is}
 use Rattle.rev_code.specs.declared.code.BlockClass.{BlockClass}
 use Rattle.rev_code.specs.declared.code.BlockClass.TheVariants as class
 use Rattle.rev_code.specs.declared.code.CodeBlock.{CodeBlock}
 use Rattle.rev_code.specs.declared.code.LayoutItem.{LayoutItem}
-use Rattle.rev_code.specs.Words.{Word, int, bool, rev, kind_of, same_kind}
+use Rattle.rev_code.specs.Words.{Word, int, bool, rev, kind_of}
 use Rattle.rev_code.specs.State.{Fun, Setting, State, seen_at}
 use Rattle.rev_code.specs.Variables.{Place, cell_at}
 use Rattle.rev_code.specs.Printing.{line_of, printed_kinds}
@@ -22,7 +24,7 @@ use Rattle.code_rules.specs.Shapes.{begins, compared, any_kind, param_kinds, res
 use Rattle.code_rules.specs.Pass.{Note, has_class, is_layout, is_value_class}
 use Rattle.code_soundness.specs.Typed.{kinds_of}
 use Rattle.code_soundness.specs.Funs.{HasValue}
-use Rattle.code_soundness.proofs.Lists.{kind_is, and_parts, Taken, taken}
+use Rattle.code_soundness.proofs.Lists.{and_parts, Taken, taken}
 use Rattle.code_soundness.proofs.Well.{Well}
 
 pub fun_evaluates : (x : BlockClass) → is_fun x ≡ true → is_value_class x ≡ true
@@ -90,7 +92,7 @@ module _ {H : Type 0} (s : Setting H) (notes : ℕ → ℕ → Note) (c : State 
   local_case n x [] h next = absurd (true≢false (sym h))
   local_case n x (w ∷ rest) h next =
       let e = (and_parts (same_kind x (kind_of w)) true h).0 in
-      if_true (same_kind x (kind_of w)) (goes (record c { at = suc c.at; stack = rest; locals = slice_set c.locals n w })) stuck e (next w rest (sym (kind_is x (kind_of w) e)) refl)
+      if_true (same_kind x (kind_of w)) (goes (record c { at = suc c.at; stack = rest; locals = slice_set c.locals n w })) stuck e (next w rest (sym (same_kind_is x (kind_of w) e)) refl)
 
   -- what is behind a write of a word of this kind
   abbrev Writes : ℕ → ValueKind → List ValueKind → Type 0
@@ -100,7 +102,7 @@ module _ {H : Type 0} (s : Setting H) (notes : ℕ → ℕ → Note) (c : State 
   into_scalar_case p [] h next = absurd (true≢false (sym h))
   into_scalar_case p (w ∷ rest) h next =
       let e = (and_parts (same_kind p.var.kind (kind_of w)) true h).0 in
-      if_true (same_kind p.var.kind (kind_of w)) (r.after_write c rest p.first w) stuck e (next w rest (sym (kind_is p.var.kind (kind_of w) e)) refl)
+      if_true (same_kind p.var.kind (kind_of w)) (r.after_write c rest p.first w) stuck e (next w rest (sym (same_kind_is p.var.kind (kind_of w) e)) refl)
 
   read_case : is_value_class b.class ≡ false → (rest : List (Word H)) (o : Option ℕ) → ((l : ℕ) → o ≡ Some l → (w : Word H) × (seen_at c.locations l ≡ Some w) × W (on c (w ∷ rest))) → W (r.read_cell c rest o)
   read_case p rest None next = no_fun p c cause.Index
@@ -120,7 +122,7 @@ module _ {H : Type 0} (s : Setting H) (notes : ℕ → ℕ → Note) (c : State 
   into_cell_case q p (w ∷ int n ∷ rest) h next =
       let e = (and_parts (same_kind p.var.kind (kind_of w)) true h).0 in
       if_true (same_kind p.var.kind (kind_of w)) (r.write_cell c rest w (cell_at p n)) stuck e
-      (write_case q rest w (cell_at p n) (λ l is. next n l is w rest (sym (kind_is p.var.kind (kind_of w) e)) refl))
+      (write_case q rest w (cell_at p n) (λ l is. next n l is w rest (sym (same_kind_is p.var.kind (kind_of w) e)) refl))
   into_cell_case q p [] h next = absurd (true≢false (sym h))
   into_cell_case q p (w ∷ []) h next = absurd (true≢false (sym (and_parts (same_kind p.var.kind (kind_of w)) false h).1))
   into_cell_case q p (w ∷ bool v ∷ rest) h next = absurd (true≢false (sym (and_parts (same_kind p.var.kind (kind_of w)) false h).1))

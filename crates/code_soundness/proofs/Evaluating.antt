@@ -5,6 +5,8 @@ use Rattle.std.specs.List.{list_all}
 use Rattle.std.proofs.lemmas.Bool.Decides.{nat_tests}
 use Rattle.rev_num.specs.declared.value.ValueKind.{ValueKind}
 use Rattle.rev_num.specs.declared.value.ValueKind.TheVariants as k
+use Rattle.rev_num.specs.Value.{same_kind}
+use Rattle.rev_num.proofs.SameKinds.{same_kind_is}
 use Rattle.rev_code.specs.declared.code.BlockClass.{BlockClass}
 use Rattle.rev_code.specs.declared.code.BlockClass.TheVariants as class
 use Rattle.rev_code.specs.declared.code.Code.{Code}
@@ -16,13 +18,12 @@ use Rattle.rev_code.specs.Step.{Comes, goes, traps, forks, joins, ends, stuck, s
 use Rattle.rev_code.specs.Funs.{fun_start, answer, setting_of_fun, value_of, values_from, values}
 use Rattle.code_rules.specs.Pass.{Note, is_value_class}
 use Rattle.code_rules.specs.Tables.{is_var, is_block, fits_class, has_result, names_well, blocks_well, lines_well, ends_in_main, merges_well, is_name, has_cells, is_start, is_merge_class, is_int_merge, is_int_result, are_three_ints, no_merge}
-use Rattle.rev_code.specs.Words.{same_kind}
 use Rattle.std.specs.Prelude.{nat_le}
 use Rattle.code_soundness.specs.Typed.{kinds_of, IsTyped}
 use Rattle.code_soundness.specs.Whole.{IsAccepted}
 use Rattle.code_soundness.specs.Funs.{HasValue, IsFunStep}
 use Rattle.code_certificate.proofs.Basics.{take_whole, take_front, get_last}
-use Rattle.code_soundness.proofs.Lists.{append_length, kind_is, and_parts, some_eq, none_some, some_within, within_some, all_at, get_append_left, get_append_right, fits_kinds}
+use Rattle.code_soundness.proofs.Lists.{append_length, and_parts, some_eq, none_some, some_within, within_some, all_at, get_append_left, get_append_right, fits_kinds}
 use Rattle.code_soundness.proofs.Well.{Well, Known}
 use Rattle.code_soundness.proofs.Acting.{step_well}
 use Rattle.code_soundness.proofs.Frames.{begun, begins_empty}
@@ -226,9 +227,9 @@ three_ints (x ∷ y ∷ []) h = absurd (true≢false (sym h))
 three_ints (x ∷ y ∷ z ∷ kinds) h =
     let p = and_parts (same_kind x k.Int && same_kind y k.Int) (same_kind z k.Int) h in
     let q = and_parts (same_kind x k.Int) (same_kind y k.Int) p.0 in
-    let a = kind_is x k.Int q.0 in
-    let b = kind_is y k.Int q.1 in
-    let c = kind_is z k.Int p.1 in λ j. a j ∷ b j ∷ c j ∷ []
+    let a = same_kind_is x k.Int q.0 in
+    let b = same_kind_is y k.Int q.1 in
+    let c = same_kind_is z k.Int p.1 in λ j. a j ∷ b j ∷ c j ∷ []
 
 pub merge_evaluates : (x : BlockClass) → is_merge_class x ≡ true → is_value_class x ≡ true
 merge_evaluates class.Merge h = refl
@@ -238,7 +239,7 @@ merge_evaluates class.Main h = absurd (true≢false (sym h))
 
 int_result : (o : Option ValueKind) → is_int_result o ≡ true → o ≡ Some k.Int
 int_result None h = absurd (true≢false (sym h))
-int_result (Some x) h = ap Some (kind_is x k.Int h)
+int_result (Some x) h = ap Some (same_kind_is x k.Int h)
 
 module _ (code : Code) (notes : ℕ → ℕ → Note) (ok : IsAccepted code notes) (n : ℕ) (v : CodeVar) (is : slice_get code.vars n ≡ Some v) (cumulative : v.cumulative ≡ true) where
   merge_parts : ((same_kind v.kind k.Int && not (nat_eq v.merge no_merge)) ≡ true) × (is_int_merge (slice_get code.blocks v.merge) ≡ true)
@@ -248,7 +249,7 @@ module _ (code : Code) (notes : ℕ → ℕ → Note) (ok : IsAccepted code note
       (sym (ap (λ d. if d then (same_kind v.kind k.Int && not (nat_eq v.merge no_merge) && is_int_merge (slice_get code.blocks v.merge)) else nat_eq v.merge no_merge) cumulative) ∙ p.1)
 
   pub merge_kind : v.kind ≡ k.Int
-  merge_kind = kind_is v.kind k.Int (and_parts (same_kind v.kind k.Int) (not (nat_eq v.merge no_merge)) merge_parts.0).0
+  merge_kind = same_kind_is v.kind k.Int (and_parts (same_kind v.kind k.Int) (not (nat_eq v.merge no_merge)) merge_parts.0).0
 
   pub merge_value : (H : Type 0) (x y z : ℤ) → HasValue {H = H} (Some k.Int) (value_at (slice_get (values code) v.merge) (int x ∷ int y ∷ int z ∷ []))
   merge_value H x y z = by (slice_get code.blocks v.merge) refl merge_parts.1

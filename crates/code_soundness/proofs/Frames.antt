@@ -6,11 +6,13 @@ use Rattle.std.proofs.lemmas.List.{append-nil}
 use Rattle.rev_num.specs.declared.value.ValueKind.{ValueKind}
 use Rattle.rev_num.specs.declared.value.ValueKind.TheVariants as k
 use Rattle.rev_num.specs.declared.outcome.Cause.TheVariants as cause
+use Rattle.rev_num.specs.Value.{same_kind}
+use Rattle.rev_num.proofs.SameKinds.{same_kind_self}
 use Rattle.rev_code.specs.declared.code.Code.{Code}
 use Rattle.rev_code.specs.declared.code.CodeBlock.{CodeBlock}
 use Rattle.rev_code.specs.declared.code.Instr.{Instr}
 use Rattle.rev_code.specs.declared.code.Instr.TheVariants as i
-use Rattle.rev_code.specs.Words.{Word, int, bool, rev, kind_of, same_kind}
+use Rattle.rev_code.specs.Words.{Word, int, bool, rev, kind_of}
 use Rattle.rev_code.specs.State.{Frame, Location, Setting, State, forked, joined}
 use Rattle.rev_code.specs.Step as r
 use Rattle.rev_code.specs.Step.{goes, traps, stuck, only, is_procedure, params, first_locals, most_frames}
@@ -25,7 +27,6 @@ use Rattle.code_soundness.proofs.Variables.{view_kinds}
 use Rattle.code_soundness.proofs.Well.{Stands, Well, GoesWell, JoinsWell}
 use Rattle.code_soundness.proofs.Cases.{procedure_runs, no_fun, if_true}
 use Rattle.code_soundness.proofs.Places.{operand_good, found, bare, named, impure, next_inside, next_shape, onto}
-use Rattle.rev_code.proofs.SameKinds.{same_kind_self}
 
 -- ---- the begin of a block
 

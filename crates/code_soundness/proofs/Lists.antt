@@ -5,12 +5,13 @@ use Rattle.std.specs.List.{list_all}
 use Rattle.std.proofs.lemmas.List.{reverse-append, reverse-reverse}
 use Rattle.rev_num.specs.declared.value.ValueKind.{ValueKind}
 use Rattle.rev_num.specs.declared.value.ValueKind.TheVariants as k
-use Rattle.rev_code.specs.Words.{Word, kind_of, same_kind, fits, zero_word}
+use Rattle.rev_num.specs.Value.{same_kind}
+use Rattle.rev_num.proofs.SameKinds.{same_kind_self, same_kind_is}
+use Rattle.rev_code.specs.Words.{Word, kind_of, fits, zero_word}
 use Rattle.rev_code.specs.Step as step
 use Rattle.code_rules.specs.Shapes.{begins}
-pub use Rattle.code_certificate.proofs.Basics.{or_parts, not_true, and_false, append_length, kind_is, and_parts, not_false, none_some, some_eq, some_within, within_some}
+pub use Rattle.code_certificate.proofs.Basics.{or_parts, not_true, and_false, append_length, and_parts, not_false, none_some, some_eq, some_within, within_some}
 use Rattle.code_soundness.specs.Typed.{kinds_of}
-use Rattle.rev_code.proofs.SameKinds.{same_kind_self}
 pub use Rattle.std.proofs.Math.Seq.{take-append_seam as take_append}
 
 -- ---- tests
@@ -62,7 +63,7 @@ begins_take [] ys h = refl
 begins_take (x ∷ xs) [] h = absurd (true≢false (sym h))
 begins_take (x ∷ xs) (y ∷ ys) h =
     let p = and_parts (same_kind x y) (begins xs ys) h in
-    let e : y ≡ x = sym (kind_is x y p.0) in
+    let e : y ≡ x = sym (same_kind_is x y p.0) in
     let f = begins_take xs ys p.1 in λ j. e j ∷ f j
 
 pub begins_all : (xs ys : List ValueKind) → begins xs ys ≡ true → length ys ≡ length xs → ys ≡ xs
@@ -71,7 +72,7 @@ begins_all [] (y ∷ ys) h e = absurd (omega (arith, e))
 begins_all (x ∷ xs) [] h e = absurd (true≢false (sym h))
 begins_all (x ∷ xs) (y ∷ ys) h e =
     let p = and_parts (same_kind x y) (begins xs ys) h in
-    let a : y ≡ x = sym (kind_is x y p.0) in
+    let a : y ≡ x = sym (same_kind_is x y p.0) in
     let f = begins_all xs ys p.1 (omega (arith, e)) in λ j. a j ∷ f j
 
 -- ---- kinds of words

@@ -3,11 +3,13 @@ use Rattle.std.proofs.Common.{◌≡◌, ◌∙◌, ℕ, zero, suc, ◌+◌, ◌
 use Rattle.std.specs.Prelude.{slice_get, nat_lt, if◌then◌else◌}
 use Rattle.std.proofs.lemmas.Bool.Decides.{nat_tests}
 use Rattle.rev_num.specs.declared.value.ValueKind.{ValueKind}
+use Rattle.rev_num.specs.Value.{same_kind}
+use Rattle.rev_num.proofs.SameKinds.{same_kind_is}
 use Rattle.rev_code.specs.declared.code.Code.{Code}
 use Rattle.rev_code.specs.declared.code.CodeBlock.{CodeBlock}
 use Rattle.rev_code.specs.declared.code.Instr.{Instr}
 use Rattle.rev_code.specs.declared.code.Instr.TheVariants as i
-use Rattle.rev_code.specs.Words.{Word, fits, kind_of, same_kind}
+use Rattle.rev_code.specs.Words.{Word, fits, kind_of}
 use Rattle.rev_code.specs.State.{Setting, State}
 use Rattle.rev_code.specs.Step.{Comes, goes, traps, forks, joins, ends, stuck, step, params, is_fun}
 use Rattle.rev_code.specs.Funs.{fun_start, setting_of_fun, values}
@@ -19,7 +21,7 @@ use Rattle.code_soundness.specs.Typed.{kinds_of, IsTyped}
 use Rattle.code_soundness.specs.Whole.{IsAccepted, AreCosts, all_passed, notes_of}
 use Rattle.code_soundness.specs.Funs.{IsFunStep}
 use Rattle.code_soundness.specs.Uses.{Use, UseOf, use_for, arguments_for, applied_use, step_use, onward_use, run_use, use_of, uses_from, uses, block_use, IsWithin, limits}
-use Rattle.code_soundness.proofs.Lists.{append_length, kind_is, and_parts, some_eq, none_some, within_some, kinds_length}
+use Rattle.code_soundness.proofs.Lists.{append_length, and_parts, some_eq, none_some, within_some, kinds_length}
 use Rattle.code_soundness.proofs.Accepting.{no_fault_accepted, no_fault_costs}
 use Rattle.code_soundness.proofs.Cases.{fun_evaluates}
 use Rattle.code_soundness.proofs.Evaluating.{take_less, get_take, fun_starts, fun_step}
@@ -96,7 +98,7 @@ fitting [] (w ∷ ws) h = absurd (true≢false (sym h))
 fitting (x ∷ kinds) [] h = absurd (true≢false (sym h))
 fitting (x ∷ kinds) (w ∷ ws) h =
     let p = and_parts (same_kind x (kind_of w)) (fits kinds ws) h in
-    let a = kind_is x (kind_of w) p.0 in
+    let a = same_kind_is x (kind_of w) p.0 in
     let r = fitting kinds ws p.1 in λ j. sym a j ∷ r j
 
 -- ---- one block

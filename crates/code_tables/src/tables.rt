@@ -6,9 +6,9 @@ ghost use Rattle.rev_code.specs.Step as meaning;
 ghost use Rattle.code_rules.specs.Pass as pass;
 ghost use Rattle.code_rules.specs.Tables as tables;
 
-use crate::kinds::{is_procedure, is_value_class, same_kind};
+use crate::classes::{is_procedure, is_value_class};
 use rev_code::{BlockClass, Code, CodeBlock, CodeVar, LayoutItem};
-use rev_num::{Bytes, Items, ValueKind};
+use rev_num::{Bytes, Items, ValueKind, same_kind};
 
 fn is_main(class: BlockClass) -> bool
     ensures { result ≡ tables.is_main class }

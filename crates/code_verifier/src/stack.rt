@@ -7,9 +7,8 @@ ghost use Rattle.code_verifier.specs.Effects.{IsEffect};
 
 use crate::operands::{gives, takes};
 use crate::shapes::Shapes;
-use code_tables::same_kind;
 use rev_code::{Code, CodeBlock, Instr};
-use rev_num::ValueKind;
+use rev_num::{ValueKind, same_kind};
 use std::alloc::{AllocError, Global};
 
 /// How many words the stack has and how many the instruction takes, whether those have the kinds

@@ -6,7 +6,8 @@ use Rattle.rev_num.specs.declared.value.Value.{Value}
 use Rattle.rev_num.specs.declared.value.ValueKind.{ValueKind}
 use Rattle.rev_num.specs.declared.value.ValueKind.TheVariants as k
 use Rattle.rev_num.specs.declared.outcome.Cause.{Cause}
-use Rattle.rev_num.specs.Value.{kind_of}
+use Rattle.rev_num.specs.Value.{kind_of, same_kind}
+use Rattle.rev_num.proofs.SameKinds.{same_kind_self}
 use Rattle.rev_syntax.specs.Trees.{PlacedName, Parameter, Expression}
 use Rattle.merge_decl.specs.Definitions.{names_of}
 use Rattle.merge_decl.specs.Value as value
@@ -17,7 +18,7 @@ use Rattle.rev_code.specs.declared.code.Code.{Code}
 use Rattle.rev_code.specs.declared.code.CodeBlock.{CodeBlock}
 use Rattle.rev_code.specs.declared.code.Instr.{Instr}
 use Rattle.rev_code.specs.declared.code.Instr.TheVariants as i
-use Rattle.rev_code.specs.Words.{fits, same_kind}
+use Rattle.rev_code.specs.Words.{fits}
 use Rattle.rev_code.specs.State.{Fun, State, Setting}
 use Rattle.rev_code.specs.Step as r
 use Rattle.rev_code.specs.Step.{Comes, traps, ends, act_at, act_in, step, params, reach, onward}
@@ -36,7 +37,6 @@ use Rattle.expression_run.proofs.Words.{args_fit, word_kind}
 use Rattle.expression_run.proofs.Runs.{expression_runs}
 use Rattle.expression_run.proofs.Params.{Known, params_known}
 use Rattle.code_generation.proofs.Naming.{get_left}
-use Rattle.rev_code.proofs.SameKinds.{same_kind_self}
 
 pub take_all : {A : Type 0} (xs : List A) (n : ℕ) → n ≡ length xs → take n xs ≡ xs
 take_all [] zero h = refl

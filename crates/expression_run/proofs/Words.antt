@@ -9,7 +9,8 @@ use Rattle.rev_num.specs.declared.value.ValueKind.{ValueKind}
 use Rattle.rev_num.specs.declared.value.ValueKind.TheVariants as k
 use Rattle.rev_num.specs.declared.value.NumFault.{NumFault}
 use Rattle.rev_num.specs.declared.value.NumFault.TheVariants as fault
-use Rattle.rev_num.specs.Value.{kind_of, same_number, same_truth}
+use Rattle.rev_num.specs.Value.{kind_of, same_kind, same_number, same_truth}
+use Rattle.rev_num.proofs.SameKinds.{same_kind_self}
 use Rattle.rev_syntax.specs.Trees.{Parameter}
 use Rattle.rev_syntax.specs.declared.tree.UnaryOp.{UnaryOp}
 use Rattle.rev_syntax.specs.declared.tree.UnaryOp.TheVariants as u
@@ -23,14 +24,13 @@ use Rattle.rev_code.specs.declared.code.Instr.{Instr}
 use Rattle.rev_code.specs.declared.code.Instr.TheVariants as i
 use Rattle.rev_code.specs.declared.code.CodeBlock.{CodeBlock}
 use Rattle.rev_code.specs.Words as w
-use Rattle.rev_code.specs.Words.{Word, bool, fits, same_kind}
+use Rattle.rev_code.specs.Words.{Word, bool, fits}
 use Rattle.rev_code.specs.State.{State, Setting}
 use Rattle.rev_code.specs.Step as r
 use Rattle.rev_code.specs.Step.{Comes, on, traps, act, arguments}
 use Rattle.code_generation.specs.Expressions.{unary_code}
 use Rattle.code_generation.specs.Generated.{kinds_of}
 use Rattle.expression_run.specs.Agrees.{word, IsOfKind, ArgsAre, pushed}
-use Rattle.rev_code.proofs.SameKinds.{same_kind_self}
 
 pub as_int : (x : Value) → kind_of x ≡ k.Int → (z : ℤ) × (x ≡ v.Int z)
 as_int (v.Int z) h = (z, refl)

@@ -4,17 +4,19 @@ use Rattle.std.specs.Prelude.{slice_get, if◌then◌else◌, nat_lt}
 use Rattle.std.proofs.lemmas.Bool.Decides.{nat_tests}
 use Rattle.rev_num.specs.declared.value.ValueKind.{ValueKind}
 use Rattle.rev_num.specs.declared.outcome.Cause.{Cause}
+use Rattle.rev_num.specs.Value.{same_kind}
+use Rattle.rev_num.proofs.SameKinds.{same_kind_is}
 use Rattle.rev_code.specs.declared.code.Code.{Code}
 use Rattle.rev_code.specs.declared.code.CodeBlock.{CodeBlock}
 use Rattle.rev_code.specs.declared.code.Instr.{Instr}
 use Rattle.rev_code.specs.declared.code.Instr.TheVariants as i
-use Rattle.rev_code.specs.Words.{Word, kind_of, same_kind, fits}
+use Rattle.rev_code.specs.Words.{Word, kind_of, fits}
 use Rattle.rev_code.specs.State.{Frame, Fun, Setting, State}
 use Rattle.rev_code.specs.Step as s
 use Rattle.rev_code.specs.Step.{Comes, goes, traps, forks, joins, ends, stuck, act, act_in, act_at, step, reach, params, value_at, is_fun, only, Steps}
 use Rattle.rev_code.specs.Funs.{fun_start, setting_of_fun, values, answer}
 use Rattle.code_rules.specs.Pass.{has_class, is_value_class, is_pure}
-use Rattle.code_certificate.proofs.Basics.{and_parts, kind_is, some_eq}
+use Rattle.code_certificate.proofs.Basics.{and_parts, some_eq}
 use Rattle.code_soundness.specs.Typed.{kinds_of}
 use Rattle.code_soundness.specs.Whole.{IsAccepted, notes_of}
 use Rattle.code_soundness.specs.Funs.{IsFunStep, IsArithmetic, HasValue}
@@ -33,7 +35,7 @@ fits_same [] (w ∷ ws) h = absurd (true≢false (sym h))
 fits_same (x ∷ kinds) [] h = absurd (true≢false (sym h))
 fits_same (x ∷ kinds) (w ∷ ws) h =
     let p = and_parts (same_kind x (kind_of w)) (fits kinds ws) h in
-    let a = kind_is x (kind_of w) p.0 in let b = fits_same kinds ws p.1 in λ j. sym a j ∷ b j
+    let a = same_kind_is x (kind_of w) p.0 in let b = fits_same kinds ws p.1 in λ j. sym a j ∷ b j
 
 pub taken_enough : (m : ℕ) (xs : List (Word ℕ)) → length (take m xs) ≡ m → m ≤ length xs
 taken_enough zero xs h = omega arith

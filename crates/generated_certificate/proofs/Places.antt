@@ -6,6 +6,7 @@ use Rattle.std.specs.Prelude.{slice_get}
 use Rattle.std.proofs.lemmas.List.{reverse-append}
 use Rattle.rev_num.specs.declared.value.ValueKind.{ValueKind}
 use Rattle.rev_num.specs.declared.value.ValueKind.TheVariants as kind
+use Rattle.rev_num.proofs.SameKinds.{same_kind_self}
 use Rattle.rev_code.specs.declared.code.Code.{Code}
 use Rattle.rev_code.specs.declared.code.CodeBlock.{CodeBlock}
 use Rattle.rev_code.specs.declared.code.Instr.{Instr}
@@ -15,7 +16,6 @@ use Rattle.code_rules.specs.Pass.{Note, entry, target, falls, names, is_pure, is
 use Rattle.code_certificate.specs.Certificate.{Fits, IsJumped, leaves}
 use Rattle.generated_certificate.specs.Items.{noted, push}
 use Rattle.generated_certificate.specs.Kept.{IsWithin, IsKept}
-use Rattle.rev_code.proofs.SameKinds.{same_kind_self}
 pub use Rattle.rev_num.proofs.Lists.{false_no as no}
 
 pub begins_one : (t : ValueKind) (s : Shape) → begins (t ∷ []) (t ∷ s) ≡ true

@@ -8,7 +8,7 @@ use Rattle.rev_num.specs.declared.value.Value.{Value}
 use Rattle.rev_num.specs.declared.value.Value.TheVariants as v
 use Rattle.rev_num.specs.declared.value.ValueKind.{ValueKind}
 use Rattle.rev_num.specs.declared.value.ValueKind.TheVariants as k
-use Rattle.rev_num.specs.Value.{kind_of}
+use Rattle.rev_num.specs.Value.{kind_of, same_kind}
 use Rattle.rev_syntax.specs.Trees.{PlacedName, Constant, ArraySize, SharedDeclaration, Expression, Declaration, fun, merge, shared, proc}
 use Rattle.rev_syntax.specs.Small.{name_formed, by_formed, size_formed, first_formed, declaration_small}
 use Rattle.merge_decl.specs.Least.{Among}
@@ -21,7 +21,6 @@ use Rattle.rev_types.specs.Layout.{merge_at, merge_of, variable_behind, variable
 use Rattle.rev_types.specs.Scopes.{size_cells, cells_of}
 use Rattle.rev_types.specs.Judgement.{ByTyped, SizeTyped, FirstTyped, SharedTyped, DeclarationsTyped}
 use Rattle.revision_calculus.specs.Program.{constant_value, first_value}
-use Rattle.rev_code.specs.Words.{same_kind}
 use Rattle.rev_code.specs.declared.code.Code.{Code}
 use Rattle.rev_code.specs.declared.code.CodeBlock.{CodeBlock}
 use Rattle.rev_code.specs.declared.code.CodeVar.{CodeVar}

@@ -6,10 +6,11 @@ use Rattle.std.proofs.Common.{◌≡◌, ◌∙◌, ℕ, Bool, true, false, cond
 use Rattle.std.specs.Prelude.{slice_get}
 use Rattle.rev_num.specs.Path.{Path}
 use Rattle.rev_num.specs.declared.value.ValueKind.{ValueKind}
+use Rattle.rev_num.specs.Value.{same_kind}
 use Rattle.rev_code.specs.declared.code.Instr.{Instr}
 use Rattle.rev_code.specs.declared.code.Instr.TheVariants as i
 use Rattle.rev_code.specs.declared.code.CodeBlock.{CodeBlock}
-use Rattle.rev_code.specs.Words.{Word, same_kind, kind_of}
+use Rattle.rev_code.specs.Words.{Word, kind_of}
 use Rattle.rev_code.specs.State.{State}
 use Rattle.rev_code.specs.Variables.{Place, scalar}
 use Rattle.rev_code.specs.Step.{goes, stuck, into_local, into_scalar, pop, act, act_at, act_in, step}

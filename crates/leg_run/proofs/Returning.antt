@@ -3,10 +3,11 @@ use Rattle.std.proofs.Common.{◌≡◌, ◌∙◌, ℕ, ◌+◌, ◌-◌, ◌<�
 use Rattle.std.specs.Prelude.{slice_get, if◌then◌else◌}
 use Rattle.std.proofs.lemmas.List.{reverse-append, take-set-le, length-set}
 use Rattle.rev_num.specs.declared.value.ValueKind.{ValueKind}
+use Rattle.rev_num.specs.Value.{same_kind}
 use Rattle.rev_code.specs.declared.code.Code.{Code}
 use Rattle.rev_code.specs.declared.code.CodeBlock.{CodeBlock}
 use Rattle.rev_code.specs.declared.code.Instr.TheVariants as i
-use Rattle.rev_code.specs.Words.{Word, kind_of, same_kind}
+use Rattle.rev_code.specs.Words.{Word, kind_of}
 use Rattle.rev_code.specs.State.{Frame, State}
 use Rattle.rev_code.specs.Step as s
 use Rattle.rev_code.specs.Step.{Comes, ends, goes, leave, step, stuck}

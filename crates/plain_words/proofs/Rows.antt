@@ -8,11 +8,11 @@ use Rattle.rev_num.specs.declared.outcome.Cause.{Cause}
 use Rattle.rev_num.specs.declared.outcome.Cause.TheVariants as cause
 use Rattle.rev_num.specs.Arith.{fits_i64, sum_of, difference_of, product_of, quotient_of, remainder_of, negation_of}
 use Rattle.rev_num.specs.Words.{int_of, word_of}
-use Rattle.rev_num.specs.Value.{same_number, same_truth}
+use Rattle.rev_num.specs.Value.{same_kind, same_number, same_truth}
 use Rattle.rev_code.specs.declared.code.CodeBlock.{CodeBlock}
 use Rattle.rev_code.specs.declared.code.Instr.{Instr}
 use Rattle.rev_code.specs.declared.code.Instr.TheVariants as i
-use Rattle.rev_code.specs.Words.{Word, int, bool, rev, kind_of, same_kind}
+use Rattle.rev_code.specs.Words.{Word, int, bool, rev, kind_of}
 use Rattle.rev_code.specs.State.{Setting, State, seen_at}
 use Rattle.rev_code.specs.Variables.{Place, scalar, array, cell_at}
 use Rattle.rev_code.specs.Step as s

@@ -3,13 +3,12 @@ use Rattle.std.proofs.Common.{◌≡◌, ℕ, zero, suc, ◌+◌, ◌<◌, Bool,
 use Rattle.std.proofs.lemmas.Bool.{true≢false}
 use Rattle.std.proofs.lemmas.List.{take_more}
 use Rattle.std.specs.List.{slice_get}
-use Rattle.rev_num.specs.Value.{kind_of}
+use Rattle.rev_num.specs.Value.{kind_of, same_kind}
 use Rattle.rev_num.specs.declared.value.ValueKind.{ValueKind}
 use Rattle.rev_num.proofs.PostOrder.{same_refl, same-eq}
 use Rattle.merge_decl.specs.Names.{same}
 use Rattle.merge_decl.specs.Table.{Table, added, find}
 use Rattle.merge_decl.proofs.Tables.{or_else, find-added}
-use Rattle.rev_kinds.specs.Kinds.{same_kind}
 use Rattle.revision_calculus.specs.State.{Location}
 use Rattle.revision_calculus.specs.Kinded.{LocationsAre}
 use Rattle.revision_alone.specs.declared.ends.AloneWrite.{AloneWrite}

@@ -3,8 +3,7 @@ use Rattle.std.proofs.Common.{◌≡◌, ℕ, zero, suc, ◌+◌, ◌<◌, ◌�
 use Rattle.std.proofs.lemmas.Bool.{true≢false}
 use Rattle.std.proofs.lemmas.List.{append-nil, drop_all, drop_more}
 use Rattle.std.specs.List.{slice_get}
-use Rattle.rev_num.specs.Value.{kind_of}
-use Rattle.rev_kinds.specs.Kinds.{same_kind}
+use Rattle.rev_num.specs.Value.{kind_of, same_kind}
 use Rattle.revision_calculus.specs.Program.{Setting}
 use Rattle.revision_calculus.specs.State.{Location}
 use Rattle.revision_calculus.specs.Kinded.{IsAccepted, LocationsAre, location_kinds}

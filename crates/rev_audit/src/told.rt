@@ -3,8 +3,7 @@
 ghost use Rattle.std.specs.Prelude.{◌≡◌, ◌+◌, ◌<◌, ◌&&◌, ◌++◌, [], None, IfOk, OnOk, drop, length};
 ghost use Rattle.std.specs.Prelude.{option_map};
 ghost use Rattle.std.specs.Prelude.{replicate};
-ghost use Rattle.rev_num.specs.Value.{kind_of};
-ghost use Rattle.rev_kinds.specs.Kinds.{same_kind};
+ghost use Rattle.rev_num.specs.Value.{kind_of, same_kind};
 ghost use Rattle.revision_calculus.specs.Kinded.{LocationsAre, location_kinds};
 ghost use Rattle.revision_steps.specs.Ends.{phase_of};
 ghost use Rattle.revision_state.specs.Views.{given};
@@ -14,8 +13,7 @@ ghost use Rattle.rev_audit.specs.Told.{write_to};
 ghost use Rattle.rev_audit.specs.Told.{written_in};
 
 use crate::stated::Stated;
-use rev_kinds::same_kind;
-use rev_num::{Cause, Trap};
+use rev_num::{Cause, Trap, same_kind};
 use revision_alone::{AloneEnd, AloneWrite};
 use revision_data::Location;
 use std::alloc::{AllocError, Global};

@@ -13,14 +13,14 @@ use Rattle.rev_num.specs.declared.outcome.Cause.TheVariants as cause
 use Rattle.rev_num.specs.declared.value.NumFault.{NumFault}
 use Rattle.rev_num.specs.declared.value.NumFault.TheVariants as fault
 use Rattle.rev_num.specs.Arith.{sum_of, difference_of, product_of, quotient_of, remainder_of, negation_of}
-use Rattle.rev_num.specs.Value.{same_number, same_truth}
+use Rattle.rev_num.specs.Value.{same_kind, same_number, same_truth}
 use Rattle.rev_code.specs.declared.code.Instr.{Instr}
 use Rattle.rev_code.specs.declared.code.Instr.TheVariants as i
 use Rattle.rev_code.specs.declared.code.BlockClass.{BlockClass}
 use Rattle.rev_code.specs.declared.code.BlockClass.TheVariants as class
 use Rattle.rev_code.specs.declared.code.CodeBlock.{CodeBlock}
 use Rattle.rev_code.specs.declared.code.LayoutItem.{LayoutItem}
-use Rattle.rev_code.specs.Words.{Word, int, bool, rev, kind_of, same_kind, fits, zero_word}
+use Rattle.rev_code.specs.Words.{Word, int, bool, rev, kind_of, fits, zero_word}
 use Rattle.rev_code.specs.State.{Frame, Fun, Setting, State, seen_at, written_at}
 use Rattle.rev_code.specs.Variables.{Place, scalar, array, cell_at}
 use Rattle.rev_code.specs.Printing.{line_of, printed_kinds}

@@ -6,6 +6,7 @@ use Rattle.std.specs.Prelude.{ℕ, ℤ, pos, Bool, true, false, ◌&&◌, not, L
 use Rattle.rev_num.specs.declared.value.ValueKind.{ValueKind}
 use Rattle.rev_num.specs.declared.value.ValueKind.TheVariants as k
 use Rattle.rev_num.specs.Words.{int_of}
+use Rattle.rev_num.specs.Value.{same_kind}
 
 pub data Word (H : Type 0) : Type 0 where
   int : ℤ → Word H
@@ -17,17 +18,6 @@ abbrev pub kind_of : {H : Type 0} → Word H → ValueKind
 kind_of (int n) = k.Int
 kind_of (bool b) = k.Bool
 kind_of (rev h) = k.Rev
-
-abbrev pub same_kind : ValueKind → ValueKind → Bool
-same_kind k.Int k.Int = true
-same_kind k.Int k.Bool = false
-same_kind k.Int k.Rev = false
-same_kind k.Bool k.Int = false
-same_kind k.Bool k.Bool = true
-same_kind k.Bool k.Rev = false
-same_kind k.Rev k.Int = false
-same_kind k.Rev k.Bool = false
-same_kind k.Rev k.Rev = true
 
 -- whether the words have these kinds, one by one, and are as many
 abbrev pub fits : {H : Type 0} → List ValueKind → List (Word H) → Bool

@@ -2,6 +2,8 @@
 use Rattle.std.proofs.Common.{◌≡◌, ◌∙◌, ◌≢◌, ℕ, ◌+◌, Bool, true, false, if◌then◌else◌, Option, Some, None, List, [], ◌∷◌, ◌++◌, refl, sym, ap, subst, slice_get, length}
 use Rattle.rev_num.specs.declared.value.ValueKind.{ValueKind}
 use Rattle.rev_num.specs.declared.value.ValueKind.TheVariants as k
+use Rattle.rev_num.specs.Value.{same_kind}
+use Rattle.rev_num.proofs.SameKinds.{same_kind_is}
 use Rattle.rev_syntax.specs.Trees.{PlacedName, Parameter, Expression, placed, ExpressionForm, Expressions, Links, int, bool, no_rev, var, cell, apply, input, inputs, pick, unary, chain, no_expressions, expression, no_links, link}
 use Rattle.rev_syntax.specs.declared.tree.BinaryOp.{BinaryOp}
 use Rattle.rev_syntax.specs.declared.tree.BinaryOp.TheVariants as b
@@ -10,7 +12,7 @@ use Rattle.merge_decl.specs.Table.{find}
 use Rattle.rev_kinds.specs.declared.fault.TypeFault.{TypeFault}
 use Rattle.rev_kinds.specs.declared.fault.TypeFault.TheVariants.{WrongType}
 use Rattle.rev_kinds.specs.declared.names.Holder.{Holder}
-use Rattle.rev_kinds.specs.Kinds.{Callee, Names, Locals, same_kind, name_kind, result_of, kind_in, expression_form_kind, links_kind, operand_kind, expression_place}
+use Rattle.rev_kinds.specs.Kinds.{Callee, Names, Locals, name_kind, result_of, kind_in, expression_form_kind, links_kind, operand_kind, expression_place}
 use Rattle.rev_kinds.specs.Rules as r
 use Rattle.rev_kinds.proofs.Lists.{parts, whole, held, failed}
 use Rattle.rev_kinds.specs.Typing.{ScalarHas, ArrayHas, TakesLeft, TakesRightSide, TakesFirst, IsOfKind, HasKind, ExpressionFormHas, ArgsHave, LinksHave}
@@ -27,19 +29,8 @@ app xs ys = xs ++ ys
 
 -- ---- kinds that are wanted
 
-pub same_true : (a w : ValueKind) → same_kind a w ≡ true → a ≡ w
-same_true k.Int k.Int h = refl
-same_true k.Bool k.Bool h = refl
-same_true k.Rev k.Rev h = refl
-same_true k.Int k.Bool h = absurd (let e : false ≡ true = h in cc)
-same_true k.Int k.Rev h = absurd (let e : false ≡ true = h in cc)
-same_true k.Bool k.Int h = absurd (let e : false ≡ true = h in cc)
-same_true k.Bool k.Rev h = absurd (let e : false ≡ true = h in cc)
-same_true k.Rev k.Int h = absurd (let e : false ≡ true = h in cc)
-same_true k.Rev k.Bool h = absurd (let e : false ≡ true = h in cc)
-
 pub wanted_is : (at : ℕ) (found : Option ValueKind) (t w : ValueKind) → found ≡ Some t → r.wants [] one app at found w ≡ [] → t ≡ w
-wanted_is at found t w e h = same_true t w (held (same_kind t w) _ (subst (λ f. r.wants [] one app at f w ≡ []) e h))
+wanted_is at found t w e h = same_kind_is t w (held (same_kind t w) _ (subst (λ f. r.wants [] one app at f w ≡ []) e h))
 
 wants_self : (at : ℕ) (t : ValueKind) → r.wants [] one app at (Some t) t ≡ []
 wants_self at k.Int = refl

@@ -1,5 +1,5 @@
 -- What names mean, and the kind of an expression, which its outermost form fixes.
-use Rattle.std.specs.Prelude.{ℕ, Bool, true, false, Option, Some, None, List}
+use Rattle.std.specs.Prelude.{ℕ, Bool, Option, Some, None, List}
 use Rattle.rev_num.specs.declared.value.ValueKind.{ValueKind}
 use Rattle.rev_num.specs.declared.value.ValueKind.TheVariants as k
 use Rattle.rev_syntax.specs.Trees.{Parameter, Expression, placed, ExpressionForm, Links, int, bool, no_rev, var, cell, apply, input, inputs, pick, unary, chain, no_links, link, RightSide, plain, called, forked, tried, PrintItem, text, shown}
@@ -27,12 +27,6 @@ pub record Names : Type 0 where
 -- the locals in scope, each with its kind. A local whose right side has no kind has none.
 abbrev pub Locals : Type 0
 Locals = Table (Option ValueKind)
-
-abbrev pub same_kind : ValueKind → ValueKind → Bool
-same_kind k.Int k.Int = true
-same_kind k.Bool k.Bool = true
-same_kind k.Rev k.Rev = true
-same_kind _ _ = false
 
 -- the kind of a name: of a local, or else of a shared variable
 abbrev pub name_kind : Option (Option ValueKind) → Option Holder → Option ValueKind

@@ -5,6 +5,7 @@
 use Rattle.std.specs.Prelude.{ℕ, ◌+◌, Bool, if◌then◌else◌, nat_eq, Option, Some, None, List, [], slice_get, length}
 use Rattle.rev_num.specs.declared.value.ValueKind.{ValueKind}
 use Rattle.rev_num.specs.declared.value.ValueKind.TheVariants as k
+use Rattle.rev_num.specs.Value.{same_kind}
 use Rattle.rev_syntax.specs.Trees.{PlacedName, Parameter, Expression, placed, ExpressionForm, Expressions, Links, int, bool, no_rev, var, cell, apply, input, inputs, pick, unary, chain, no_expressions, expression, no_links, link, RightSide, plain, called, forked, tried}
 use Rattle.rev_syntax.specs.declared.tree.BinaryOp.{BinaryOp}
 use Rattle.rev_syntax.specs.declared.tree.BinaryOp.TheVariants as b
@@ -13,7 +14,7 @@ use Rattle.merge_decl.specs.Table.{find}
 use Rattle.rev_kinds.specs.declared.names.Holder.{Holder}
 use Rattle.rev_kinds.specs.declared.fault.TypeFault.{TypeFault}
 use Rattle.rev_kinds.specs.declared.fault.TypeFault.TheVariants.{UnknownName, WrongType, WrongCount}
-use Rattle.rev_kinds.specs.Kinds.{Callee, Names, Locals, same_kind, operand_kind, kind_in, expression_place}
+use Rattle.rev_kinds.specs.Kinds.{Callee, Names, Locals, operand_kind, kind_in, expression_place}
 
 module _ {M : Type 0} (none : M) (one : TypeFault → M) (both : M → M → M) where
   -- this kind is wanted; what has no kind violates no rule on kinds

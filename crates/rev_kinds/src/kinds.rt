@@ -8,19 +8,8 @@ ghost use Rattle.rev_kinds.specs.Walk as rule;
 
 use crate::fault::{TypeFault, first};
 use crate::names::{Callee, Holder};
-use rev_num::ValueKind;
+use rev_num::{ValueKind, same_kind};
 use rev_syntax::{BinaryOp, Link, Name, Param, UnaryOp};
-
-pub fn same_kind(a: ValueKind, b: ValueKind) -> bool
-    ensures { result ≡ kind.same_kind a b }
-{
-    match (a, b) {
-        (ValueKind::Int, ValueKind::Int) => true,
-        (ValueKind::Bool, ValueKind::Bool) => true,
-        (ValueKind::Rev, ValueKind::Rev) => true,
-        _ => false,
-    }
-}
 
 /// The kind of a name: of a local, or else of a shared variable.
 pub fn name_kind(local: Option<Option<ValueKind>>, shared: Option<Holder>) -> Option<ValueKind>

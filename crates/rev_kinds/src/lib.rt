@@ -9,6 +9,6 @@ mod names;
 
 pub use expressions::{Seen, right_side_place};
 pub use fault::{TypeFault, first};
-pub use kinds::{alike, array_use, name_kind, not_rev, same_kind, scalar_use, wants};
+pub use kinds::{alike, array_use, name_kind, not_rev, scalar_use, wants};
 pub use laws::typing_laws;
 pub use names::{Callee, Checker, Holder, Locals};

@@ -4,3 +4,4 @@ pub mod Dots
 pub mod Division
 pub mod Lists
 pub mod Options
+pub mod SameKinds

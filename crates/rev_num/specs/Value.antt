@@ -1,5 +1,6 @@
 -- The kinds of values, and whether two are the same.
 --   kind_of       the kind of a value
+--   same_kind     whether two kinds are the same
 --   same_number   whether two numbers are the same
 --   same_truth    whether two truth values are the same
 use Rattle.std.specs.Prelude.{ℤ, pos, negsuc, Bool, true, false, not, nat_eq}
@@ -12,6 +13,17 @@ abbrev pub kind_of : Value → ValueKind
 kind_of (value.Int n) = kind.Int
 kind_of (value.Bool b) = kind.Bool
 kind_of (value.Rev path) = kind.Rev
+
+abbrev pub same_kind : ValueKind → ValueKind → Bool
+same_kind kind.Int kind.Int = true
+same_kind kind.Int kind.Bool = false
+same_kind kind.Int kind.Rev = false
+same_kind kind.Bool kind.Int = false
+same_kind kind.Bool kind.Bool = true
+same_kind kind.Bool kind.Rev = false
+same_kind kind.Rev kind.Int = false
+same_kind kind.Rev kind.Bool = false
+same_kind kind.Rev kind.Rev = true
 
 abbrev pub same_number : ℤ → ℤ → Bool
 same_number (pos m) (pos n) = nat_eq m n

@@ -3,6 +3,7 @@
 #![tactic(auto)]
 
 mod items;
+mod kinds;
 mod laws;
 mod limits;
 mod number;
@@ -12,6 +13,7 @@ mod text;
 mod value;
 
 pub use items::{Bytes, Items};
+pub use kinds::same_kind;
 pub use laws::{decimal_laws, division_laws, post_order_laws, word_laws};
 pub use limits::MOST_FRAMES;
 pub use number::{add, div, int_of_word, mul, neg, rem, sub, word_of_int};

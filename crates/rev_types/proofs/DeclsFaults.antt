@@ -3,7 +3,7 @@
 use Rattle.std.proofs.Common.{◌≡◌, ◌∙◌, ◌≢◌, inl, inr, ℕ, ◌-◌, Bool, true, false, cond, nat_eq, nat_le, nat_lt, Option, Some, None, is_some, List, [], ◌∷◌, refl, sym, ap, subst}
 use Rattle.rev_num.specs.declared.value.ValueKind.{ValueKind}
 use Rattle.rev_num.specs.declared.value.ValueKind.TheVariants as k
-use Rattle.rev_num.specs.Value.{kind_of}
+use Rattle.rev_num.specs.Value.{kind_of, same_kind}
 use Rattle.rev_syntax.specs.Trees.{PlacedName, Parameter, ArraySize, Constant, SharedDeclaration, Expression, Statements, Declaration, fun, merge, shared, proc, ProgramTree}
 use Rattle.merge_decl.specs.Least.{Among}
 use Rattle.merge_decl.specs.Names.{Name}
@@ -13,7 +13,7 @@ use Rattle.rev_report.specs.declared.limit.Limit.TheVariants as limits
 use Rattle.rev_kinds.specs.declared.fault.TypeFault.{TypeFault}
 use Rattle.rev_report.specs.Limits.{first_past, most}
 use Rattle.rev_kinds.specs.Faults.{IsLimit, exceeded}
-use Rattle.rev_kinds.specs.Kinds.{Names, Locals, same_kind, expression_place}
+use Rattle.rev_kinds.specs.Kinds.{Names, Locals, expression_place}
 use Rattle.rev_kinds.specs.Rules as r
 use Rattle.rev_kinds.proofs.Lists.{whole, passes, stops, not_found, is_unequal, added_unknown, known_more}
 use Rattle.rev_kinds.proofs.Typings.{All, one, app, wants_of, handle_not, complete}

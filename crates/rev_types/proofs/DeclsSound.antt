@@ -3,7 +3,8 @@ use Rattle.std.proofs.Common.{◌≡◌, ◌∙◌, ◌≢◌, inl, inr, ℕ, �
 use Rattle.std.specs.List.{list_all}
 use Rattle.rev_num.specs.declared.value.ValueKind.{ValueKind}
 use Rattle.rev_num.specs.declared.value.ValueKind.TheVariants as k
-use Rattle.rev_num.specs.Value.{kind_of}
+use Rattle.rev_num.specs.Value.{kind_of, same_kind}
+use Rattle.rev_num.proofs.SameKinds.{same_kind_is}
 use Rattle.rev_syntax.specs.Trees.{PlacedName, Parameter, ArraySize, Constant, SharedDeclaration, Expression, Statements, Declaration, fun, merge, shared, proc, ProgramTree}
 use Rattle.rev_syntax.specs.Small.{name_formed, expression_small, statements_small, parameter_formed, declaration_small, IsSmall}
 use Rattle.merge_decl.specs.FunRules.{broken_in, expression_uses, statements_uses, declaration_uses, declarations_uses, fun_faults, fun_named}
@@ -13,11 +14,11 @@ use Rattle.merge_decl.specs.Table.{Table, find, added}
 use Rattle.merge_decl.specs.declared.expand.FunHead.{FunHead}
 use Rattle.rev_report.specs.declared.limit.Limit.TheVariants as limits
 use Rattle.rev_report.specs.Limits.{first_past}
-use Rattle.rev_kinds.specs.Kinds.{Names, Locals, same_kind}
+use Rattle.rev_kinds.specs.Kinds.{Names, Locals}
 use Rattle.rev_kinds.specs.Rules as r
 use Rattle.rev_kinds.specs.Laws.{AllKinded, IsKnown}
 use Rattle.rev_kinds.proofs.Lists.{parts, held, failed, and_parts, unequal, unknown_added, known_added}
-use Rattle.rev_kinds.proofs.Typings.{All, one, app, same_true, wanted_is}
+use Rattle.rev_kinds.proofs.Typings.{All, one, app, wanted_is}
 use Rattle.rev_types.specs.Statements as s
 use Rattle.rev_types.specs.Scopes as scopes
 use Rattle.rev_types.specs.Program as p
@@ -130,7 +131,7 @@ merge_params m j x h =
 by_typed : (q : p.Passed) (before : List Declaration) (o : Option PlacedName) (at : ℕ) (t : ValueKind) → Follows q before → p.by_use [] one app q.merges o ≡ [] → p.cumulative_kind [] one app o at t ≡ []
     → ByTyped before o t
 by_typed q before None at t f h g = tt
-by_typed q before (Some w) at t f h g = (f.merges w.text (held (is_some (find w.text q.merges)) _ h), same_true t k.Int (held (same_kind t k.Int) _ g))
+by_typed q before (Some w) at t f h g = (f.merges w.text (held (is_some (find w.text q.merges)) _ h), same_kind_is t k.Int (held (same_kind t k.Int) _ g))
 
 size_typed : (o : Option ArraySize) → p.size_use [] one app o ≡ [] → SizeTyped o
 size_typed None h = tt

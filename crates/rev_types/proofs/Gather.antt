@@ -2,7 +2,7 @@
 use Rattle.std.proofs.Common.{◌≡◌, ◌∙◌, ℕ, ◌+◌, ◌-◌, Bool, true, false, if◌then◌else◌, nat_eq, nat_le, nat_lt, Option, Some, None, is_some, List, [], ◌∷◌, ◌++◌, refl, slice_get, length}
 use Rattle.rev_num.specs.declared.value.ValueKind.{ValueKind}
 use Rattle.rev_num.specs.declared.value.ValueKind.TheVariants as k
-use Rattle.rev_num.specs.Value.{kind_of}
+use Rattle.rev_num.specs.Value.{kind_of, same_kind}
 use Rattle.rev_syntax.specs.Trees.{PlacedName, Parameter, ArraySize, Constant, Expression, placed, ExpressionForm, Expressions, Links, int, bool, no_rev, var, cell, apply, input, inputs, pick, unary, chain, no_expressions, expression, no_links, link, RightSide, plain, called, forked, tried, PrintItem, text, shown, Statement, statement, StatementForm, bind, assign, assign_cell, choose, choose_or, repeat, call, return, fork, join, print, assert, Statements, no_statements, statements, Arms, no_arms, arm, Declaration, fun, merge, shared, proc, ProgramTree}
 use Rattle.rev_syntax.specs.declared.tree.BinaryOp.{BinaryOp}
 use Rattle.rev_syntax.specs.declared.tree.BinaryOp.TheVariants as b
@@ -16,7 +16,7 @@ use Rattle.rev_report.specs.declared.limit.Limit.TheVariants as limits
 use Rattle.rev_kinds.specs.declared.names.Holder.{Holder}
 use Rattle.rev_report.specs.Limits.{first_past, most}
 use Rattle.rev_kinds.specs.Faults.{HasLimit, place, rank}
-use Rattle.rev_kinds.specs.Kinds.{Callee, Names, Locals, same_kind, name_kind, operand_kind, kind_in, right_side_kind, right_side_place, expression_place}
+use Rattle.rev_kinds.specs.Kinds.{Callee, Names, Locals, name_kind, operand_kind, kind_in, right_side_kind, right_side_place, expression_place}
 use Rattle.rev_kinds.specs.Rules as r
 use Rattle.rev_kinds.specs.Walk.{both}
 use Rattle.rev_types.specs.Statements as s

@@ -2,7 +2,7 @@
 use Rattle.std.specs.Prelude.{ℕ, ◌+◌, ◌-◌, Bool, if◌then◌else◌, nat_eq, nat_le, nat_lt, min, Option, Some, None, is_some, List, [], ◌∷◌, ◌++◌}
 use Rattle.rev_num.specs.declared.value.ValueKind.{ValueKind}
 use Rattle.rev_num.specs.declared.value.ValueKind.TheVariants as k
-use Rattle.rev_num.specs.Value.{kind_of}
+use Rattle.rev_num.specs.Value.{kind_of, same_kind}
 use Rattle.rev_syntax.specs.Trees.{PlacedName, Parameter, ArraySize, Constant, SharedDeclaration, Expression, placed, ExpressionForm, Expressions, Links, int, bool, no_rev, var, cell, apply, input, inputs, pick, unary, chain, no_expressions, expression, no_links, link, Statements, Declaration, fun, merge, shared, proc, ProgramTree}
 use Rattle.merge_decl.specs.Table.{Table, find, added}
 use Rattle.merge_decl.specs.Weights.{known_weight}
@@ -12,7 +12,7 @@ use Rattle.rev_kinds.specs.declared.fault.TypeFault.{TypeFault}
 use Rattle.rev_kinds.specs.declared.fault.TypeFault.TheVariants.{UnknownName, Redeclared, WrongType, WrongCount, NoReturn}
 use Rattle.rev_report.specs.Limits.{first_past, most}
 use Rattle.rev_kinds.specs.Faults.{exceeded}
-use Rattle.rev_kinds.specs.Kinds.{Names, Locals, same_kind, kind_in, expression_place}
+use Rattle.rev_kinds.specs.Kinds.{Names, Locals, kind_in, expression_place}
 use Rattle.rev_kinds.specs.Rules.{wants, not_rev, part_by}
 use Rattle.rev_types.specs.declared.tables.SharedInfo.{SharedInfo}
 use Rattle.rev_types.specs.Scopes.{outside, within, with_params, merge_locals, size_cells, cells_of}

@@ -5,9 +5,10 @@ use Rattle.rev_num.specs.Path.{Path}
 use Rattle.rev_num.specs.declared.value.Value.{Value}
 use Rattle.rev_num.specs.declared.value.ValueKind.{ValueKind}
 use Rattle.rev_num.specs.declared.value.ValueKind.TheVariants as k
-use Rattle.rev_num.specs.Value.{kind_of}
+use Rattle.rev_num.specs.Value.{kind_of, same_kind}
 use Rattle.rev_num.specs.declared.outcome.Cause.{Cause}
 use Rattle.rev_num.specs.declared.outcome.Cause.TheVariants as cause
+use Rattle.rev_num.proofs.SameKinds.{same_kind_self}
 use Rattle.rev_syntax.specs.Trees.{PlacedName, Expression, Expressions, RightSide, plain, called, tried, statement, bind, assign, assign_cell}
 use Rattle.rev_syntax.specs.Trees as tree
 use Rattle.rev_syntax.specs.Small.{name_formed, expression_small, expressions_small, right_side_small}
@@ -32,7 +33,6 @@ use Rattle.rev_code.specs.declared.code.Instr.{Instr}
 use Rattle.rev_code.specs.declared.code.Instr.TheVariants as i
 use Rattle.rev_code.specs.declared.code.CodeBlock.{CodeBlock}
 use Rattle.rev_code.specs.Words as words
-use Rattle.rev_code.specs.Words.{same_kind}
 use Rattle.rev_code.specs.State.{State, written_at}
 use Rattle.rev_code.specs.Step as r
 use Rattle.rev_code.specs.Step.{goes, step}
@@ -60,7 +60,6 @@ use Rattle.statement_places.proofs.Locals.{locals_let, locals_wait, written_ther
 use Rattle.statement_places.proofs.Parts.{names_none, names_after}
 use Rattle.statement_run.proofs.Calls.{Comes_to, moved, did_on, trap, after_value, after_then, after_all, gave, joined}
 use Rattle.statement_run.proofs.Calls as runs
-use Rattle.rev_code.proofs.SameKinds.{same_kind_self}
 
 -- a new name has its number
 found_new : (scope : Scope) (w : Name) (m : ℕ) → find w scope ≡ None → find w (added scope w m) ≡ Some m

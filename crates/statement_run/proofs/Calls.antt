@@ -7,9 +7,10 @@ use Rattle.rev_num.specs.declared.value.Value.{Value}
 use Rattle.rev_num.specs.declared.value.Value.TheVariants as v
 use Rattle.rev_num.specs.declared.value.ValueKind.{ValueKind}
 use Rattle.rev_num.specs.declared.value.ValueKind.TheVariants as k
-use Rattle.rev_num.specs.Value.{kind_of}
+use Rattle.rev_num.specs.Value.{kind_of, same_kind}
 use Rattle.rev_num.specs.declared.outcome.Cause.{Cause}
 use Rattle.rev_num.specs.declared.outcome.Cause.TheVariants as cause
+use Rattle.rev_num.proofs.SameKinds.{same_kind_self}
 use Rattle.rev_syntax.specs.Trees.{Parameter}
 use Rattle.merge_decl.specs.Names.{Name}
 use Rattle.merge_decl.specs.Value.{Answer, and_then}
@@ -25,7 +26,7 @@ use Rattle.revision_calculus.specs.Kinded.{names}
 use Rattle.rev_code.specs.declared.code.Instr.TheVariants as i
 use Rattle.rev_code.specs.declared.code.CodeBlock.{CodeBlock}
 use Rattle.rev_code.specs.Words as words
-use Rattle.rev_code.specs.Words.{Word, same_kind}
+use Rattle.rev_code.specs.Words.{Word}
 use Rattle.rev_code.specs.State as code
 use Rattle.rev_code.specs.State.{State}
 use Rattle.rev_code.specs.Step as r
@@ -41,7 +42,6 @@ use Rattle.statement_run.specs.Steps.{Carries, Walks, DidMove, Did}
 use Rattle.statement_run.proofs.Linked.{IsProc, IsLinked}
 use Rattle.statement_run.proofs.Reading.{Ready}
 use Rattle.statement_run.proofs.Resume.{goes_on, onward, one, Resumed, resume}
-use Rattle.rev_code.proofs.SameKinds.{same_kind_self}
 
 -- ---- depth
 

@@ -4,7 +4,8 @@ use Rattle.std.specs.Prelude.{slice_get, slice_set, if◌then◌else◌}
 use Rattle.rev_num.specs.Path.{Path}
 use Rattle.rev_num.specs.declared.value.Value.{Value}
 use Rattle.rev_num.specs.declared.value.ValueKind.{ValueKind}
-use Rattle.rev_num.specs.Value.{kind_of}
+use Rattle.rev_num.specs.Value.{kind_of, same_kind}
+use Rattle.rev_num.proofs.SameKinds.{same_kind_self}
 use Rattle.merge_decl.specs.Names.{Name}
 use Rattle.merge_decl.specs.Table.{find}
 use Rattle.rev_types.specs.Judgement.{Returns}
@@ -15,7 +16,7 @@ use Rattle.rev_code.specs.declared.code.Instr.{Instr}
 use Rattle.rev_code.specs.declared.code.Instr.TheVariants as i
 use Rattle.rev_code.specs.declared.code.CodeBlock.{CodeBlock}
 use Rattle.rev_code.specs.Words as words
-use Rattle.rev_code.specs.Words.{Word, same_kind}
+use Rattle.rev_code.specs.Words.{Word}
 use Rattle.rev_code.specs.State.{State, written_at}
 use Rattle.rev_code.specs.Variables.{Place, scalar}
 use Rattle.rev_code.specs.Step as r
@@ -31,7 +32,6 @@ use Rattle.statement_places.proofs.Locals.{locals_set, locals_shared, written_th
 use Rattle.statement_run.specs.Steps.{Carries, Takes, Few, nowhere, takes}
 use Rattle.statement_run.proofs.Linked.{IsLinked}
 use Rattle.statement_run.proofs.Reading.{scalar_there}
-use Rattle.rev_code.proofs.SameKinds.{same_kind_self}
 
 nothing : Unit {0}
 nothing = tt

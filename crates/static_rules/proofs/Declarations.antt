@@ -4,7 +4,8 @@ use Rattle.std.proofs.lemmas.Bool.Decides.{nat_tests}
 use Rattle.std.proofs.lemmas.List.{map-append}
 use Rattle.rev_num.specs.declared.value.ValueKind.{ValueKind}
 use Rattle.rev_num.specs.declared.value.ValueKind.TheVariants as k
-use Rattle.rev_num.specs.Value.{kind_of}
+use Rattle.rev_num.specs.Value.{kind_of, same_kind}
+use Rattle.rev_num.proofs.SameKinds.{same_kind_is}
 use Rattle.rev_syntax.specs.Trees.{PlacedName, Parameter, ArraySize, Constant, SharedDeclaration, Expression, Statements, Declaration, fun, merge, shared, proc, ProgramTree}
 use Rattle.merge_decl.specs.Least.{Among}
 use Rattle.merge_decl.specs.Names.{Name}
@@ -16,9 +17,9 @@ use Rattle.rev_kinds.specs.declared.fault.TypeFault.{TypeFault}
 use Rattle.rev_kinds.specs.declared.fault.TypeFault.TheVariants.{Redeclared}
 use Rattle.rev_kinds.specs.declared.names.Holder.{Holder}
 use Rattle.rev_kinds.specs.Faults.{exceeded}
-use Rattle.rev_kinds.specs.Kinds.{Names, Locals, same_kind}
+use Rattle.rev_kinds.specs.Kinds.{Names, Locals}
 use Rattle.rev_kinds.proofs.Lists.{equal, known_added, known_more}
-use Rattle.rev_kinds.proofs.Typings.{All, one, app, same_true}
+use Rattle.rev_kinds.proofs.Typings.{All, one, app}
 use Rattle.rev_types.specs.Statements as s
 use Rattle.rev_types.specs.Scopes as scopes
 use Rattle.rev_types.specs.Program as d
@@ -108,7 +109,7 @@ module _ (p : ProgramTree) where
       (all_both (Breaks p) _ _
       (all_when (Breaks p) (is_some (find q.name.text l)) _
       (λ t. let g = f.known q.name.text t in parameter_again {e = fun w all x body} {before = map parameter_word before} g.0 m (behind_by (map parameter_word before) q.name (map parameter_word qs) (map parameter_word all) (words_behind all before q qs e)) g.1 g.2))
-      (all_both (Breaks p) _ _ (all_when (Breaks p) (same_kind q.kind k.Rev) _ (λ t. fun_parameter q m (among_at before q all (behind_by before q qs all e)) (same_true q.kind k.Rev t)))
+      (all_both (Breaks p) _ _ (all_when (Breaks p) (same_kind q.kind k.Rev) _ (λ t. fun_parameter q m (among_at before q all (behind_by before q qs all e)) (same_kind_is q.kind k.Rev t)))
       (all_at (Breaks p) left (exceeded q.name.at limits.Parameters) (λ t. parameters {e = fun w all x body} {before = before} m (behind_by before q qs all e) (last_param (length before) left h t))))))
 
   proc_params_all : (w : PlacedName) (all : List Parameter) (x : Option ValueKind) (body : Statements) (m : Declares p (proc w all x body)) (before qs : List Parameter) (l : Locals) (left locals : ℕ) (found : All)
@@ -214,7 +215,7 @@ module _ (p : ProgramTree) where
         all_both (Breaks p) _ _ (all_both (Breaks p) _ _ (name_all (fun w ps x body) b) (funs_all (fun w ps x body) b tt))
         (all_both (Breaks p) _ _
         (all_both (Breaks p) _ _ (fun_params_all w ps x body m [] ps [] 9 [] refl scope_none refl (all_none (Breaks p)))
-        (all_when (Breaks p) (same_kind x k.Rev) _ (λ t. fun_result m (same_true x k.Rev t))))
+        (all_when (Breaks p) (same_kind x k.Rev) _ (λ t. fun_result m (same_kind_is x k.Rev t))))
         (all_both (Breaks p) _ _
         (all_both (Breaks p) _ _ (all_both (Breaks p) _ _ (expression_all p inner (scopes.with_params [] ps) body (in_fun m)) (wanted_all p inner (scopes.with_params [] ps) body x (fun_body m)))
         (handle_all p inner (scopes.with_params [] ps) body (fun_value m)))

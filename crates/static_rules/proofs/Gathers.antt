@@ -2,6 +2,8 @@
 use Rattle.std.proofs.Common.{◌≡◌, ◌∙◌, ◌≢◌, ◌⊎◌, inl, inr, ℕ, Bool, true, false, cond, Option, Some, None, [], ◌∷◌, ◌++◌, slice_get, refl, sym, ap, subst, true≢false}
 use Rattle.rev_num.specs.declared.value.ValueKind.{ValueKind}
 use Rattle.rev_num.specs.declared.value.ValueKind.TheVariants as k
+use Rattle.rev_num.specs.Value.{same_kind}
+use Rattle.rev_num.proofs.SameKinds.{same_kind_is, same_kind_self}
 use Rattle.rev_syntax.specs.Trees.{PlacedName, Parameter}
 use Rattle.rev_syntax.specs.declared.tree.BinaryOp.{BinaryOp}
 use Rattle.rev_syntax.specs.declared.tree.BinaryOp.TheVariants as b
@@ -9,9 +11,9 @@ use Rattle.merge_decl.specs.Least.{Among}
 use Rattle.rev_kinds.specs.declared.fault.TypeFault.{TypeFault}
 use Rattle.rev_kinds.specs.declared.fault.TypeFault.TheVariants.{UnknownName, WrongType}
 use Rattle.rev_kinds.specs.declared.names.Holder.{Holder}
-use Rattle.rev_kinds.specs.Kinds.{Callee, same_kind}
+use Rattle.rev_kinds.specs.Kinds.{Callee}
 use Rattle.rev_kinds.specs.Rules as r
-use Rattle.rev_kinds.proofs.Typings.{All, one, app, same_true}
+use Rattle.rev_kinds.proofs.Typings.{All, one, app}
 use Rattle.rev_types.proofs.StatementsFaults.{AllAre, all_none, all_both, all_when}
 use Rattle.static_rules.specs.Places.{operands, compares}
 use Rattle.static_rules.specs.Breaks.{array_named}
@@ -62,22 +64,17 @@ in_unless true g h = absurd (true≢false h)
 
 -- ---- kinds
 
-same_self : (t : ValueKind) → same_kind t t ≡ true
-same_self k.Int = refl
-same_self k.Bool = refl
-same_self k.Rev = refl
-
 pub differ : (a t : ValueKind) → same_kind a t ≡ false → a ≢ t
-differ a t h e = true≢false (sym (ap (λ x. same_kind x t) e ∙ same_self t) ∙ h)
+differ a t h e = true≢false (sym (ap (λ x. same_kind x t) e ∙ same_kind_self t) ∙ h)
 
 pub alike_kinds : (a t : ValueKind) → a ≡ t → same_kind a t ≡ true
-alike_kinds a t e = ap (λ x. same_kind x t) e ∙ same_self t
+alike_kinds a t e = ap (λ x. same_kind x t) e ∙ same_kind_self t
 
 pub not_alike : (a t : ValueKind) → a ≢ t → same_kind a t ≡ false
 not_alike a t n = by (same_kind a t) refl
   where
     by : (x : Bool) → same_kind a t ≡ x → x ≡ false
-    by true e = absurd (n (same_true a t e))
+    by true e = absurd (n (same_kind_is a t e))
     by false e = refl
 
 pub not_some : {A : Type 0} (x : A) → None ≡ Some x → ⊥

@@ -3,7 +3,7 @@ use Rattle.std.proofs.Common.{◌≡◌, ◌∙◌, ◌≢◌, inl, inr, ℕ, su
 use Rattle.std.proofs.lemmas.Bool.Decides.{nat_tests}
 use Rattle.rev_num.specs.declared.value.ValueKind.{ValueKind}
 use Rattle.rev_num.specs.declared.value.ValueKind.TheVariants as k
-use Rattle.rev_num.specs.Value.{kind_of}
+use Rattle.rev_num.specs.Value.{kind_of, same_kind}
 use Rattle.rev_syntax.specs.Trees.{PlacedName, Parameter, SharedDeclaration, Expression, Expressions, called, PrintItem, text, shown, StatementForm, bind, assign, return, print, Statements, Declaration, fun, merge, shared, proc, ProgramTree}
 use Rattle.merge_decl.specs.FunRules.{count}
 use Rattle.merge_decl.specs.Least.{Among}
@@ -15,7 +15,7 @@ use Rattle.rev_kinds.specs.declared.fault.TypeFault.{TypeFault}
 use Rattle.rev_kinds.specs.declared.fault.TypeFault.TheVariants.{UnknownName, Redeclared, WrongType, WrongCount, NoReturn}
 use Rattle.rev_kinds.specs.declared.names.Holder.{Holder}
 use Rattle.rev_kinds.specs.Faults.{exceeded}
-use Rattle.rev_kinds.specs.Kinds.{Callee, Names, Locals, same_kind, kind_in, name_kind, right_side_kind, right_side_place, expression_place, item_place}
+use Rattle.rev_kinds.specs.Kinds.{Callee, Names, Locals, kind_in, name_kind, right_side_kind, right_side_place, expression_place, item_place}
 use Rattle.rev_kinds.specs.Rules as r
 use Rattle.rev_kinds.proofs.Lists.{is_equal, is_unequal, known_more}
 use Rattle.rev_kinds.proofs.Typings.{All, one, app}
