@@ -137,9 +137,6 @@ module _ (last_place last_rank : ℕ) (c : Names) where
   abbrev found_at : Fault → Bool
   found_at f = meets last_place last_rank f
 
-  found_both : (a b : Fault) → found_at (both a b) ≡ (found_at a || found_at b)
-  found_both a b = meets-both last_place last_rank a b
-
   abbrev params_found : Locals → Statements → List Parameter → Bool
   params_found l body [] = false
   params_found l body (p ∷ ps) = found_at (misused true (find p.name.text l) p.name.text body) || params_found l body ps
@@ -147,7 +144,7 @@ module _ (last_place last_rank : ℕ) (c : Names) where
   params_are : (l : Locals) (body : Statements) (f : Fault) (ps : List Parameter) → found_at (misused_params l body f ps) ≡ (found_at f || params_found l body ps)
   params_are l body f [] = sym (or-false (found_at f))
   params_are l body f (p ∷ ps) =
-      params_are l body (both f (misused true (find p.name.text l) p.name.text body)) ps ∙ ap (λ b. b || params_found l body ps) (found_both f (misused true (find p.name.text l) p.name.text body))
+      params_are l body (both f (misused true (find p.name.text l) p.name.text body)) ps ∙ ap (λ b. b || params_found l body ps) (meets-both last_place last_rank f (misused true (find p.name.text l) p.name.text body))
       ∙ or-assoc (found_at f) (found_at (misused true (find p.name.text l) p.name.text body)) (params_found l body ps)
 
   abbrev Named : Name → List Parameter → Type 0
@@ -195,7 +192,7 @@ module _ (last_place last_rank : ℕ) (c : Names) where
   body_is : (ps : List Parameter) (body : Statements) → found_at (broken_body c ps body)
       ≡ (params_found (with_params [] ps) body ps || ((copy last_place last_rank (copies c (with_params [] ps) body) || store last_place last_rank (stores c body)) || trails last_place last_rank c (with_params [] ps) true body))
   body_is ps body =
-      found_both (misused_params (with_params [] ps) body None ps) (broken_in c (with_params [] ps) true None body)
+      meets-both last_place last_rank (misused_params (with_params [] ps) body None ps) (broken_in c (with_params [] ps) true None body)
       ∙ (λ i. params_are (with_params [] ps) body None ps i || broken_is last_place last_rank c (with_params [] ps) true None body i)
 
   body_by : (p a s t : Bool) → Holds p ⊎ (Holds a ⊎ (Holds s ⊎ Holds t)) → Holds (p || ((a || s) || t))
@@ -264,7 +261,7 @@ module _ (last_place last_rank : ℕ) (c : Names) where
   declarations_are : (f : Fault) (es : List Declaration) → found_at (broken_declarations c f es) ≡ (found_at f || declarations_found es)
   declarations_are f [] = sym (or-false (found_at f))
   declarations_are f (e ∷ es) =
-      declarations_are (both f (broken_declaration c e)) es ∙ ap (λ b. b || declarations_found es) (found_both f (broken_declaration c e)) ∙ or-assoc (found_at f) (found_at (broken_declaration c e)) (declarations_found es)
+      declarations_are (both f (broken_declaration c e)) es ∙ ap (λ b. b || declarations_found es) (meets-both last_place last_rank f (broken_declaration c e)) ∙ or-assoc (found_at f) (found_at (broken_declaration c e)) (declarations_found es)
 
   declarations_complete : (inner : Names) (before es : List Declaration) (b : Breach) → DeclarationsTyped c inner before es → Holds (hit b (declarations_places c es b)) → Holds (declarations_found es)
   declarations_complete inner before [] b typed h = never h

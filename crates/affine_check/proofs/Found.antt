@@ -30,9 +30,6 @@ module _ (last_place last_rank : ℕ) where
   store-append : (xs ys : List ℕ) → store (xs ++ ys) ≡ (store xs || store ys)
   store-append xs ys = any-append last_place last_rank (λ at. Stored at) xs ys
 
-  found_both : (a b : Fault) → found_at (both a b) ≡ (found_at a || found_at b)
-  found_both a b = meets-both last_place last_rank a b
-
   -- ---- expressions
 
   name_copied : (m : Option (Option ValueKind)) (at : ℕ) → found_at (cond (is_handle m) (Some (Copied at)) None) ≡ copy (if_rev m (at ∷ []))
@@ -43,12 +40,12 @@ module _ (last_place last_rank : ℕ) where
   name_copied (Some (Some k.Rev)) at = sym (or-false (upto last_place last_rank (Copied at)))
 
   after : (f : Fault) (a : Fault) (b c : Bool) → found_at a ≡ b → (found_at (both f a) || c) ≡ (found_at f || (b || c))
-  after f a b c e = ap (λ d. d || c) (found_both f a ∙ ap (λ d. found_at f || d) e) ∙ or-assoc (found_at f) b c
+  after f a b c e = ap (λ d. d || c) (meets-both last_place last_rank f a ∙ ap (λ d. found_at f || d) e) ∙ or-assoc (found_at f) b c
 
   parts : (l : Locals) (test x y : Expression) → found_at (copied l true test) ≡ copy (names_in l test) → found_at (copied l true x) ≡ copy (names_in l x) → found_at (copied l true y) ≡ copy (names_in l y)
       → found_at (both (copied l true test) (both (copied l true x) (copied l true y))) ≡ copy (names_in l test ++ (names_in l x ++ names_in l y))
   parts l test x y p q r =
-      found_both (copied l true test) (both (copied l true x) (copied l true y)) ∙ ap (λ b. found_at (copied l true test) || b) (found_both (copied l true x) (copied l true y))
+      meets-both last_place last_rank (copied l true test) (both (copied l true x) (copied l true y)) ∙ ap (λ b. found_at (copied l true test) || b) (meets-both last_place last_rank (copied l true x) (copied l true y))
       ∙ (λ i. p i || (q i || r i))
       ∙ ap (λ b. copy (names_in l test) || b) (sym (copy-append (names_in l x) (names_in l y))) ∙ sym (copy-append (names_in l test) (names_in l x ++ names_in l y))
 
@@ -118,7 +115,7 @@ module _ (last_place last_rank : ℕ) where
 
   items_found : (l : Locals) (f : Fault) (xs : List PrintItem) → found_at (copied_items l f xs) ≡ (found_at f || copy (items_copies l xs))
   items_found l f [] = sym (or-false (found_at f))
-  items_found l f (text at bytes ∷ xs) = items_found l (both f None) xs ∙ ap (λ b. b || copy (items_copies l xs)) (found_both f None ∙ or-false (found_at f))
+  items_found l f (text at bytes ∷ xs) = items_found l (both f None) xs ∙ ap (λ b. b || copy (items_copies l xs)) (meets-both last_place last_rank f None ∙ or-false (found_at f))
   items_found l f (shown e ∷ xs) =
       items_found l (both f (copied l false e)) xs ∙ after f (copied l false e) (copy (pick_names l e)) (copy (items_copies l xs)) (picks l e) ∙ ap (λ b. found_at f || b) (sym (copy-append (pick_names l e) (items_copies l xs)))
 
@@ -175,7 +172,7 @@ module _ (last_place last_rank : ℕ) where
     broken_is c l first f no_statements = sym (or-false (found_at f))
     broken_is c l first f (statements x rest) =
         broken_is c (locals_after c l x) (first && statement_passes x) (both f (broken_statement c l first rest x)) rest
-        ∙ ap (λ b. b || ((copy (copies c (locals_after c l x) rest) || store (stores c rest)) || handles c (locals_after c l x) (first && statement_passes x) rest)) (found_both f (broken_statement c l first rest x) ∙ ap (λ b. found_at f || b) (statement_is c l first rest x))
+        ∙ ap (λ b. b || ((copy (copies c (locals_after c l x) rest) || store (stores c rest)) || handles c (locals_after c l x) (first && statement_passes x) rest)) (meets-both last_place last_rank f (broken_statement c l first rest x) ∙ ap (λ b. found_at f || b) (statement_is c l first rest x))
         ∙ behind (found_at f) (copy (statement_copies c l x)) (store (statement_stores c x)) (handles_statement c l first rest x) (copy (copies c (locals_after c l x) rest)) (store (stores c rest)) (handles c (locals_after c l x) (first && statement_passes x) rest)
         ∙ (λ i. found_at f || ((sym (copy-append (statement_copies c l x) (copies c (locals_after c l x) rest)) i || sym (store-append (statement_stores c x) (stores c rest)) i) || (handles_statement c l first rest x || handles c (locals_after c l x) (first && statement_passes x) rest)))
 
@@ -184,24 +181,24 @@ module _ (last_place last_rank : ℕ) where
 
     form_is : (c : Names) (l : Locals) (first : Bool) (rest : Statements) (x : StatementForm) → found_at (broken_form c l first rest x) ≡ ((copy (statement_form_copies c l x) || store (statement_form_stores c x)) || handles_form c l first rest x)
     form_is c l first rest (bind w r) =
-        found_both (copied_right l r) (misused first (find w.text (bound c l w r)) w.text rest) ∙ ap (λ b. b || found_at (misused first (find w.text (bound c l w r)) w.text rest)) (rights l r ∙ sym (or-false (copy (right_side_copies l r))))
-    form_is c l first rest (assign w r) = found_both (stored c w) (copied_right l r) ∙ (λ i. store_found w (c.shared w.text) i || rights l r i) ∙ swap (store (name_stores c w)) (copy (right_side_copies l r))
+        meets-both last_place last_rank (copied_right l r) (misused first (find w.text (bound c l w r)) w.text rest) ∙ ap (λ b. b || found_at (misused first (find w.text (bound c l w r)) w.text rest)) (rights l r ∙ sym (or-false (copy (right_side_copies l r))))
+    form_is c l first rest (assign w r) = meets-both last_place last_rank (stored c w) (copied_right l r) ∙ (λ i. store_found w (c.shared w.text) i || rights l r i) ∙ swap (store (name_stores c w)) (copy (right_side_copies l r))
       where
         swap : (s a : Bool) → (s || a) ≡ ((a || s) || false)
         swap s a = grind arith
     form_is c l first rest (assign_cell w index e) =
-        found_both (stored c w) (both (copied l false index) (copied l false e)) ∙ (λ i. store_found w (c.shared w.text) i || found_both (copied l false index) (copied l false e) i)
+        meets-both last_place last_rank (stored c w) (both (copied l false index) (copied l false e)) ∙ (λ i. store_found w (c.shared w.text) i || meets-both last_place last_rank (copied l false index) (copied l false e) i)
         ∙ (λ i. store (name_stores c w) || (picks l index i || picks l e i)) ∙ ap (λ b. store (name_stores c w) || b) (sym (copy-append (pick_names l index) (pick_names l e))) ∙ swap (store (name_stores c w)) (copy (pick_names l index ++ pick_names l e))
       where
         swap : (s a : Bool) → (s || a) ≡ ((a || s) || false)
         swap s a = grind arith
     form_is c l first rest (choose arms) = arms_are c l first None arms
     form_is c l first rest (choose_or arms last) =
-        found_both (broken_arms c l first None arms) (broken_in c l first None last) ∙ (λ i. arms_are c l first None arms i || broken_is c l first None last i)
+        meets-both last_place last_rank (broken_arms c l first None arms) (broken_in c l first None last) ∙ (λ i. arms_are c l first None arms i || broken_is c l first None last i)
         ∙ two (copy (arms_copies c l arms)) (copy (copies c l last)) (store (arms_stores c arms)) (store (stores c last)) (handles_arms c l first arms) (handles c l first last)
         ∙ (λ i. (sym (copy-append (arms_copies c l arms) (copies c l last)) i || sym (store-append (arms_stores c arms) (stores c last)) i) || (handles_arms c l first arms || handles c l first last))
     form_is c l first rest (repeat test body) =
-        found_both (copied l false test) (broken_in c l first None body) ∙ (λ i. picks l test i || broken_is c l first None body i)
+        meets-both last_place last_rank (copied l false test) (broken_in c l first None body) ∙ (λ i. picks l test i || broken_is c l first None body i)
         ∙ regroup (copy (pick_names l test)) (copy (copies c l body)) (store (stores c body)) (handles c l first body) ∙ ap (λ b. (b || store (stores c body)) || handles c l first body) (sym (copy-append (pick_names l test) (copies c l body)))
       where
         regroup : (a b s h : Bool) → (a || ((b || s) || h)) ≡ (((a || b) || s) || h)
@@ -218,7 +215,7 @@ module _ (last_place last_rank : ℕ) where
     arms_are c l first f (arm test body rest) =
         arms_are c l first (both f (both (copied l false test) (broken_in c l first None body))) rest
         ∙ ap (λ b. b || ((copy (arms_copies c l rest) || store (arms_stores c rest)) || handles_arms c l first rest))
-        (found_both f (both (copied l false test) (broken_in c l first None body)) ∙ ap (λ b. found_at f || b) (found_both (copied l false test) (broken_in c l first None body) ∙ (λ i. picks l test i || broken_is c l first None body i) ∙ regroup (copy (pick_names l test)) (copy (copies c l body)) (store (stores c body)) (handles c l first body)))
+        (meets-both last_place last_rank f (both (copied l false test) (broken_in c l first None body)) ∙ ap (λ b. found_at f || b) (meets-both last_place last_rank (copied l false test) (broken_in c l first None body) ∙ (λ i. picks l test i || broken_is c l first None body i) ∙ regroup (copy (pick_names l test)) (copy (copies c l body)) (store (stores c body)) (handles c l first body)))
         ∙ behind (found_at f) (copy (pick_names l test) || copy (copies c l body)) (store (stores c body)) (handles c l first body) (copy (arms_copies c l rest)) (store (arms_stores c rest)) (handles_arms c l first rest)
         ∙ (λ i. found_at f || ((whole i || sym (store-append (stores c body) (arms_stores c rest)) i) || (handles c l first body || handles_arms c l first rest)))
       where

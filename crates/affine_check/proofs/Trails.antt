@@ -93,9 +93,6 @@ module _ (last_place last_rank : ℕ) where
   second-append : (xs ys : List ℕ) → second (xs ++ ys) ≡ (second xs || second ys)
   second-append xs ys = any-append last_place last_rank (λ at. UsedTwice at) xs ys
 
-  found_both : (a b : Fault) → found_at (both a b) ≡ (found_at a || found_at b)
-  found_both a b = meets-both last_place last_rank a b
-
   found_if : (b : Bool) (f : Fault) → found_at (cond b f None) ≡ (b && found_at f)
   found_if true f = refl
   found_if false f = refl
@@ -222,12 +219,12 @@ module _ (last_place last_rank : ℕ) where
       reached = sym (and-true t.reached);
       found = λ later.
           ap (λ b. b || ((t.used || t.reached) && second later))
-          (found_both t.found (both (when t.used (UsedTwice at)) (when inside (InLoop at))) ∙ ap (λ b. found_at t.found || b)
-          (found_both (when t.used (UsedTwice at)) (when inside (InLoop at)) ∙ (λ i. meets-when last_place last_rank t.used (UsedTwice at) i || meets-when last_place last_rank inside (InLoop at) i)))
+          (meets-both last_place last_rank t.found (both (when t.used (UsedTwice at)) (when inside (InLoop at))) ∙ ap (λ b. found_at t.found || b)
+          (meets-both last_place last_rank (when t.used (UsedTwice at)) (when inside (InLoop at)) ∙ (λ i. meets-when last_place last_rank t.used (UsedTwice at) i || meets-when last_place last_rank inside (InLoop at) i)))
           ∙ use_step (found_at t.found) t.used t.reached (second later) inside (upto last_place last_rank (UsedTwice at)) (upto last_place last_rank (InLoop at));
       ahead = λ later.
           ap (λ b. b || (t.unchanged && second later))
-          (found_both t.ahead (when t.unchanged (UsedTwice at)) ∙ ap (λ b. found_at t.ahead || b) (meets-when last_place last_rank t.unchanged (UsedTwice at)))
+          (meets-both last_place last_rank t.ahead (when t.unchanged (UsedTwice at)) ∙ ap (λ b. found_at t.ahead || b) (meets-when last_place last_rank t.unchanged (UsedTwice at)))
           ∙ ahead_step (found_at t.ahead) t.unchanged (upto last_place last_rank (UsedTwice at)) (second later);
     }
 
@@ -259,12 +256,12 @@ module _ (last_place last_rank : ℕ) where
       reached = and-false t.reached;
       found = λ later.
           ap (λ b. b || false)
-          (found_both t.found (both (when t.used (UsedTwice at)) (when inside (InLoop at))) ∙ ap (λ b. found_at t.found || b)
-          (found_both (when t.used (UsedTwice at)) (when inside (InLoop at)) ∙ (λ i. meets-when last_place last_rank t.used (UsedTwice at) i || meets-when last_place last_rank inside (InLoop at) i)))
+          (meets-both last_place last_rank t.found (both (when t.used (UsedTwice at)) (when inside (InLoop at))) ∙ ap (λ b. found_at t.found || b)
+          (meets-both last_place last_rank (when t.used (UsedTwice at)) (when inside (InLoop at)) ∙ (λ i. meets-when last_place last_rank t.used (UsedTwice at) i || meets-when last_place last_rank inside (InLoop at) i)))
           ∙ ended_step (found_at t.found) t.used t.reached inside (upto last_place last_rank (UsedTwice at)) (upto last_place last_rank (InLoop at));
       ahead = λ later.
           ap (λ b. b || false)
-          (found_both t.ahead (when t.unchanged (UsedTwice at)) ∙ ap (λ b. found_at t.ahead || b) (meets-when last_place last_rank t.unchanged (UsedTwice at)))
+          (meets-both last_place last_rank t.ahead (when t.unchanged (UsedTwice at)) ∙ ap (λ b. found_at t.ahead || b) (meets-when last_place last_rank t.unchanged (UsedTwice at)))
           ∙ ahead_end (found_at t.ahead) t.unchanged (upto last_place last_rank (UsedTwice at));
     }
       where
@@ -324,10 +321,10 @@ module _ (last_place last_rank : ℕ) where
     -- ---- where paths meet
 
     met_found : (t u : Trail) (later : List ℕ) → twice_by (met t u) later ≡ (twice_by t later || twice_by u later)
-    met_found t u later = ap (λ b. b || ((t.used || u.used) && second later)) (found_both t.found u.found) ∙ met_step (found_at t.found) (found_at u.found) t.used u.used (second later)
+    met_found t u later = ap (λ b. b || ((t.used || u.used) && second later)) (meets-both last_place last_rank t.found u.found) ∙ met_step (found_at t.found) (found_at u.found) t.used u.used (second later)
 
     met_ahead : (t u : Trail) (later : List ℕ) → ahead_by (met t u) later ≡ (ahead_by t later || ahead_by u later)
-    met_ahead t u later = ap (λ b. b || ((t.unchanged || u.unchanged) && second later)) (found_both t.ahead u.ahead) ∙ met_step (found_at t.ahead) (found_at u.ahead) t.unchanged u.unchanged (second later)
+    met_ahead t u later = ap (λ b. b || ((t.unchanged || u.unchanged) && second later)) (meets-both last_place last_rank t.ahead u.ahead) ∙ met_step (found_at t.ahead) (found_at u.ahead) t.unchanged u.unchanged (second later)
 
     -- the first turn of a loop says what all say
     loop_goes : (body : Statements) (t turn : Trail) → Goes (turning t) turn (passes body) (ahead n body) (again body) (loops true body)
@@ -335,14 +332,14 @@ module _ (last_place last_rank : ℕ) where
     loop_goes body t turn x = record {
       reached = sym (and-true t.reached);
       found = λ later.
-          ap (λ b. b || ((t.used || turn.used) && second later)) (found_both turn.found (cond turn.used turn.ahead None) ∙ ap (λ b. found_at turn.found || b) (found_if turn.used turn.ahead ∙ ap (λ b. turn.used && b) whole))
+          ap (λ b. b || ((t.used || turn.used) && second later)) (meets-both last_place last_rank turn.found (cond turn.used turn.ahead None) ∙ ap (λ b. found_at turn.found || b) (found_if turn.used turn.ahead ∙ ap (λ b. turn.used && b) whole))
           ∙ turn_first (found_at turn.found) turn.used (second (ahead n body [])) t.used (second later)
           ∙ ap (λ b. (found_at turn.found || (turn.used && b)) || (t.used && second later)) (sym (second-append (ahead n body []) later))
           ∙ ap (λ b. b || (t.used && second later)) (x.found (ahead n body [] ++ later) ∙ ap (λ b. (found_at t.found || loops true body) || ((t.reached && again body (ahead n body [] ++ later)) || (t.used && b))) (more later))
           ∙ turn_then (found_at t.found || loops true body) (t.reached && again body (ahead n body [] ++ later)) t.used (second (ahead n body [])) turn.unchanged (second later)
           ∙ ap (λ b. (found_at t.found || loops true body) || ((t.reached && again body (ahead n body [] ++ later)) || (t.used && b))) (sym (second-append (ahead n body []) later));
       ahead = λ later.
-          ap (λ b. b || (t.unchanged && second later)) (found_both t.ahead (cond t.unchanged turn.ahead None) ∙ ap (λ b. found_at t.ahead || b) (found_if t.unchanged turn.ahead ∙ ap (λ b. t.unchanged && b) whole))
+          ap (λ b. b || (t.unchanged && second later)) (meets-both last_place last_rank t.ahead (cond t.unchanged turn.ahead None) ∙ ap (λ b. found_at t.ahead || b) (found_if t.unchanged turn.ahead ∙ ap (λ b. t.unchanged && b) whole))
           ∙ turn_ahead (found_at t.ahead) t.unchanged (second (ahead n body [])) (second later)
           ∙ ap (λ b. found_at t.ahead || (t.unchanged && b)) (sym (second-append (ahead n body []) later));
     }
