@@ -13,6 +13,7 @@ use Rattle.rev_syntax.specs.Trees.{ArraySize, SharedDeclaration, Declaration, fu
 use Rattle.rev_syntax.specs.Small.{name_formed, by_formed, size_formed, first_formed, parameter_formed, expression_small, statements_small, declaration_small}
 use Rattle.merge_decl.specs.Names.{Name}
 use Rattle.merge_decl.specs.Least.{Among}
+use Rattle.merge_decl.proofs.Firsts.{among_split}
 use Rattle.rev_kinds.specs.Kinds.{Names}
 use Rattle.rev_types.specs.Scopes.{cells_of, outside, within}
 use Rattle.rev_types.specs.Layout.{SharedVariable, variable_behind, variables_behind, variables}
@@ -102,18 +103,9 @@ apart_of : (xs : List Shown) → Differ xs → IsApart (map place xs)
 apart_of [] d = tt
 apart_of (x ∷ xs) d = (unknown xs (place x) d.0, apart_of xs d.1)
 
-among_append : (xs ys : List Shown) (z : Shown) → Among (xs ++ ys) z → Among xs z ⊎ Among ys z
-among_append [] ys z i = inr i
-among_append (x ∷ xs) ys z (inl e) = inl (inl e)
-among_append (x ∷ xs) ys z (inr i) = go (among_append xs ys z i)
-  where
-    go : Among xs z ⊎ Among ys z → Among (x ∷ xs) z ⊎ Among ys z
-    go (inl j) = inl (inr j)
-    go (inr j) = inr j
-
 differ_append : (xs ys : List Shown) → Differ xs → Differ ys → ((x y : Shown) → Among xs x → Among ys y → place y ≢ place x) → Differ (xs ++ ys)
 differ_append [] ys d e h = e
-differ_append (x ∷ xs) ys d e h = (λ y i. first y (among_append xs ys y i), differ_append xs ys d.1 e (λ a b i j. h a b (inr i) j))
+differ_append (x ∷ xs) ys d e h = (λ y i. first y (among_split xs ys y i), differ_append xs ys d.1 e (λ a b i j. h a b (inr i) j))
   where
     first : (y : Shown) → Among xs y ⊎ Among ys y → place y ≢ place x
     first y (inl i) = d.0 y i
@@ -195,7 +187,7 @@ shown_named laid (merge w m j r body ∷ es) locations y i = let h = shown_named
 shown_named laid (proc w ps r body ∷ es) locations y i = let h = shown_named (laid ++ proc w ps r body ∷ []) es locations y i in (h.0, inr h.1, h.2)
 shown_named laid (shared x ∷ es) locations y i =
     go (λ j. shown_named (laid ++ shared x ∷ []) es locations y j)
-    (among_append (show_variable locations (variable_behind laid x) (is_some x.size)) (show_all (variables_behind (laid ++ shared x ∷ []) es) locations) y i)
+    (among_split (show_variable locations (variable_behind laid x) (is_some x.size)) (show_all (variables_behind (laid ++ shared x ∷ []) es) locations) y i)
   where
     go : (Among (show_all (variables_behind (laid ++ shared x ∷ []) es) locations) y → (e : Declaration) × Among es e × (y.name ≡ name_of e)) → Among (show_variable locations (variable_behind laid x) (is_some x.size)) y ⊎ Among (show_all (variables_behind (laid ++ shared x ∷ []) es) locations) y → (e : Declaration) × Among (shared x ∷ es) e × (y.name ≡ name_of e)
     go later (inl j) = (shared x, inl refl, variable_named locations (variable_behind laid x) (is_some x.size) y j)

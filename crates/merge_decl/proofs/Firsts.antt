@@ -1,4 +1,6 @@
--- A list of faults has one first place and one first rank.
+-- What is among two lists, and where a list of faults has its first.
+--
+--   left_among, right_among, among_split, last_among, more_among   what is among a list of two parts
 use Rattle.std.proofs.Common.{◌≡◌, ℕ, inl, inr, subst, arith, List, [], ◌≤◌, ◌+◌, Bool, true, false, cond, ◌∷◌, ◌++◌, length, Some, ap, ◌⊎◌, if◌then◌else◌, Option, None, refl}
 use Rattle.merge_decl.specs.Least.{Among, IsBefore, IsFirst}
 use Rattle.rev_num.specs.declared.value.ValueKind.{ValueKind}
@@ -17,6 +19,24 @@ left_among (y ∷ xs) ys x (inr h) = inr (left_among xs ys x h)
 pub right_among : {A : Type 0} (xs ys : List A) (x : A) → Among ys x → Among (xs ++ ys) x
 right_among [] ys x h = h
 right_among (y ∷ xs) ys x h = inr (right_among xs ys x h)
+
+-- and what is among both is among one of them
+pub among_split : {A : Type 0} (xs ys : List A) (x : A) → Among (xs ++ ys) x → Among xs x ⊎ Among ys x
+among_split [] ys x h = inr h
+among_split (y ∷ xs) ys x (inl e) = inl (inl e)
+among_split (y ∷ xs) ys x (inr h) = by (among_split xs ys x h)
+  where
+    by : Among xs x ⊎ Among ys x → Among (y ∷ xs) x ⊎ Among ys x
+    by (inl a) = inl (inr a)
+    by (inr b) = inr b
+
+pub last_among : {A : Type 0} (xs : List A) (y x : A) → Among (xs ++ y ∷ []) x → Among xs x ⊎ (y ≡ x)
+last_among xs y x h = by (among_split xs (y ∷ []) x h)
+  where
+    by : Among xs x ⊎ Among (y ∷ []) x → Among xs x ⊎ (y ≡ x)
+    by (inl a) = inl a
+    by (inr (inl e)) = inr e
+    by (inr (inr b)) = absurd b
 
 -- what is among some is among others, where both have one more
 pub more_among : {A : Type 0} (xs ys : List A) (y : A) → ((x : A) → Among xs x → Among ys x) → (x : A) → Among (y ∷ xs) x → Among (ys ++ y ∷ []) x

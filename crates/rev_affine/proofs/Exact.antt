@@ -7,6 +7,7 @@ use Rattle.rev_syntax.specs.Trees.{PlacedName, Expression, placed, int, bool, no
 use Rattle.merge_decl.specs.Least.{Among}
 use Rattle.merge_decl.specs.Names.{Name, same}
 use Rattle.merge_decl.specs.Table.{find, added}
+use Rattle.merge_decl.proofs.Firsts.{left_among, right_among, among_split}
 use Rattle.rev_syntax.proofs.Lists.{same-self}
 use Rattle.rev_kinds.specs.Kinds.{Names, Locals}
 use Rattle.rev_types.specs.Scopes.{locals_after}
@@ -15,8 +16,6 @@ use Rattle.rev_affine.specs.Live.{statement_passes, statement_form_passes, passe
 use Rattle.rev_affine.proofs.Counts.{or_left, or_right}
 use Rattle.rev_affine.specs.Affine.{Occurrence, use_of, gets, expression_occurrences, expressions_occurrences, right_side_occurrences, value_occurrences, Turns, Through, StatementThrough, StatementFormThrough, ArmsThrough, Inside, StatementInside, StatementFormInside, ArmsInside, NoValue, rev_use, UsedTwice}
 use Rattle.rev_affine.specs.SecondUses.{expression_places, expressions_places, right_side_places, value_places, ahead, statement_ahead, statement_form_ahead, arms_ahead, if_rev, expression_twice, expressions_twice, right_side_twice, twice, statement_twice, statement_form_twice, arms_twice}
-pub use Rattle.merge_decl.proofs.Firsts.{left_among}
-pub use Rattle.merge_decl.proofs.Firsts.{right_among}
 
 -- ---- lists
 
@@ -307,15 +306,6 @@ module _ (c : Names) where
     arms_inside (arm test body rest) l n p other later ms (inr path) h = right_among (ahead n body later) (arms_ahead n rest other later) p (arms_inside rest l n p other later ms path h)
 
 -- ---- second uses
-
-pub among_split : {A : Type 0} (xs ys : List A) (x : A) → Among (xs ++ ys) x → Among xs x ⊎ Among ys x
-among_split [] ys x h = inr h
-among_split (y ∷ xs) ys x (inl e) = inl (inl e)
-among_split (y ∷ xs) ys x (inr h) = by (among_split xs ys x h)
-  where
-    by : Among xs x ⊎ Among ys x → Among (y ∷ xs) x ⊎ Among ys x
-    by (inl a) = inl (inr a)
-    by (inr b) = inr b
 
 -- there is a second use at this place, or a local is left used that this place uses behind
 abbrev Ends : ℕ → List Occurrence → (Name → List ℕ) → Type 0

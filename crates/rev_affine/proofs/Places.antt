@@ -12,11 +12,12 @@ use Rattle.rev_types.specs.Judgement.{StatementTyped, StatementFormTyped, Statem
 use Rattle.rev_types.proofs.Scopes.{right_side_is}
 use Rattle.rev_affine.specs.Affine.{NameIn, ExpressionFormNameIn, NamesIn, LinksNameIn, PickIn, ExpressionFormPickIn, PicksIn, LinksPickIn, RightSideCopied, ItemsCopied, ValueCopied, Behind, Copied, StatementCopied, StatementFormCopied, ArmsCopied, StoresAt, Stored, StatementStored, StatementFormStored, ArmsStored, UseAt, UsesAt, RightSideUsesAt, ValueUsesAt, OuterUse, StatementOuterUse, StatementFormOuterUse, ArmsOuterUse, InLoop, StatementInLoop, StatementFormInLoop, ArmsInLoop, Breach, copied, stored, used_twice, in_loop, BodyBreaks, DeclarationsBreak, Breaks}
 use Rattle.rev_affine.specs.SecondUses.{if_rev}
+use Rattle.merge_decl.proofs.Firsts.{left_among, right_among, among_split}
 use Rattle.merge_decl.proofs.Leasts.{none_is, first_is}
 use Rattle.rev_affine.specs.Laws.{Decides}
 use Rattle.rev_affine.specs.Affine.{Breakage, number, IsAffine}
 use Rattle.rev_affine.specs.Places.{at_places, breakages, first_breakage, if_stores, names_in, expression_form_names, expressions_names, links_names, pick_names, expression_form_pick_names, expressions_pick_names, links_pick_names, right_side_copies, items_copies, value_copies, copies, statement_copies, statement_form_copies, arms_copies, stores, statement_stores, statement_form_stores, arms_stores, name_stores, use_places, uses_places, right_side_use_places, value_use_places, outer_uses, statement_outer_uses, statement_form_outer_uses, arms_outer_uses, loop_uses, statement_loop_uses, statement_form_loop_uses, arms_loop_uses, body_places, declarations_places, places}
-use Rattle.rev_affine.proofs.Exact.{left_among, right_among, among_split, all_found}
+use Rattle.rev_affine.proofs.Exact.{all_found}
 use Rattle.rev_affine.proofs.Sound.{all_sound}
 
 -- ---- lists

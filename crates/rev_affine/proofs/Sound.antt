@@ -8,6 +8,7 @@ use Rattle.merge_decl.specs.Least.{Among}
 use Rattle.merge_decl.specs.Names.{Name, same}
 use Rattle.merge_decl.specs.Table.{find}
 use Rattle.merge_decl.proofs.Tables.{same_equal}
+use Rattle.merge_decl.proofs.Firsts.{among_split}
 use Rattle.rev_kinds.specs.Kinds.{Names, Locals}
 use Rattle.rev_types.specs.Scopes.{locals_after}
 use Rattle.rev_types.specs.Judgement.{StatementTyped, StatementFormTyped, StatementsTyped, ArmsTyped}
@@ -15,7 +16,7 @@ use Rattle.rev_affine.specs.Live.{statement_passes}
 use Rattle.rev_affine.specs.Affine.{Occurrence, use_of, gets, expression_occurrences, expressions_occurrences, right_side_occurrences, Turns, Through, StatementThrough, StatementFormThrough, ArmsThrough, Inside, StatementInside, StatementFormInside, ArmsInside, NoValue, UsedTwice}
 use Rattle.rev_affine.specs.SecondUses.{expression_places, expressions_places, right_side_places, ahead, statement_ahead, statement_form_ahead, arms_ahead, if_rev, expression_twice, expressions_twice, right_side_twice, twice, statement_twice, statement_form_twice, arms_twice}
 use Rattle.rev_affine.proofs.Paths.{nil_right_side, no_values, expression_split, expression_no_value, expressions_before, right_side_before, inside_nil, inside_rest, inside_here, statement_pass}
-use Rattle.rev_affine.proofs.Exact.{FoundAt, TwiceAt, LeftAt, among_split, scope_is}
+use Rattle.rev_affine.proofs.Exact.{FoundAt, TwiceAt, LeftAt, scope_is}
 
 found_behind : (n : Name) (pl : ℕ) (xs ys : List Occurrence) → NoValue n xs → FoundAt n pl ys → FoundAt n pl (xs ++ ys)
 found_behind n pl [] ys p f = f

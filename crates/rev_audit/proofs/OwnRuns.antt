@@ -2,6 +2,7 @@
 use Rattle.std.proofs.Common.{◌≡◌, ◌⊎◌, inl, inr, ℕ, List, [], ◌∷◌, ◌++◌, Some, refl, sym, ap, ◌∙◌, subst}
 use Rattle.rev_num.specs.Path.{Path, child}
 use Rattle.merge_decl.specs.Least.{Among}
+use Rattle.merge_decl.proofs.Firsts.{left_among, right_among, last_among}
 use Rattle.revision_machine.specs.Machine.{Forks}
 use Rattle.revision_calculus.specs.Program.{Setting}
 use Rattle.revision_calculus.specs.State.{Local}
@@ -15,25 +16,6 @@ use Rattle.audit_rules.specs.Traces.{part_at}
 use Rattle.audit_rules.proofs.Own.{none_some, move_fork, fork_join, fork_end, same_fork, one_step, step_goes, step_takes, Headed, stands, steps, headed, computes_since}
 use Rattle.rev_audit.specs.Own as own
 use Rattle.rev_audit.specs.Own.{BeginsAt, Goes, Stops, ComesTo}
-
-pub among_last : (ks : List LocalState) (c : LocalState) → Among (ks ++ c ∷ []) c
-among_last [] c = inl refl
-among_last (k ∷ ks) c = inr (among_last ks c)
-
-pub among_front : (ks : List LocalState) (c x : LocalState) → Among ks x → Among (ks ++ c ∷ []) x
-among_front [] c x i = absurd i
-among_front (k ∷ ks) c x (inl e) = inl e
-among_front (k ∷ ks) c x (inr i) = inr (among_front ks c x i)
-
-pub among_either : (ks : List LocalState) (c x : LocalState) → Among (ks ++ c ∷ []) x → Among ks x ⊎ (c ≡ x)
-among_either [] c x (inl e) = inr e
-among_either [] c x (inr i) = absurd i
-among_either (k ∷ ks) c x (inl e) = inl (inl e)
-among_either (k ∷ ks) c x (inr i) = go (among_either ks c x i)
-  where
-    go : Among ks x ⊎ (c ≡ x) → Among (k ∷ ks) x ⊎ (c ≡ x)
-    go (inl j) = inl (inr j)
-    go (inr e) = inr e
 
 module _ (s : Setting) (fuel : ℕ) (parts : List Part) (r : Path) (a : Local) where
   abbrev pub Step : Local → Local → Type 0
@@ -74,13 +56,13 @@ module _ (s : Setting) (fuel : ℕ) (parts : List Part) (r : Path) (a : Local) w
   forks_listed l ks (own.forked k _ d js g e at) m m' c w does = go (forks_listed k js g m m' c w does)
     where
       go : ForkedOr js k m c → ForkedOr (js ++ d ∷ []) l m c
-      go (inl h) = inl (h.0, among_front js d h.0 h.1, h.2, h.3)
+      go (inl h) = inl (h.0, left_among js (d ∷ []) h.0 h.1, h.2, h.3)
       go (inr v) = by (headed (calculus s) (calculus_parts s fuel) (part_at parts) r k m v)
         where
           by : Headed (calculus s) (calculus_parts s fuel) (part_at parts) r k m → ForkedOr (js ++ d ∷ []) l m c
           by (stands is) =
               let both = same_fork (calculus s) e (ap (next s r) is ∙ does) in
-              inl (d, among_last js d, at ∙ ap (λ x. child r x.forks) is, both.1)
+              inl (d, right_among js (d ∷ []) d (inl refl), at ∙ ap (λ x. child r x.forks) is, both.1)
           by (steps b t u) = inr (subst (λ x. Way x m) (one_step (calculus s) (calculus_parts s fuel) (part_at parts) r k b l t (by_fork d.local e)) u)
 
   -- ---- what it comes to
@@ -121,7 +103,7 @@ module _ (s : Setting) (fuel : ℕ) (parts : List Part) (r : Path) (a : Local) w
   child_begins p so begins l ks own.at_first x i = absurd i
   child_begins p so begins l ks (own.moved k _ _ g e) x i = child_begins p so begins k ks g x i
   child_begins p so begins l ks (own.joined k _ q _ g e once is) x i = child_begins p so begins k ks g x i
-  child_begins p so begins l ks (own.forked k _ d js g e at) x i = go (among_either js d x i) (child_begins p so begins k js g x)
+  child_begins p so begins l ks (own.forked k _ d js g e at) x i = go (last_among js d x i) (child_begins p so begins k js g x)
     where
       go : Among js x ⊎ (d ≡ x) → (Among js x → BeginsAt s fuel parts x.path x.local) → BeginsAt s fuel parts x.path x.local
       go (inl j) earlier = earlier j

@@ -10,6 +10,7 @@ use Rattle.rev_num.proofs.PostOrder.{child_before}
 use Rattle.rev_num.proofs.PostOrder.{before_trans, before_irrefl}
 use Rattle.rev_num.proofs.PostOrder.{before_total}
 use Rattle.merge_decl.specs.Least.{Among}
+use Rattle.merge_decl.proofs.Firsts.{last_among}
 use Rattle.revision_machine.specs.Machine.{Forks}
 use Rattle.revision_machine.proofs.Paths.{some_inj, decide_same}
 use Rattle.revision_calculus.specs.Program.{Setting}
@@ -33,7 +34,7 @@ use Rattle.rev_audit.specs.Own.{BeginsAt, ComesTo}
 use Rattle.rev_audit.specs.Sweep.{IsSoonest, sooner_of, Grows, IsSamePart, IsJustified, HasPassed, BeginsUnstated, IsStarts, Holds, BegunFrom, from_main, from_part, AreJustified, Differs, IsKept, ComputedAt, IsSwept, IsAhead, IsBehind}
 use Rattle.rev_audit.specs.declared.sweep.Difference.{Difference}
 use Rattle.rev_audit.proofs.Finding.{ordered, earlier_number, same_number, part_here, place_of_part}
-use Rattle.rev_audit.proofs.OwnRuns.{among_either, comes_to, all_children, child_begins}
+use Rattle.rev_audit.proofs.OwnRuns.{comes_to, all_children, child_begins}
 
 -- ---- lists
 
@@ -127,7 +128,7 @@ module _ (s : Setting) (fuel : ℕ) (parts : List Part) where
   pub hold_more : (out rest : List LocalState) (child x : LocalState) (a b : List (Option LocalState)) (u v : Option LocalState) → out ≡ rest ++ child ∷ [] → Grows a b u v → Holds s fuel parts (length parts) b v child
       → Among out x ⊎ Holds s fuel parts (length parts) a u x → Among rest x ⊎ Holds s fuel parts (length parts) b v x
   hold_more out rest child x a b u v is grows held (inr h) = inr (holds_on (length parts) a b u v x grows h)
-  hold_more out rest child x a b u v is grows held (inl i) = go (among_either rest child x (subst (λ l. Among l x) is i))
+  hold_more out rest child x a b u v is grows held (inl i) = go (last_among rest child x (subst (λ l. Among l x) is i))
     where
       go : Among rest x ⊎ (child ≡ x) → Among rest x ⊎ Holds s fuel parts (length parts) b v x
       go (inl j) = inl j

@@ -11,6 +11,7 @@ use Rattle.merge_decl.specs.Least.{Among}
 use Rattle.merge_decl.specs.Names.{Name}
 use Rattle.merge_decl.specs.Table.{find, added}
 use Rattle.merge_decl.specs.Weights.{expression_weight, weights_after}
+use Rattle.merge_decl.proofs.Firsts.{last_among}
 use Rattle.rev_report.specs.declared.limit.Limit.TheVariants as limits
 use Rattle.rev_report.specs.Limits.{first_past, most}
 use Rattle.rev_kinds.specs.declared.fault.TypeFault.{TypeFault}
@@ -34,7 +35,7 @@ use Rattle.rev_types.proofs.DeclsWithin.{params_left as left_params}
 use Rattle.static_rules.proofs.Gathers.{all_one, all_unless, not_none, differ}
 use Rattle.static_rules.proofs.Expressions.{wanted_all, handle_all, expression_all}
 use Rattle.static_rules.proofs.Blocks.{among_behind, among_at, behind_by, further, last_left, longer, statements_all}
-use Rattle.static_rules.proofs.Decls.{in_front, at_end, Met, met_none, met_next, none_there}
+use Rattle.static_rules.proofs.Decls.{in_front, Met, met_none, met_next, none_there}
 
 -- ---- parameters
 
@@ -58,7 +59,7 @@ known_next l before q f name h = elim (known_added name q.name.text (Some q.kind
 
 knows_next : (l : Locals) (before : List Parameter) (q : Parameter) → Scope l before → (v : PlacedName) → Among (map parameter_word before ++ q.name ∷ []) v
     → is_some (find v.text (added l q.name.text (Some q.kind))) ≡ true
-knows_next l before q f v m = elim (at_end (map parameter_word before) q.name v m) [
+knows_next l before q f v m = elim (last_among (map parameter_word before) q.name v m) [
   | inl a ↦ known_more v.text q.name.text (Some q.kind) l (inl (f.knows v a))
   | inr b ↦ known_more v.text q.name.text (Some q.kind) l (inr (λ i. (sym b i).text))
 ]

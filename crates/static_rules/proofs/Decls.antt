@@ -1,5 +1,5 @@
 -- The faults of declarations, from where they stand.
-use Rattle.std.proofs.Common.{◌≡◌, ◌∙◌, ◌⊎◌, inl, inr, ℕ, ◌+◌, ◌-◌, min, true, is_some, List, [], ◌∷◌, ◌++◌, refl, sym, ap, subst, arith}
+use Rattle.std.proofs.Common.{◌≡◌, ◌∙◌, inl, inr, ℕ, ◌+◌, ◌-◌, min, true, is_some, List, [], ◌∷◌, ◌++◌, refl, sym, ap, subst, arith}
 use Rattle.rev_syntax.specs.Trees.{Declaration, fun, merge, shared, proc}
 use Rattle.merge_decl.specs.Least.{Among}
 use Rattle.merge_decl.specs.Names.{Name}
@@ -12,16 +12,11 @@ use Rattle.rev_types.specs.Limits.{cells, procs, funs}
 use Rattle.rev_types.proofs.Weights.{Caps, none_caps, added_caps, expression_caps}
 use Rattle.static_rules.proofs.Blocks.{among_behind, further}
 use Rattle.rev_types.proofs.Layouts.{cells_behind}
+use Rattle.merge_decl.proofs.Firsts.{last_among}
 pub use Rattle.merge_decl.proofs.Firsts.{left_among as in_front}
 pub use Rattle.rev_num.proofs.Lists.{false_no as none_there}
 
 -- ---- lists
-
-pub at_end : {A : Type 0} (xs : List A) (y x : A) → Among (xs ++ y ∷ []) x → Among xs x ⊎ (y ≡ x)
-at_end [] y x (inl is) = inr is
-at_end [] y x (inr m) = absurd m
-at_end (z ∷ xs) y x (inl is) = inl (inl is)
-at_end (z ∷ xs) y x (inr m) = elim (at_end xs y x m) [ inl a ↦ inl (inr a) | inr b ↦ inr b ]
 
 pub ++-nil : {A : Type 0} (xs : List A) → xs ++ [] ≡ xs
 ++-nil [] = refl
@@ -131,12 +126,12 @@ names_back q before e f name h = elim (known_added name (name_of e) q.number q.n
 pub met_next : (q : d.Passed) (before : List Declaration) (e : Declaration) → Met q before → Met (d.passed_with q e) (before ++ e ∷ [])
 met_next q before e f = record {
   names_of = λ name h. names_back q before e f name (subst (λ t. is_some (find name t) ≡ true) (names_with q e) h);
-  of_names = λ y m. subst (λ t. is_some (find (name_of y) t) ≡ true) (sym (names_with q e)) (elim (at_end before e y m) [
+  of_names = λ y m. subst (λ t. is_some (find (name_of y) t) ≡ true) (sym (names_with q e)) (elim (last_among before e y m) [
     | inl a ↦ known_more (name_of y) (name_of e) q.number q.names (inl (f.of_names y a))
     | inr b ↦ known_more (name_of y) (name_of e) q.number q.names (inr (ap name_of (sym b)))
   ]);
   merges_of = merges_with q before e f;
-  of_merges = λ name y m is. elim (at_end before e y m) [
+  of_merges = λ name y m is. elim (last_among before e y m) [
     | inl a ↦ merges_kept q e name (f.of_merges name y a is)
     | inr b ↦ merge_new q e name (subst (λ z. IsMergeOf name z) (sym b) is)
   ];

@@ -1,5 +1,5 @@
 -- What holds of all faults of a list, and what is among them, for the tests that the rules are made of.
-use Rattle.std.proofs.Common.{◌≡◌, ◌∙◌, ◌≢◌, ◌⊎◌, inl, inr, ℕ, Bool, true, false, cond, Option, Some, None, [], ◌∷◌, ◌++◌, slice_get, refl, sym, ap, subst, true≢false}
+use Rattle.std.proofs.Common.{◌≡◌, ◌∙◌, ◌≢◌, inl, inr, ℕ, Bool, true, false, cond, Option, Some, None, [], ◌∷◌, ◌++◌, slice_get, refl, sym, ap, subst, true≢false}
 use Rattle.rev_num.specs.declared.value.ValueKind.{ValueKind}
 use Rattle.rev_num.specs.declared.value.ValueKind.TheVariants as k
 use Rattle.rev_num.specs.Value.{same_kind}
@@ -8,6 +8,7 @@ use Rattle.rev_syntax.specs.Trees.{PlacedName, Parameter}
 use Rattle.rev_syntax.specs.declared.tree.BinaryOp.{BinaryOp}
 use Rattle.rev_syntax.specs.declared.tree.BinaryOp.TheVariants as b
 use Rattle.merge_decl.specs.Least.{Among}
+use Rattle.merge_decl.proofs.Firsts.{left_among, right_among, among_split}
 use Rattle.rev_kinds.specs.declared.fault.TypeFault.{TypeFault}
 use Rattle.rev_kinds.specs.declared.fault.TypeFault.TheVariants.{UnknownName, WrongType}
 use Rattle.rev_kinds.specs.declared.names.Holder.{Holder}
@@ -31,28 +32,14 @@ In xs ys = (f : TypeFault) → Is xs f → Is ys f
 pub here : (f : TypeFault) → Is (f ∷ []) f
 here f = record { it = inl refl }
 
-left_it : (xs ys : All) (f : TypeFault) → Among xs f → Among (xs ++ ys) f
-left_it [] ys f m = absurd m
-left_it (x ∷ xs) ys f (inl is) = inl is
-left_it (x ∷ xs) ys f (inr m) = inr (left_it xs ys f m)
-
-right_side_it : (xs ys : All) (f : TypeFault) → Among ys f → Among (xs ++ ys) f
-right_side_it [] ys f m = m
-right_side_it (x ∷ xs) ys f m = inr (right_side_it xs ys f m)
-
 pub in_left : (xs ys : All) (f : TypeFault) → Is xs f → Is (xs ++ ys) f
-in_left xs ys f m = record { it = left_it xs ys f m.it }
+in_left xs ys f m = record { it = left_among xs ys f m.it }
 
 pub in_right_side : (xs ys : All) (f : TypeFault) → Is ys f → Is (xs ++ ys) f
-in_right_side xs ys f m = record { it = right_side_it xs ys f m.it }
-
-parted : (xs ys : All) (f : TypeFault) → Among (xs ++ ys) f → Among xs f ⊎ Among ys f
-parted [] ys f m = inr m
-parted (x ∷ xs) ys f (inl is) = inl (inl is)
-parted (x ∷ xs) ys f (inr m) = elim (parted xs ys f m) [ inl a ↦ inl (inr a) | inr b ↦ inr b ]
+in_right_side xs ys f m = record { it = right_among xs ys f m.it }
 
 pub in_app : (xs xs' ys : All) → In xs xs' → In (xs ++ ys) (xs' ++ ys)
-in_app xs xs' ys a f m = elim (parted xs ys f m.it) [ inl b ↦ in_left xs' ys f (a f (record { it = b })) | inr b ↦ in_right_side xs' ys f (record { it = b }) ]
+in_app xs xs' ys a f m = elim (among_split xs ys f m.it) [ inl b ↦ in_left xs' ys f (a f (record { it = b })) | inr b ↦ in_right_side xs' ys f (record { it = b }) ]
 
 pub in_when : (x : Bool) (g : TypeFault) → x ≡ true → Is (cond x (g ∷ []) []) g
 in_when true g h = here g

@@ -1,7 +1,7 @@
-use Rattle.std.proofs.Common.{inl, subst, sym, ◌≡◌, arith, length}
+use Rattle.std.proofs.Common.{inl, [], ◌∷◌, refl, subst, sym, ◌≡◌, arith, length}
 use Rattle.merge_decl.specs.Least.{Among}
+use Rattle.merge_decl.proofs.Firsts.{left_among, right_among}
 use Rattle.revision_state.specs.Views.{given}
-use Rattle.rev_audit.proofs.OwnRuns.{among_front, among_last}
 use Rattle.rev_audit.proofs.Sweeps.{grows_both, grows_none, hold_all, hold_more}
 use Rattle.rev_audit.proofs.starts.Starts.keep_all.Goals as goal
 
@@ -20,7 +20,7 @@ keep-requires c =
     record {
       order = c.requires.order;
       kept = c.loop-child.invariant.kept;
-      begins = c.loop-child.invariant.begin child (subst (λ l. Among l child) (sym c.in-Some.ensures.items) (among_last left child));
+      begins = c.loop-child.invariant.begin child (subst (λ l. Among l child) (sym c.in-Some.ensures.items) (right_among left (child ∷ []) child (inl refl)));
     }
 
 pub loop-child-preserved : goal.loop-child-preserved
@@ -35,7 +35,7 @@ loop-child-preserved c =
     record {
       kept = c.keep.ensures.kept;
       grows = grows_both _ a b _ u v c.loop-child.invariant.grows c.keep.ensures.grows;
-      begin = λ x i. c.loop-child.invariant.begin x (subst (λ l. Among l x) (sym c.in-Some.ensures.items) (among_front left child x i));
+      begin = λ x i. c.loop-child.invariant.begin x (subst (λ l. Among l x) (sym c.in-Some.ensures.items) (left_among left (child ∷ []) x i));
       hold = λ x i. hold_more (given t.setting) t.fuel t.parts.now c.loop-child.children.items left child x a b u v c.in-Some.ensures.items c.keep.ensures.grows c.keep.ensures.holds (c.loop-child.invariant.hold x i);
     }
 
