@@ -1,5 +1,6 @@
 -- Numbers in lists and heaps.
-use Rattle.std.proofs.Common.{◌≡◌, ◌∙◌, ◌⊎◌, inl, inr, ℕ, ◌-◌, ◌<◌, ◌≤◌, ◌^◌, Bool, true, false, ◌||◌, nat_eq, List, [], ◌∷◌, All, refl, sym, ap, subst, arith, true≢false, eq-eqb}
+use Rattle.std.proofs.Common.{◌≡◌, ◌∙◌, ◌⊎◌, inl, inr, ℕ, ◌-◌, ◌<◌, ◌≤◌, ◌^◌, true, false, nat_eq, List, [], ◌∷◌, All, sym, subst, arith, true≢false, eq-eqb}
+use Rattle.std.proofs.lemmas.Bool.{or_cases, or_left, or_right}
 use Rattle.std.proofs.lemmas.Bool.Decides.{nat_tests}
 use Rattle.std.proofs.lemmas.List.Elements.{All-head, All-tail}
 use Rattle.std.proofs.lemmas.List.Sorted.{list_any-IsPermutation, le_from_greatest}
@@ -8,25 +9,14 @@ use Rattle.std.specs.List.Sorted.{IsPermutation}
 use Rattle.std.specs.Ordering.{nat_cmp}
 use Rattle.ready_queue.specs.Heap.{above, has}
 
-either : (a b : Bool) → (a || b) ≡ true → (a ≡ true) ⊎ (b ≡ true)
-either true b e = inl refl
-either false b e = inr e
-
-first_true : (a b : Bool) → a ≡ true → (a || b) ≡ true
-first_true a b e = ap (λ x. x || b) e
-
-second_true : (a b : Bool) → b ≡ true → (a || b) ≡ true
-second_true true b e = refl
-second_true false b e = e
-
 pub has_first : (x : ℕ) (xs : List ℕ) (n : ℕ) → x ≡ n → has (x ∷ xs) n ≡ true
-has_first x xs n e = first_true (nat_eq x n) (has xs n) (eq-eqb x n e)
+has_first x xs n e = or_left (nat_eq x n) (has xs n) (eq-eqb x n e)
 
 pub has_later : (x : ℕ) (xs : List ℕ) (n : ℕ) → has xs n ≡ true → has (x ∷ xs) n ≡ true
-has_later x xs n e = second_true (nat_eq x n) (has xs n) e
+has_later x xs n e = or_right (nat_eq x n) (has xs n) e
 
 pub has_parts : (x : ℕ) (xs : List ℕ) (n : ℕ) → has (x ∷ xs) n ≡ true → (x ≡ n) ⊎ (has xs n ≡ true)
-has_parts x xs n e = by (either (nat_eq x n) (has xs n) e)
+has_parts x xs n e = by (or_cases (nat_eq x n) (has xs n) e)
   where
     by : (nat_eq x n ≡ true) ⊎ (has xs n ≡ true) → (x ≡ n) ⊎ (has xs n ≡ true)
     by (inl h) = inl (grind (arith, nat_tests, h))

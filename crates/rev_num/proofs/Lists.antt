@@ -39,9 +39,5 @@ or_true true = refl
 or_true false = refl
 
 -- what can't hold
-pub refuted : (b : Bool) → (b ≡ true → ⊥) → b ≡ false
-refuted true h = absurd (h refl)
-refuted false h = refl
-
 pub false_no : {A : Type 0} → false ≡ true → A
 false_no h = absurd (true≢false (sym h))

@@ -1,6 +1,6 @@
 -- Laws of post-order, and what the loop over two paths needs of it.
-use Rattle.std.proofs.Common.{◌≡◌, ◌≢◌, ◌⊎◌, inl, inr, ℕ, ◌<◌, ◌≤◌, Bool, true, false, ◌&&◌, ◌||◌, List, [], ◌∷◌, ◌++◌, length, drop, nat_lt, refl, sym, subst, ap, ◌∙◌, arith, rules, length-drop, append_assoc}
-use Rattle.std.proofs.lemmas.Bool.{eqb-true, eq-eqb, and_parts, and_from, or_cases, ltb-true, lt-ltb, cases_order}
+use Rattle.std.proofs.Common.{◌≡◌, ◌≢◌, ◌⊎◌, inl, inr, ℕ, ◌<◌, ◌≤◌, true, ◌&&◌, ◌||◌, List, [], ◌∷◌, ◌++◌, length, drop, nat_lt, refl, sym, subst, ap, ◌∙◌, arith, rules, length-drop, append_assoc}
+use Rattle.std.proofs.lemmas.Bool.{eqb-true, eq-eqb, and_parts, and_from, or_cases, or_right, ltb-true, lt-ltb, cases_order}
 use Rattle.std.specs.Prelude.{IsTrue, nat_eq}
 use Rattle.rev_num.specs.Path.{Path, child, same, before}
 use Rattle.rev_num.specs.PostOrder.{ComesBefore, IsStrictTotalOrder}
@@ -34,12 +34,8 @@ heads x y q r e = of_cases (or_cases (nat_lt x y) (nat_eq x y && before q r) e)
 pub by_less : (x y : ℕ) (q r : Path) → x < y → before (x ∷ q) (y ∷ r) ≡ true
 by_less x y q r h = ap (λ b. b || (nat_eq x y && before q r)) (lt-ltb x y h)
 
-or_true : (a b : Bool) → b ≡ true → (a || b) ≡ true
-or_true true b e = refl
-or_true false b e = e
-
 pub by_rest : (x y : ℕ) (q r : Path) → x ≡ y → before q r ≡ true → before (x ∷ q) (y ∷ r) ≡ true
-by_rest x y q r e h = or_true (nat_lt x y) (nat_eq x y && before q r) (and_from (nat_eq x y) (before q r) (eq-eqb x y e) h)
+by_rest x y q r e h = or_right (nat_lt x y) (nat_eq x y && before q r) (and_from (nat_eq x y) (before q r) (eq-eqb x y e) h)
 
 -- ---- a strict total order
 

@@ -3,6 +3,7 @@ use Rattle.std.proofs.Common.{◌≡◌, ℕ, suc, ◌+◌, ◌≤◌, Bool, tru
 use Rattle.std.specs.Prelude.{Some, None, cond}
 use Rattle.std.specs.List.{list_all, list_any, prefix_len, find}
 use Rattle.std.specs.Cmp.Lexicographic.{pointwise}
+use Rattle.std.proofs.lemmas.Bool.{or_right}
 use Rattle.std.proofs.lemmas.Bool.Decides.{nat_tests}
 
 pub both : (a b : Bool) → (a && b) ≡ true → (a ≡ true) × (b ≡ true)
@@ -108,12 +109,8 @@ any-map p q [] f h = h
 any-map {X} p q (y ∷ ys) f h =
     elim (p y) as (λ b. p y ≡ b → (b || list_any p ys) ≡ true → (q y || list_any q ys) ≡ true) [
       | true ↦ λ e s. rw (f y e) refl
-      | false ↦ λ e s. or-right (q y) (list_any q ys) (any-map p q ys f s)
+      | false ↦ λ e s. or_right (q y) (list_any q ys) (any-map p q ys f s)
     ] refl h
-  where
-    or-right : (a b : Bool) → b ≡ true → (a || b) ≡ true
-    or-right true b h = refl
-    or-right false b h = h
 
 pub same-self : (w : List ℕ) → pointwise nat_eq w w ≡ true
 same-self [] = refl

@@ -1,5 +1,6 @@
 -- The parser of a decided grammar is exact.
 use Rattle.std.proofs.Common.{◌≡◌, ℕ, zero, suc, ◌≤◌, Bool, true, false, not, cond, option_map, ◌&&◌, ◌||◌, List, [], ◌∷◌, ◌++◌, length, Option, Some, None, refl, sym, ap, ◌∙◌, subst, arith, inl, inr, append_assoc, length-append, append-nil}
+use Rattle.std.proofs.lemmas.Bool.{and_parts, or_parts, not-true, false_from_ne_true}
 use Rattle.token_grammar.specs.Outcome.{Unexpected, TooDeep, Outcome, Read, Failed, Parser, and_then, next, left}
 use Rattle.token_grammar.specs.Form.{Alphabet, Form, nothing, token, level, both, either, many, Many, Derives, Rules, Nested, AnyNested}
 use Rattle.token_grammar.specs.Reader.{nullable, first, passes, next_kind, begins, is_next, taken, inside_of, repeat, read, below, parser}
@@ -9,28 +10,10 @@ use Rattle.token_grammar.proofs.Good.{Tokens, IsFree, Reaches, AsFar, Taken, Goo
 
 -- ---- truth values
 
-pub true_parts : (a b : Bool) → a && b ≡ true → (a ≡ true) × (b ≡ true)
-true_parts true true e = (refl, refl)
-true_parts true false e = absurd cc
-true_parts false b e = absurd cc
-
-pub false_parts : (a b : Bool) → a || b ≡ false → (a ≡ false) × (b ≡ false)
-false_parts false false e = (refl, refl)
-false_parts false true e = absurd cc
-false_parts true b e = absurd cc
-
-not_true : (a : Bool) → not a ≡ true → a ≡ false
-not_true false e = refl
-not_true true e = absurd cc
-
 neither : (a b : Bool) → not (a && b) ≡ true → a ≡ true → b ≡ false
 neither true false e h = refl
 neither true true e h = absurd cc
 neither false b e h = absurd cc
-
-is_false : (a : Bool) → (a ≡ true → ⊥) → a ≡ false
-is_false true h = absurd (h refl)
-is_false false h = refl
 
 clash : (a : Bool) → a ≡ true → a ≡ false → ⊥
 clash true e f = cc
@@ -68,7 +51,7 @@ module _ (G : Alphabet) (rules : Rules G) (Ext : G.Inner → G.Kind → Bool) (k
   plain_word (token s val) e = let t = H.sample s in (t.0 ∷ [], val t.0, λ n k. (t.0, refl, t.1, refl))
   plain_word (level s i val) e = absurd cc
   plain_word (both f P Q) e =
-      let parts = true_parts _ _ e in
+      let parts = and_parts _ _ e in
       let p = plain_word P parts.0 in
       let q = plain_word Q parts.1 in
       (p.0 ++ q.0, f p.1 q.1, λ n k. record { front = p.0; back = q.0; a = p.1; b = q.1; split = refl; first = p.2 n k; second = q.2 n (left k p.0); value = refl })
@@ -165,7 +148,7 @@ module _ (G : Alphabet) (rules : Rules G) (Ext : G.Inner → G.Kind → Bool) (k
   weaker p q h ts e = passes_weaker G p q (next_kind G ts) h e
 
   no_extension : (i : G.Inner) (k : G.Kind) → Ext i k ≡ false → extends G Ext (rules i) k ≡ false
-  no_extension i k e = is_false (extends G Ext (rules i) k) (λ h. clash (Ext i k) (H.extended i k h) e)
+  no_extension i k e = false_from_ne_true (extends G Ext (rules i) k) (λ h. clash (Ext i k) (H.extended i k h) e)
 
   no_level : {A : Type 0} (s : G.Kind) (i : G.Inner) (val : G.Token → G.Value i → A) (t : G.Token) (ts : Tokens G) → is_kind s (t ∷ ts) ≡ true → Exactly 0 (level s i val) (Ext i) (t ∷ ts) (Failed TooDeep (t ∷ ts))
   no_level s i val t ts e =
@@ -223,9 +206,9 @@ module _ (G : Alphabet) (rules : Rules G) (Ext : G.Inner → G.Kind → Bool) (k
 
         no_first : nullable G Q ≡ true → (k : G.Kind) → ext_either k ≡ false → first G P k ≡ false
         no_first e k f =
-            let one = false_parts (extends G Ext P k) (extends G Ext Q k || (nullable G Q && first G P k)) f in
-            let two = false_parts (extends G Ext Q k) (nullable G Q && first G P k) one.1 in
-            is_false (first G P k) (λ h. clash (nullable G Q && first G P k) (both_true (nullable G Q) (first G P k) e h) two.1)
+            let one = or_parts (extends G Ext P k) (extends G Ext Q k || (nullable G Q && first G P k)) f in
+            let two = or_parts (extends G Ext Q k) (nullable G Q && first G P k) one.1 in
+            false_from_ne_true (first G P k) (λ h. clash (nullable G Q && first G P k) (both_true (nullable G Q) (first G P k) e h) two.1)
 
         by_word : (u : Tokens G) → w ≡ u → ⊥
         by_word [] e =
@@ -236,10 +219,10 @@ module _ (G : Alphabet) (rules : Rules G) (Ext : G.Inner → G.Kind → Bool) (k
             clash (first G Q (G.kind t)) (first_sound G (AnyNested G rules) Q n k w x h t u e) (differ (G.kind t) one)
 
     smaller_first : (k : G.Kind) → ext_either k ≡ false → extends G Ext P k ≡ false
-    smaller_first k e = (false_parts _ _ e).0
+    smaller_first k e = (or_parts _ _ e).0
 
     smaller_second : (k : G.Kind) → ext_either k ≡ false → extends G Ext Q k ≡ false
-    smaller_second k e = (false_parts _ _ (false_parts _ _ e).1).0
+    smaller_second k e = (or_parts _ _ (or_parts _ _ e).1).0
 
     choose : (ts : Tokens G) (p q : Outcome G.Token A) → Exactly n P (extends G Ext P) ts p → Exactly n Q (extends G Ext Q) ts q → (b : Bool) → begins G P ts ≡ b → Exactly n (either P Q) ext_either ts (cond b p q)
     choose ts p q gp gq true e =
@@ -273,12 +256,12 @@ module _ (G : Alphabet) (rules : Rules G) (Ext : G.Inner → G.Kind → Bool) (k
     stops v more b h e = by_word v refl
       where
         no_first : (k : G.Kind) → first G Q k ≡ true → extends G Ext P k ≡ false
-        no_first k h = is_false (extends G Ext P k) (λ g. clash (first G Q k) h (differ k g))
+        no_first k h = false_from_ne_true (extends G Ext P k) (λ g. clash (first G Q k) h (differ k g))
 
         by_end : nullable G Q ≡ true → (k : G.Kind) → ext_both k ≡ false → extends G Ext P k ≡ false
         by_end null k f =
-            let two = false_parts (extends G Ext Q k) (nullable G Q && extends G Ext P k) f in
-            is_false (extends G Ext P k) (λ g. clash (nullable G Q && extends G Ext P k) (both_true (nullable G Q) (extends G Ext P k) null g) two.1)
+            let two = or_parts (extends G Ext Q k) (nullable G Q && extends G Ext P k) f in
+            false_from_ne_true (extends G Ext P k) (λ g. clash (nullable G Q && extends G Ext P k) (both_true (nullable G Q) (extends G Ext P k) null g) two.1)
 
         by_word : (u : Tokens G) → v ≡ u → IsFree G (extends G Ext P) (v ++ more)
         by_word [] is =
@@ -288,7 +271,7 @@ module _ (G : Alphabet) (rules : Rules G) (Ext : G.Inner → G.Kind → Bool) (k
             subst (λ l. IsFree G (extends G Ext P) (l ++ more)) (sym is) (no_first (G.kind t) (first_sound G (AnyNested G rules) Q 0 0 v b h t u is))
 
     smaller_both : (k : G.Kind) → ext_both k ≡ false → extends G Ext Q k ≡ false
-    smaller_both k e = (false_parts (extends G Ext Q k) (nullable G Q && extends G Ext P k) e).0
+    smaller_both k e = (or_parts (extends G Ext Q k) (nullable G Q && extends G Ext P k) e).0
 
     both_exact : (ts : Tokens G) (p : Outcome G.Token A) (q : Parser G.Token B) → Exactly n P (extends G Ext P) ts p → ((rest : Tokens G) → Exactly n Q (extends G Ext Q) rest (q rest)) → Exactly n (both f P Q) ext_both ts (and_then p (λ a rest. and_then (q rest) (λ b rest2. Read (f a b) rest2)))
     both_exact ts p q gp gq =
@@ -357,10 +340,10 @@ module _ (G : Alphabet) (rules : Rules G) (Ext : G.Inner → G.Kind → Bool) (k
 
     many_stops : (v more : Tokens G) (xs : List A) → MU v xs → IsFree G ext_many more → IsFree G (extends G Ext P) (v ++ more)
     many_stops v more [] m e =
-        subst (λ l. IsFree G (extends G Ext P) (l ++ more)) (sym m) (weaker (extends G Ext P) ext_many (λ k f. (false_parts (first G P k) (extends G Ext P k) f).1) more e)
+        subst (λ l. IsFree G (extends G Ext P) (l ++ more)) (sym m) (weaker (extends G Ext P) ext_many (λ k f. (or_parts (first G P k) (extends G Ext P k) f).1) more e)
     many_stops v more (x ∷ xs) m e =
         let b = part_begins 0 0 v x xs m in
-        subst (λ l. IsFree G (extends G Ext P) (l ++ more)) (sym b.2) (is_false (extends G Ext P (G.kind b.0)) (λ g. clash (first G P (G.kind b.0)) b.3 (differ (G.kind b.0) g)))
+        subst (λ l. IsFree G (extends G Ext P) (l ++ more)) (sym b.2) (false_from_ne_true (extends G Ext P (G.kind b.0)) (λ g. clash (first G P (G.kind b.0)) b.3 (differ (G.kind b.0) g)))
 
     none_here : (ts : Tokens G) → begins G P ts ≡ false → Good G ME ML MU ext_many ts (Read [] ts)
     none_here ts e = record { used = []; split = refl; word = λ k. refl; only = only }
@@ -377,7 +360,7 @@ module _ (G : Alphabet) (rules : Rules G) (Ext : G.Inner → G.Kind → Bool) (k
     no_none : (ts w more : Tokens G) → begins G P ts ≡ true → w ≡ [] → AsFar G ext_many ts w more → ⊥
     no_none ts w more b e far =
         let starts_it : begins G P more ≡ true = ap (λ l. begins G P (l ++ more)) (sym e) ∙ passes_next G (first G P) (w ++ more) ts far.1 ∙ b in
-        clash (begins G P more) starts_it (weaker (first G P) ext_many (λ k f. (false_parts (first G P k) (extends G Ext P k) f).0) more far.0)
+        clash (begins G P more) starts_it (weaker (first G P) ext_many (λ k f. (or_parts (first G P k) (extends G Ext P k) f).0) more far.0)
 
     -- what may come behind a part: nothing, where it ends them
     abbrev Behind : (ℕ → Tokens G → List A → Type 0) → A → ℕ → Tokens G → List A → Type 0
@@ -459,18 +442,18 @@ module _ (G : Alphabet) (rules : Rules G) (Ext : G.Inner → G.Kind → Bool) (k
   form_exact n levels (token s val) e ts = token_exact n s val _ ts
   form_exact n levels (level s i val) e ts = levels _ s i val ts
   form_exact n levels (both f P Q) e ts =
-      let one = true_parts (is_decided G Ext kinds P) (is_decided G Ext kinds Q && are_apart G Ext kinds (extends G Ext P) (first G Q)) e in
-      let two = true_parts (is_decided G Ext kinds Q) (are_apart G Ext kinds (extends G Ext P) (first G Q)) one.1 in
+      let one = and_parts (is_decided G Ext kinds P) (is_decided G Ext kinds Q && are_apart G Ext kinds (extends G Ext P) (first G Q)) e in
+      let two = and_parts (is_decided G Ext kinds Q) (are_apart G Ext kinds (extends G Ext P) (first G Q)) one.1 in
       both_exact n f P Q (apart (extends G Ext P) (first G Q) two.1) ts (parser G rules n P ts) (parser G rules n Q) (form_exact n levels P one.0 ts) (form_exact n levels Q two.0)
   form_exact n levels (either P Q) e ts =
-      let one = true_parts (is_decided G Ext kinds P) (is_decided G Ext kinds Q && (not (nullable G P) && are_apart G Ext kinds (first G P) (first G Q))) e in
-      let two = true_parts (is_decided G Ext kinds Q) (not (nullable G P) && are_apart G Ext kinds (first G P) (first G Q)) one.1 in
-      let three = true_parts (not (nullable G P)) (are_apart G Ext kinds (first G P) (first G Q)) two.1 in
-      choose n P Q (not_true (nullable G P) three.0) (apart (first G P) (first G Q) three.1) ts (parser G rules n P ts) (parser G rules n Q ts) (form_exact n levels P one.0 ts) (form_exact n levels Q two.0 ts) (begins G P ts) refl
+      let one = and_parts (is_decided G Ext kinds P) (is_decided G Ext kinds Q && (not (nullable G P) && are_apart G Ext kinds (first G P) (first G Q))) e in
+      let two = and_parts (is_decided G Ext kinds Q) (not (nullable G P) && are_apart G Ext kinds (first G P) (first G Q)) one.1 in
+      let three = and_parts (not (nullable G P)) (are_apart G Ext kinds (first G P) (first G Q)) two.1 in
+      choose n P Q (not-true (nullable G P) three.0) (apart (first G P) (first G Q) three.1) ts (parser G rules n P ts) (parser G rules n Q ts) (form_exact n levels P one.0 ts) (form_exact n levels Q two.0 ts) (begins G P ts) refl
   form_exact n levels (many f ends P) e ts =
-      let one = true_parts (is_decided G Ext kinds P) (not (nullable G P) && are_apart G Ext kinds (extends G Ext P) (first G P)) e in
-      let two = true_parts (not (nullable G P)) (are_apart G Ext kinds (extends G Ext P) (first G P)) one.1 in
-      many_exact n ends P (not_true (nullable G P) two.0) (apart (extends G Ext P) (first G P) two.1) (parser G rules n P) (form_exact n levels P one.0) f ts
+      let one = and_parts (is_decided G Ext kinds P) (not (nullable G P) && are_apart G Ext kinds (extends G Ext P) (first G P)) e in
+      let two = and_parts (not (nullable G P)) (are_apart G Ext kinds (extends G Ext P) (first G P)) one.1 in
+      many_exact n ends P (not-true (nullable G P) two.0) (apart (extends G Ext P) (first G P) two.1) (parser G rules n P) (form_exact n levels P one.0) f ts
 
   levels_zero : LevelIsExact 0
   unfolding below read
