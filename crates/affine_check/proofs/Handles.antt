@@ -1,6 +1,8 @@
 -- In a typed program the trails of the handles have exactly the second uses and the uses in loops.
-use Rattle.std.proofs.Common.{◌≡◌, ◌∙◌, ℕ, ◌+◌, ◌⊎◌, inl, inr, Bool, true, false, cond, ◌&&◌, ◌||◌, Option, Some, None, List, [], ◌∷◌, ◌++◌, refl, sym, ap, subst, arith, true≢false}
+use Rattle.std.proofs.Common.{◌≡◌, ◌∙◌, ℕ, ◌+◌, ◌⊎◌, inl, inr, Bool, true, false, cond, ◌&&◌, ◌||◌, Option, Some, None, List, [], ◌∷◌, ◌++◌, refl, sym, ap, subst, true≢false}
 use Rattle.std.specs.Prelude.{if◌then◌else◌}
+use Rattle.std.proofs.lemmas.Bool.{and_from as hold}
+pub use Rattle.std.proofs.lemmas.Bool.{or_cases as either, or_left as left, or_right as right, and_parts as both_hold}
 use Rattle.rev_num.specs.declared.value.ValueKind.{ValueKind}
 use Rattle.rev_num.specs.declared.value.ValueKind.TheVariants as k
 use Rattle.rev_syntax.specs.Trees.{Parameter, Expression, placed, int, bool, no_rev, var, cell, apply, input, inputs, pick, unary, chain, Expressions, no_expressions, expression, RightSide, plain, called, forked, tried, Statement, statement, StatementForm, bind, assign, assign_cell, choose, choose_or, repeat, call, return, fork, join, print, assert, Statements, no_statements, statements, Arms, no_arms, arm}
@@ -28,23 +30,6 @@ use Rattle.affine_check.proofs.Found.{handles, handles_statement, handles_form, 
 
 abbrev pub Holds : Bool → Type 0
 Holds b = b ≡ true
-
-pub either : (a b : Bool) → Holds (a || b) → Holds a ⊎ Holds b
-either true b h = inl refl
-either false b h = inr h
-
-pub left : (a b : Bool) → Holds a → Holds (a || b)
-left a b h = grind arith
-
-pub right : (a b : Bool) → Holds b → Holds (a || b)
-right a b h = grind arith
-
-pub both_hold : (a b : Bool) → Holds (a && b) → Holds a × Holds b
-both_hold true b h = (refl, h)
-both_hold false b h = absurd (true≢false (sym h))
-
-hold : (a b : Bool) → Holds a → Holds b → Holds (a && b)
-hold a b p q = grind arith
 
 pub arm_both : {P Q A : Type 0} → P ⊎ Q → (P → A) → (Q → A) → A
 arm_both (inl i) f g = f i

@@ -87,7 +87,7 @@ place_same n m (Some i) (Some j) f g e =
     let both = split n m (decimal i ++ codes "]") (decimal j ++ codes "]") f g (sym (place_is n i) ∙ e ∙ place_is m j) in
     (both.0, append_cancel_right (decimal i) (decimal j) (codes "]") both.1)
 
-abbrev place : Shown → List ℕ
+abbrev pub place : Shown → List ℕ
 place x = place_of x.name x.cell
 
 -- each differs in its place from those behind it

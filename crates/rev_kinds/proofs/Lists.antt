@@ -1,11 +1,12 @@
 -- Lists and their elements, tests and names.
-use Rattle.std.proofs.Common.{◌≡◌, ◌∙◌, ◌≢◌, ℕ, ◌⊎◌, inl, inr, Bool, true, false, cond, ◌&&◌, if◌then◌else◌, IsTrue, nat_eq, Option, Some, None, is_some, List, [], ◌∷◌, ◌++◌, refl, sym, ap, arith, true≢false}
+use Rattle.std.proofs.Common.{◌≡◌, ◌∙◌, ◌≢◌, ℕ, ◌⊎◌, inl, inr, Bool, true, false, cond, if◌then◌else◌, nat_eq, Option, Some, None, is_some, List, [], ◌∷◌, ◌++◌, refl, sym, ap, arith, true≢false}
 use Rattle.std.proofs.lemmas.Bool.Decides.{nat_tests}
 use Rattle.std.specs.Cmp.Lexicographic.{same_text, other_text}
 use Rattle.rev_syntax.proofs.Lists.{same-self}
 use Rattle.merge_decl.specs.Names.{Name, same}
 use Rattle.merge_decl.specs.Table.{Table, find, added}
 use Rattle.merge_decl.proofs.Tables.{or_else, find-added}
+pub use Rattle.std.proofs.lemmas.Bool.{and_parts}
 pub use Rattle.rev_syntax.proofs.Lists.{same-number as equal}
 
 -- ---- lists with no element
@@ -38,10 +39,6 @@ stops true f h = absurd (true≢false h)
 
 pub not_found : {A B : Type 0} (o : Option B) (f : A) → o ≡ None → cond (is_some o) (f ∷ []) [] ≡ []
 not_found o f h = stops (is_some o) f (ap is_some h)
-
-pub and_parts : (x y : Bool) → IsTrue (x && y) → IsTrue x × IsTrue y
-and_parts true y h = (refl, h)
-and_parts false y h = absurd (true≢false (sym h))
 
 pub unequal : (a b : ℕ) → nat_eq a b ≡ false → a ≢ b
 unequal a b h = grind (arith, nat_tests)

@@ -2,7 +2,6 @@
 use Rattle.std.proofs.Common.{◌≡◌, ◌∙◌, ℕ, zero, suc, Bool, true, false, List, [], ◌∷◌, ◌++◌, map, Some, None, refl, sym}
 use Rattle.std.proofs.lemmas.List.{map-append}
 use Rattle.std.specs.Prelude.{if◌then◌else◌}
-use Rattle.rev_num.specs.declared.outcome.Shown.{Shown}
 use Rattle.rev_report.specs.Outcome.{place_of}
 use Rattle.rev_syntax.specs.Trees.{Declaration}
 use Rattle.merge_decl.specs.Names.{Name}
@@ -12,10 +11,8 @@ use Rattle.revision_calculus.specs.Outcome.{show_cells, show_variable, show_all}
 use Rattle.code_generation.specs.Generated.{var_of}
 use Rattle.join_agreement.specs.Related.{run_of}
 use Rattle.audit_rules.specs.Parts as calculus_parts
+use Rattle.audit_rules.proofs.Apart.{place}
 use Rattle.world_traces.specs.Parts.{cell_places, variable_places, places}
-
-abbrev place : Shown → List ℕ
-place x = place_of x.name x.cell
 
 cells_named : (name : Name) (base cell count : ℕ) → cell_places name cell count ≡ map (λ x. place_of x.name x.cell) (show_cells name [] base cell count)
 cells_named name base cell zero = refl
