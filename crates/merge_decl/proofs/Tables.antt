@@ -2,14 +2,11 @@
 use Rattle.std.proofs.Common.{◌≡◌, ◌∙◌, ℕ, Bool, true, false, cond, List, [], ◌∷◌, ◌++◌, Option, None, Some, nat_eq, refl, sym, ap, Vec, is_some, if◌then◌else◌, ◌&&◌, arith, true≢false, length, take, ◌<◌, ◌-◌}
 use Rattle.std.proofs.lemmas.List.{take-map, take-take}
 use Rattle.std.proofs.lemmas.Bool.Decides.{nat_tests}
-use Rattle.std.proofs.lemmas.Map.Text.{is_eq-slice_cmp}
 use Rattle.std.specs.declared.alloc.Global.{Global}
 use Rattle.std.specs.Cmp.Lexicographic.{slice_cmp}
-use Rattle.std.specs.Ordering.{nat_cmp, is_eq}
+use Rattle.std.specs.Ordering.{nat_cmp}
 use Rattle.std.specs.BTreeMap.{BTreeMap, get_by, UpdatesBy}
-use Rattle.std.specs.Map.{AreApart, IsKeyTest, KeepsOthers, lookup}
-use Rattle.std.specs.Cmp.{eq_by_cmp_equiv}
-use Rattle.std.specs.Cmp.Lexicographic.{nat_list_cmp_total}
+use Rattle.rev_num.proofs.Maps.{other_found}
 use Rattle.merge_decl.specs.Names.{Name, same}
 use Rattle.merge_decl.specs.Table.{IsIndexed, IsOnce, Table, against, find, added, rows}
 
@@ -94,17 +91,6 @@ same-sym [] (y ∷ b) = refl
 same-sym (x ∷ a) [] = refl
 same-sym (x ∷ a) (y ∷ b) = let e = same-sym a b in grind (arith, nat_tests)
 
--- a key that has a name's bytes has not another's
-apart_keys : (w name k : Name) → same name w ≡ false → is_eq (slice_cmp nat_cmp w k) ≡ true → is_eq (slice_cmp nat_cmp name k) ≡ false
-apart_keys w name k h e =
-    is_eq-slice_cmp name k ∙ ap (λ x. same name x) (sym (same_equal w k (sym (is_eq-slice_cmp w k) ∙ e))) ∙ h
-
--- what another query finds
-others : {K X : Type 0} (eq : K → K → Bool) (test : K → Bool) (old new : List (K × X)) → KeepsOthers eq test old new
-    → (other : K → Bool) → IsKeyTest eq other → AreApart test other → lookup other new ≡ lookup other old
-unfolding KeepsOthers
-others eq test old new h = h
-
 -- one more row
 pub rows_push : {V : Type 0} (es : List (Key × V)) (key : Key) (x : V) → rows (es ++ (key, x) ∷ []) ≡ rows es ++ (key.items, x) ∷ []
 rows_push [] key x = refl
@@ -161,10 +147,7 @@ module _ {V : Type 0} where
       → UpdatesBy (λ (a b : Key). slice_cmp nat_cmp a.items b.items) (against key.items) m n o
       → get_by (against name) n ≡ cond b o (get_by (against name) m)
   given_by m n key o name true e h = ap (λ w. get_by (against w) n) (same_equal name key.items e) ∙ h.1
-  given_by m n key o name false e h =
-      others _ _ m.entries n.entries h.3 (λ k. is_eq (against name k))
-      (λ x y. (eq_by_cmp_equiv nat_list_cmp_total).congr name x.items y.items)
-      (λ k. apart_keys key.items name k.items e)
+  given_by m n key o name false e h = other_found m n key o name (same-sym key.items name ∙ e) h
 
   given : (m n : BTreeMap Key V) (key : Key) (o : Option V) (name : Name)
       → UpdatesBy (λ (a b : Key). slice_cmp nat_cmp a.items b.items) (against key.items) m n o

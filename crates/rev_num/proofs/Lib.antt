@@ -4,4 +4,5 @@ pub mod Dots
 pub mod Division
 pub mod Lists
 pub mod Options
+pub mod Maps
 pub mod SameKinds

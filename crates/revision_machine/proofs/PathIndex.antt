@@ -1,14 +1,12 @@
 -- Tables of places: what a map has after a new path, and what the place of a path says of a list of revisions.
 use Rattle.std.proofs.Common.{◌≡◌, ◌⊎◌, inl, inr, ℕ, suc, zero, ◌+◌, ◌<◌, Bool, true, false, cond, List, [], ◌∷◌, ◌++◌, length, Option, Some, None, MatchOption, Vec, get_or, take, refl, sym, ap, ◌∙◌, subst, arith, true≢false}
-use Rattle.std.proofs.lemmas.Map.Text.{is_eq-slice_cmp}
 use Rattle.std.proofs.lemmas.List.{take_more, length-take}
 use Rattle.std.specs.List.{slice_get}
 use Rattle.std.specs.declared.alloc.Global.{Global}
 use Rattle.std.specs.Ordering.{nat_cmp, is_eq}
 use Rattle.std.specs.BTreeMap.{BTreeMap, get_by, UpdatesBy}
-use Rattle.std.specs.Map.{AreApart, IsKeyTest, KeepsOthers, lookup}
-use Rattle.std.specs.Cmp.{eq_by_cmp_equiv}
-use Rattle.std.specs.Cmp.Lexicographic.{slice_cmp, nat_list_cmp_total}
+use Rattle.std.specs.Map.{lookup}
+use Rattle.std.specs.Cmp.Lexicographic.{slice_cmp}
 use mathlib.Core.Path.{fun_ext}
 use Rattle.rev_num.specs.Path.{Path, same}
 use Rattle.revision_machine.specs.PathIndex.{against, place_by, IsEntered, IsPlace, IsIndexed}
@@ -16,7 +14,7 @@ use Rattle.revision_machine.specs.Laws.{IsIn}
 use Rattle.revision_machine.specs.declared.state.Revision.{Revision}
 use Rattle.revision_machine.specs.RevisionList.{paths, globe}
 use Rattle.revision_machine.specs.ListStep.{IsAt}
-use Rattle.revision_machine.proofs.Paths.{apart-same}
+use Rattle.rev_num.proofs.Maps.{other_found}
 use Rattle.rev_num.proofs.PostOrder.{same_refl, same-eq}
 use Rattle.revision_machine.proofs.RevisionList.{in-push, globe_out, paths-push, length-paths}
 
@@ -25,26 +23,11 @@ Key = Vec ℕ Global
 
 -- ---- a map with a new path
 
--- a key that has a path's numbers has not another's
-apart_keys : (w p k : Path) → same w p ≡ false → is_eq (slice_cmp nat_cmp w k) ≡ true → is_eq (slice_cmp nat_cmp p k) ≡ false
-apart_keys w p k h e =
-    let wk : w ≡ k = same-eq w k (sym (is_eq-slice_cmp w k) ∙ e) in
-    is_eq-slice_cmp p k ∙ apart-same p k (λ f. true≢false (sym (subst (λ v. same w v ≡ true) (wk ∙ sym f) (same_refl w)) ∙ h))
-
--- what another query finds
-others : {K X : Type 0} (eq : K → K → Bool) (test : K → Bool) (old new : List (K × X)) → KeepsOthers eq test old new
-    → (other : K → Bool) → IsKeyTest eq other → AreApart test other → lookup other new ≡ lookup other old
-unfolding KeepsOthers
-others eq test old new h = h
-
 given_by : (m n : BTreeMap Key ℕ) (key : Key) (x : ℕ) (p : Path) (b : Bool) → same key.items p ≡ b
     → UpdatesBy (λ (a b : Key). slice_cmp nat_cmp a.items b.items) (against key.items) m n (Some x)
     → place_by n p ≡ cond b (Some x) (place_by m p)
 given_by m n key x p true e h = ap (λ w. get_by (against w) n) (sym (same-eq key.items p e)) ∙ h.1
-given_by m n key x p false e h =
-    others _ _ m.entries n.entries h.3 (λ k. is_eq (against p k))
-    (λ x y. (eq_by_cmp_equiv nat_list_cmp_total).congr p x.items y.items)
-    (λ k. apart_keys key.items p k.items e)
+given_by m n key x p false e h = other_found m n key (Some x) p e h
 
 pub entered : (m n : BTreeMap Key ℕ) (key : Key) (x : ℕ)
     → UpdatesBy (λ (a b : Key). slice_cmp nat_cmp a.items b.items) (against key.items) m n (Some x)
