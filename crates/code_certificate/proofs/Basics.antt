@@ -1,5 +1,5 @@
 -- Kinds, tests and lists, and the instructions before a place, for theories of the pass.
-use Rattle.std.proofs.Common.{◌≡◌, ◌∙◌, ℕ, zero, suc, ◌+◌, ◌<◌, ◌≤◌, Bool, true, false, not, ◌&&◌, ◌||◌, List, [], ◌∷◌, ◌++◌, length, Option, Some, None, refl, sym, ap, arith, true≢false, take}
+use Rattle.std.proofs.Common.{◌≡◌, ◌∙◌, ℕ, zero, suc, ◌+◌, ◌<◌, ◌≤◌, Bool, true, false, ◌&&◌, ◌||◌, List, [], ◌∷◌, ◌++◌, length, Option, Some, None, refl, sym, ap, arith, true≢false, take}
 use Rattle.std.specs.Prelude.{slice_get, nat_lt, if◌then◌else◌}
 use Rattle.std.proofs.lemmas.Bool.Decides.{nat_tests}
 use Rattle.rev_num.specs.Value.{same_kind}
@@ -10,7 +10,10 @@ use Rattle.rev_code.specs.declared.code.Instr.{Instr}
 use Rattle.code_rules.specs.declared.Rule.{Rule}
 use Rattle.code_rules.specs.Shapes.{Shape, same_shape}
 use Rattle.code_rules.specs.Pass.{Passed, gone, passed, before}
-pub use Rattle.std.proofs.lemmas.Bool.{and_parts}
+pub use Rattle.std.proofs.lemmas.Bool.{and_parts, or_parts, not-true as not_true, not-false as not_false}
+pub use Rattle.std.proofs.lemmas.List.{length-append as append_length}
+pub use Rattle.std.proofs.lemmas.Option.{slice_get_within as some_within}
+pub use Rattle.rev_num.proofs.Lists.{within_some}
 pub use Rattle.rev_num.proofs.Options.{some_eq}
 pub use Rattle.rev_num.proofs.Options.{none_some}
 
@@ -22,21 +25,9 @@ same_is [] (y ∷ ys) h = absurd (true≢false (sym h))
 same_is (x ∷ xs) [] h = absurd (true≢false (sym h))
 same_is (x ∷ xs) (y ∷ ys) h = let z = and_parts (same_kind x y) (same_shape xs ys) h in let a = same_kind_is x y z.0 in let b = same_is xs ys z.1 in λ i. a i ∷ b i
 
-pub not_false : (d : Bool) → not d ≡ false → d ≡ true
-not_false true h = refl
-not_false false h = absurd (true≢false h)
-
-pub not_true : (d : Bool) → not d ≡ true → d ≡ false
-not_true false h = refl
-not_true true h = absurd (true≢false (sym h))
-
 pub and_false : (d e : Bool) → d && e ≡ false → d ≡ true → e ≡ false
 and_false true e h p = h
 and_false false e h p = absurd (true≢false (sym p))
-
-pub or_parts : (d e : Bool) → d || e ≡ false → (d ≡ false) × (e ≡ false)
-or_parts false e h = (refl, h)
-or_parts true e h = absurd (true≢false h)
 
 pub if_none : (d : Bool) (w : Rule) (r : Option Rule) → (if d then Some w else r) ≡ None → (d ≡ false) × (r ≡ None)
 if_none true w r h = absurd (let z : Some w ≡ None = h in cc)
@@ -53,21 +44,7 @@ pub no_length : (s : Shape) → nat_lt 0 (length s) ≡ false → s ≡ []
 no_length [] h = refl
 no_length (x ∷ s) h = absurd (let z : 0 < length (x ∷ s) = omega arith in grind (arith, nat_tests, h, z))
 
-pub some_within : {A : Type 0} (xs : List A) (n : ℕ) (x : A) → slice_get xs n ≡ Some x → n < length xs
-some_within [] n x h = absurd (let z : None ≡ Some x = h in cc)
-some_within (y ∷ xs) zero x h = omega arith
-some_within (y ∷ xs) (suc n) x h = let r = some_within xs n x h in omega (arith, r)
-
-pub within_some : {A : Type 0} (xs : List A) (n : ℕ) → n < length xs → (x : A) × (slice_get xs n ≡ Some x)
-within_some [] n h = absurd (omega (arith, h))
-within_some (y ∷ xs) zero h = (y, refl)
-within_some (y ∷ xs) (suc n) h = within_some xs n (omega (arith, h))
-
 -- ---- the instructions before a place
-
-pub append_length : {A : Type 0} (xs ys : List A) → length (xs ++ ys) ≡ length xs + length ys
-append_length [] ys = omega arith
-append_length (x ∷ xs) ys = let r = append_length xs ys in omega (arith, r)
 
 pub take_whole : {A : Type 0} (xs : List A) (n : ℕ) → length xs ≡ n → take n xs ≡ xs
 take_whole [] zero h = refl

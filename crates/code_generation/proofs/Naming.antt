@@ -2,6 +2,7 @@
 use Rattle.std.proofs.Common.{◌≡◌, ◌∙◌, ℕ, zero, suc, ◌+◌, Bool, true, false, List, [], ◌∷◌, ◌++◌, length, map, Some, None, refl, ap, subst, arith}
 use Rattle.std.specs.Prelude.{slice_get, if◌then◌else◌}
 use Rattle.rev_num.specs.declared.value.ValueKind.{ValueKind}
+use Rattle.rev_num.proofs.Lists.{get_append_left}
 use Rattle.rev_syntax.specs.Trees.{PlacedName, Expression, Statements, Declaration, fun, merge, shared, proc, ProgramTree}
 use Rattle.merge_decl.specs.Names.{Name, same}
 use Rattle.merge_decl.specs.Definitions.{names_of, fun_def, MergeDef, merges_after}
@@ -17,11 +18,6 @@ use Rattle.code_generation.specs.Numbers.{Numbers, numbers, var_number, fun_numb
 use Rattle.code_generation.specs.Sizes.{statements_prints}
 use Rattle.code_generation.specs.Generated.{var_of, fun_block, merge_block, proc_block, value_blocks, body_blocks, code_of}
 use Rattle.code_generation.specs.Named.{FunStands, ProcStands, MergeStands}
-
-pub get_left : {A : Type 0} (xs ys : List A) (n : ℕ) (x : A) → slice_get xs n ≡ Some x → slice_get (xs ++ ys) n ≡ Some x
-get_left [] ys n x h = absurd (let z : None ≡ Some x = h in cc)
-get_left (y ∷ xs) ys zero x h = h
-get_left (y ∷ xs) ys (suc n) x h = get_left xs ys n x h
 
 pub get_right : {A : Type 0} (xs ys : List A) (m n : ℕ) → length xs ≡ m → slice_get (xs ++ ys) (m + n) ≡ slice_get ys n
 get_right [] ys m n h = ap (slice_get ys) (omega (arith, h))
@@ -51,7 +47,7 @@ fun_stands p name f h =
       result = d.0;
       body = d.1;
       gives = d.2;
-      stands = get_left (value_blocks (numbers p) p.declarations) (body_blocks (numbers p) (outside p.declarations) p.declarations p.main 0) (fun_number name p.declarations) (fun_block (numbers p) f.params d.0 d.1) d.3;
+      stands = get_append_left (value_blocks (numbers p) p.declarations) (body_blocks (numbers p) (outside p.declarations) p.declarations p.main 0) (fun_number name p.declarations) (fun_block (numbers p) f.params d.0 d.1) d.3;
     }
 
 -- ---- merges
@@ -75,7 +71,7 @@ merge_stands p k d h =
       j = g.1;
       root = g.2;
       params = g.3;
-      stands = get_left (value_blocks (numbers p) p.declarations) (body_blocks (numbers p) (outside p.declarations) p.declarations p.main 0) (merge_number k p.declarations) (merge_block (numbers p) g.0 g.1 g.2 d.body) g.4;
+      stands = get_append_left (value_blocks (numbers p) p.declarations) (body_blocks (numbers p) (outside p.declarations) p.declarations p.main 0) (merge_number k p.declarations) (merge_block (numbers p) g.0 g.1 g.2 d.body) g.4;
     }
 
 -- ---- procedures

@@ -10,6 +10,7 @@ use Rattle.rev_num.proofs.SameKinds.{same_kind_self, same_kind_is}
 use Rattle.rev_code.specs.Words.{Word, kind_of, fits, zero_word}
 use Rattle.rev_code.specs.Step as step
 use Rattle.code_rules.specs.Shapes.{begins}
+pub use Rattle.rev_num.proofs.Lists.{get_append_left}
 pub use Rattle.code_certificate.proofs.Basics.{or_parts, not_true, and_false, append_length, and_parts, not_false, none_some, some_eq, some_within, within_some}
 use Rattle.code_soundness.specs.Typed.{kinds_of}
 pub use Rattle.std.proofs.Math.Seq.{take-append_seam as take_append}
@@ -23,11 +24,6 @@ module _ {A : Type 0} where
   all_at p [] n x h e = absurd (none_some e)
   all_at p (y ∷ xs) zero x h e = ap p (sym (some_eq e)) ∙ (and_parts (p y) (list_all p xs) h).0
   all_at p (y ∷ xs) (suc n) x h e = all_at p xs n x (and_parts (p y) (list_all p xs) h).1 e
-
-  pub get_append_left : (xs ys : List A) (n : ℕ) (x : A) → slice_get xs n ≡ Some x → slice_get (xs ++ ys) n ≡ Some x
-  get_append_left [] ys n x h = absurd (none_some h)
-  get_append_left (y ∷ xs) ys zero x h = h
-  get_append_left (y ∷ xs) ys (suc n) x h = get_append_left xs ys n x h
 
   pub get_append_right : (xs ys : List A) (n : ℕ) → slice_get (xs ++ ys) (length xs + n) ≡ slice_get ys n
   get_append_right [] ys n = ap (slice_get ys) (omega arith)

@@ -40,7 +40,7 @@ main_runs class.Proc h = absurd (true≢false (sym h))
 of_program : (code : Code) (n : ℕ) (b : CodeBlock) → slice_get code.blocks n ≡ Some b → is_value_class b.class ≡ false → IsOfProgram code n
 of_program code n b is h = λ y is'. ap (λ u. is_value_class u.class) (some_eq (sym is' ∙ is)) ∙ h
 
-main_bare : (x : BlockClass) (n : ℕ) (has : Bool) → is_main x ≡ true → fits_class x n has ≡ true → nat_eq n 0 ≡ true
+pub main_bare : (x : BlockClass) (n : ℕ) (has : Bool) → is_main x ≡ true → fits_class x n has ≡ true → nat_eq n 0 ≡ true
 main_bare class.Main n has p h = (and_parts (nat_eq n 0) (Rattle.std.specs.Prelude.not has) h).0
 main_bare class.Fun n has p h = absurd (true≢false (sym p))
 main_bare class.Merge n has p h = absurd (true≢false (sym p))

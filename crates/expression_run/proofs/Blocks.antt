@@ -36,7 +36,7 @@ use Rattle.expression_run.proofs.Typing.{typed}
 use Rattle.expression_run.proofs.Words.{args_fit, word_kind}
 use Rattle.expression_run.proofs.Runs.{expression_runs}
 use Rattle.expression_run.proofs.Params.{Known, params_known}
-use Rattle.code_generation.proofs.Naming.{get_left}
+use Rattle.rev_num.proofs.Lists.{get_append_left}
 
 pub take_all : {A : Type 0} (xs : List A) (n : ℕ) → n ≡ length xs → take n xs ≡ xs
 take_all [] zero h = refl
@@ -97,7 +97,7 @@ module _ (code : Code) (before : List (Fun Path)) (at : ℕ) (n : Numbers) (c : 
     reads : Reads s n b scope c (scopes.with_params [] ps) e a
     reads = record {
       is = here;
-      locals = λ name t h. (let d = known.known name t h in (d.0, d.1, (d.2.0, d.2.1, d.2.2, get_left (map word xs) _ d.0 (word d.2.0) d.2.3)));
+      locals = λ name t h. (let d = known.known name t h in (d.0, d.1, (d.2.0, d.2.1, d.2.2, get_append_left (map word xs) _ d.0 (word d.2.0) d.2.3)));
       outside = λ name h no is_shared. known.free name no;
       scalars = λ name h no is_shared. absurd (let z : None ≡ Some h = sym (is.closed name) ∙ is_shared in cc);
       arrays = λ name h no is_shared. absurd (let z : None ≡ Some h = sym (is.closed name) ∙ is_shared in cc);

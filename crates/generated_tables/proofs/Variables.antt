@@ -9,6 +9,7 @@ use Rattle.rev_num.specs.declared.value.Value.TheVariants as v
 use Rattle.rev_num.specs.declared.value.ValueKind.{ValueKind}
 use Rattle.rev_num.specs.declared.value.ValueKind.TheVariants as k
 use Rattle.rev_num.specs.Value.{kind_of, same_kind}
+use Rattle.rev_num.proofs.Lists.{get_append_left}
 use Rattle.rev_syntax.specs.Trees.{PlacedName, Constant, ArraySize, SharedDeclaration, Expression, Declaration, fun, merge, shared, proc}
 use Rattle.rev_syntax.specs.Small.{name_formed, by_formed, size_formed, first_formed, declaration_small}
 use Rattle.merge_decl.specs.Least.{Among}
@@ -29,7 +30,6 @@ use Rattle.code_generation.specs.Numbers.{Numbers, merge_number}
 use Rattle.code_generation.specs.Generated.{value_word, merge_entry, var_of, merge_block, value_blocks}
 use Rattle.code_generation.proofs.Merges.{counted, merge_known}
 use Rattle.generated_tables.proofs.Names.{name_well}
-use Rattle.code_generation.proofs.Naming.{get_left}
 use Rattle.code_generation.proofs.BlockRules.{both}
 
 -- ---- cells and start values
@@ -117,7 +117,7 @@ module _ (outer inner : Names) (code : Code) (n : Numbers) (all : List Declarati
       let total = ap funs whole in
       let small : number < 65535 = omega (arith, less, sums, total, few) in
       let apart : nat_eq number 65535 ≡ false = grind (arith, nat_tests, small) in
-      let there : slice_get code.blocks number ≡ Some (merge_block n d.x d.y d.z d.body) = ap (λ bs. slice_get bs number) (blocks ∙ ap (λ z. value_blocks n z ++ tail) whole) ∙ get_left (value_blocks n (before ++ rest)) tail number (merge_block n d.x d.y d.z d.body) d.stands in
+      let there : slice_get code.blocks number ≡ Some (merge_block n d.x d.y d.z d.body) = ap (λ bs. slice_get bs number) (blocks ∙ ap (λ z. value_blocks n z ++ tail) whole) ∙ get_append_left (value_blocks n (before ++ rest)) tail number (merge_block n d.x d.y d.z d.body) d.stands in
       let kind : cv.kind ≡ k.Int = c2 ∙ ty.1 in
       (λ j. if c1 j then (same_kind (kind j) k.Int && not (nat_eq (is j) 65535) && is_int_merge (slice_get code.blocks (is j))) else nat_eq cv.merge 65535)
       ∙ (λ j. not (apart j) && is_int_merge (there j))

@@ -5,7 +5,7 @@ use Rattle.std.proofs.lemmas.List.{length-set}
 use Rattle.std.proofs.lemmas.Option.{slice_get_read, slice_get_within}
 use Rattle.std.specs.List.{slice_get}
 use Rattle.rev_num.specs.Path.{Path, child, before}
-use Rattle.rev_num.proofs.Lists.{get_set_other}
+use Rattle.rev_num.proofs.Lists.{get_set_other, within_some}
 use Rattle.rev_num.proofs.PostOrder.{child_before}
 use Rattle.rev_num.proofs.PostOrder.{before_trans, before_irrefl}
 use Rattle.rev_num.proofs.PostOrder.{before_total}
@@ -42,11 +42,6 @@ pub get_set_same : {A : Type 0} (xs : List A) (i : ℕ) (x y : A) → slice_get 
 get_set_same [] i x y e = none_some e
 get_set_same (z ∷ xs) zero x y e = refl
 get_set_same (z ∷ xs) (suc i) x y e = get_set_same xs i x y e
-
-pub full_at : {A : Type 0} (xs : List A) (i : ℕ) → i < length xs → (x : A) × (slice_get xs i ≡ Some x)
-full_at [] i less = absurd (omega arith)
-full_at (x ∷ xs) zero less = (x, refl)
-full_at (x ∷ xs) (suc i) less = full_at xs i (omega arith)
 
 -- what was read there is what stands there
 pub stands_there : {A : Type 0} (xs : List A) (i : ℕ) (x y z : A) → i < length xs → x ≡ get_or xs i x → y ≡ x → y ≡ z → slice_get xs i ≡ Some z
@@ -287,7 +282,7 @@ module _ (s : Setting) (fuel : ℕ) (parts : List Part) where
     -- its children begin
     pub children_begin : (i : ℕ) (a : List (Option LocalState)) (u : Option LocalState) (first : LocalState) (c : Computed Part) (ks : List LocalState) → i < length parts → IsKept s fuel parts (i + 1) a u → slice_get a i ≡ Some (Some first) → ComesTo s fuel parts first.path first.local c ks → (x : LocalState) → Among ks x → BeginsAt s fuel parts x.path x.local
     children_begin i a u first c ks less h e run x among =
-        let p = full_at parts i less in
+        let p = within_some parts i less in
         let known = h.starts_are.begun i p.0 first p.1 e in
         let so : part_at parts first.path ≡ Some p.0 = ap (part_at parts) known.0 ∙ part_here parts i p.0 order p.1 in
         child_begins s fuel parts first.path first.local p.0 so known.1 run.last ks run.goes x among

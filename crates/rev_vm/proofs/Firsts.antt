@@ -21,7 +21,7 @@ use Rattle.plain_words.specs.Agreement.{AreWords}
 use Rattle.block_run.specs.declared.registers.Registers.{Registers}
 use Rattle.block_run.specs.Area.{count, low, stack_of}
 use Rattle.block_run.specs.Standing.{AreSeen, IsSeen}
-use Rattle.block_run.proofs.Onward.{kept_seen, word_seen}
+use Rattle.block_run.proofs.Onward.{kept_seen, word_seen, words_length}
 use Rattle.fun_run.proofs.Slices.{words_append}
 use Rattle.version_map.specs.declared.delta.Delta.{Delta}
 use Rattle.version_map.specs.Deltas.{at, locations, IsEmpty}
@@ -39,12 +39,6 @@ zero_words (k.Int ∷ kinds) = ((omega arith, refl), zero_words kinds)
 zero_words (k.Bool ∷ kinds) = (refl, zero_words kinds)
 zero_words (k.Rev ∷ kinds) = (refl, zero_words kinds)
 
-pub words_many : (xs : List (Word ℕ)) (ws : List ℕ) → AreWords xs ws → length xs ≡ length ws
-words_many [] [] h = refl
-words_many (x ∷ xs) (w ∷ ws) h = ap suc (words_many xs ws h.1)
-words_many [] (w ∷ ws) h = absurd h
-words_many (x ∷ xs) [] h = absurd h
-
 -- a state in a first frame, over these locations
 abbrev pub first_state : (n : ℕ) → CodeBlock → List (Word ℕ) → List (Location ℕ) → (fuel : ℕ) → State ℕ
 first_state n b xs ls fuel = events.start n b xs ls fuel
@@ -56,7 +50,7 @@ first_stands g n b is xs ls fuel good r args room roomy stand f sees root there 
     let block = ap (λ (z : Registers). z.block) f.registers in
     let base : r.registers.base ≡ 0 = ap (λ (z : Registers). z.base) f.registers in
     let top : r.registers.top ≡ length b.locals = ap (λ (z : Registers). z.top) f.registers in
-    let same : length xs ≡ length args = words_many xs args stand in
+    let same : length xs ≡ length args = words_length xs args stand in
     let rest : AreWords (map zero_word (drop (length xs) b.locals)) (replicate (length b.locals - length args) 0) =
     subst (λ m. AreWords (map zero_word (drop (length xs) b.locals)) (replicate m 0)) (length-drop (length xs) b.locals ∙ ap (λ m. length b.locals - m) same) (zero_words (drop (length xs) b.locals)) in
     record {

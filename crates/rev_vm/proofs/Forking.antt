@@ -68,9 +68,6 @@ one_listed xs ms x m e h = (λ i. h i ++ e i ∷ []) ∙ by ms
     by [] = refl
     by (a ∷ ms) = ap (λ ys. listed_as a ∷ ys) (by ms)
 
-pub part_small : (share fuel : ℕ) → events.part share fuel ≤ fuel
-part_small share fuel = grind arith
-
 -- ---- words on top
 
 pub range_top : (xs : List ℕ) (p t : ℕ) → p ≤ t → slice_range xs (t - p) t ≡ take p (drop (t - p) xs)

@@ -4,14 +4,12 @@
 --   main_called               `main` may begin with no arguments
 --   starts_based              a snapshot with the start words stands for the start locations
 use Rattle.std.proofs.lemmas.Option.{get_or_from_slice_get}
-use Rattle.std.proofs.Common.{◌≡◌, ◌∙◌, ℕ, zero, suc, ◌+◌, ◌-◌, ◌<◌, ◌≤◌, ◌^◌, Bool, true, List, [], ◌∷◌, ◌++◌, length, take, drop, replicate, Some, None, refl, sym, ap, subst, arith, true≢false}
+use Rattle.std.proofs.Common.{◌≡◌, ◌∙◌, ℕ, zero, suc, ◌+◌, ◌-◌, ◌<◌, ◌≤◌, ◌^◌, true, List, [], ◌∷◌, ◌++◌, length, take, drop, replicate, Some, None, refl, sym, ap, subst, arith, true≢false}
 use Rattle.std.specs.Prelude.{slice_get, slice_index, nat_le, nat_eq, not, ◌&&◌}
 use Rattle.std.specs.List.{list_all}
 use Rattle.std.proofs.lemmas.Bool.Decides.{nat_tests}
 use Rattle.rev_num.specs.declared.value.ValueKind.{ValueKind}
 use Rattle.rev_num.specs.declared.value.ValueKind.TheVariants as k
-use Rattle.rev_code.specs.declared.code.BlockClass.{BlockClass}
-use Rattle.rev_code.specs.declared.code.BlockClass.TheVariants as class
 use Rattle.rev_code.specs.declared.code.Code.{Code}
 use Rattle.rev_code.specs.declared.code.CodeBlock.{CodeBlock}
 use Rattle.rev_code.specs.declared.code.CodeVar.{CodeVar}
@@ -37,7 +35,7 @@ use Rattle.block_run.specs.Area.{count}
 use Rattle.rev_vm.specs.Opening.{AreShort, StartsWith, words_at_start}
 use Rattle.rev_vm.specs.Starts.{IsBase, IsCalled}
 use Rattle.rev_vm.proofs.Leaving.{append_three}
-use Rattle.code_soundness.proofs.Reaching.{main_runs}
+use Rattle.code_soundness.proofs.Reaching.{main_runs, main_bare}
 
 -- ---- words, one after another
 
@@ -115,12 +113,6 @@ module _ (code : Code) (ok : first_fault code ≡ None) where
 
   pub main_one : (n : ℕ) (b : CodeBlock) → slice_get code.blocks n ≡ Some b → is_main b.class ≡ true → n ≡ length code.blocks - 1
   main_one n b is m = let q = main_last code.blocks ends n b is m in omega (arith, q)
-
-  main_bare : (x : BlockClass) (n : ℕ) (has : Bool) → is_main x ≡ true → fits_class x n has ≡ true → nat_eq n 0 ≡ true
-  main_bare class.Main n has p h = (and_parts (nat_eq n 0) (not has) h).0
-  main_bare class.Fun n has p h = absurd (true≢false (sym p))
-  main_bare class.Merge n has p h = absurd (true≢false (sym p))
-  main_bare class.Proc n has p h = absurd (true≢false (sym p))
 
   no_params : (n : ℕ) (b : CodeBlock) → slice_get code.blocks n ≡ Some b → is_main b.class ≡ true → [] ≡ params b
   no_params n b is m =

@@ -6,7 +6,7 @@ use Rattle.revision_machine.specs.Machine.{Joins, Ended, Entry, Plain, Joined, T
 use Rattle.revision_machine.specs.Laws.{IsIn, IsDistinct}
 use Rattle.revision_machine.specs.Numbered.{Wish, Goes, Bears, Wants, Stops, Numbered, Entries, World, Both, Listing, at_number, put_number, join_stopped, join_number, leg_of, leg_at, leg, number_of, or_path, event_by, machine_by, paths_of, globe_of, shows}
 use Rattle.revision_machine.specs.Births.{offspring_of, offspring_at, offspring}
-use Rattle.revision_machine.proofs.Paths.{some_inj, apart-same, swap, overwrite, at_here, at_other}
+use Rattle.revision_machine.proofs.Paths.{some_inj, apart-same, swap, overwrite, at_here, at_other, distinct_more}
 use Rattle.rev_num.proofs.PostOrder.{same_refl, same-eq}
 pub use Rattle.revision_machine.proofs.Lists.{none_some}
 use Rattle.revision_machine.proofs.Lists.{at_front, at_length, put_other}
@@ -99,16 +99,6 @@ module _ {A : Type 0} where
       go later true f i = none_some (sym (here true f))
       go later false f (inl g) = let clash : true ≡ false = sym (ap (same x.0) g ∙ same_refl x.0) ∙ f in cc
       go later false f (inr i) = later (here false f) i
-
-distinct_more : (ps : List Path) (c : Path) → IsDistinct ps → (IsIn c ps → ⊥) → IsDistinct (ps ++ c ∷ [])
-distinct_more [] c d out = (λ v. v, tt)
-distinct_more (p ∷ ps) c d out = (λ v. not_in ps v d.0 (λ e. out (inl (sym e))), distinct_more ps c d.1 (λ v. out (inr v)))
-  where
-    not_in : (qs : List Path) → IsIn p (qs ++ c ∷ []) → (IsIn p qs → ⊥) → (p ≡ c → ⊥) → ⊥
-    not_in [] (inl e) f g = g e
-    not_in [] (inr none) f g = none
-    not_in (q ∷ qs) (inl e) f g = f (inl e)
-    not_in (q ∷ qs) (inr h) f g = not_in qs h (λ v. f (inr v)) g
 
 module _ (N : Numbered) where
   abbrev pub paths_with : Entries N.Local → World N.Local → List Path

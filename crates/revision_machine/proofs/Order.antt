@@ -5,8 +5,8 @@ use Rattle.revision_machine.specs.Machine.{Machine, Entry, Plain, Joined, Revisi
 use Rattle.revision_machine.specs.Conditions.{Handles}
 use Rattle.revision_machine.specs.Laws.{local_of, HasForker, IsForked, IsBelow, IsOrdered}
 use Rattle.revision_machine.proofs.Paths.{some_inj, child-apart, decide_same}
-use Rattle.revision_machine.proofs.PostOrder.{child_before, before-child, IsWithin}
-use Rattle.rev_num.proofs.PostOrder.{before_trans}
+use Rattle.revision_machine.proofs.PostOrder.{before-child, IsWithin}
+use Rattle.rev_num.proofs.PostOrder.{before_trans, child_before}
 use Rattle.revision_machine.proofs.Way.{put_two, Role, Place, own, new, marks, place}
 use Rattle.revision_machine.proofs.Diamond.{two_here, two_there, two_other}
 

@@ -1,11 +1,11 @@
 -- Laws of paths and of maps from paths.
-use Rattle.std.proofs.Common.{◌≡◌, ◌≢◌, ◌⊎◌, inl, inr, ℕ, Bool, true, false, cond, List, [], ◌∷◌, Some, refl, sym, ap, ◌∙◌, subst}
+use Rattle.std.proofs.Common.{◌≡◌, ◌≢◌, ◌⊎◌, inl, inr, ℕ, Bool, true, false, cond, List, [], ◌∷◌, ◌++◌, Some, refl, sym, ap, ◌∙◌, subst}
 use Rattle.std.proofs.lemmas.Bool.{true≢false}
 use mathlib.Core.Path.{fun_ext}
 use Rattle.rev_num.specs.Path.{Path, child, same}
 use Rattle.rev_num.proofs.PostOrder.{same_refl, same-eq}
 use Rattle.revision_machine.specs.PathMap.{PathMap, with_at}
-use Rattle.revision_machine.specs.Laws.{IsIn}
+use Rattle.revision_machine.specs.Laws.{IsIn, IsDistinct}
 pub use Rattle.rev_num.proofs.Options.{some_eq as some_inj}
 
 pub apart-same : (p q : Path) → p ≢ q → same p q ≡ false
@@ -35,6 +35,17 @@ decide_in p (q ∷ ps) = go (decide_same p q) (decide_in p ps)
         not_here : IsIn p (q ∷ ps) → ⊥
         not_here (inl e) = apart e
         not_here (inr i) = no_in i
+
+-- one more path in a list of which no two are the same
+pub distinct_more : (ps : List Path) (c : Path) → IsDistinct ps → (IsIn c ps → ⊥) → IsDistinct (ps ++ c ∷ [])
+distinct_more [] c d out = (λ v. v, tt)
+distinct_more (p ∷ ps) c d out = (λ v. not_in ps v d.0 (λ e. out (inl (sym e))), distinct_more ps c d.1 (λ v. out (inr v)))
+  where
+    not_in : (qs : List Path) → IsIn p (qs ++ c ∷ []) → (IsIn p qs → ⊥) → (p ≡ c → ⊥) → ⊥
+    not_in [] (inl e) f g = g e
+    not_in [] (inr none) f g = none
+    not_in (q ∷ qs) (inl e) f g = f (inl e)
+    not_in (q ∷ qs) (inr h) f g = not_in qs h (λ v. f (inr v)) g
 
 pub at_here : {A : Type 0} (m : PathMap A) (r : Path) (a : A) → with_at m r a r ≡ Some a
 at_here m r a = ap (λ b. cond b (Some a) (m r)) (same_refl r)

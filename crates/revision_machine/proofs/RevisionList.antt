@@ -4,7 +4,7 @@ use Rattle.rev_num.specs.Path.{Path, same}
 use Rattle.revision_machine.specs.PathMap.{with_at}
 use Rattle.revision_machine.specs.Machine.{Entry}
 use Rattle.revision_machine.specs.Laws.{IsIn, IsDistinct, Census}
-use Rattle.revision_machine.proofs.Paths.{swap, overwrite, at_here, at_other}
+use Rattle.revision_machine.proofs.Paths.{swap, overwrite, at_here, at_other, distinct_more}
 use Rattle.rev_num.proofs.PostOrder.{same_refl, same-eq}
 use Rattle.revision_machine.specs.declared.state.Revision.{Revision}
 use Rattle.revision_machine.specs.RevisionList.{paths, entry_of, globe}
@@ -19,17 +19,6 @@ in-push (r ∷ ps) p q (inr h) = go (in-push ps p q h)
     go : IsIn q ps ⊎ (q ≡ p) → IsIn q (r ∷ ps) ⊎ (q ≡ p)
     go (inl i) = inl (inr i)
     go (inr i) = inr i
-
-distinct-push : (ps : List Path) (p : Path) → IsDistinct ps → (IsIn p ps → ⊥) → IsDistinct (ps ++ p ∷ [])
-distinct-push [] p distinct out = (λ v. last v, tt)
-  where
-    last : IsIn p [] → ⊥
-    last v = v
-distinct-push (q ∷ ps) p distinct out = (λ v. go (in-push ps p q v), distinct-push ps p distinct.1 (λ v. out (inr v)))
-  where
-    go : IsIn q ps ⊎ (q ≡ p) → ⊥
-    go (inl i) = distinct.0 i
-    go (inr e) = out (inl (sym e))
 
 module _ {L : Type 0} where
   -- a path that no revision has
@@ -103,7 +92,7 @@ module _ {L : Type 0} where
   paths-push (s ∷ ss) t = ap (λ v. s.path ∷ v) (paths-push ss t)
 
   pub distinct_revisions-push : (ss : List (Revision L)) (t : Revision L) → IsDistinct (paths ss) → (IsIn t.path (paths ss) → ⊥) → IsDistinct (paths (ss ++ t ∷ []))
-  distinct_revisions-push ss t distinct out = subst IsDistinct (sym (paths-push ss t)) (distinct-push (paths ss) t.path distinct out)
+  distinct_revisions-push ss t distinct out = subst IsDistinct (sym (paths-push ss t)) (distinct_more (paths ss) t.path distinct out)
 
   -- a path that stands in the state is that of a revision
   pub where_stands : (ss : List (Revision L)) (p : Path) (e : Entry L) → globe ss p ≡ Some e → (i : ℕ) × IsAt ss i p × Revision L

@@ -1,9 +1,10 @@
 use Rattle.std.proofs.Common.{None, arith, set, subst, sym}
+use Rattle.rev_num.proofs.Lists.{within_some}
 use Rattle.revision_state.specs.Views.{given}
 use Rattle.audit_rules.specs.Verdicts.{computed_part}
 use Rattle.rev_audit.specs.Sweep.{Grows, IsKept, IsStarts}
 use Rattle.rev_audit.proofs.Accepted.{accepted}
-use Rattle.rev_audit.proofs.Sweeps.{children_begin, full_at, kept_none, kept_run, none_computed, run_computed, stands_there, starts_taken}
+use Rattle.rev_audit.proofs.Sweeps.{children_begin, kept_none, kept_run, none_computed, run_computed, stands_there, starts_taken}
 use Rattle.rev_audit.proofs.sweep.computed_at.Goals as goal
 
 pub index_mut-requires : goal.index_mut-requires
@@ -18,7 +19,7 @@ run_alone-requires-clause-begins c =
     let a = c.args.starts.now.starts.items in
     let count = c.requires.kept.starts_are.count in
     let e = stands_there a c.args.i c.index_mut.result.now _ _ (omega arith) c.index_mut.ensures.value c.take.ensures.value c.in-Some.is in
-    let p = full_at t.parts.now c.args.i c.requires.within in
+    let p = within_some t.parts.now c.args.i c.requires.within in
     (c.requires.kept.starts_are.begun c.args.i p.0 c.in-Some.first p.1 e).1
 
 pub keep_all-requires-clause-kept : goal.keep_all-requires-clause-kept
@@ -47,7 +48,7 @@ returns-in_ok-run-in-Some-clause-kept c =
     let count = c.requires.kept.starts_are.count in
     let e = stands_there a c.args.i c.index_mut.result.now _ _ (omega arith) c.index_mut.ensures.value c.take.ensures.value c.in-Some.is in
     let o = c.in_ok-run-in-Some.run' in
-    let q = full_at t.parts.now c.args.i c.requires.within in
+    let q = within_some t.parts.now c.args.i c.requires.within in
     let grows = subst (λ x. Grows (set a c.args.i x) b u v) c.take.ensures.after c.keep_all.ensures.grows in
     kept_run (given t.setting) t.fuel t.parts.now (accepted t.setting) c.requires.order c.args.i a b u v c.in-Some.first (computed_part o.computed) o.children.items q.0 q.1 c.requires.kept e c.in_ok-run-in-Some.ensures c.keep_all.ensures.kept grows c.keep_all.ensures.hold
 

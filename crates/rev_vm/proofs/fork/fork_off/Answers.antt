@@ -1,7 +1,8 @@
 use Rattle.std.proofs.Common.{◌∙◌, sym, subst, arith}
 use Rattle.rev_code.specs.Events as events
 use Rattle.rev_vm.specs.Starts.{IsForker, run_under}
-use Rattle.rev_vm.proofs.Forking.{above, child_at, parent_at, part_small, place, room_for_handle, safe, within}
+use Rattle.rev_vm.proofs.Forking.{above, child_at, parent_at, place, room_for_handle, safe, within}
+use Rattle.code_machine.proofs.Paying.{part_less}
 use Rattle.rev_vm.proofs.fork.fork_off.Goals as goal
 
 pub block_at-b-requires : goal.block_at-b-requires
@@ -36,7 +37,7 @@ leave_fork-requires-clause-place g c =
 
 pub leave_fork-requires-clause-part : goal.leave_fork-requires-clause-part
 leave_fork-requires-clause-part g c =
-    let a = part_small c.args.setting.now.share c.args.revision.now.run.registers.fuel in
+    let a = part_less c.args.setting.now.share c.args.revision.now.run.registers.fuel in
     let e = c.part_of-part.ensures in omega (arith, a, e)
 
 pub leave_fork-requires-clause-few : goal.leave_fork-requires-clause-few

@@ -3,17 +3,18 @@ use Rattle.code_soundness.proofs.Lists.{kinds_length}
 use Rattle.version_map.specs.Deltas.{at}
 use Rattle.version_map.specs.Overlay.{under}
 use Rattle.block_run.specs.Area.{count}
+use Rattle.block_run.proofs.Onward.{words_length}
 use Rattle.rev_code.specs.Events as events
 use Rattle.rev_vm.specs.Meaning.{IsAt}
 use Rattle.rev_vm.specs.Starts.{run_under}
 use Rattle.rev_vm.proofs.Boxes.{same_boxed}
-use Rattle.rev_vm.proofs.Firsts.{locations_many, start_stands, unwritten, words_many}
+use Rattle.rev_vm.proofs.Firsts.{locations_many, start_stands, unwritten}
 use Rattle.rev_vm.proofs.runner.Runner.start.Goals as goal
 
 pub begin_with-requires-clause-block : goal.begin_with-requires-clause-block
 begin_with-requires-clause-block g c =
     let q = c.requires.called in
-    (q.0, q.2.is, sym (words_many q.1 c.args.args.now q.2.stand) ∙ sym (kinds_length q.1) ∙ ap length q.2.kinds)
+    (q.0, q.2.is, sym (words_length q.1 c.args.args.now q.2.stand) ∙ sym (kinds_length q.1) ∙ ap length q.2.kinds)
 
 pub returns-in-Ok-clause-state : goal.returns-in-Ok-clause-state
 returns-in-Ok-clause-state g c = λ b xs ls k base.
