@@ -10,7 +10,7 @@ use Rattle.std.specs.Cmp.{eq_by_cmp_equiv}
 use Rattle.std.specs.Cmp.Lexicographic.{slice_cmp, nat_list_cmp_total}
 use Rattle.rev_num.specs.Path.{same}
 use Rattle.rev_num.proofs.PostOrder.{same_refl, same-eq}
-use Rattle.rev_num.proofs.Lists.{refuted}
+use Rattle.std.proofs.lemmas.Bool.{false_from_ne_true}
 
 abbrev Key : Type 0
 Key = Vec ℕ Global
@@ -21,7 +21,7 @@ apart_keys : (w p k : List ℕ) → same w p ≡ false → is_eq (slice_cmp nat_
 apart_keys w p k h e =
     let wk : w ≡ k = same-eq w k (sym (is_eq-slice_cmp w k) ∙ e) in
     is_eq-slice_cmp p k
-    ∙ refuted (same p k) (λ f. true≢false (sym (subst (λ v. same w v ≡ true) (wk ∙ sym (same-eq p k f)) (same_refl w)) ∙ h))
+    ∙ false_from_ne_true (same p k) (λ f. true≢false (sym (subst (λ v. same w v ≡ true) (wk ∙ sym (same-eq p k f)) (same_refl w)) ∙ h))
 
 -- what another query finds
 others : {K X : Type 0} (eq : K → K → Bool) (test : K → Bool) (old new : List (K × X)) → KeepsOthers eq test old new
