@@ -14,6 +14,7 @@ pub use Rattle.rev_num.proofs.Lists.{get_append_left}
 pub use Rattle.code_certificate.proofs.Basics.{or_parts, not_true, and_false, append_length, and_parts, not_false, none_some, some_eq, some_within, within_some}
 use Rattle.code_soundness.specs.Typed.{kinds_of}
 pub use Rattle.std.proofs.Math.Seq.{take-append_seam as take_append}
+pub use Rattle.std.proofs.lemmas.List.{length-reverse as reverse_length}
 
 -- ---- tests
 
@@ -43,14 +44,6 @@ module _ {A : Type 0} where
 
   pub reverse-cons : (x : A) (xs : List A) → reverse (x ∷ xs) ≡ reverse xs ++ x ∷ []
   reverse-cons x xs = reverse-append (x ∷ []) xs
-
-  pub reverse_length : (xs : List A) → length (reverse xs) ≡ length xs
-  reverse_length [] = refl
-  reverse_length (x ∷ xs) =
-      let a : length (reverse (x ∷ xs)) ≡ length (reverse xs ++ x ∷ []) = ap length (reverse-cons x xs) in
-      let b = append_length (reverse xs) (x ∷ []) in
-      let r = reverse_length xs in
-      omega (arith, a, b, r)
 
 -- ---- what a stack begins with
 

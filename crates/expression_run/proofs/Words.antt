@@ -1,7 +1,7 @@
 -- Instructions on the words of values are operators on values.
-use Rattle.std.proofs.Common.{◌≡◌, ◌∙◌, ℕ, zero, suc, ℤ, Bool, true, false, not, ◌&&◌, List, [], ◌∷◌, ◌++◌, length, map, reverse, take, drop, Some, None, Result, Ok, Err, refl, sym, ap, arith, append_assoc, length-append}
+use Rattle.std.proofs.Common.{◌≡◌, ◌∙◌, ℕ, zero, suc, ℤ, Bool, true, false, not, ◌&&◌, List, [], ◌∷◌, ◌++◌, length, map, reverse, take, drop, Some, None, Result, Ok, Err, refl, sym, ap, arith, append_assoc}
 use Rattle.std.specs.Prelude.{if◌then◌else◌}
-use Rattle.std.proofs.lemmas.List.{reverse-append, reverse-reverse}
+use Rattle.std.proofs.lemmas.List.{length-reverse, reverse-append, reverse-reverse}
 use Rattle.rev_num.specs.Path.{Path}
 use Rattle.rev_num.specs.declared.value.Value.{Value}
 use Rattle.rev_num.specs.declared.value.Value.TheVariants as v
@@ -161,14 +161,6 @@ module _ {A : Type 0} where
   reverse_cons : (x : A) (xs : List A) → reverse (x ∷ xs) ≡ reverse xs ++ x ∷ []
   reverse_cons x xs = reverse-append (x ∷ []) xs
 
-  reverse_length : (xs : List A) → length (reverse xs) ≡ length xs
-  reverse_length [] = refl
-  reverse_length (x ∷ xs) =
-      let a : length (reverse (x ∷ xs)) ≡ length (reverse xs ++ x ∷ []) = ap length (reverse_cons x xs) in
-      let z = length-append (reverse xs) (x ∷ []) in
-      let h = reverse_length xs in
-      omega (arith, a, z, h)
-
 pushed_is : (xs : List Value) (stack : List (Word Path)) → pushed xs stack ≡ reverse (map word xs) ++ stack
 pushed_is [] stack = refl
 pushed_is (x ∷ xs) stack =
@@ -200,7 +192,7 @@ args_fit (p ∷ ps) (x ∷ xs) h = both (same_kind p.kind (w.kind_of (word x))) 
 -- the arguments are found, in the order in which they were pushed
 pub found : (ps : List Parameter) (xs : List Value) (stack : List (Word Path)) → ArgsAre ps xs → arguments (kinds_of ps) (pushed xs stack) ≡ Some (map word xs)
 found ps xs stack h =
-    let count : length (kinds_of ps) ≡ length (reverse (map word xs)) = args_length ps xs h ∙ sym (reverse_length (map word xs)) in
+    let count : length (kinds_of ps) ≡ length (reverse (map word xs)) = args_length ps xs h ∙ sym (length-reverse (map word xs)) in
     let taken : reverse (take (length (kinds_of ps)) (pushed xs stack)) ≡ map word xs
     = ap (λ z. reverse (take (length (kinds_of ps)) z)) (pushed_is xs stack)
     ∙ ap reverse (take_of (reverse (map word xs)) stack (length (kinds_of ps)) count)
@@ -209,4 +201,4 @@ found ps xs stack h =
     ∙ ap (λ d. if d then Some (map word xs) else None) (args_fit ps xs h)
 
 pub left_below : (xs : List Value) (stack : List (Word Path)) → drop (length (map word xs)) (pushed xs stack) ≡ stack
-left_below xs stack = ap (drop (length (map word xs))) (pushed_is xs stack) ∙ drop_of (reverse (map word xs)) stack (length (map word xs)) (sym (reverse_length (map word xs)))
+left_below xs stack = ap (drop (length (map word xs))) (pushed_is xs stack) ∙ drop_of (reverse (map word xs)) stack (length (map word xs)) (sym (length-reverse (map word xs)))
