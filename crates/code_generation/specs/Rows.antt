@@ -23,10 +23,7 @@ main_of locals instrs = record { class = class.Main; params = 0; result = None; 
 
 -- ---- a print
 
--- main { print 7; }
-abbrev pub prints_seven : ProgramTree
-prints_seven = program [] (print 1 (item (int 7) ∷ []) ∷ [])
-
+-- main { print 7; }, which is a worked program of revision_calculus
 abbrev pub prints_seven_code : Code
 prints_seven_code = record {
   vars = [];
