@@ -33,7 +33,6 @@ use Rattle.code_generation.specs.Numbers.{Numbers, Scope}
 use Rattle.code_generation.specs.Expressions.{expression_size, expression_code, expressions_size, expressions_code}
 use Rattle.code_generation.specs.Stands.{HasAt}
 use Rattle.expression_run.specs.Applying.{AllApply, ArgsApply}
-pub use Rattle.code_generation.specs.Generated.{kinds_of}
 
 abbrev pub word : Value → Word Path
 word (v.Int z) = int z

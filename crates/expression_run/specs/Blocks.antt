@@ -12,7 +12,7 @@ use Rattle.merge_decl.specs.Value.{Funs, inside, value_by}
 use Rattle.rev_kinds.specs.Kinds.{Names}
 use Rattle.rev_kinds.specs.Typing.{HasKind}
 use Rattle.rev_types.specs.Judgement.{ParamsNew}
-use Rattle.rev_types.specs.Scopes.{with_params}
+use Rattle.rev_types.specs.Scopes.{with_params, int_param}
 use Rattle.rev_code.specs.declared.code.Code.{Code}
 use Rattle.rev_code.specs.declared.code.CodeBlock.{CodeBlock}
 use Rattle.rev_code.specs.State.{Fun}
@@ -21,7 +21,6 @@ use Rattle.code_generation.specs.Numbers.{Numbers}
 use Rattle.code_generation.specs.Generated.{fun_block, merge_block}
 use Rattle.expression_run.specs.Applying.{AllApply}
 use Rattle.expression_run.specs.Agrees.{word, coded, IsOfKind, ArgsAre, FunReads}
-pub use Rattle.rev_types.specs.Scopes.{int_param}
 
 -- a body that keeps the rules, with these parameters, where the funs that it applies have these values
 pub record IsBody (code : Code) (before : List (Fun Path)) (n : Numbers) (c : Names) (fs : Funs) (ps : List Parameter) (r : ValueKind) (body : Expression) : Type 0 where

@@ -38,7 +38,7 @@ use Rattle.join_rule.specs.Composes as rule
 use Rattle.join_rule.specs.Composes.{mains_of, with_new, as_join}
 use Rattle.join_rule.proofs.Composing.{composes}
 use Rattle.code_machine.specs.Local as code
-use Rattle.code_machine.specs.Local.{running, done, trapped, End, end_of, written_from}
+use Rattle.code_machine.specs.Local.{running, done, End, end_of, written_from}
 use Rattle.code_machine.specs.Joining.{merges, mains, written_all, absorb, inherit, join_in}
 use Rattle.code_machine.specs.Joining as joins
 use Rattle.join_agreement.specs.Related.{run_of, IsTrap, origin_at, IsGiven, IsAtWork, IsSame, works, is_done, is_trapped}

@@ -26,7 +26,7 @@ use Rattle.rev_types.specs.Judgement.{name_of, IsMergeOf}
 use Rattle.rev_types.specs.Limits.{cells, procs, funs}
 use Rattle.rev_types.proofs.Weights.{expression_caps}
 use Rattle.static_rules.specs.Places.{IsBehind, Declares, Site, Stands, word_of, parameter_word, param_words, call_of}
-use Rattle.static_rules.specs.Breaks.{Breaks, array_named, IsFun, parameters, parameters_of, unknown_variable, unknown_procedure, unknown_merge, declared_again, parameter_again, parameter_of_shared, let_again, other_kind, is_handle, other_right_side, other_constant, other_use, no_result, cumulative_kind, fun_parameter, fun_result, input_inside, inputs_inside, return_without, return_with, other_count, no_cells, no_return, locations, procedures, declared_funs, parameters, local_parameter, local_let, too_many_items, too_heavy}
+use Rattle.static_rules.specs.Breaks.{Breaks, array_named, IsFun, parameters, parameters_of, unknown_variable, unknown_procedure, unknown_merge, declared_again, parameter_again, parameter_of_shared, let_again, other_kind, is_handle, other_right_side, other_constant, other_use, no_result, cumulative_kind, fun_parameter, fun_result, input_inside, inputs_inside, return_without, return_with, other_count, no_cells, no_return, locations, procedures, declared_funs, local_parameter, local_let, too_many_items, too_heavy}
 use Rattle.static_rules.specs.Laws.{Same}
 use Rattle.rev_types.proofs.Returning.{not_ending}
 use Rattle.rev_types.proofs.DeclsWithin.{params_left as left_params}
