@@ -122,7 +122,7 @@ param_place b = b.name.at
 
 module _ (P : TypeFault → Type 0) where
   -- it holds of the limit where parameters break it, which count as locals too
-  abbrev ParamsHold : Limit → ℕ → List Parameter → Type 0
+  abbrev pub ParamsHold : Limit → ℕ → List Parameter → Type 0
   ParamsHold what left ps = ListHolds P what param_place left ps
 
   -- it holds of each limit that a declaration breaks, behind these
