@@ -1,8 +1,8 @@
 //! The affine rule on statements, declarations and programs.
 
-ghost use Rattle.std.specs.Prelude.{◌≡◌, ◌&&◌, ℕ, None, [], true, map, option_map, IfErr, IfOk};
+ghost use Rattle.std.specs.Prelude.{◌≡◌, ◌&&◌, ℕ, None, [], true, map, IfErr, IfOk};
 ghost use Rattle.std.specs.Prelude.{OnOk};
-ghost use Rattle.rev_syntax.specs.View.{arm as pair, arms, block, declaration, expression};
+ghost use Rattle.rev_syntax.specs.View.{arms, block, declaration};
 ghost use Rattle.rev_syntax.specs.View.{parameter, placed_name, program as whole, right_side};
 ghost use Rattle.rev_syntax.specs.View.{statement_form, stmt, stmts};
 ghost use Rattle.merge_decl.specs.Table.{find};

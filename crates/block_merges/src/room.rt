@@ -1,9 +1,8 @@
 //! What merges need once: the merge block of each location, a memory of zeros, and the three words.
 
-ghost use Rattle.std.specs.Prelude.{◌≡◌, ◌+◌, ◌∷◌, [], ◌++◌, ◌≤◌, ◌^◌, ◌<◌, IfOk, length};
+ghost use Rattle.std.specs.Prelude.{◌≡◌, ◌+◌, ◌∷◌, [], ◌++◌, ◌≤◌, ◌<◌, IfOk, length};
 ghost use Rattle.std.specs.Prelude.{ℕ, Some, vec_len, replicate, slice_get, take, drop};
 ghost use Rattle.code_machine.specs.Joining.{merge_in, merges_of};
-ghost use Rattle.block_run.specs.Area.{count};
 
 use block_run::Memory;
 use rev_code::{Code, CodeVar};

@@ -1,6 +1,6 @@
 //! One instruction.
 
-ghost use Rattle.std.specs.Prelude.{◌≡◌, ◌+◌, ◌<◌, ◌≤◌, ◌^◌, ℕ, IfSome, length};
+ghost use Rattle.std.specs.Prelude.{◌≡◌, ◌+◌, ◌<◌, ◌≤◌, ◌^◌, IfSome, length};
 ghost use Rattle.rev_num.specs.Words.{int_of};
 ghost use Rattle.rev_code.specs.Variables.{Place, array, cell_at, scalar};
 ghost use Rattle.plain_words.specs.Plain as p;

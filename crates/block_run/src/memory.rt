@@ -1,6 +1,6 @@
 //! What a revision reads and writes.
 
-ghost use Rattle.std.specs.Prelude.{◌≡◌, ◌<◌, ◌++◌, ℕ, IfOk, Option, option_to_list};
+ghost use Rattle.std.specs.Prelude.{◌≡◌, ◌<◌, ◌++◌, IfOk, Option, option_to_list};
 ghost use Rattle.version_map.specs.declared.snapshot.Collapsed.{Collapsed};
 ghost use Rattle.version_map.specs.declared.snapshot.How.TheVariants as how;
 ghost use Rattle.version_map.specs.Deltas.{at, locations, IsEmpty};

@@ -1,8 +1,7 @@
 //! Instructions that neither read nor write a location.
 
-ghost use Rattle.std.specs.Prelude.{◌≡◌, ◌+◌, ◌-◌, ◌<◌, ◌≤◌, ◌^◌, ◌∷◌, drop, length, not};
+ghost use Rattle.std.specs.Prelude.{◌≡◌, ◌+◌, ◌-◌, ◌<◌, ◌∷◌, drop, length, not};
 ghost use Rattle.std.specs.Prelude.{false, int_lt, int_le, slice_get, Some, true};
-ghost use Rattle.rev_num.specs.Words.{int_of, word_of};
 ghost use Rattle.rev_num.specs.Arith.{sum_of, difference_of, product_of, quotient_of};
 ghost use Rattle.rev_num.specs.Arith.{remainder_of, negation_of};
 ghost use Rattle.rev_code.specs.Step as step;

@@ -1,6 +1,6 @@
 //! What is counted of code.
 
-ghost use Rattle.std.specs.Prelude.{◌≡◌, ℕ, min};
+ghost use Rattle.std.specs.Prelude.{◌≡◌, min};
 ghost use Rattle.code_rules.specs.Tables as tables;
 ghost use Rattle.code_file.specs.Parts as part;
 

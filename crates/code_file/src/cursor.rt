@@ -1,6 +1,6 @@
 //! The bytes of a file that are left, and numbers from them.
 
-ghost use Rattle.std.specs.Prelude.{◌≡◌, ◌≤◌, ◌-◌, [], codes, length, OnOk};
+ghost use Rattle.std.specs.Prelude.{◌≡◌, ◌≤◌, ◌-◌, [], length, OnOk};
 ghost use Rattle.code_file.specs.Fields as field;
 ghost use Rattle.code_file.specs.Reads as reads;
 ghost use Rattle.code_file.specs.Fields.{Follows, FollowsBy};

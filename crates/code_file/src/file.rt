@@ -2,7 +2,7 @@
 
 ghost use Rattle.std.specs.Prelude.{◌≡◌, ◌≢◌, [], IfErr, IfOk, OnOk};
 ghost use Rattle.code_rules.specs.Tables as tables;
-ghost use Rattle.code_file.specs.Fields.{Follows, FollowsBy};
+ghost use Rattle.code_file.specs.Fields.{Follows};
 ghost use Rattle.code_file.specs.Parts as part;
 ghost use Rattle.code_file.specs.Reads as reads;
 ghost use Rattle.code_file.specs.Laws.{IsFile, IsFirstFault};

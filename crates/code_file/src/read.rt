@@ -1,8 +1,8 @@
 //! A code file, read field by field.
 
-ghost use Rattle.std.specs.Prelude.{◌≡◌, ◌*◌, ◌<◌, ◌≤◌, [], length};
-ghost use Rattle.code_rules.specs.Tables.{is_name, is_start, locations};
-ghost use Rattle.code_file.specs.Fields.{Follows, FollowsBy, more, tested};
+ghost use Rattle.std.specs.Prelude.{◌≡◌, ◌<◌};
+ghost use Rattle.code_rules.specs.Tables.{is_name, is_start};
+ghost use Rattle.code_file.specs.Fields.{Follows, tested};
 ghost use Rattle.code_file.specs.Fields as field;
 ghost use Rattle.code_file.specs.Parts as part;
 ghost use Rattle.code_file.specs.Reads as reads;

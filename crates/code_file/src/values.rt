@@ -1,7 +1,6 @@
 //! The values that fields can have.
 
-ghost use Rattle.std.specs.Prelude.{◌≡◌, sum, map, min};
-ghost use Rattle.std.specs.List.{list_all};
+ghost use Rattle.std.specs.Prelude.{◌≡◌};
 ghost use Rattle.code_file.specs.Parts as part;
 
 use crate::version::Version;

@@ -1,6 +1,6 @@
 //! The machine by paths, and that the world by numbers does the same.
 
-ghost use Rattle.std.specs.Prelude.{List, ℕ, ◌+◌, ◌*◌};
+ghost use Rattle.std.specs.Prelude.{List, ◌+◌, ◌*◌};
 ghost use Rattle.rev_num.specs.Path.{Path};
 ghost use Rattle.revision_machine.specs.Conditions.{Counts, Handles, HoldsNone, PaysForks, Spends};
 ghost use Rattle.revision_machine.specs.Laws.{BoundLaw, CompletionLaw, CountLaw, DiamondLaw};

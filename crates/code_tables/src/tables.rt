@@ -1,6 +1,6 @@
 //! The rules on the tables of code.
 
-ghost use Rattle.std.specs.Prelude.{◌≡◌, length, nat_le, slice_get};
+ghost use Rattle.std.specs.Prelude.{◌≡◌, nat_le, slice_get};
 ghost use Rattle.std.specs.List.{list_all};
 ghost use Rattle.rev_code.specs.Step as meaning;
 ghost use Rattle.code_rules.specs.Pass as pass;

@@ -11,9 +11,9 @@ use Rattle.code_rules.specs.Pass.{Note, Passed, after, leads_to, joined, jumped,
 use Rattle.code_verifier.specs.declared.mark.Mark.{Mark}
 use Rattle.code_verifier.specs.Kept.{Extends, shape_at}
 use Rattle.code_verifier.specs.Marking.{AllInRange, met, other_at, clashes_at, joined_mark, kept, leap, IsMark, Marks, Stands}
-use Rattle.code_verifier.proofs.Tries.{shape_extends, get_set}
+use Rattle.code_verifier.proofs.Tries.{shape_extends}
 use Rattle.code_certificate.proofs.Basics.{within_some}
-use Rattle.rev_num.proofs.Lists.{get_set_other}
+use Rattle.rev_num.proofs.Lists.{get_set, get_set_other}
 use Rattle.rev_num.proofs.Options.{some_same as some_eq}
 
 -- ---- more shapes

@@ -9,9 +9,9 @@ use Rattle.code_rules.specs.Shapes.{Shape}
 use Rattle.code_verifier.specs.declared.node.Node.{Node}
 use Rattle.code_verifier.specs.Kept.{shape_at, IsPushed}
 use Rattle.code_verifier.specs.Trie.{shape_on, shapes_of, above, above_at, IsNode, IsTrie, new_node, with_above}
-use Rattle.code_verifier.proofs.Tries.{get_last, get_set, grown_length, grown_snoc, grown_set}
+use Rattle.code_verifier.proofs.Tries.{get_last, grown_length, grown_snoc, grown_set}
 use Rattle.code_certificate.proofs.Basics.{some_within}
-use Rattle.rev_num.proofs.Lists.{get_append, get_set_other}
+use Rattle.rev_num.proofs.Lists.{get_append, get_set, get_set_other}
 use Rattle.rev_num.proofs.Options.{some_same as some_eq}
 
 abbrev at_of : Option Shape → Shape

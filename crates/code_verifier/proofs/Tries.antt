@@ -1,6 +1,7 @@
 -- What the numbers of shapes stand for stays so when a shape is added.
 use Rattle.std.proofs.Common.{◌≡◌, ◌∙◌, ℕ, zero, suc, ◌+◌, ◌<◌, ◌≤◌, Bool, true, false, List, [], ◌∷◌, ◌++◌, length, Some, None, refl, sym, ap, arith, true≢false, length-append, get_or}
 use Rattle.std.specs.Prelude.{slice_get, slice_set, nat_eq}
+use Rattle.std.proofs.lemmas.Option.{slice_get_read}
 use Rattle.std.proofs.lemmas.Bool.Decides.{nat_tests}
 use Rattle.rev_num.specs.declared.value.ValueKind.{ValueKind}
 use Rattle.code_certificate.proofs.Basics.{same_is, within_some, same_self}
@@ -12,18 +13,11 @@ use Rattle.code_verifier.specs.Trie.{shape_on, grown, shapes_of, above_at, IsTri
 -- ---- lists
 
 pub get_or_some : {A : Type 0} (xs : List A) (n : ℕ) (x : A) → n < length xs → x ≡ get_or xs n x → slice_get xs n ≡ Some x
-get_or_some [] n x h e = absurd (omega (arith, h))
-get_or_some (y ∷ xs) zero x h e = ap Some (sym e)
-get_or_some (y ∷ xs) (suc n) x h e = get_or_some xs n x (omega (arith, h)) e
+get_or_some xs n x h e = slice_get_read xs (length xs) n x refl h e
 
 pub get_last : {A : Type 0} (xs : List A) (x : A) → slice_get (xs ++ x ∷ []) (length xs) ≡ Some x
 get_last [] x = refl
 get_last (y ∷ xs) x = get_last xs x
-
-pub get_set : {A : Type 0} (xs : List A) (n : ℕ) (x : A) → n < length xs → slice_get (slice_set xs n x) n ≡ Some x
-get_set [] n x h = absurd (omega (arith, h))
-get_set (z ∷ xs) zero x h = refl
-get_set (z ∷ xs) (suc n) x h = get_set xs n x (omega (arith, h))
 
 -- ---- growth
 

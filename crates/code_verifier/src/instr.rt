@@ -87,18 +87,6 @@ pub(crate) fn is_pure(x: Instr) -> bool
     }
 }
 
-/// Whether a block of this class has a value, as funs and merges have.
-pub(crate) fn is_value_class(class: BlockClass) -> bool
-    ensures { result ≡ pass.is_value_class class }
-{
-    match class {
-        BlockClass::Fun => true,
-        BlockClass::Merge => true,
-        BlockClass::Proc => false,
-        BlockClass::Main => false,
-    }
-}
-
 pub(crate) fn is_fun(class: BlockClass) -> bool
     ensures { result ≡ meaning.is_fun class }
 {
@@ -106,17 +94,6 @@ pub(crate) fn is_fun(class: BlockClass) -> bool
         BlockClass::Fun => true,
         BlockClass::Merge => false,
         BlockClass::Proc => false,
-        BlockClass::Main => false,
-    }
-}
-
-pub(crate) fn is_procedure(class: BlockClass) -> bool
-    ensures { result ≡ meaning.is_procedure class }
-{
-    match class {
-        BlockClass::Proc => true,
-        BlockClass::Fun => false,
-        BlockClass::Merge => false,
         BlockClass::Main => false,
     }
 }

@@ -1,13 +1,14 @@
 //! What operands name, and the kinds that an instruction takes and gives.
 
-ghost use Rattle.std.specs.Prelude.{◌≡◌, ◌∷◌, ◌++◌, [], length, reverse, slice_get, OnOk, IfOk};
+ghost use Rattle.std.specs.Prelude.{◌≡◌, ◌∷◌, ◌++◌, [], reverse, slice_get, OnOk, IfOk};
 ghost use Rattle.rev_code.specs.Printing.{printed_kinds};
 ghost use Rattle.rev_code.specs.Step as meaning;
 ghost use Rattle.code_rules.specs.Shapes as shape;
 ghost use Rattle.code_rules.specs.Pass as pass;
 ghost use Rattle.code_verifier.specs.Kept.{first};
 
-use crate::instr::{is_fun, is_procedure, is_pure, is_value_class};
+use crate::instr::{is_fun, is_pure};
+use code_tables::{is_procedure, is_value_class};
 use rev_code::{Code, CodeBlock, CodeVar, Instr, LayoutItem};
 use rev_num::{Items, ValueKind};
 use std::alloc::{AllocError, Global};

@@ -7,13 +7,14 @@ ghost use Rattle.code_verifier.specs.Passing.{Arrived, IsReady, IsFirst, IsStep,
 ghost use Rattle.code_verifier.specs.Passing.{shape_faulty, spent_cost, verdict_of};
 ghost use Rattle.code_verifier.specs.Spending.{AllCheap, IsCheap};
 
-use crate::instr::{falls, is_bare, is_charge, is_paid_for, is_value_class, paid_after, target};
+use crate::instr::{falls, is_bare, is_charge, is_paid_for, paid_after, target};
 use crate::mark::{Mark, clashes, leap_on, meet};
 use crate::operands::bad_operand;
 use crate::shapes::Shapes;
 use crate::spent::{Spent, applied, is_over_limit, with_one};
 use crate::stack::{Effect, effect_of};
 use code_rules::{Cost, Rule};
+use code_tables::is_value_class;
 use rev_code::{Code, CodeBlock, Instr};
 use std::alloc::{AllocError, Global};
 

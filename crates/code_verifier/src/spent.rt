@@ -1,11 +1,11 @@
 //! What the instructions of a block cost so far.
 
-ghost use Rattle.std.specs.Prelude.{◌≡◌, ◌+◌, ◌*◌, ◌<◌, ◌≤◌, ◌^◌, length};
+ghost use Rattle.std.specs.Prelude.{◌≡◌, ◌+◌, ◌*◌, ◌<◌, ◌^◌, length};
 ghost use Rattle.code_rules.specs.Pass as pass;
 ghost use Rattle.code_verifier.specs.Spending.{spend, is_over};
 
-use crate::instr::is_value_class;
 use code_rules::Cost;
+use code_tables::is_value_class;
 use rev_code::{CodeBlock, Instr};
 
 /// The greatest number of words on the stack, the greatest need of a fun that was applied, and the

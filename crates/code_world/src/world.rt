@@ -1,14 +1,12 @@
 //! Worlds, and legs of them.
 
-ghost use Rattle.std.specs.Prelude.{◌≡◌, ◌≤◌, ℕ, IfOk};
+ghost use Rattle.std.specs.Prelude.{◌≡◌, ℕ, IfOk};
 ghost use Rattle.block_merges.specs.Merging.{AreMergesOf};
 ghost use Rattle.block_run.specs.Area.{count};
 ghost use Rattle.code_machine.specs.Local.{Local};
-ghost use Rattle.code_machine.specs.Machines.{IsMain, numbered, start_in};
 ghost use Rattle.leg_run.specs.Setting.{IsSetting};
 ghost use Rattle.reached_worlds.specs.Reached.{IsReached};
 ghost use Rattle.revision_machine.specs.Numbered.{Entries, Listing, World as DefinedWorld};
-ghost use Rattle.revision_machine.specs.Numbered as numbers;
 ghost use Rattle.rev_vm.specs.Starts.{run_under};
 ghost use Rattle.code_world.specs.Answers.{LegAnswers, world_after};
 ghost use Rattle.code_world.specs.Meetings.{HasNoted};

@@ -5,7 +5,7 @@ ghost use Rattle.rev_syntax.specs.View.{expression, expressions};
 ghost use Rattle.code_generation.specs.Expressions.{expression_code, expressions_code};
 ghost use Rattle.code_generation.specs.Expressions.{expression_size, expressions_size};
 ghost use Rattle.emit_expressions.specs.Naming.{numbers_of};
-ghost use Rattle.emit_expressions.specs.Work.{behind, done, left, steps_size, with_steps};
+ghost use Rattle.emit_expressions.specs.Work.{done, with_steps};
 
 use crate::known::Known;
 use crate::task::{Steps, Task};

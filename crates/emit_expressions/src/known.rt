@@ -5,7 +5,7 @@ ghost use Rattle.rev_syntax.specs.View.{placed_name};
 ghost use Rattle.merge_decl.specs.Table.{find};
 ghost use Rattle.code_generation.specs.Expressions.{load};
 ghost use Rattle.code_generation.specs.Statements.{store};
-ghost use Rattle.emit_expressions.specs.Naming.{gives_in, number_in, numbers_of};
+ghost use Rattle.emit_expressions.specs.Naming.{number_in, numbers_of};
 
 use merge_decl::NameTable;
 use rev_code::Instr;

@@ -1,11 +1,10 @@
 //! The blocks of procedures and of `main`, and the tables of what they print.
 
-ghost use Rattle.std.specs.Prelude.{◌≡◌, ◌<◌, ◌+◌, ◌^◌, ◌++◌, ◌∷◌, [], IfOk, OnOk, None, length};
+ghost use Rattle.std.specs.Prelude.{◌≡◌, ◌<◌, ◌+◌, ◌^◌, ◌++◌, [], IfOk, OnOk, None, length};
 ghost use Rattle.std.specs.Prelude.{map};
 ghost use Rattle.rev_syntax.specs.View.{block, declaration, parameter, program as whole};
 ghost use Rattle.rev_syntax.specs.View.{statement_form};
 ghost use Rattle.rev_kinds.specs.Walk.{names_of};
-ghost use Rattle.rev_types.specs.Limits.{statements_lets};
 ghost use Rattle.rev_types.specs.Scopes as scopes;
 ghost use Rattle.code_generation.specs.Sizes.{statements_prints};
 ghost use Rattle.code_generation.specs.Prints.{statements_layouts, statements_texts};

@@ -6,7 +6,6 @@ ghost use Rattle.rev_syntax.specs.View.{right_side, statement_form, stmt};
 ghost use Rattle.rev_kinds.specs.Walk.{names_of};
 ghost use Rattle.rev_types.specs.Scopes.{bound, locals_after, statement_form_locals};
 ghost use Rattle.code_generation.specs.Prints.{arms_kinds, arms_layouts, arms_texts};
-ghost use Rattle.code_generation.specs.Prints.{items_texts};
 ghost use Rattle.code_generation.specs.Prints.{statement_form_kinds, statement_form_layouts};
 ghost use Rattle.code_generation.specs.Prints.{statement_form_texts, statement_kinds};
 ghost use Rattle.code_generation.specs.Prints.{statement_layouts, statement_texts};

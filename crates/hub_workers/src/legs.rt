@@ -1,5 +1,5 @@
 //! How a revision runs between two events.
-ghost use Rattle.std.specs.Prelude.{◌≡◌, ℕ, List, Bool, true, false, IfOk};
+ghost use Rattle.std.specs.Prelude.{◌≡◌, ℕ, List, true, false, IfOk};
 ghost use Rattle.hub_workers.specs.Legs.{IsReached, HaveMet, Comes, IsSettled, IsEndBy};
 ghost use Rattle.hub_workers.specs.Legs.{IsEventOf, IsSettledOf, IsSameHand};
 

@@ -1,7 +1,7 @@
 //! A run by threads, from its first revision to its end.
 ghost use Rattle.std.specs.Prelude.{◌≡◌, ◌<◌, ◌≤◌, ◌^◌, [], length, All, IfOk, IfErr, vec_capacity};
 ghost use Rattle.turn_hub.specs.Closing.{AreKeptOf};
-ghost use Rattle.turn_hub.specs.Names.{AreSeatsOf, IsSeatOf, began, places, view_of};
+ghost use Rattle.turn_hub.specs.Names.{IsSeatOf, began, view_of};
 ghost use Rattle.hub_workers.specs.Threads.{IsWorkerOf, HasWorked};
 ghost use Rattle.hub_workers.specs.Running.{IsNewSeat, IsHandFor, IsRunFrom};
 

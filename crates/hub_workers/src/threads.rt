@@ -1,6 +1,5 @@
 //! Threads that work at one hub.
 ghost use Rattle.std.specs.Prelude.{◌≡◌, ◌<◌, length, All};
-ghost use Rattle.turn_hub.specs.Names.{IsSeatOf, view_of};
 ghost use Rattle.hub_workers.specs.Threads.{IsWorkerOf, HasWorked};
 
 use crate::bell::Bell;

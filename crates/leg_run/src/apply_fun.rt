@@ -1,6 +1,6 @@
 //! Applications of funs.
 
-ghost use Rattle.std.specs.Prelude.{◌≡◌, ◌<◌, ◌≤◌, ◌+◌, ◌-◌, ◌^◌, ℕ, IfOk, Some, length};
+ghost use Rattle.std.specs.Prelude.{◌≡◌, ◌<◌, ◌+◌, ◌-◌, ◌^◌, ℕ, IfOk, Some, length};
 ghost use Rattle.std.specs.Prelude.{slice_get, slice_set};
 ghost use Rattle.rev_code.specs.declared.code.Instr.TheVariants as i;
 ghost use Rattle.rev_code.specs.State.{State};

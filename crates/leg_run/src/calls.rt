@@ -1,12 +1,12 @@
 //! Calls and returns.
 
-ghost use Rattle.std.specs.Prelude.{◌≡◌, ◌<◌, ◌≤◌, ◌+◌, ◌-◌, ◌^◌, ◌++◌, ℕ, IfOk, Option, List};
+ghost use Rattle.std.specs.Prelude.{◌≡◌, ◌<◌, ◌≤◌, ◌+◌, ◌-◌, ◌^◌, ◌++◌, ℕ, IfOk, Option};
 ghost use Rattle.std.specs.Prelude.{Some, drop, length, replicate, slice_get, take};
 ghost use Rattle.rev_code.specs.declared.code.Instr.TheVariants as i;
 ghost use Rattle.rev_code.specs.State.{State};
 ghost use Rattle.rev_code.specs.Step.{params};
 ghost use Rattle.block_run.specs.Area.{low};
-ghost use Rattle.leg_run.specs.Changes.{Entered, Left, SameRest, returned, results};
+ghost use Rattle.leg_run.specs.Changes.{Entered, SameRest, returned, results};
 ghost use Rattle.leg_run.specs.Ends.{TurnsTo};
 ghost use Rattle.leg_run.specs.Setting.{IsSetting};
 ghost use Rattle.leg_run.specs.Standing.{Stands};

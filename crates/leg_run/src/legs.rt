@@ -1,6 +1,6 @@
 //! Legs.
 
-ghost use Rattle.std.specs.Prelude.{◌≡◌, ◌<◌, true, ℕ, IfOk, Option, Some, length, slice_get};
+ghost use Rattle.std.specs.Prelude.{◌≡◌, ◌<◌, true, ℕ, IfOk, Some, length, slice_get};
 ghost use Rattle.rev_code.specs.declared.code.Instr.{Instr};
 ghost use Rattle.rev_code.specs.State.{State};
 ghost use Rattle.version_map.specs.Deltas.{at};

@@ -5,7 +5,7 @@ use Rattle.std.proofs.lemmas.List.{length-set}
 use Rattle.std.proofs.lemmas.Option.{slice_get_read, slice_get_within}
 use Rattle.std.specs.List.{slice_get}
 use Rattle.rev_num.specs.Path.{Path, child, before}
-use Rattle.rev_num.proofs.Lists.{get_set_other, within_some}
+use Rattle.rev_num.proofs.Lists.{get_set, get_set_other, within_some}
 use Rattle.rev_num.proofs.PostOrder.{child_before}
 use Rattle.rev_num.proofs.PostOrder.{before_trans, before_irrefl}
 use Rattle.rev_num.proofs.PostOrder.{before_total}
@@ -37,11 +37,6 @@ use Rattle.rev_audit.proofs.Finding.{ordered, earlier_number, same_number, part_
 use Rattle.rev_audit.proofs.OwnRuns.{comes_to, all_children, child_begins}
 
 -- ---- lists
-
-pub get_set_same : {A : Type 0} (xs : List A) (i : ℕ) (x y : A) → slice_get xs i ≡ Some x → slice_get (set xs i y) i ≡ Some y
-get_set_same [] i x y e = none_some e
-get_set_same (z ∷ xs) zero x y e = refl
-get_set_same (z ∷ xs) (suc i) x y e = get_set_same xs i x y e
 
 -- what was read there is what stands there
 pub stands_there : {A : Type 0} (xs : List A) (i : ℕ) (x y z : A) → i < length xs → x ≡ get_or xs i x → y ≡ x → y ≡ z → slice_get xs i ≡ Some z
@@ -160,7 +155,7 @@ module _ (s : Setting) (fuel : ℕ) (parts : List Part) where
           go : (o : Option (Option LocalState)) → slice_get a i ≡ o → (x.path ≡ p.path) × BeginsAt s fuel parts x.path x.local
           go (Some y) f =
               let g : slice_get (set a i None) i ≡ Some (Some x) = subst (λ j. slice_get (set a i None) j ≡ Some (Some x)) is e in
-              none_some (some_inj (sym (get_set_same a i y None f) ∙ g))
+              none_some (some_inj (sym (get_set a i None (slice_get_within a i y f)) ∙ g))
           go None f =
               let g : slice_get (set a i None) i ≡ Some (Some x) = subst (λ j. slice_get (set a i None) j ≡ Some (Some x)) is e in
               none_some (sym (out a i f) ∙ g)
@@ -201,7 +196,7 @@ module _ (s : Setting) (fuel : ℕ) (parts : List Part) where
             beyond (y ∷ ys) (suc j) less f = beyond ys j (omega arith) f
 
         stands : slice_get (set a k (Some x)) k ≡ Some (Some x)
-        stands = let y = full (slice_get a k) refl in get_set_same a k y.0 (Some x) y.1
+        stands = let y = full (slice_get a k) refl in get_set a k (Some x) (slice_get_within a k y.0 y.1)
 
         begun : (j : ℕ) (q : Part) (y : LocalState) → slice_get parts j ≡ Some q → slice_get (set a k (Some x)) j ≡ Some (Some y) → (j ≡ k) ⊎ ((j < k) ⊎ (k < j)) → (y.path ≡ q.path) × BeginsAt s fuel parts y.path y.local
         begun j q y f e (inr (inl less)) = h.begun j q y f (sym (get_set_other a j k (Some x) (λ g. absurd (omega arith))) ∙ e)

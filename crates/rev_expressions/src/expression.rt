@@ -1,5 +1,5 @@
 // Expressions.
-ghost use Rattle.std.specs.Prelude.{◌≡◌, ◌++◌, [], ◌∷◌, IfOk, OnOk, map, length};
+ghost use Rattle.std.specs.Prelude.{◌≡◌, ◌++◌, [], ◌∷◌, IfOk, OnOk, map};
 ghost use Rattle.rev_expressions.specs.Grammar as spec;
 ghost use Rattle.rev_expressions.specs.Parse.{parse, inside, IsSign, links, of_name};
 ghost use Rattle.rev_expressions.specs.Parse.{of_parts, cell_of, apply_of, expr_begins};

@@ -12,7 +12,7 @@ all_more f xs n d h e = ap (list_all f) (drop_more xs n d h) ∙ ap (λ y. y && 
 pub all_none : {A : Type 0} (f : A → Bool) (xs : List A) (n : ℕ) (d : A) → n < length xs → f (get_or xs n d) ≡ false → list_all f (drop n xs) ≡ false
 all_none f xs n d h e = ap (list_all f) (drop_more xs n d h) ∙ ap (λ y. y && list_all f (drop (n + 1) xs)) e
 
--- what is appended, or set at another place, changes nothing at a place
+-- what is appended changes nothing at a place
 pub get_append : {A : Type 0} (xs ys : List A) (n : ℕ) → n < length xs → slice_get (xs ++ ys) n ≡ slice_get xs n
 get_append [] ys n h = absurd (omega (arith, h))
 get_append (x ∷ xs) ys zero h = refl
@@ -28,6 +28,12 @@ pub within_some : {A : Type 0} (xs : List A) (n : ℕ) → n < length xs → (x 
 within_some [] n h = absurd (omega (arith, h))
 within_some (y ∷ xs) zero h = (y, refl)
 within_some (y ∷ xs) (suc n) h = within_some xs n (omega (arith, h))
+
+-- what is set stands there, and changes nothing elsewhere
+pub get_set : {A : Type 0} (xs : List A) (n : ℕ) (x : A) → n < length xs → slice_get (slice_set xs n x) n ≡ Some x
+get_set [] n x h = absurd (omega (arith, h))
+get_set (z ∷ xs) zero x h = refl
+get_set (z ∷ xs) (suc n) x h = get_set xs n x (omega (arith, h))
 
 pub get_set_other : {A : Type 0} (xs : List A) (m n : ℕ) (x : A) → m ≢ n → slice_get (slice_set xs n x) m ≡ slice_get xs m
 get_set_other [] m n x d = refl

@@ -5,7 +5,6 @@ ghost use Rattle.rev_expressions.specs.Statements as st;
 ghost use Rattle.rev_expressions.specs.Lists.{more_of, more_listed};
 ghost use Rattle.rev_expressions.specs.Parse.{parse};
 ghost use Rattle.rev_expressions.specs.Parses.{Parses, ParsesBy};
-ghost use Rattle.rev_expressions.specs.Reads.{Reads};
 ghost use Rattle.rev_parse.specs.Parts.{statement_form_of_name, flat_form_behind, form_behind};
 ghost use Rattle.rev_parse.specs.Parts.{item_begins, more_parts, statement_begins};
 ghost use Rattle.rev_parse.specs.Parts.{with_last};

@@ -3,7 +3,6 @@
 ghost use Rattle.std.specs.Prelude.{◌≡◌, ◌<◌, ◌^◌, [], ◌++◌, None};
 ghost use Rattle.std.specs.Prelude.{length, map, IfErr, IfOk, OnOk, option_map};
 ghost use Rattle.rev_syntax.specs.View.{declaration, program as whole, placed_name};
-ghost use Rattle.rev_kinds.specs.declared.fault.TypeFault.TheVariants.{OutOfMemory};
 ghost use Rattle.rev_kinds.specs.Walk.{names_of};
 ghost use Rattle.rev_types.specs.Accepted.{IsWellTyped, IsNotTyped};
 ghost use Rattle.rev_types.specs.Passing.{passed_of};

@@ -1,12 +1,11 @@
 //! The rules on declarations.
 
-ghost use Rattle.std.specs.Prelude.{◌≡◌, ◌-◌, true, ℕ, Some, None, [], map, option_map, IfOk, OnOk};
+ghost use Rattle.std.specs.Prelude.{◌≡◌, ◌-◌, true, Some, None, map, option_map, IfOk, OnOk};
 ghost use Rattle.std.specs.declared.option.Option.{Option};
-ghost use Rattle.rev_num.specs.declared.value.ValueKind.TheVariants as k;
 ghost use Rattle.rev_syntax.specs.View.{statement_form, arms, parameter, block};
 ghost use Rattle.rev_syntax.specs.View.{constant, declaration, array_size, stmt};
 ghost use Rattle.rev_syntax.specs.View.{stmts, expression, placed_name};
-ghost use Rattle.merge_decl.specs.Table.{added, find};
+ghost use Rattle.merge_decl.specs.Table.{find};
 ghost use Rattle.rev_report.specs.declared.limit.Limit.TheVariants as limits;
 ghost use Rattle.rev_report.specs.Limits.{first_past};
 ghost use Rattle.rev_kinds.specs.Walk.{both, names_of};

@@ -1,11 +1,10 @@
 //! The rules on statements.
 
-ghost use Rattle.std.specs.Prelude.{◌≡◌, ◌-◌, false, [], length, map, option_map, IfOk, OnOk};
+ghost use Rattle.std.specs.Prelude.{◌≡◌, ◌-◌, [], map, option_map, IfOk, OnOk};
 ghost use Rattle.rev_syntax.specs.View.{statement_form, arm as pair, arms, block, right_side};
 ghost use Rattle.rev_syntax.specs.View.{print_item, stmt, expression, placed_name};
 ghost use Rattle.rev_report.specs.declared.limit.Limit.TheVariants as limits;
 ghost use Rattle.rev_report.specs.Limits.{first_past};
-ghost use Rattle.rev_kinds.specs.Kinds as kind;
 ghost use Rattle.rev_kinds.specs.Walk.{both, names_of};
 ghost use Rattle.rev_types.specs.Statements as statements;
 ghost use Rattle.rev_types.specs.Scopes as scopes;

@@ -1,6 +1,6 @@
 //! First frames of revisions.
 
-ghost use Rattle.std.specs.Prelude.{◌≡◌, ◌≤◌, ◌<◌, ◌++◌, ◌^◌, IfOk, length, drop, take};
+ghost use Rattle.std.specs.Prelude.{◌≡◌, ◌≤◌, ◌<◌, ◌++◌, IfOk, length, drop};
 ghost use Rattle.rev_code.specs.Step.{params};
 ghost use Rattle.rev_vm.specs.Starts.{IsFirst};
 

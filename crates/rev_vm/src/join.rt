@@ -1,6 +1,6 @@
 //! Revisions at a join.
 
-ghost use Rattle.std.specs.Prelude.{◌≡◌, ◌<◌, ◌+◌, ◌^◌, Bool, true, false};
+ghost use Rattle.std.specs.Prelude.{◌≡◌, ◌<◌, ◌+◌, ◌^◌, true, false};
 ghost use Rattle.rev_code.specs.State.{State};
 ghost use Rattle.rev_code.specs.Events.{past_join};
 ghost use Rattle.code_machine.specs.Local.{CodeRun, Trap, end_of};

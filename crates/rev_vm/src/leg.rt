@@ -1,6 +1,6 @@
 //! Legs, from event to event.
 
-ghost use Rattle.std.specs.Prelude.{◌≡◌, ◌^◌, ℕ, false, List, Option, IfErr, IfOk, None};
+ghost use Rattle.std.specs.Prelude.{◌≡◌, ℕ, false, List, Option, IfErr, IfOk, None};
 ghost use Rattle.rev_num.specs.declared.outcome.Cause.{Cause};
 ghost use Rattle.rev_code.specs.State.{State};
 ghost use Rattle.rev_code.specs.Step.{ends, forks, joins, traps};

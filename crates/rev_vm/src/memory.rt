@@ -1,16 +1,10 @@
 //! What a joiner reads and writes at its join.
 
-ghost use Rattle.std.specs.Prelude.{◌≡◌, ◌<◌, ◌++◌, ℕ, List, All, IfOk, IfErr, length, map};
-ghost use Rattle.rev_code.specs.Words.{Word};
-ghost use Rattle.rev_code.specs.State.{Location};
+ghost use Rattle.std.specs.Prelude.{◌≡◌, ◌<◌, All, IfOk, length, map};
 ghost use Rattle.version_map.specs.declared.snapshot.Collapsed.{Collapsed};
-ghost use Rattle.version_map.specs.Composing.{Entry};
 ghost use Rattle.version_map.specs.Deltas.{at};
 ghost use Rattle.version_map.specs.Overlay.{under};
 ghost use Rattle.block_run.specs.Remembering.{Kept};
-ghost use Rattle.block_run.specs.Standing.{AreSeen};
-ghost use Rattle.plain_words.specs.Agreement.{AreWords};
-ghost use Rattle.code_machine.specs.Joining.{written_all};
 ghost use Rattle.rev_vm.specs.Writes.{HasWritten};
 
 use block_run::Memory;

@@ -1,7 +1,7 @@
 //! What a joiner takes over of a revision that is done.
 
 ghost use Rattle.std.specs.Prelude.{◌≡◌, ◌<◌, ◌+◌, ◌++◌, ◌^◌, ℕ};
-ghost use Rattle.std.specs.Prelude.{Bool, true, None, All, IfOk, IfErr, length, map};
+ghost use Rattle.std.specs.Prelude.{true, None, All, IfOk, IfErr, length, map};
 ghost use Rattle.rev_num.specs.declared.outcome.Cause.TheVariants as cause;
 ghost use Rattle.rev_code.specs.State.{State};
 ghost use Rattle.version_map.specs.declared.end.Finish.TheVariants as finish;
@@ -12,7 +12,7 @@ ghost use Rattle.version_map.specs.Deltas.{at, locations};
 ghost use Rattle.version_map.specs.Overlay.{under, Agree};
 ghost use Rattle.block_run.specs.Area.{count};
 ghost use Rattle.block_run.specs.Remembering.{Kept};
-ghost use Rattle.code_machine.specs.Local.{CodeRun, End, end_of, at_work, Local};
+ghost use Rattle.code_machine.specs.Local.{CodeRun, End, end_of, at_work};
 ghost use Rattle.code_machine.specs.Joining.{join_in};
 ghost use Rattle.block_merges.specs.Merging.{AreMergesOf};
 ghost use Rattle.rev_vm.specs.declared.settling.Settled.TheVariants as settled;

@@ -1,6 +1,6 @@
 //! What a first revision begins with.
 
-ghost use Rattle.std.specs.Prelude.{◌≡◌, ◌≤◌, ◌<◌, ◌^◌, IfOk, Some, length, slice_get};
+ghost use Rattle.std.specs.Prelude.{◌≡◌, ◌<◌, IfOk, Some, length, slice_get};
 ghost use Rattle.rev_code.specs.declared.code.CodeBlock.{CodeBlock};
 ghost use Rattle.rev_code.specs.Step.{params};
 ghost use Rattle.code_soundness.specs.Whole.{notes_of, IsAccepted};

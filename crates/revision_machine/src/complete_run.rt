@@ -1,19 +1,7 @@
 //! A run to its end.
 
-ghost use Rattle.std.specs.Prelude.{
-  ◌≡◌,
-  ◌<◌,
-  ◌≤◌,
-  ◌+◌,
-  ℕ,
-  length,
-  vec_len,
-  IfOk,
-  OnOk,
-  All,
-};
-ghost use Rattle.revision_machine.specs.Machine.{Live, start as start_of, Final};
-ghost use Rattle.revision_machine.specs.Conditions.{HoldsNone};
+ghost use Rattle.std.specs.Prelude.{◌≡◌, ◌<◌, ◌≤◌, ◌+◌, length, vec_len, IfOk, OnOk, All};
+ghost use Rattle.revision_machine.specs.Machine.{Live};
 ghost use Rattle.revision_machine.specs.Laws.{IsDistinct};
 ghost use Rattle.revision_machine.specs.Rules.{machine_of, start_by, IsFirst, IsWithin};
 ghost use Rattle.revision_machine.specs.PathIndex.{IsIndexed};

@@ -1,22 +1,9 @@
 //! A step as a change of the list of revisions.
 
-ghost use Rattle.std.specs.Prelude.{
-  ◌≡◌,
-  ◌≢◌,
-  ◌<◌,
-  ◌≤◌,
-  ◌+◌,
-  ℕ,
-  length,
-  set,
-  get_or,
-  IfOk,
-  OnOk,
-  false,
-};
+ghost use Rattle.std.specs.Prelude.{◌≡◌, ◌≢◌, ◌<◌, ◌≤◌, length, get_or, IfOk, OnOk, false};
 ghost use Rattle.revision_machine.specs.Machine.{Live, Joins, Ended};
 ghost use Rattle.revision_machine.specs.Laws.{IsDistinct};
-ghost use Rattle.revision_machine.specs.Rules.{machine_of, AreRoomy, IsWithin};
+ghost use Rattle.revision_machine.specs.Rules.{AreRoomy, IsWithin};
 ghost use Rattle.revision_machine.specs.PathIndex.{IsIndexed};
 ghost use Rattle.revision_machine.specs.RevisionList.{paths, globe};
 ghost use Rattle.revision_machine.specs.ListStep.{

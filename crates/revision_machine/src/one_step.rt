@@ -1,7 +1,7 @@
 //! One step of a revision.
 
-ghost use Rattle.std.specs.Prelude.{◌≡◌, ◌+◌, IfOk};
-ghost use Rattle.revision_machine.specs.Rules.{machine_of, IsWithin};
+ghost use Rattle.std.specs.Prelude.{◌≡◌, IfOk};
+ghost use Rattle.revision_machine.specs.Rules.{IsWithin};
 ghost use Rattle.revision_machine.specs.Laws.{IsDistinct};
 ghost use Rattle.revision_machine.specs.PathIndex.{IsIndexed};
 ghost use Rattle.revision_machine.specs.RevisionList.{paths};

@@ -1,8 +1,7 @@
 //! Two steps in both orders.
 
-ghost use Rattle.std.specs.Prelude.{◌≡◌, ◌+◌, ◌≢◌, IfOk, MatchOption, None, Some};
-ghost use Rattle.revision_machine.specs.Machine.{step as step_of};
-ghost use Rattle.revision_machine.specs.Rules.{machine_of, IsWithin};
+ghost use Rattle.std.specs.Prelude.{◌≡◌, IfOk, None, Some};
+ghost use Rattle.revision_machine.specs.Rules.{IsWithin};
 ghost use Rattle.revision_machine.specs.States.{global_of};
 ghost use Rattle.revision_machine.specs.TwoOrders.{IsDiamond, StepsTo, StaysWithin, IsBoth};
 

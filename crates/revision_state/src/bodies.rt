@@ -1,6 +1,5 @@
 //! The tables of the names of locals, one for each body of a program.
 
-ghost use Rattle.merge_decl.specs.Table.{find};
 ghost use Rattle.revision_state.specs.LocalPlaces.{AreApart, AreBelow};
 
 use crate::body_names::BodyNames;

@@ -1,6 +1,6 @@
 //! Frames: the main block or a call that goes on, with its locals and what it still has to do.
 
-ghost use Rattle.std.specs.Prelude.{◌≡◌, IfOk, OnOk, MatchOption, None, Some, [], ◌∷◌};
+ghost use Rattle.std.specs.Prelude.{◌≡◌, IfOk, OnOk, None, Some};
 ghost use Rattle.std.specs.Prelude.{option_copied, option_map};
 ghost use Rattle.rev_syntax.specs.View.{stmt, stmts};
 ghost use Rattle.merge_decl.specs.Table.{find};

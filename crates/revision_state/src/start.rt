@@ -1,6 +1,6 @@
 //! The locations at the start of a run.
 
-ghost use Rattle.std.specs.Prelude.{◌≡◌, ◌++◌, IfOk, OnOk, map, option_copied, option_map};
+ghost use Rattle.std.specs.Prelude.{◌≡◌, ◌++◌, IfOk, OnOk, option_copied, option_map};
 ghost use Rattle.std.specs.Prelude.{replicate};
 ghost use Rattle.rev_syntax.specs.View.{constant, declaration, program as whole};
 ghost use Rattle.rev_types.specs.Layout.{variables};

@@ -1,7 +1,7 @@
 //! What each form of a statement does.
 
-ghost use Rattle.std.specs.Prelude.{◌≡◌, ◌+◌, ◌<◌, ◌^◌, IfOk, OnOk, Some, option_copied};
-ghost use Rattle.rev_syntax.specs.View.{arms, block, expression, expressions, print_item, stmt};
+ghost use Rattle.std.specs.Prelude.{◌≡◌, ◌<◌, IfOk, OnOk, Some, option_copied};
+ghost use Rattle.rev_syntax.specs.View.{block, expression, expressions, stmt};
 ghost use Rattle.rev_syntax.specs.View.{stmts};
 ghost use Rattle.revision_calculus.specs.Step as step;
 ghost use Rattle.revision_steps.specs.Forms as form;

@@ -1,13 +1,11 @@
 //! The local state of a revision.
 
-ghost use Rattle.std.specs.Prelude.{◌≡◌, ◌↔◌, ◌++◌, ◌∷◌, [], IfOk, OnOk, IsTrue, None, Some, map};
+ghost use Rattle.std.specs.Prelude.{◌≡◌, ◌↔◌, IfOk, OnOk, IsTrue, None, Some, map};
 ghost use Rattle.std.specs.Prelude.{option_copied};
-ghost use Rattle.rev_syntax.specs.View.{stmts};
 ghost use Rattle.revision_calculus.specs.Calculus as calculus;
 ghost use Rattle.revision_calculus.specs.State as state;
 ghost use Rattle.revision_calculus.specs.Step as step;
 ghost use Rattle.revision_calculus.specs.Evaluation as evaluation;
-ghost use Rattle.revision_calculus.specs.Join as join;
 ghost use Rattle.revision_state.specs.Phases as phases;
 ghost use Rattle.revision_state.specs.Phases.{IsEnded, awaited, trap_in};
 ghost use Rattle.revision_steps.specs.Ends.{ended_with, phase_of};

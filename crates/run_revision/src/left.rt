@@ -18,7 +18,6 @@ pub struct CodeEnd<'a> {
 
 impl<'a> Model for CodeEnd<'a> {
     ghost use Rattle.code_hub.specs.Values.{LeftValue};
-    ghost use Rattle.leg_run.specs.Setting.{IsSetting};
     ghost use Rattle.rev_vm.specs.Meaning.{IsEnd};
     ghost use Rattle.rev_vm.specs.Starts.{run_under};
     ghost use Rattle.rev_vm.specs.States.{end_for};

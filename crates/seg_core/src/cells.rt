@@ -1,5 +1,5 @@
 //! The cells of a state: its segments and what its holders refer to.
-ghost use Rattle.std.specs.Prelude.{◌≡◌, ◌≢◌, ℕ, ◌+◌, ◌<◌, ◌^◌, suc, vec_len, Option, List, Some};
+ghost use Rattle.std.specs.Prelude.{◌≡◌, ◌≢◌, ℕ, ◌<◌, ◌^◌, suc, vec_len, Option, List, Some};
 ghost use Rattle.std.specs.Prelude.{None, MatchBool};
 ghost use mathlib.Core.Option.{some};
 ghost use lib.ListN.{get_elem?};
@@ -8,9 +8,9 @@ ghost use Rattle.seg_core.specs.declared.segment.Stage.TheVariants as stages;
 ghost use Rattle.seg_core.specs.declared.segment.References.{References};
 ghost use Rattle.seg_core.specs.declared.segment.Stage.{Stage};
 ghost use Rattle.seg_core.specs.declared.segment.Segment.{Segment};
-ghost use Rattle.seg_core.specs.Core.{Seg, free, building, live, At, Has};
-ghost use Rattle.seg_core.specs.Steps.{BuildsNone, seg_to, list_to, with_word, no_delta, joined};
-ghost use Rattle.seg_core.specs.Shape.{shape, name_of, list_of};
+ghost use Rattle.seg_core.specs.Core.{Seg, free, building, At, Has};
+ghost use Rattle.seg_core.specs.Steps.{BuildsNone, seg_to, list_to, with_word, no_delta};
+ghost use Rattle.seg_core.specs.Shape.{shape, list_of};
 
 use crate::segment::{References, Segment, Stage};
 

@@ -1,5 +1,5 @@
 //! Each step on the cells.
-ghost use Rattle.std.specs.Prelude.{◌≡◌, ℕ, ◌+◌, ◌<◌, suc, Option, List, [], ◌∷◌, Some, None};
+ghost use Rattle.std.specs.Prelude.{◌≡◌, ℕ, ◌+◌, ◌<◌, suc, Option, [], Some, None};
 ghost use Rattle.std.specs.Prelude.{MatchBool};
 ghost use Rattle.seg_core.specs.Core.{free, live, At, Has, Counted};
 ghost use Rattle.seg_core.specs.Steps as core;

@@ -1,5 +1,5 @@
 //! One segment, and what one holder refers to.
-ghost use Rattle.std.specs.Prelude.{◌≡◌, ℕ, ◌<◌, MatchBool};
+ghost use Rattle.std.specs.Prelude.{◌≡◌, ◌<◌, MatchBool};
 
 use version_map::Delta;
 

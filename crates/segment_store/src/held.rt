@@ -1,7 +1,5 @@
 //! A hold with its store.
-ghost use Rattle.std.specs.Prelude.{◌≡◌, ℕ, ◌<◌, List, vec_len, IfOk};
-ghost use Rattle.version_map.specs.Deltas.{at, locations, IsEmpty};
-ghost use Rattle.version_map.specs.Overlay.{under};
+ghost use Rattle.std.specs.Prelude.{◌≡◌, ◌<◌, vec_len};
 ghost use Rattle.segment_store.specs.Names.{IsOf, base};
 ghost use Rattle.segment_store.specs.Group.{group_of};
 

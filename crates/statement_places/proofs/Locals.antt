@@ -2,6 +2,7 @@
 use Rattle.std.proofs.Common.{◌≡◌, ◌≢◌, ◌∙◌, ℕ, zero, suc, Bool, true, false, cond, List, [], ◌∷◌, map, Option, Some, None, refl, sym, ap, subst}
 use Rattle.std.specs.Prelude.{slice_get, slice_set}
 use Rattle.std.specs.Cmp.Lexicographic.{other_text}
+use Rattle.std.proofs.lemmas.Option.{slice_get_within}
 use Rattle.rev_num.specs.Path.{Path}
 use Rattle.rev_num.specs.declared.value.Value.{Value}
 use Rattle.rev_num.specs.declared.value.ValueKind.{ValueKind}
@@ -25,14 +26,7 @@ use Rattle.expression_run.specs.Agrees.{word}
 use Rattle.expression_run.proofs.Words.{word_kind}
 use Rattle.statement_places.specs.Places.{IsWithin}
 use Rattle.statement_places.specs.States.{written_word, location_word, word_kinds, IsSame, AreLocals}
-use Rattle.rev_num.proofs.Lists.{get_set_other}
-
--- ---- lists
-
-pub get-set : {A : Type 0} (xs : List A) (n : ℕ) (x y : A) → slice_get xs n ≡ Some y → slice_get (slice_set xs n x) n ≡ Some x
-get-set [] n x y e = absurd (let z : None ≡ Some y = e in cc)
-get-set (z ∷ xs) zero x y e = refl
-get-set (z ∷ xs) (suc n) x y e = get-set xs n x y e
+use Rattle.rev_num.proofs.Lists.{get_set, get_set_other}
 
 kinds-set : (ws : List (Word Path)) (n : ℕ) (w : Word Path) → slice_get (word_kinds ws) n ≡ Some (words.kind_of w) → word_kinds (slice_set ws n w) ≡ word_kinds ws
 kinds-set [] n w e = refl
@@ -88,7 +82,7 @@ locals_set ks scope w m x values ws are found kind apart =
         by : (c : Bool) → same name w ≡ c → IsSame (cond c (Some x) (find name values)) (slice_get (slice_set ws m (word x)) n)
         by true e =
             let mn : m ≡ n = (let q : Some m ≡ Some n = sym found ∙ ap (λ z. find z scope) (sym (same_equal name w e)) ∙ h in cc) in
-            ap (slice_get (slice_set ws m (word x))) (sym mn) ∙ get-set ws m (word x) there.0 there.1
+            ap (slice_get (slice_set ws m (word x))) (sym mn) ∙ get_set ws m (word x) (slice_get_within ws m there.0 there.1)
         by false e =
             let ne : n ≢ m = λ q. other_text name w (sym e) (apart name w m (h ∙ ap Some q) found) in
             subst (IsSame (find name values)) (sym (get_set_other ws n m (word x) ne)) (are.same name n (λ q. other_text name w (sym e) (let z : w ≡ name = cc in sym z)) h)

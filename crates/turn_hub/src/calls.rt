@@ -1,5 +1,5 @@
 //! The calls in a turn.
-ghost use Rattle.std.specs.Prelude.{◌≡◌, ◌<◌, ℕ, [], Some, None, IfOk, IfErr, OnOk, MatchBool};
+ghost use Rattle.std.specs.Prelude.{◌≡◌, ◌<◌, Some, IfOk, IfErr, OnOk, MatchBool};
 
 use crate::answers::{EndStep, JoinAnswer, JoinStep, Onward, Taken};
 use crate::ended::has_ended;
@@ -9,7 +9,7 @@ use std::sync::Wait;
 use turn_rule::Revision;
 
 impl<L: Revision> TurnHub<L> {
-    ghost use Rattle.turn_rule.specs.Seats.{HasFork, HasJoin, HasEnd, HasTrap, KeepsAll};
+    ghost use Rattle.turn_rule.specs.Seats.{HasFork, HasJoin, HasEnd, HasTrap};
     ghost use Rattle.turn_hub.specs.Answers.{TakenSays, Forked, JoinSays, JoinedOn};
     ghost use Rattle.turn_hub.specs.Answers.{EndedSays, EndedOn, IsHalted};
 

@@ -1,5 +1,5 @@
 //! The close of a hub.
-ghost use Rattle.std.specs.Prelude.{◌≡◌, ◌<◌, ◌≤◌, ◌+◌, ℕ, [], ◌∷◌, length, map, Some};
+ghost use Rattle.std.specs.Prelude.{◌≡◌, ◌<◌, ℕ, [], length, map};
 ghost use Rattle.turn_rule.specs.Views.{first_of, both};
 ghost use Rattle.turn_rule.specs.Seats.{IsIdle, AreOf};
 ghost use Rattle.turn_rule.specs.Passes.{named};

@@ -1,5 +1,5 @@
 //! The hub: the turn is taken and given back.
-ghost use Rattle.std.specs.Prelude.{◌≡◌, ◌≢◌, ◌<◌, ℕ, [], ◌∷◌, Some, None, true, false};
+ghost use Rattle.std.specs.Prelude.{◌≡◌, ◌<◌, [], ◌∷◌, Some, None, true, false};
 ghost use Rattle.std.specs.Global.{Box};
 
 use crate::patience::{Patience, WAITS, pause};

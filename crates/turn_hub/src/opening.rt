@@ -1,5 +1,5 @@
 //! The opening of a hub.
-ghost use Rattle.std.specs.Prelude.{◌≡◌, ◌<◌, ◌≤◌, ◌+◌, ℕ, [], ◌∷◌, length, map, Some, None};
+ghost use Rattle.std.specs.Prelude.{◌≡◌, ◌<◌, ◌≤◌, [], ◌∷◌, length, map, Some, None};
 ghost use Rattle.std.specs.Prelude.{IfOk, IfErr, IfSome, vec_capacity};
 ghost use Rattle.std.specs.Global.{Box};
 ghost use Rattle.hub_algebra.specs.declared.status.Status.TheVariants.{Ready};

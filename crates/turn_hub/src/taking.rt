@@ -1,5 +1,4 @@
 //! How a joiner takes an end in.
-ghost use Rattle.std.specs.Prelude.{◌≡◌};
 ghost use Rattle.turn_hub.specs.Answers.{TakesIn};
 
 use crate::answers::JoinAnswer;

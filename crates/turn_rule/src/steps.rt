@@ -1,5 +1,4 @@
 //! The rule of the turn, and what its steps tell.
-ghost use Rattle.std.specs.Prelude.{◌≡◌, ℕ, [], Some};
 ghost use Rattle.hub_table.specs.declared.state.HubState.TheVariants as state;
 ghost use Rattle.turn_rule.specs.Views.{first_of, both, most, part, witness, blank};
 ghost use Rattle.turn_rule.specs.Rule.{Turned, took, gave, committed, handed_in, drew, stopped};

@@ -1,5 +1,5 @@
 //! What a revision reads under its own delta.
-ghost use Rattle.std.specs.Prelude.{◌≡◌, ◌≢◌, ℕ, ◌<◌, ◌≤◌, List, IfOk, IfErr};
+ghost use Rattle.std.specs.Prelude.{◌≡◌, ◌≢◌, ℕ, ◌<◌, List, IfOk, IfErr};
 ghost use Rattle.version_map.specs.Deltas.{locations, IsEmpty};
 ghost use Rattle.version_map.specs.Overlay.{under, Agree};
 ghost use Rattle.version_map.specs.declared.snapshot.Collapsed.{Collapsed};

@@ -1,5 +1,5 @@
 //! A snapshot with all words of its own.
-ghost use Rattle.std.specs.Prelude.{◌≡◌, ℕ, ◌<◌, List, []};
+ghost use Rattle.std.specs.Prelude.{◌≡◌, ◌<◌, []};
 
 use crate::delta::Delta;
 use crate::snapshot::{Collapsed, How, Snapshot};

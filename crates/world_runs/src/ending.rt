@@ -1,6 +1,6 @@
 //! A run to its end, by the least number that has a leg.
 
-ghost use Rattle.std.specs.Prelude.{◌≡◌, ◌≤◌, ◌<◌, ◌^◌, ℕ, IfOk, OnOk, length};
+ghost use Rattle.std.specs.Prelude.{◌≡◌, ◌≤◌, ◌<◌, ◌^◌, ℕ, IfOk, length};
 ghost use Rattle.block_merges.specs.Merging.{AreMergesOf};
 ghost use Rattle.block_run.specs.Area.{count};
 ghost use Rattle.code_machine.specs.Local.{Local};

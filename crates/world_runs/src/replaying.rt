@@ -1,6 +1,6 @@
 //! Replays of a schedule.
 
-ghost use Rattle.std.specs.Prelude.{◌≡◌, ◌≤◌, ◌<◌, ◌^◌, ℕ, length, IfOk, IfErr};
+ghost use Rattle.std.specs.Prelude.{◌≡◌, ◌≤◌, ◌<◌, ℕ, IfOk, IfErr};
 ghost use Rattle.rev_num.specs.Limits.{most_fuel};
 ghost use Rattle.block_merges.specs.Merging.{AreMergesOf};
 ghost use Rattle.block_run.specs.Area.{count};
