@@ -40,13 +40,28 @@ fn choice_of(alloc: Global, line: &str) -> Result<Choice, CaseFault> {
     Ok(Choice { name, values })
 }
 
+/// Adds a choice. Where the last one has the same name, it gets the further values.
+fn add_choice(choices: &mut Vec<Choice>, choice: Choice) -> Result<(), CaseFault> {
+    if let Some(last) = choices.last_mut() {
+        if last.name.as_str() == choice.name.as_str() {
+            for value in choice.values {
+                last.values.push(value)?;
+            }
+            return Ok(());
+        }
+    }
+    choices.push(choice)?;
+    Ok(())
+}
+
 impl Rounds {
-    /// The rounds of a row, by its lines `* NAME VALUE ..`.
+    /// The rounds of a row, by its lines `* NAME VALUE ..`. Lines of one name that stand one behind
+    /// another are one choice.
     pub fn of(alloc: Global, row: &str) -> Result<Rounds, CaseFault> {
         let mut choices = Vec::new(alloc);
         for line in row.split('\n') {
             if let Some(rest) = behind(line, "*") {
-                choices.push(choice_of(alloc, rest)?)?;
+                add_choice(&mut choices, choice_of(alloc, rest)?)?;
             }
         }
         Ok(Rounds { choices })
@@ -61,7 +76,7 @@ impl Rounds {
         count
     }
 
-    /// Adds the values of a round as pieces.
+    /// Adds the values of a round as pieces, each what its text says.
     pub fn add_to(
         &self,
         alloc: Global,
@@ -76,7 +91,7 @@ impl Rounds {
             let Some(value) = choice.values.get(at) else {
                 return Err(CaseFault::Malformed);
             };
-            let bytes = Vec::from_slice(alloc, value.as_bytes())?;
+            let bytes = pieces.bytes_of(alloc, value.as_str())?;
             pieces.add(alloc, choice.name.as_str(), bytes)?;
         }
         Ok(())

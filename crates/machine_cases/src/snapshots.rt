@@ -13,7 +13,6 @@ use rev_code::{BlockClass, Code, CodeVar, Instr};
 use rev_num::{Items, ValueKind};
 use rev_vm::start_main;
 use std::alloc::{AllocError, Global};
-use std::test::Fail;
 use version_map::{Collapsed, Delta, How, Snapshot, collapse_all};
 
 /// A snapshot whose locations are all 0, and which forks where it has none. It has parts to take,
@@ -85,15 +84,12 @@ fn new_parts(left: u64) -> Parts
     }
 }
 
-#[test]
-fn two_parts_are_taken_by_three_questions(rt: HostRuntime) -> Result<(), Fail> {
-    let alloc = rt.alloc();
+/// Whether a collapse of all asks a snapshot of two parts three times.
+pub fn is_asked_three_times(alloc: Global) -> Result<bool, AllocError> {
     let mut parts = new_parts(2);
     let mut delta = Delta::new(alloc, 0)?;
     let last = collapse_all(&mut parts, &mut delta);
-    assert_eq!(rt; last, Collapsed::Kept { count: 2 });
-    assert_eq!(rt; parts.release(), 3);
-    Ok(())
+    Ok(last == Collapsed::Kept { count: 2 } && parts.release() == 3)
 }
 
 /// A child that only returns, and `main`, which forks and joins it. There is no variable.
@@ -143,15 +139,12 @@ fn asked_by(alloc: Global, setting: &CodeSetting, parts: Parts) -> Result<Option
     }
 }
 
-#[test]
-fn one_settle_asks_three_times(rt: HostRuntime) -> Result<(), Fail> {
-    let alloc = rt.alloc();
-    let verified = match verify(alloc, fork_and_join(alloc)?) {
-        Ok(verified) => verified,
-        Err(_) => panic!(rt; "the code breaks a rule"),
+/// Whether one `settle` asks a snapshot of two parts three times.
+pub fn settle_asks_three_times(alloc: Global) -> Result<bool, AllocError> {
+    let Ok(verified) = verify(alloc, fork_and_join(alloc)?) else {
+        return Ok(false);
     };
     let setting = CodeSetting::new(alloc, verified.into_code(), Vec::new(alloc), 10)?;
     let parts = new_parts(2);
-    assert_eq!(rt; asked_by(alloc, &setting, parts)?, Some(3));
-    Ok(())
+    Ok(asked_by(alloc, &setting, parts)? == Some(3))
 }

@@ -11,8 +11,10 @@ use block_merges::BlockMerges;
 use leg_run::CodeSetting;
 use rev_code::{Code, Instr};
 use std::alloc::{AllocError, Global};
-use std::test::Fail;
 use version_map::MergeBy;
+
+/// What each run prints.
+const PRINTED: &str = "7\n7\n10\n";
 
 /// A child that calls, applies a fun, prints and writes a cumulative cell, and `main`, which forks
 /// and joins it and writes the same cell.
@@ -71,21 +73,14 @@ fn comes_to<M: MergeBy>(
     }
 }
 
-// Under `rt try --test --fail-alloc` with a number one allocation is refused: one of those before
-// the first run, where the test ends, or one of the first run, which then answers that memory is
-// wanting, and the second goes on with what the first has borrowed.
-#[test]
-fn a_run_after_one_that_wanted_memory(rt: HostRuntime) -> Result<(), Fail> {
-    let alloc = rt.alloc();
-    let setting = match setting_of(alloc, code(alloc)?, Vec::new(alloc))? {
-        Some(setting) => setting,
-        None => panic!(rt; "the code breaks a rule"),
+/// What two runs come to, one behind the other, under one setting and with the same merges. Where
+/// memory is wanting in the first, the second goes on with what that has borrowed.
+pub fn two_runs(alloc: Global) -> Result<(Result<bool, AllocError>, bool), AllocError> {
+    let Some(setting) = setting_of(alloc, code(alloc)?, Vec::new(alloc))? else {
+        return Ok((Ok(false), false));
     };
     let mut merges = BlockMerges::of(alloc, &setting.code)?;
-    match comes_to(alloc, &setting, &mut merges, "7\n7\n10\n") {
-        Ok(good) => assert!(rt; good),
-        Err(_) => println!(rt; "memory was wanting")?,
-    }
-    assert!(rt; comes_to(alloc, &setting, &mut merges, "7\n7\n10\n")?);
-    Ok(())
+    let first = comes_to(alloc, &setting, &mut merges, PRINTED);
+    let second = comes_to(alloc, &setting, &mut merges, PRINTED)?;
+    Ok((first, second))
 }

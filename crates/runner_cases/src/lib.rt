@@ -1,7 +1,7 @@
-//! Two revisions that join a third one: what their steps in both orders come to.
+//! The plain interpreter: what steps of two revisions in both orders come to, and whole runs.
 #![tactic(auto)]
 
 #[cfg(test)]
-mod alone;
-#[cfg(test)]
 mod orders;
+#[cfg(test)]
+mod runs;

@@ -50,14 +50,14 @@ fn pair_of(
     }
 }
 
-/// Puts another byte at the place that the row names.
+/// Puts another byte at a place, of which both stand behind the mark of a line.
 fn change_byte(
     alloc: Global,
     pieces: &Pieces,
-    row: &str,
+    line: &str,
     source: &mut Vec<u8>,
 ) -> Result<(), CaseFault> {
-    let Some((at, byte)) = pair_of(alloc, pieces, row, "byte")? else {
+    let Some((at, byte)) = pair_of(alloc, pieces, line, "byte")? else {
         return Ok(());
     };
     let Some(place) = source.get_mut(size(at)) else {
@@ -74,7 +74,9 @@ fn source_of(alloc: Global, pieces: &Pieces, row: &str) -> Result<Vec<u8>, CaseF
         let text = pieces.text_of(alloc, text)?;
         source.truncate(size(number_of(text.as_str())?));
     }
-    change_byte(alloc, pieces, row, &mut source)?;
+    for line in row.split('\n') {
+        change_byte(alloc, pieces, line, &mut source)?;
+    }
     if let Some((count, byte)) = pair_of(alloc, pieces, row, "behind")? {
         let byte = u8::try_from(byte).unwrap_or(0);
         for _ in 0..count {

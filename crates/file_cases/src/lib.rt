@@ -1,5 +1,0 @@
-//! Code files and their first faults, as tables.
-#![tactic(auto)]
-
-#[cfg(test)]
-mod files;
