@@ -12,7 +12,8 @@ use trace_making::trace_of;
 const SHARE: u64 = 1000;
 
 /// A child sells 30 of a stock of 100, while `main` puts 10 to it.
-const SELLS: &str = "merge difference(m, j, r) = m + j - r; cumulative stock: int by difference = 100; \
+const SELLS: &str = "merge difference(m, j, r) = m + j - r; \
+    cumulative stock: int by difference = 100; \
     proc sell(count: int) { stock = stock - count; } \
     main { let h = rfork sell(30); stock = stock + 10; rjoin h; print \"left\", stock; }";
 
@@ -31,12 +32,8 @@ enum Ended {
 /// What `main` printed, and how the run ended.
 fn ending(outcome: &Outcome) -> (&[u8], Ended) {
     match outcome {
-        Outcome::Done { text, values: _ } => (text.as_slice(), Ended::Done),
-        Outcome::Trapped {
-            text,
-            values: _,
-            trap: _,
-        } => (text.as_slice(), Ended::Trapped),
+        Outcome::Done { text, .. } => (text.as_slice(), Ended::Done),
+        Outcome::Trapped { text, .. } => (text.as_slice(), Ended::Trapped),
         Outcome::Twice => (&[], Ended::Twice),
     }
 }
