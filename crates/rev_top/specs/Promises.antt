@@ -53,7 +53,7 @@ pub record Keeps (words : Option Words) (source source' out out' err err' : Stre
   -- and the status and the bytes that both sinks took are its own
   pub headline : Calm out out' err err' status → (all : List ℕ)
       → Feeds (reads words) source source' all → IsWritten words all out out' err err' status
-  -- usage comes exactly where the words have no reading
+  -- usage comes only where the words have no reading; there nothing else comes but 6 and 7
   pub usage : status ≡ usage_status → words ≡ None
   pub no_reading : words ≡ None → (status ≡ usage_status) ⊎ Cut status
   -- what does not read its source leaves it untouched; at most one byte past the limit is read
