@@ -21,9 +21,21 @@ fn tell(rt: &impl Print, case: &str, good: Result<bool, AllocError>) -> io::Resu
 
 fn main(rt: HostRuntime) -> io::Result<()> {
     let alloc = rt.alloc();
-    tell(&rt, "merges by merge blocks", merges::give_what_they_should(alloc))?;
-    tell(&rt, "a collapse of two parts", snapshots::is_asked_three_times(alloc))?;
-    tell(&rt, "a settle with two parts", snapshots::settle_asks_three_times(alloc))?;
+    tell(
+        &rt,
+        "merges by merge blocks",
+        merges::give_what_they_should(alloc),
+    )?;
+    tell(
+        &rt,
+        "a collapse of two parts",
+        snapshots::is_asked_three_times(alloc),
+    )?;
+    tell(
+        &rt,
+        "a settle with two parts",
+        snapshots::settle_asks_three_times(alloc),
+    )?;
     match wants::two_runs(alloc) {
         Ok((first, second)) => {
             tell(&rt, "a run", first)?;

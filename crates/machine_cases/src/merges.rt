@@ -55,8 +55,10 @@ pub fn give_what_they_should(alloc: Global) -> Result<bool, AllocError> {
         return Ok(false);
     };
     let mut merges = BlockMerges::new(alloc, &verified)?;
-    Ok(merged(&mut merges, 0, 10, 7, 4) == Ok(7)
-        && merged(&mut merges, 2, 10, 7, 4) == Ok(13)
-        && merged(&mut merges, 1, i64::MAX, 7, 4) == Err(NumFault::Overflow)
-        && merged(&mut merges, 1, i64::MIN, -5, -5) == Ok(i64::MIN))
+    Ok(
+        merged(&mut merges, 0, 10, 7, 4) == Ok(7)
+            && merged(&mut merges, 2, 10, 7, 4) == Ok(13)
+            && merged(&mut merges, 1, i64::MAX, 7, 4) == Err(NumFault::Overflow)
+            && merged(&mut merges, 1, i64::MIN, -5, -5) == Ok(i64::MIN),
+    )
 }
