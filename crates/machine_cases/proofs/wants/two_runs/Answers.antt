@@ -3,10 +3,10 @@ use Rattle.block_merges.specs.Merging.{AreMergesOf}
 use Rattle.rev_vm.specs.Starts.{run_under}
 use Rattle.machine_cases.proofs.wants.two_runs.Goals as goal
 
-pub comes_to-requires-clause-merges : goal.comes_to-requires-clause-merges
-comes_to-requires-clause-merges c = c.in_ok-merges.ensures.merges (run_under c.in-Some.setting) refl
+pub comes_to-first-requires-clause-merges : goal.comes_to-first-requires-clause-merges
+comes_to-first-requires-clause-merges c = c.in_ok-merges.ensures.merges (run_under c.in-Some.setting) refl
 
-pub comes_to-requires-2-clause-merges : goal.comes_to-requires-2-clause-merges
-comes_to-requires-2-clause-merges c =
-    subst (λ ms. AreMergesOf (run_under c.in-Some.setting) ms) (sym c.comes_to.ensures.merges_same)
+pub comes_to-requires-clause-merges : goal.comes_to-requires-clause-merges
+comes_to-requires-clause-merges c =
+    subst (λ ms. AreMergesOf (run_under c.in-Some.setting) ms) (sym c.comes_to-first.ensures.merges_same)
     (c.in_ok-merges.ensures.merges (run_under c.in-Some.setting) refl)
