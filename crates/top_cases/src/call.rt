@@ -22,6 +22,21 @@ pub struct Answer {
     pub has_met: bool,
 }
 
+/// How a call is made.
+#[derive(Clone, Copy)]
+pub enum Manner {
+    /// No stream fails.
+    Calm,
+    /// The source gives so many bytes at a time, and fails at this call of it.
+    Reads { step: usize, call: u64 },
+    /// Both outputs take so many bytes at a time, and fail at this call of them.
+    Writes { step: usize, call: u64 },
+    /// The same, but the standard error never fails.
+    Prints { step: usize, call: u64 },
+    /// Revisions wait for others.
+    Meets([(u32, u32); 2]),
+}
+
 /// The status of a call, and its run.
 fn called<R: AllocGlobal + Threads + Wait + Sync, S: Source, O: Sink, E: Sink, G: Gate + Sync>(
     rt: &R,
@@ -78,7 +93,7 @@ pub fn calm_answer<R: AllocGlobal + Threads + Wait + Sync>(
 }
 
 /// What a call answers whose source gives so many bytes at a time, and fails at this call.
-pub fn answer_reading<R: AllocGlobal + Threads + Wait + Sync>(
+fn answer_reading<R: AllocGlobal + Threads + Wait + Sync>(
     rt: &R,
     words: &[String],
     source: Vec<u8>,
@@ -102,7 +117,7 @@ fn sink_of(alloc: Global, step: usize, fails: Option<u64>) -> Result<MemSink, Al
 
 /// What a call answers whose outputs, the standard one first, take so many bytes at a time, and
 /// fail at these calls.
-pub fn answer_writing<R: AllocGlobal + Threads + Wait + Sync>(
+fn answer_writing<R: AllocGlobal + Threads + Wait + Sync>(
     rt: &R,
     words: &[String],
     source: Vec<u8>,
@@ -118,7 +133,7 @@ pub fn answer_writing<R: AllocGlobal + Threads + Wait + Sync>(
 }
 
 /// What a call answers in which revisions wait for one another.
-pub fn answer_meeting<R: AllocGlobal + Threads + Wait + Sync>(
+fn answer_meeting<R: AllocGlobal + Threads + Wait + Sync>(
     rt: &R,
     words: &[String],
     source: Vec<u8>,
@@ -129,4 +144,24 @@ pub fn answer_meeting<R: AllocGlobal + Threads + Wait + Sync>(
     let mut answer = answer_behind(rt, words, &mut source, &gate)?;
     answer.has_met = gate.has_met();
     Ok(answer)
+}
+
+/// What a call answers that is made in this manner.
+pub fn answer_by<R: AllocGlobal + Threads + Wait + Sync>(
+    rt: &R,
+    words: &[String],
+    source: Vec<u8>,
+    manner: Manner,
+) -> Result<Answer, AllocError> {
+    match manner {
+        Manner::Calm => calm_answer(rt, words, source),
+        Manner::Reads { step, call } => answer_reading(rt, words, source, step, call),
+        Manner::Writes { step, call } => {
+            answer_writing(rt, words, source, step, [Some(call), Some(call)])
+        },
+        Manner::Prints { step, call } => {
+            answer_writing(rt, words, source, step, [Some(call), None])
+        },
+        Manner::Meets(pairs) => answer_meeting(rt, words, source, pairs),
+    }
 }

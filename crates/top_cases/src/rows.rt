@@ -1,6 +1,6 @@
 //! The rows of the table.
 
-use crate::call::{Answer, answer_meeting, answer_reading, answer_writing, calm_answer};
+use crate::call::{Answer, Manner, answer_by};
 use crate::faults::{is_refused, is_sound};
 use crate::merges::merges;
 use crate::wanted::is_wanted;
@@ -67,22 +67,39 @@ fn change_byte(
     Ok(())
 }
 
-/// The source of a row.
-fn source_of(alloc: Global, pieces: &Pieces, row: &str) -> Result<Vec<u8>, CaseFault> {
-    let mut source = pieces.body(alloc, row, "|")?;
+/// Leaves so many of the first bytes as the row says, if it says so.
+fn cut(alloc: Global, pieces: &Pieces, row: &str, source: &mut Vec<u8>) -> Result<(), CaseFault> {
     if let Some(text) = field(row, "first") {
         let text = pieces.text_of(alloc, text)?;
         source.truncate(size(number_of(text.as_str())?));
     }
-    for line in row.split('\n') {
-        change_byte(alloc, pieces, line, &mut source)?;
-    }
+    Ok(())
+}
+
+/// Appends so many bytes as the row says, if it says so.
+fn lengthen(
+    alloc: Global,
+    pieces: &Pieces,
+    row: &str,
+    source: &mut Vec<u8>,
+) -> Result<(), CaseFault> {
     if let Some((count, byte)) = pair_of(alloc, pieces, row, "behind")? {
         let byte = u8::try_from(byte).unwrap_or(0);
         for _ in 0..count {
             source.push(byte)?;
         }
     }
+    Ok(())
+}
+
+/// The source of a row.
+fn source_of(alloc: Global, pieces: &Pieces, row: &str) -> Result<Vec<u8>, CaseFault> {
+    let mut source = pieces.body(alloc, row, "|")?;
+    cut(alloc, pieces, row, &mut source)?;
+    for line in row.split('\n') {
+        change_byte(alloc, pieces, line, &mut source)?;
+    }
+    lengthen(alloc, pieces, row, &mut source)?;
     Ok(source)
 }
 
@@ -96,34 +113,54 @@ fn pairs_of(alloc: Global, text: &str) -> Result<[(u32, u32); 2], CaseFault> {
     Ok([(number(*a), number(*b)), (number(*c), number(*d))])
 }
 
+/// How the call of a row is made.
+fn manner_of(alloc: Global, pieces: &Pieces, row: &str) -> Result<Manner, CaseFault> {
+    if let Some((step, call)) = pair_of(alloc, pieces, row, "reads")? {
+        let step = size(step);
+        return Ok(Manner::Reads { step, call });
+    }
+    if let Some((step, call)) = pair_of(alloc, pieces, row, "writes")? {
+        let step = size(step);
+        return Ok(Manner::Writes { step, call });
+    }
+    if let Some((step, call)) = pair_of(alloc, pieces, row, "prints")? {
+        let step = size(step);
+        return Ok(Manner::Prints { step, call });
+    }
+    match field(row, "meet") {
+        Some(text) => Ok(Manner::Meets(pairs_of(alloc, text)?)),
+        None => Ok(Manner::Calm),
+    }
+}
+
 /// What the call of a row answers.
 fn answer_to<R: AllocGlobal + Threads + Wait + Sync>(
     rt: &R,
     pieces: &Pieces,
     row: &str,
 ) -> Result<Answer, CaseFault> {
+    let manner = manner_of(rt.alloc(), pieces, row)?;
     let words = words_of(rt.alloc(), pieces, row)?;
     let source = source_of(rt.alloc(), pieces, row)?;
-    if let Some((step, call)) = pair_of(rt.alloc(), pieces, row, "reads")? {
-        return Ok(answer_reading(rt, words.as_slice(), source, size(step), call)?);
-    }
-    if let Some((step, call)) = pair_of(rt.alloc(), pieces, row, "writes")? {
-        let fails = [Some(call), Some(call)];
-        return Ok(answer_writing(rt, words.as_slice(), source, size(step), fails)?);
-    }
-    if let Some((step, call)) = pair_of(rt.alloc(), pieces, row, "prints")? {
-        let fails = [Some(call), None];
-        return Ok(answer_writing(rt, words.as_slice(), source, size(step), fails)?);
-    }
-    if let Some(text) = field(row, "meet") {
-        let pairs = pairs_of(rt.alloc(), text)?;
-        return Ok(answer_meeting(rt, words.as_slice(), source, pairs)?);
-    }
-    Ok(calm_answer(rt, words.as_slice(), source)?)
+    Ok(answer_by(rt, words.as_slice(), source, manner)?)
 }
 
-/// Whether a call answers what its row wants. What it printed is kept as a piece, without its last
-/// line end, where the row names that.
+/// Keeps what was printed, without its last line end, as a piece, where the row names that.
+fn keep_printed(
+    alloc: Global,
+    pieces: &mut Pieces,
+    row: &str,
+    printed: &[u8],
+) -> Result<(), CaseFault> {
+    let Some(name) = field(row, "keep") else {
+        return Ok(());
+    };
+    let mut bytes = Vec::from_slice(alloc, printed)?;
+    bytes.pop();
+    pieces.add(alloc, name, bytes)
+}
+
+/// Whether a call answers what its row wants.
 fn is_good<R: AllocGlobal + Threads + Wait + Sync>(
     rt: &R,
     pieces: &mut Pieces,
@@ -134,11 +171,7 @@ fn is_good<R: AllocGlobal + Threads + Wait + Sync>(
     }
     let answer = answer_to(rt, pieces, row)?;
     let good = is_wanted(rt.alloc(), pieces, row, &answer)?;
-    if let Some(name) = field(row, "keep") {
-        let mut printed = answer.out;
-        printed.pop();
-        pieces.add(rt.alloc(), name, printed)?;
-    }
+    keep_printed(rt.alloc(), pieces, row, answer.out.as_slice())?;
     Ok(good)
 }
 
