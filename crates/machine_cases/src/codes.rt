@@ -9,7 +9,7 @@ ghost use Rattle.rev_vm.specs.Starts.{run_under};
 
 use crate::driver::run_to_end;
 use block_merges::BlockMerges;
-use code_verifier::verify;
+use code_verifier::{CodeFault, verify};
 use leg_run::CodeSetting;
 use rev_code::{BlockClass, Code, CodeBlock, CodeVar, Instr, LayoutItem};
 use rev_num::{Items, ValueKind};
@@ -129,6 +129,7 @@ pub fn setting_of(
             let setting = CodeSetting::new(alloc, verified.into_code(), inputs, 100)?;
             Ok(Some(setting))
         },
+        Err(CodeFault::OutOfMemory) => Err(AllocError),
         Err(_) => Ok(None),
     }
 }

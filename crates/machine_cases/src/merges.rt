@@ -5,7 +5,7 @@ ghost use Rattle.block_run.specs.Area.{count};
 
 use crate::codes::{block, fun_and_merge, variable};
 use block_merges::BlockMerges;
-use code_verifier::verify;
+use code_verifier::{CodeFault, verify};
 use rev_code::{BlockClass, Code, Instr};
 use rev_num::{Items, NumFault, int_of_word, word_of_int};
 use std::alloc::{AllocError, Global};
@@ -51,8 +51,10 @@ fn merged(
 /// Whether the merges of a versioned and of a cumulative location give what they should.
 pub fn give_what_they_should(alloc: Global) -> Result<bool, AllocError> {
     let code = code_of(alloc)?;
-    let Ok(verified) = verify(alloc, code) else {
-        return Ok(false);
+    let verified = match verify(alloc, code) {
+        Ok(verified) => verified,
+        Err(CodeFault::OutOfMemory) => return Err(AllocError),
+        Err(_) => return Ok(false),
     };
     let mut merges = BlockMerges::new(alloc, &verified)?;
     Ok(

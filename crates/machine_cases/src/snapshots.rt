@@ -7,7 +7,7 @@ ghost use Rattle.leg_run.specs.Setting.{IsSetting};
 use crate::codes::block;
 use crate::driver::run_to_end;
 use block_merges::BlockMerges;
-use code_verifier::verify;
+use code_verifier::{CodeFault, verify};
 use leg_run::CodeSetting;
 use rev_code::{BlockClass, Code, CodeVar, Instr};
 use rev_num::{Items, ValueKind};
@@ -141,8 +141,10 @@ fn asked_by(alloc: Global, setting: &CodeSetting, parts: Parts) -> Result<Option
 
 /// Whether one `settle` asks a snapshot of two parts three times.
 pub fn settle_asks_three_times(alloc: Global) -> Result<bool, AllocError> {
-    let Ok(verified) = verify(alloc, fork_and_join(alloc)?) else {
-        return Ok(false);
+    let verified = match verify(alloc, fork_and_join(alloc)?) {
+        Ok(verified) => verified,
+        Err(CodeFault::OutOfMemory) => return Err(AllocError),
+        Err(_) => return Ok(false),
     };
     let setting = CodeSetting::new(alloc, verified.into_code(), Vec::new(alloc), 10)?;
     let parts = new_parts(2);
