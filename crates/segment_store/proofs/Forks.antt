@@ -41,7 +41,7 @@ module _ (root : List ℕ) (words stride masks segment first depth : ℕ) (d : D
       (h.mask_is (l / 64) (rows l hi))
 
   abbrev stored : ℕ → ℕ
-  stored l = slice_index d.words.items l
+  stored l = slice_index d.cells.items l
 
   at_set : (l : ℕ) → bit_in (mask_of d) l ≡ 1 → at d l ≡ Some (stored l)
   at_set l is = ap (λ (b : Bool). cond b (Some (stored l)) None)

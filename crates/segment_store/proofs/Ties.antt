@@ -615,7 +615,7 @@ module _ (words stride masks : ℕ) where
     laid_mask ws c up d made sh laid l lt = let low = rows l lt in
         let word : get_or ws (c + (2 + l / 64)) 0 ≡ get_or (mask_of d) (l / 64) 0 =
         (sh (c + (2 + l / 64)) (get_or (mask_of d) (l / 64) 0) (laid.mask_is (l / 64) low)).2 in
-        let x : ℕ = get_or d.words.items l 0 in let y : ℕ = get_or ws (c + (2 + masks + l)) 0 in
+        let x : ℕ = get_or d.cells.items l 0 in let y : ℕ = get_or ws (c + (2 + masks + l)) 0 in
         let bit : bit_at (get_or ws (c + (2 + l / 64)) 0) (l % 64) ≡ bit_in (mask_of d) l =
         ap (λ (z : ℕ). bit_at z (l % 64)) word in dite (ℕ_discrete (bit_in (mask_of d) l) 1)
         (λ one. let is : at d l ≡ Some x = ap (λ (b : Bool). cond b (Some x) None)

@@ -1,5 +1,6 @@
 //! A value or none for each location.
-ghost use Rattle.std.specs.Prelude.{◌≡◌, ◌≢◌, ℕ, ◌<◌, ◌≤◌, ◌^◌, vec_len, replicate, slice_index};
+ghost use Rattle.std.specs.Prelude.{◌≡◌, ◌≢◌, ℕ, ◌+◌, ◌<◌, ◌≤◌, ◌^◌};
+ghost use Rattle.std.specs.Prelude.{drop, vec_len, replicate, slice_index};
 ghost use Rattle.std.specs.Prelude.{Some, IfOk, MatchBool};
 ghost use Rattle.version_map.specs.Masks.{rows, bit_in};
 
@@ -9,11 +10,12 @@ use std::alloc::{AllocError, Global};
 /// words of locations that have none mean nothing.
 #[derive(Drop)]
 pub struct Delta {
-    mask: Vec<u64>,
-    words: Vec<u64>,
-    ghost sized: { (vec_len mask ≡ rows (vec_len words)) × (vec_len words < 2 ^ 32) },
+    // The word of each location, and the mask behind them.
+    cells: Vec<u64>,
+    count: u32,
+    ghost sized: { (vec_len cells ≡ count + rows count) × (count < 2 ^ 32) },
     // No bit is set beyond the last location.
-    ghost clean: { (l : ℕ) → vec_len words ≤ l → bit_in mask.items l ≡ 0 },
+    ghost clean: { (l : ℕ) → count ≤ l → bit_in (drop count cells.items) l ≡ 0 },
 }
 
 impl Delta {
@@ -24,8 +26,8 @@ impl Delta {
         ensures { IfOk result (λ d. (locations d ≡ count) × IsEmpty d) }
     {
         Ok(Delta {
-            mask: zeros(alloc, mask_rows(count))?,
-            words: zeros(alloc, count as usize)?,
+            cells: zeros(alloc, count as usize + mask_rows(count))?,
+            count,
         })
     }
 
@@ -33,7 +35,7 @@ impl Delta {
     pub fn locations(&self) -> u32
         ensures { result ≡ locations self.now }
     {
-        self.words.len() as u32
+        self.count
     }
 
     /// The value of the location, where it has one.
@@ -42,8 +44,8 @@ impl Delta {
         ensures { result ≡ at self.now location }
     {
         let at = location as usize;
-        if self.mask[at / 64] >> (at % 64) & 1 == 1 {
-            Some(self.words[at])
+        if self.mask_row(at / 64) >> (at % 64) & 1 == 1 {
+            Some(self.cells[at])
         } else {
             None
         }
@@ -57,8 +59,8 @@ impl Delta {
         ensures others { (l : ℕ) → l ≢ location → at self.new l ≡ at self.old l }
     {
         let at = location as usize;
-        self.mask[at / 64] |= 1 << (at % 64);
-        self.words[at] = word;
+        self.cells[self.count as usize + at / 64] |= 1 << (at % 64);
+        self.cells[at] = word;
     }
 
     /// Takes every value away. It costs a write for each 64 locations.
@@ -66,8 +68,8 @@ impl Delta {
         ensures size { locations self.new ≡ locations self.old }
         ensures empty { IsEmpty self.new }
     {
-        for row in 0..self.mask.len() {
-            self.mask[row] = 0;
+        for cell in self.count as usize..self.cells.len() {
+            self.cells[cell] = 0;
         }
     }
 
@@ -75,8 +77,8 @@ impl Delta {
     pub fn is_empty(&self) -> bool
         ensures { MatchBool result (IsEmpty self.now) (¬ IsEmpty self.now) }
     {
-        for row in 0..self.mask.len() {
-            let bits = self.mask[row];
+        for row in 0..mask_rows(self.count) {
+            let bits = self.mask_row(row);
             if bits != 0 {
                 return false;
             }
@@ -89,7 +91,7 @@ impl Delta {
         requires { row < rows (locations self.now) }
         ensures { result ≡ slice_index (mask_of self.now) row }
     {
-        self.mask[row]
+        self.cells[self.count as usize + row]
     }
 }
 

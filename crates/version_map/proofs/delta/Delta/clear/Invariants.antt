@@ -1,7 +1,7 @@
-use Rattle.std.proofs.Common.{◌≡◌, ℕ, ◌<◌, slice_index}
-use Rattle.version_map.specs.Deltas.{locations, mask_of}
+use Rattle.std.proofs.Common.{◌≡◌, ℕ, ◌<◌, ◌≤◌, slice_index}
+use Rattle.version_map.specs.Deltas.{locations}
 use Rattle.version_map.proofs.delta.Delta.clear.Given as goal
 
-abbrev pub invariant-loop-row : goal.invariant-loop-row
-invariant-loop-row l = (locations l.self ≡ locations l.initial.self)
-    × ((j : ℕ) → j < l.row → slice_index (mask_of l.self) j ≡ 0)
+abbrev pub invariant-loop-cell : goal.invariant-loop-cell
+invariant-loop-cell l = (locations l.self ≡ locations l.initial.self)
+    × ((j : ℕ) → locations l.self ≤ j → j < l.cell → slice_index l.self.cells.items j ≡ 0)

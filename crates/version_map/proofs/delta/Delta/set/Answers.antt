@@ -1,33 +1,42 @@
-use Rattle.std.proofs.Common.{arith, rules, ℕ, ◌%◌, ◌/◌, ◌∙◌, ap, get_or-set_same, get_or-set_other}
+use Rattle.std.proofs.Common.{arith, rules, ◌+◌, ◌-◌, ◌%◌, ◌/◌, ◌∙◌, ap, sym, drop}
+use Rattle.std.proofs.Common.{get_or-set_same}
 use Rattle.std.specs.Int.{bit_at, w64}
 use Rattle.std.proofs.lemmas.List.{get_or_read_under}
 use Rattle.std.proofs.lemmas.Nat.Bits.{bit_at_set_same, bit_at_set_other}
-use Rattle.version_map.specs.Masks.{chosen}
-use Rattle.version_map.proofs.Bits.{rows_over, bit_set, bit_else, chosen_one}
+use mathlib.Core.Logic.{dite}
+use native.Mathlib.Decide.{ℕ_discrete}
+use Rattle.version_map.specs.Masks.{bit_in, chosen}
+use Rattle.version_map.proofs.Bits.{rows_over, bit_set, chosen_one, mask_after, has_row}
+use Rattle.version_map.proofs.Bits.{bit_else_after, word_else_after, chosen_zero}
 use Rattle.version_map.proofs.delta.Delta.set.Goals as goal
 
 pub returns-clause-here : goal.returns-clause-here
-returns-clause-here c = let l = c.args.location in let s = c.args.self.now.sized in
+returns-clause-here c = let l = c.args.location in let d = c.args.self.now in let s = d.sized in
     let over = rows_over _ l c.requires in
-    chosen_one _ _ _ (bit_set _ l _ (omega arith) ∙ bit_at_set_same w64 _ (l % 64) (omega arith))
+    chosen_one _ _ _ (ap (λ m. bit_in m l) (mask_after d.count d.cells.items l (l / 64) _ _ c.requires)
+    ∙ (bit_set (drop d.count d.cells.items) l _ (has_row d.count (l / 64) d.cells.items (omega arith))
+    ∙ bit_at_set_same w64 _ (l % 64) (omega arith)))
     (get_or-set_same _ l _ 0 (search rules))
 
 pub returns-clause-others : goal.returns-clause-others
-returns-clause-others c = λ k ne. let l = c.args.location in let s = c.args.self.now.sized in
-    let over = rows_over _ l c.requires in
-    let was = get_or_read_under c.args.self.now.mask.items (l / 64) c.args.self.now.mask.len
+returns-clause-others c = λ k ne. let l = c.args.location in let d = c.args.self.now in
+    let s = d.sized in let over = rows_over _ l c.requires in
+    let was = get_or_read_under d.cells.items (d.count + l / 64) d.cells.len
     c.index_mut.result.now 0 c.index_mut.ensures.value (omega arith) (search rules) in
-    let p = bit_else c.args.self.now.mask.items l k _ (search rules) ne
+    let p = bit_else_after d.count d.cells.items l k _ c.args.word c.requires (omega arith) ne
     (λ i apart. bit_at_set_other w64 c.index_mut.result.now (l % 64) (omega arith) i apart
-    ∙ ap (λ (z : ℕ). bit_at z i) was) in
-    let q = get_or-set_other c.args.self.now.words.items l k c.args.word 0 ne in
-    (λ i. chosen (p i) (q i))
+    ∙ ap (λ z. bit_at z i) was) in
+    dite (ℕ_discrete (d.count - k) 0)
+    (λ above. let none = d.clean k (omega arith) in
+    chosen_zero _ _ (p ∙ none) ∙ sym (chosen_zero _ _ none))
+    (λ below. let q = word_else_after d.count d.cells.items l k (l / 64) _ c.args.word (omega arith) ne in
+    (λ i. chosen (p i) (q i)))
 
 pub invariant_of-self-clause-clean : goal.invariant_of-self-clause-clean
-invariant_of-self-clause-clean c = λ k above. let l = c.args.location in
-    let s = c.args.self.now.sized in let over = rows_over _ l c.requires in
-    let was = get_or_read_under c.args.self.now.mask.items (l / 64) c.args.self.now.mask.len
+invariant_of-self-clause-clean c = λ k above. let l = c.args.location in let d = c.args.self.now in
+    let s = d.sized in let over = rows_over _ l c.requires in
+    let was = get_or_read_under d.cells.items (d.count + l / 64) d.cells.len
     c.index_mut.result.now 0 c.index_mut.ensures.value (omega arith) (search rules) in
-    bit_else c.args.self.now.mask.items l k _ (search rules) (λ e. omega arith)
+    bit_else_after d.count d.cells.items l k _ c.args.word c.requires (omega arith) (λ e. omega arith)
     (λ i apart. bit_at_set_other w64 c.index_mut.result.now (l % 64) (omega arith) i apart
-    ∙ ap (λ (z : ℕ). bit_at z i) was) ∙ c.args.self.now.clean k above
+    ∙ ap (λ z. bit_at z i) was) ∙ d.clean k above
