@@ -314,8 +314,8 @@ fn all_vars(code: &Code) -> bool
 }
 
 /// Whether the last block is `main`, and no other, each block fits its class, each variable has a
-/// name, cells, a start value and a merge entry that it can have, each text has bytes of a text, and
-/// each layout names texts that there are.
+/// name, cells, a start value and a merge entry that it can have, each text has bytes of a text,
+/// and each layout names texts that there are.
 pub fn names_well(code: &Code) -> bool
     ensures { result ≡ tables.names_well code.now }
 {
