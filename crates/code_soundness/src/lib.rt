@@ -34,10 +34,10 @@ pub fn fun_laws<H>()
     ensures limits { FunsKeepLimits H }
 {}
 
-/// In accepted code the first states of revisions are typed. A typed state has an instruction, which
-/// finds what it takes and comes to an event, and each event leads to typed states again. So no
-/// state that is reached from a first state of `main` or of a procedure is without a step, or has a
-/// stack of more than 4,096 words or more than 1,000 frames.
+/// In accepted code the first states of revisions are typed. A typed state has an instruction,
+/// which finds what it takes and comes to an event, and each event leads to typed states again. So
+/// no state that is reached from a first state of `main` or of a procedure is without a step, or
+/// has a stack of more than 4,096 words or more than 1,000 frames.
 pub fn soundness_laws<H>()
     ensures main { MainStarts H }
     ensures procedures { ProceduresStart H }
