@@ -3,8 +3,8 @@
 use rev_num::{Bytes, Items, ValueKind};
 
 /// An instruction. Jump targets are numbers of instructions of the same block, counted from 0; the
-/// other operands are a value that is pushed, a line, or the number of a local of the block, or of a
-/// variable, a layout or a block of the code.
+/// other operands are a value that is pushed, a line, or the number of a local of the block, or of
+/// a variable, a layout or a block of the code.
 #[derive(Clone, Copy, PartialEq, Eq, Debug)]
 pub enum Instr {
     PushInt(i64),
