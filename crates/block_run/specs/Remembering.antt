@@ -1,6 +1,6 @@
 -- What a revision's memory has: for each location the word that it sees, and, where it has written, the word that was
 -- there when it was forked.
---   Kept     no word changed
+--   Kept     no word changed, and none at the fork
 --   Remembered   no word changed, and the word at the fork is known at a location
 --   written_below   the locations that were written, with the word there and the word at the fork
 --   Wrote    one location has a new word, and the word at the fork is known there

@@ -27,7 +27,7 @@ fn fetch(instrs: &[Instr], at: u32) -> &Instr
 }
 
 /// Does instructions of a block up to a trap, or to one that leaves the block or meets another
-/// revision.
+/// revision. The words below the frame stay, and in a fun or merge all locations do.
 pub fn run_block<P: Snapshot>(
     code: &Code,
     table: &[Variable],

@@ -33,7 +33,8 @@ pub enum Fault {
 pub enum Act {
     Goes,
     Traps(Fault),
-    /// It calls, returns, prints, or meets another revision, and nothing has changed yet.
+    /// It applies a fun, calls, returns, prints, or meets another revision, and nothing has changed
+    /// yet.
     Leaves,
 }
 
@@ -42,7 +43,7 @@ pub enum Act {
 pub enum Stop {
     Goes,
     Traps(Cause),
-    /// The next instruction calls, returns, prints, or meets another revision.
+    /// The next instruction applies a fun, calls, returns, prints, or meets another revision.
     Leaves,
 }
 
@@ -76,7 +77,7 @@ impl Fault {
     }
 }
 
-/// Where the locations of a shared variable lie.
+/// Where the locations of a shared variable lie: as many as `cells`, from `first` on.
 #[derive(Clone, Copy, PartialEq, Eq, Debug)]
 pub struct Variable {
     pub first: u32,

@@ -314,7 +314,7 @@ pub fn act_jump(b: &CodeBlock, words: &[u64], r: &mut Registers, to: u32) -> Act
     Act::Goes
 }
 
-/// Takes the word on top, and jumps where it is not as wanted.
+/// Takes the word on top, and jumps where it is `false`.
 #[inline(always)]
 pub fn act_jump_if_false(b: &CodeBlock, words: &[u64], r: &mut Registers, to: u32) -> Act
     requires placed { IsPlaced b.now r.old (length words.now) 1 }
@@ -328,7 +328,7 @@ pub fn act_jump_if_false(b: &CodeBlock, words: &[u64], r: &mut Registers, to: u3
     Act::Goes
 }
 
-/// Takes the word on top, and jumps where it is as wanted.
+/// Takes the word on top, and jumps where it is `true`.
 #[inline(always)]
 pub fn act_jump_if_true(b: &CodeBlock, words: &[u64], r: &mut Registers, to: u32) -> Act
     requires placed { IsPlaced b.now r.old (length words.now) 1 }
@@ -342,7 +342,7 @@ pub fn act_jump_if_true(b: &CodeBlock, words: &[u64], r: &mut Registers, to: u32
     Act::Goes
 }
 
-/// Pays for a statement.
+/// Pays 1 for a statement and sets its line, or traps where no fuel is left.
 #[inline(always)]
 pub fn act_charge(b: &CodeBlock, words: &[u64], r: &mut Registers, line: u32) -> Act
     requires placed { IsPlaced b.now r.old (length words.now) 0 }

@@ -30,6 +30,7 @@ pub fn version_for(code: &Code) -> Version
     Version::One
 }
 
+/// The number of a version in its file: 1, 2 or 3.
 pub fn version_number(version: Version) -> u16
     ensures { result ≡ files.version_number version }
 {
@@ -83,7 +84,8 @@ fn append_body(out: &mut Vec<u8>, wide: bool, may_try: bool, code: &Code) -> Res
     append_try_total(out, may_try, code.blocks.as_slice())
 }
 
-/// The file of code.
+/// The file of code, each of whose counts and lengths must fit its field. Code that the verifier
+/// accepts has such counts where it has fewer than 2^32 `TryJoin`.
 #[tactic(auto, unfolding(crate::specs::Files::file_of))]
 pub fn write_code(alloc: Global, code: &Code) -> Result<Vec<u8>, AllocError>
     requires { Counted code.now }

@@ -2,19 +2,21 @@
 
 use std::alloc::{AllocError, AllocFailed};
 
-/// The first fault of bytes that are no code file, with its offset.
+/// The first fault of bytes that are no code file, or that memory is wanting. `at` is an offset in
+/// bytes.
 #[derive(Clone, Copy, PartialEq, Eq, Debug, Drop)]
 pub enum ReadFault {
     /// The bytes begin otherwise than a code file.
     BadMagic,
     /// There is no such version.
     BadVersion,
-    /// The file ends here, before its last field.
+    /// The file ends here, before the end of its last field.
     Truncated { at: usize },
     /// Here begins a field with a value that it can't have.
     BadField { at: usize },
     /// Here stands a byte behind the last field.
     Trailing { at: usize },
+    /// It says nothing of the bytes.
     OutOfMemory,
 }
 

@@ -112,7 +112,8 @@ fn file(alloc: Global, cursor: &mut Cursor<'_>) -> Result<Code, ReadFault>
     Ok(code)
 }
 
-/// The code whose file the bytes are, or else their first fault in the order of the file.
+/// The code whose file the bytes are, or else their first fault in the order of the file;
+/// `OutOfMemory` says nothing of them.
 pub fn read_code(alloc: Global, bytes: &[u8]) -> Result<Code, ReadFault>
     ensures code { IfOk result (λ code. IsFile code bytes.now) }
     ensures fault { IfErr result (λ e. e ≢ ReadFault.OutOfMemory → IsFirstFault bytes.now e) }

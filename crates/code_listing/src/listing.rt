@@ -402,8 +402,8 @@ fn append_blocks(out: &mut Vec<u8>, blocks: &[CodeBlock]) -> Result<(), AllocErr
     Ok(())
 }
 
-/// The text of code: its variables, texts, layouts and blocks, one after another, a line for each
-/// and for each instruction.
+/// The text of code: a line with the version of its file, and then its variables, texts, layouts
+/// and blocks, one after another, a line for each and for each instruction.
 #[tactic(auto, unfolding(crate::specs::Listing::listing))]
 pub fn disassemble(alloc: Global, code: &Code) -> Result<Vec<u8>, AllocError>
     ensures { IfOk result (λ text. text.items ≡ listing code.now) }

@@ -2,7 +2,7 @@
 --   merges       the merge of each location, by the code's merge blocks
 --   composed     what a joiner takes over of a joinee that is done (of `version_map`)
 --   absorb       the joiner with the joinee's writes, text and fuel, or with the fault of the first
---                merge
+--                merge that faults
 --   inherit      the joiner of a joinee that trapped: at a TryJoin the joinee's writes, text and
 --                fuel are dropped and the joiner goes on; else the joiner traps with the joinee's
 --                cause, line and origin

@@ -2,7 +2,7 @@
 --   Act          what a revision does next, whatever a handle is
 --   machine      revisions by their paths
 --   numbered     revisions by their numbers, in the order of their forks
---   first        `main` with its fuel
+--   start_in     `main` with its fuel
 use Rattle.std.specs.Prelude.{◌≡◌, true, ℕ, List, [], Option, Some, None, slice_get}
 use Rattle.rev_num.specs.Path.{Path, child}
 use Rattle.rev_code.specs.declared.code.CodeBlock.{CodeBlock}

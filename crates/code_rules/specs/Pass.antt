@@ -5,7 +5,7 @@
 --   arrival       what is known on arrival, from the instruction before and from earlier jumps: None where shapes differ
 --   broken        the first rule that an instruction breaks
 --   block_fault   the first fault of a block, or what the block costs
---   fault         the first fault of the instructions of code
+--   blocks_fault  the first fault of the instructions of blocks
 use Rattle.std.specs.Prelude.{ℕ, suc, ◌+◌, max, Bool, true, false, ◌&&◌, ◌||◌, not, if◌then◌else◌, List, [], ◌∷◌, ◌++◌, length, take, Option, Some, None, Result, Ok, Err, slice_get, nat_eq, nat_lt}
 use Rattle.rev_code.specs.declared.code.Code.{Code}
 use Rattle.rev_code.specs.declared.code.CodeBlock.{CodeBlock}

@@ -1,4 +1,4 @@
-//! The rules that code keeps, and their laws.
+//! The rules that code keeps.
 //!
 //! `specs/Tables.antt` has the rules on tables, `specs/Shapes.antt` what each instruction takes and
 //! gives, `specs/Pass.antt` the rules on instructions, as one pass that finds the first fault.
@@ -7,7 +7,8 @@
 /// A rule on code. Where an instruction breaks several, the one that comes first here is reported.
 #[derive(Clone, Copy, PartialEq, Eq, Debug)]
 pub enum Rule {
-    /// A target outside of the block, or one that is not after the jump and no Charge.
+    /// A target outside of the block, or one that is not after the jump, where it is no Charge or
+    /// the block is a fun or merge.
     BadJump,
     /// An operand that names nothing of the right sort, or an instruction that has no place in a
     /// fun or merge.
@@ -33,7 +34,8 @@ pub struct Cost {
     pub count: u64,
 }
 
-/// Where code breaks a rule: the number of the block, and of the instruction in it.
+/// Where code breaks a rule: the number of the block, and of the instruction in it. A fault of the
+/// tables is BadOperand or LimitOf, at instruction 0 of block 0.
 #[derive(Clone, Copy, PartialEq, Eq, Debug)]
 pub struct Fault {
     pub block: usize,

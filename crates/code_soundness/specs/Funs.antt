@@ -38,7 +38,8 @@ FunsHaveValues H =
 abbrev pub merged : (H : Type 0) → Code → CodeVar → (x y z : ℤ) → Option (Result (Word H) Cause)
 merged H code v x y z = value_at (slice_get (values code) v.merge) (int x ∷ int y ∷ int z ∷ [])
 
--- the merge of each cumulative variable, for three ints: an int, as the variable is
+-- the merge of each cumulative variable, for three ints: an int, as the variable is, or a fault of
+-- arithmetic
 abbrev pub MergesHaveInts : Type 0 → Type 0
 MergesHaveInts H =
     (code : Code) (notes : ℕ → ℕ → Note) → IsAccepted code notes

@@ -19,10 +19,10 @@ pub fn whole_code_law()
     ensures limits { NoFaultIsWithinLimits }
 {}
 
-/// The block of a fun or merge always has a value of its result's kind, or a fault of arithmetic:
-/// its first state is typed, and each step leads to a later typed state, to such a fault or to the
-/// result. Its evaluation takes no more instructions and words than it costs, and so keeps the
-/// limits.
+/// In accepted code the block of a fun or merge has a value of its result's kind, or a fault of
+/// arithmetic, for all arguments of its parameters' kinds: its first state is typed, and each step
+/// leads to a later typed state, to such a fault or to the result. Its evaluation takes no more
+/// instructions and words than it costs, and so keeps the limits.
 pub fn fun_laws<H>()
     ensures funs { FunsHaveValues H }
     ensures merges { MergesHaveInts H }
@@ -34,10 +34,10 @@ pub fn fun_laws<H>()
     ensures limits { FunsKeepLimits H }
 {}
 
-/// The first states of revisions are typed. A typed state has an instruction, which finds what it
-/// takes and comes to an event, and each event leads to typed states again. So no state that is
-/// reached from a first state of `main` or of a procedure is without a step or has a stack of more
-/// than 4,096 words.
+/// In accepted code the first states of revisions are typed. A typed state has an instruction,
+/// which finds what it takes and comes to an event, and each event leads to typed states again. So
+/// no state that is reached from a first state of `main` or of a procedure is without a step, or
+/// has a stack of more than 4,096 words or more than 1,000 frames.
 pub fn soundness_laws<H>()
     ensures main { MainStarts H }
     ensures procedures { ProceduresStart H }

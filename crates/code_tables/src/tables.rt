@@ -75,7 +75,7 @@ fn is_text_byte(c: u8) -> bool
     32 <= c && c <= 126 && c != 34
 }
 
-/// Whether each byte can stand in a text.
+/// Whether each byte can stand in a text: it is from 32 to 126, and not 34.
 #[tactic(auto, using(rev_num::proofs::Lists::all_more, rev_num::proofs::Lists::all_none))]
 pub fn is_text(text: &[u8]) -> bool
     ensures { result ≡ list_all tables.is_text_byte text.now }
@@ -210,21 +210,23 @@ fn is_reserved(name: &[u8]) -> bool
     is_reserved_1(name) || is_reserved_2(name) || is_reserved_3(name)
 }
 
-/// Whether the bytes are a name of the language.
+/// Whether the bytes are a name of the language: a letter or `_`, then letters, digits and `_`, and
+/// no word of the language.
 pub fn is_name(name: &[u8]) -> bool
     ensures { result ≡ tables.is_name name.now }
 {
     is_word(name) && !is_reserved(name)
 }
 
-/// Whether a scalar or an array can have so many cells.
+/// Whether a scalar or an array can have so many cells: a scalar has 1, an array 1 or more.
 pub fn has_cells(array: bool, cells: u32) -> bool
     ensures { result ≡ tables.has_cells array cells }
 {
     if array { cells > 0 } else { cells == 1 }
 }
 
-/// Whether the word can stand for a start value of this kind.
+/// Whether the word can stand for a start value of this kind: any for an int, 0 or 1 for a bool, 0
+/// for a handle.
 pub fn is_start(kind: ValueKind, word: u64) -> bool
     ensures { result ≡ tables.is_start kind word }
 {
@@ -311,8 +313,9 @@ fn all_vars(code: &Code) -> bool
     true
 }
 
-/// Whether all operands of the tables name something of the right sort, and all can be spelled in a
-/// code file.
+/// Whether the last block is `main`, and no other, each block fits its class, each variable has a
+/// name, cells, a start value and a merge entry that it can have, each text has bytes of a text,
+/// and each layout names texts that there are.
 pub fn names_well(code: &Code) -> bool
     ensures { result ≡ tables.names_well code.now }
 {

@@ -1,5 +1,5 @@
-//! A verifier of code: it accepts exactly the code that keeps the rules, and refuses other code at
-//! the first instruction that breaks one.
+//! A verifier of code: where memory suffices, it accepts exactly the code that keeps the rules, and
+//! refuses other code at its first fault.
 #![tactic(auto)]
 
 mod fault;

@@ -41,7 +41,8 @@ pub(crate) fn meet(shapes: &Shapes, fallen: Option<Mark>, jumped: Option<Mark>) 
     }
 }
 
-/// Whether an earlier jump to the target left another shape; a jump back leaves the empty one.
+/// Whether an earlier jump to the target left another shape; at a target that is not ahead, the
+/// shape that it needs is the empty one.
 pub(crate) fn clashes(
     shapes: &Shapes,
     ahead: &[Option<Mark>],

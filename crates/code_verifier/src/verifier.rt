@@ -15,7 +15,8 @@ use rev_code::Code;
 use std::alloc::{AllocError, Global};
 
 /// The code, if it keeps all rules; otherwise the first instruction that breaks one, with the first
-/// such rule. Faults of tables come before all others.
+/// such rule. Faults of tables come before all others, and stand at instruction 0 of block 0.
+/// `OutOfMemory` says nothing of the code.
 pub fn verify(alloc: Global, code: Code) -> Result<Verified, CodeFault>
     ensures code { IfOk result (λ v. v.code ≡ code) }
     ensures sound { OnOk result (KeepsRules code) }

@@ -1,5 +1,6 @@
 -- What the pass notes on arrival is what ways bring, at each place before which no rule is broken.
---   Known   one shape arrives, which is noted; where the note says paid, every way has paid, and otherwise one has not
+--   Known   one shape arrives, which is noted; where the note says paid and no Charge stands there, every way has
+--           paid; where it does not say so, one way has not
 use Rattle.std.proofs.Common.{◌≡◌, ◌≢◌, ◌∙◌, ◌⊎◌, inl, inr, ℕ, zero, suc, ◌<◌, ◌≤◌, Bool, true, false, cond, not, ◌&&◌, ◌||◌, List, length, Option, Some, None, refl, sym, ap, subst, arith, true≢false}
 use Rattle.std.specs.Prelude.{slice_get, nat_lt, if◌then◌else◌}
 use Rattle.std.proofs.lemmas.Bool.Decides.{nat_tests}

@@ -40,7 +40,7 @@ pub record IsFirstFault (code : Code) (costs : List Cost) (n : ℕ) (b : CodeBlo
 abbrev pub AllKeep : Code → List Cost → ℕ → CodeBlock → Type 0
 AllKeep code costs n b = (j : ℕ) (x : Instr) → slice_get b.instrs j ≡ Some x → KeepsAll code costs n b j x
 
--- the pass refuses a block exactly at its first fault
+-- the pass refuses a block that has instructions exactly at its first fault
 abbrev pub PassFindsFirst : Type 0
 PassFindsFirst =
     (code : Code) (costs : List Cost) (n : ℕ) (b : CodeBlock) → 0 < length b.instrs → (at : ℕ) (r : Rule)

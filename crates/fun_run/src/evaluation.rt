@@ -73,7 +73,8 @@ fn go_on(words: &mut [u64], r: &mut Registers, base: usize, value: u64)
 }
 
 /// The value of the fun or merge of this number, or its fault; its arguments are the words from
-/// `low` on. A fun applies funs of lower numbers alone, of which code has at most 256.
+/// `low` on, where the area has as many words as the block needs. The words below `low` stay. A fun
+/// applies funs of lower numbers alone, of which code has at most 256.
 pub fn evaluate<P: Snapshot>(
     code: &Code,
     table: &[Variable],

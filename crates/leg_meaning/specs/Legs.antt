@@ -1,5 +1,6 @@
 -- Whose a trap is, where a leg ends with one or a join brings one.
---   own_trap          the trap of a leg: its cause, at the line charged last, and first of all in this revision
+--   own_trap          the trap of a leg: its cause, at the line charged last or not paid, and first of all in this
+--                     revision
 --   merge_trap        the trap of a join whose merges fault
 --   passed_trap       the trap of a join of a revision that has trapped
 --   IsJoinTrap        one of these two

@@ -1,4 +1,4 @@
-//! What a revision does between two events, and whose its trap is.
+//! Whose a trap is: a leg's own, or that of a join.
 #![tactic(auto)]
 
 ghost use Rattle.leg_meaning.specs.Legs.{JoinTrapsAreOfJoin, OwnTrapsAreNotOfJoin};

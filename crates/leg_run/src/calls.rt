@@ -107,7 +107,7 @@ fn enter(
     Ok(())
 }
 
-/// Calls a block.
+/// Calls a block, or traps where the revision has 1,000 frames already.
 pub fn call(setting: &CodeSetting, run: &mut Run, b: &CodeBlock, n: u16) -> Result<Turn, AllocError>
     requires setting { IsSetting setting.now }
     requires block { slice_get setting.now.code.blocks run.old.registers.block ≡ Some b.now }

@@ -106,7 +106,8 @@ fn go_on<P: Snapshot>(
     }
 }
 
-/// Does the instructions of a leg up to its event.
+/// Does the instructions of a leg up to its event. The error is want of memory, after which nothing
+/// is said of where the revision stands.
 pub fn run<P: Snapshot>(
     setting: &CodeSetting,
     revision: &mut Revision<P>,

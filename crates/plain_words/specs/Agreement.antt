@@ -4,6 +4,7 @@
 --   Stands      what an instruction works on stands for a state, and what locations have for what the state sees there
 --   IsMoved     the state behind an instruction, and what stands for it
 --   Agrees      what an instruction comes to on words stands for what it comes to on words of a kind, where that has a step
+--               and this does not leave
 use Rattle.std.specs.Prelude.{ℕ, suc, ◌≡◌, ◌<◌, ◌^◌, true, ℤ, List, [], ◌∷◌, length, Option, Some, None, slice_get}
 use Rattle.rev_num.specs.Arith.{fits_i64}
 use Rattle.rev_num.specs.Words.{int_of}
@@ -54,7 +55,7 @@ Agrees c (goes c') (writes r l w) = (x : Word ℕ) × IsWord x w × IsMoved c c'
 Agrees c (traps c' e) (faults r e') = (e ≡ e') × IsMoved c c' r c.locations
 Agrees c _ _ = ⊥
 
--- inputs are numbers of 64 bits
+-- inputs are numbers of 64 bits, and fewer than 2 ^ 63
 abbrev pub AreInputs : List ℤ → Type 0
 AreInputs inputs = ((n : ℕ) (z : ℤ) → slice_get inputs n ≡ Some z → fits_i64 z ≡ true) × (length inputs < 2 ^ 63)
 

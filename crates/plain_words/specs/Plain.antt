@@ -28,7 +28,7 @@ pub data Plain : Type 0 where
   -- and the location has this word
   writes : Run → (location word : ℕ) → Plain
   faults : Run → Cause → Plain
-  -- an instruction that calls, returns, prints, or meets another revision
+  -- an instruction that applies a fun, calls, returns, prints, or meets another revision
   leaves : Plain
   -- no step
   lacks : Plain

@@ -3,7 +3,9 @@
 
 ghost use Rattle.plain_words.specs.Agreement.{PlainStepsAgree};
 
-/// What an instruction does on words without a kind stands for what it does on words of a kind.
+/// What an instruction does on words without a kind stands for what it does on words of a kind,
+/// where that has a step and the instruction neither applies, calls, returns, prints nor meets
+/// another revision.
 pub fn agreement()
     ensures { PlainStepsAgree }
 {}

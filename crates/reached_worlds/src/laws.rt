@@ -11,8 +11,8 @@ ghost use Rattle.reached_worlds.specs.Laws.{MainStands, StartIsReached, WorldsAr
 ///   `main`;
 /// - `main`: `main` stands first and is never joined, and its snapshot has the start values;
 /// - `small`: there are at most 4,000,000,001 revisions;
-/// - `fuel`: a joiner at its join and the revision that it joins have at most 4,000,000,000 units
-///   of fuel together.
+/// - `fuel`: a joiner at its join and the revision that it joins, which has ended and is not joined
+///   yet, have at most 4,000,000,000 units of fuel together.
 pub fn reached_laws()
     ensures start { StartIsReached }
     ensures legs { LegsAreReached }

@@ -3,8 +3,8 @@
 use rev_num::{Bytes, Items, ValueKind};
 
 /// An instruction. Jump targets are numbers of instructions of the same block, counted from 0; the
-/// other operands are numbers of a local of the block, or of a variable, a layout or a block of the
-/// code.
+/// other operands are a value that is pushed, a line, or the number of a local of the block, or of
+/// a variable, a layout or a block of the code.
 #[derive(Clone, Copy, PartialEq, Eq, Debug)]
 pub enum Instr {
     PushInt(i64),
@@ -59,8 +59,9 @@ pub struct Code {
 }
 
 /// A shared variable. Its locations follow those of the variable before it: one of a scalar,
-/// `cells` of an array. Each starts with the word `start`. `merge` is the merge block of a
-/// cumulative variable, and 65,535 otherwise.
+/// `cells` of an array. Each starts with the word `start`: the 64 bits of an int, 1 or 0 for a
+/// bool, and 0 for `none`. `merge` is the merge block of a cumulative variable, and 65,535
+/// otherwise.
 #[derive(PartialEq, Eq, Debug, Drop)]
 pub struct CodeVar {
     pub name: Bytes,
@@ -81,7 +82,8 @@ pub enum LayoutItem {
     Text(u32),
 }
 
-/// A block of instructions. The first `params` locals are its parameters.
+/// A block of instructions. `locals` has the kinds of its locals, of which the first `params` are
+/// its parameters. `result` is the kind of its result, and None where it has none.
 #[derive(PartialEq, Eq, Debug, Drop)]
 pub struct CodeBlock {
     pub class: BlockClass,

@@ -1,5 +1,5 @@
 -- `main` before its first leg.
---   more_copies, start_drop   words of variables, one after another
+--   more_copies, start_many   words of variables, one after another
 --   main_last, last_main      the last block is `main`, and no other
 --   main_called               `main` may begin with no arguments
 --   starts_based              a snapshot with the start words stands for the start locations

@@ -1,6 +1,6 @@
 -- What writes of words to written locations do.
---   IsAtEntries   entries stand at the locations that were written
---   HasWritten    locations that words stood for have the new words
+--   AreAtEntries   entries stand at the locations that were written
+--   HasWritten     locations that words stood for have the new words
 use Rattle.std.specs.Prelude.{ℕ, ◌≡◌, ◌≤◌, List, [], ◌∷◌, length, Option}
 use Rattle.rev_code.specs.Words.{Word}
 use Rattle.rev_code.specs.State.{Location}

@@ -38,7 +38,7 @@ impl<P: Snapshot> Broken<P> {
     }
 }
 
-/// The revision in a block of its own, where it stays for its whole life. The error is want of
+/// The revision in a box of its own, where it stays for its whole life. The error is want of
 /// memory.
 pub(crate) fn in_box<P: Snapshot>(
     alloc: Global,
@@ -89,7 +89,7 @@ pub(crate) fn break_off<P: Snapshot>(revision: Box<Revision<P>>) -> Broken<P>
     let_go(Box::into_inner(revision))
 }
 
-/// The same of a revision that has no block.
+/// The same of a revision that is in no box.
 fn let_go<P: Snapshot>(revision: Revision<P>) -> Broken<P>
     ensures { result.snapshot ≡ revision.memory.snapshot }
 {

@@ -80,7 +80,8 @@ impl<P: Snapshot> AtJoin<P> {
         self.revision.run.text.as_slice()
     }
 
-    /// The joiner with the end of the revision that it joins, which is done.
+    /// The joiner with the end of the revision that it joins, which is done. The fuel of both
+    /// together must have 64 bits.
     pub fn claim(self, end: EndValue) -> Claimed<P>
         requires { self.revision.value.run.registers.fuel + end.fuel < 2 ^ 64 }
         ensures at { result.at ≡ self }
@@ -89,8 +90,8 @@ impl<P: Snapshot> AtJoin<P> {
         Claimed { at: self, end }
     }
 
-    /// The joiner of a revision that has trapped: it traps with the same cause and line, and tells
-    /// which revision trapped first.
+    /// The joiner of a revision that has trapped, at a Join: it traps with the same cause and line,
+    /// and tells which revision trapped first.
     pub fn trapped(self, trap: CodeTrap) -> Stopped<P>
         requires { self.is_try ≡ false }
         ensures end { (g : CodeRun) (c : State _) (t : Trap _) → IsAtJoin g self.revision.value.run

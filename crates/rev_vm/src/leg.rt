@@ -142,6 +142,7 @@ fn own_trap(cause: Cause, line: u32) -> Finish
 }
 
 /// Does the instructions of a leg up to its event. No join makes the trap that a leg has by itself.
+/// The error is want of memory, as which a join of a number of 2^32 or more counts.
 pub fn run_leg<P: Snapshot>(
     alloc: Global,
     runner: Runner<P>,

@@ -23,7 +23,7 @@ pub struct Runner<P: Snapshot> {
     pub(crate) revision: Box<Revision<P>>,
 }
 
-/// The revision in its block, before its first event. The error hands its snapshot back.
+/// The revision in its box, before its first event. The error hands its snapshot back.
 fn start_with<P: Snapshot>(alloc: Global, revision: Revision<P>) -> Result<Runner<P>, P>
     ensures ok { IfOk result (λ r. r.revision.value ≡ revision) }
     ensures err { IfErr result (λ s. s ≡ revision.memory.snapshot) }

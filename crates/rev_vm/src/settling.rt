@@ -184,9 +184,9 @@ fn take_over<P: Snapshot>(
     }
 }
 
-/// The joiner of a revision that is done, with what it wrote, its text and its fuel; or its trap,
-/// where a merge faults. Its snapshot is collapsed until the answer is Kept or Base, and only read
-/// after that.
+/// The joiner of a revision that is done, with that revision's writes, text and fuel; or the
+/// joiner's trap, where a merge faults. The joiner's snapshot is collapsed until the answer is Kept
+/// or Base, and only read after that. The error is want of memory.
 pub fn settle<P: Snapshot, M: MergeBy>(
     alloc: Global,
     claimed: Claimed<P>,

@@ -7,8 +7,6 @@
 --                     faults, with the fault
 --   entries           written locations as entries
 --   IsComposed        the answer of `compose`
---   AgreeOnMerges     related words are merged to related words, or to one fault
---   ComposesAlike     so related writes of related joiners compose alike
 use Rattle.std.specs.Prelude.{◌≡◌, ℕ, List, [], ◌∷◌, map, Result, Ok, Err}
 use Rattle.rev_num.specs.declared.value.NumFault.{NumFault}
 use Rattle.version_map.specs.declared.end.Written.{Written}

@@ -86,7 +86,8 @@ impl Delta {
         true
     }
 
-    /// The bits of 64 locations from `64 * row` on, 1 where a location has a value.
+    /// The bits of 64 locations from `64 * row` on, the lowest first, 1 where a location has a
+    /// value.
     pub fn mask_row(&self, row: usize) -> u64
         requires { row < rows (locations self.now) }
         ensures { result ≡ slice_index (mask_of self.now) row }

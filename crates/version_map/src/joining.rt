@@ -31,8 +31,9 @@ pub struct MergeTrap {
     pub fault: NumFault,
 }
 
-/// Puts the joiner's new words at the locations that the joinee wrote into `values`. `mains` are
-/// its words there before. After a fault the words before that location are put, and no later one.
+/// Puts the joiner's new words at the locations that the joinee wrote into `values`, in the order
+/// of `end.written`. `mains` are the joiner's words there before. After a fault nothing is said of
+/// `values`.
 pub fn compose<M: MergeBy>(
     mains: &[u64],
     end: &EndValue,

@@ -65,6 +65,7 @@ pub trait Snapshot: Sized {
         ensures base { Agree (size self.old) (base self.new) (base self.old) };
 
     /// A child, whose base is this base under the delta. The base under the delta stays what it is.
+    /// Where memory is wanting, the base and the delta stay too.
     fn fork(&mut self, alloc: Global, delta: &mut Delta) -> Result<(Self, How), AllocError>
         requires { locations delta.old ≡ size self.old }
         ensures size { size self.new ≡ size self.old }
