@@ -204,7 +204,7 @@ impl Store {
     }
 
     // A hold for a child of the same base. It is `None` where the hold has no segment, where a look
-    // found its count 0 or 2^32 or more, or where the count changed after that look.
+    // found the first segment's count 0 or at least 2^32, or where others changed it after that.
     fn fork_share(&self, hold: &mut Hold) -> Option<Hold>
         requires own { IsOf self.now hold.old }
         ensures own { IsOf self.now hold.new × IsSameHold hold.old hold.new }
