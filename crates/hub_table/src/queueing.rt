@@ -91,7 +91,7 @@ impl RunQueue {
         Some(chain.first)
     }
 
-    /// The first number that is ready, and 1; or 0.
+    /// The first number that is ready plus 1, or 0 where none is.
     pub fn mark(&self) -> u64
         ensures { MatchOption self.now.ready (result ≡ 0) (λ chain. result ≡ chain.first + 1) }
     {
