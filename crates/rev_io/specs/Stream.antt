@@ -32,8 +32,8 @@ pub record Gave (old : Stream) (bytes : List ℕ) (new : Stream) : Type 0 where
   pub told : Leave old bytes new
   pub calm : new.faults ≡ old.faults
 
--- one call of `read`: at `Ok n` the first n bytes of the room are what the source gave, and n is 0
--- only at its end; at `Err` the count rose and nothing was taken
+-- one call of `read`: at `Ok n` the first n bytes of the room are what the source gave, and with room
+-- n is 0 only at the end of a source that tells its bytes; at `Err` the count rose and nothing was taken
 abbrev pub Reads : Stream → Stream → List ℕ → List ℕ → Result ℕ Failed → Type 0
 Reads old new before after (Ok n) = (n ≤ length before) × Gave old (take n after) new
     × (n ≡ 0 → 0 < length before → (all : List ℕ) → old.told ≡ Some all → all ≡ [])
