@@ -65,7 +65,7 @@ fn command<'a>(alloc: Global) -> Result<Command<'a>, AllocError>
         .arg(number_option(alloc, "size"))
 }
 
-/// Each error of the command but want of memory is wrong usage.
+/// The fault for an error of the command: wrong usage only where the error is no want of memory.
 fn fault_of(error: &Error) -> WordsFault
     ensures { result ≡ WordsFault.Usage → kind_of error.now ≡ ErrorKind.OutOfMemory → ⊥ }
 {
