@@ -8,7 +8,8 @@ ghost use Rattle.rev_expressions.specs.Reads.{Reads, IsWithin, same};
 use rev_syntax::{Fixed, Token, TokenKind};
 use std::alloc::{AllocError, AllocFailed};
 
-/// Why a text has no tree. The cursor stands at the place.
+/// Why a text has no tree, with the cursor at the place; or want of memory, which says nothing of
+/// the text.
 #[derive(Clone, Copy, Drop, Debug)]
 pub enum Fault {
     Unexpected,
