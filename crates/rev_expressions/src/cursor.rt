@@ -12,7 +12,9 @@ use std::alloc::{AllocError, AllocFailed};
 /// the text.
 #[derive(Clone, Copy, Drop, Debug)]
 pub enum Fault {
+    /// What is parsed does not go on with the next token, or with the end.
     Unexpected,
+    /// The next token opens a level too many.
     TooDeep,
     OutOfMemory,
 }
