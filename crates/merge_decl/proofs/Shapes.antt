@@ -52,7 +52,7 @@ expression_form-Var name = ap expression_form (sym (rolls-Var name)) ∙ fold-ro
 pub expression_form-Inputs : (at : ℕ) → expression_form (node.Inputs at) ≡ t.inputs at
 expression_form-Inputs at = ap expression_form (sym (rolls-Inputs at)) ∙ fold-roll-Node ExpressionForm Expression (BinaryOp × Expression) expression_form_level expression_level link_level (Node-F.Inputs at)
 
--- ---- an expression and a link
+-- ---- expressions and links
 
 pub expression-placed : (e : Expr) → expression e ≡ t.placed e.at (expression_form e.node)
 expression-placed e = fold_out-Expr ExpressionForm Expression (BinaryOp × Expression) expression_form_level expression_level link_level e
