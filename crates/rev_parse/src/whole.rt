@@ -46,7 +46,7 @@ fn place(bytes: &[u8], cursor: &Cursor<'_>) -> u32
     }
 }
 
-/// The program that a text is, of which these are the tokens, or where they are none. The tree of a
+/// The program that a text is, of which these are the tokens, or their first fault. The tree of a
 /// text of at most 1,048,576 bytes is small.
 pub fn parse(alloc: Global, bytes: &[u8], tokens: &[Token]) -> Result<Program, SyntaxFault>
     requires small { length bytes.now < 2 ^ 32 - 1 }
