@@ -43,8 +43,8 @@ Reads old new before after (Err e) = Rose old new × (new.told ≡ old.told)
 abbrev pub GaveAtMost : ℕ → Stream → Stream → Type 0
 GaveAtMost most old new = (bytes : List ℕ) × (length bytes ≤ most) × Leave old bytes new
 
--- all bytes up to the end, at most `limit`; at most `limit + 1` bytes were taken, and exactly so
--- many where that is too long
+-- all bytes up to the end of a source that tells them, at most `limit`; at most `limit + 1` bytes
+-- were taken, and exactly so many where that is too long
 abbrev pub ReadsText : ℕ → Stream → Stream → Result (Vec ℕ Global) ReadText → Type 0
 ReadsText limit old new (Ok v) = Gave old v.items new × (length v.items ≤ limit)
     × ((all : List ℕ) → old.told ≡ Some all → all ≡ v.items)
