@@ -21,7 +21,7 @@ Typed = (p : ProgramTree) → IsSmall p → fun_faults p ≡ [] → faults p ≡
 abbrev pub Accepts : Type 0
 Accepts = (p : ProgramTree) → IsWellTyped p → faults p ≡ []
 
--- all that a typed program breaks is limits
+-- all that a typed program breaks of these rules is limits
 abbrev pub LimitsAlone : Type 0
 LimitsAlone = (p : ProgramTree) → ProgramTyped p → (f : TypeFault) → Among (faults p) f → IsLimit f
 
