@@ -88,7 +88,7 @@ pub(crate) fn matches_of<'a>(
     }
 }
 
-/// The one value of an argument, where it was used.
+/// The first value of an argument, if it has one.
 pub(crate) fn text_of<'a>(matches: &ArgMatches<'a>, name: &str) -> Option<&'a str>
     ensures { option_map (λ s. s.now) result ≡ first_of name.now (rows_of (found_of matches.now)) }
 {
