@@ -11,7 +11,8 @@ use rev_num::{
 };
 use std::alloc::{AllocError, Global};
 
-/// Appends a value as `print` and `--values` show it.
+/// Appends a value as `print` and `--values` show it. Where memory is wanting, nothing is said of
+/// the text.
 pub fn append_value(text: &mut Vec<u8>, value: &Value) -> Result<(), AllocError>
     ensures { OnOk result (text.new.items ≡ text.old.items ++ spec.value_text value.now) }
 {
