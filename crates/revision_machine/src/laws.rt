@@ -67,7 +67,8 @@ pub trait Simulated {
 /// - `forkers`: each revision but `main` has its forker, which has counted it;
 /// - `standing`: in every state but Twice `main` stands, and what is marked has ended;
 /// - `handles`, `unblocked`: where `main` holds no handle, each handle names a revision that comes
-///   before its holder in post-order, and where nothing steps every revision has ended;
+///   before its holder in post-order, and where nothing steps, but in Twice, every revision has
+///   ended;
 /// - `bound`: no run has more steps than the weight of `main`;
 /// - `count`: a reached state has no more revisions than 1 and what `main` has to pay for forks;
 /// - `completes`: every run can be completed.
