@@ -15,7 +15,8 @@ impl Tally {
         Tally { cases: 0, wrong: 0 }
     }
 
-    /// Counts a case, and prints its row where it is wrong.
+    /// Counts a case, and prints its row where it is not good. What is malformed, or for which no
+    /// memory is left, counts as wrong too.
     pub fn count(
         &mut self,
         rt: &impl Print,
