@@ -311,7 +311,8 @@ fn first_broken(alloc: Global, p: &Program) -> Result<Option<AffineFault>, Alloc
 }
 
 /// Whether a well-typed program keeps the affine rule; else its first breach, at the least place,
-/// and there of the least number. A program that keeps it never joins a revision twice.
+/// and there of the least number. A program that keeps it never joins a revision twice. The error
+/// `OutOfMemory` says nothing of the program.
 pub fn affine(alloc: Global, typed: &Typed) -> Result<(), AffineFault>
     ensures keeps { OnOk result (IsAffine (whole typed.now.expanded.program)) }
     ensures never { OnOk result
