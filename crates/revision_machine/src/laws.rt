@@ -112,11 +112,11 @@ pub fn schedule_theory<W: NumberedWorld>()
 ///   runs agree, none is blocked, and complete ones agree with complete ones; and any two complete
 ///   runs end in states that agree;
 /// - `schedule`: the world after a legal schedule agrees with a state that a run reaches, by the
-///   table of the world's own paths, each once;
+///   table of the world's own paths, each once, and Both by some table;
 /// - `legs`: each leg of a legal schedule is some number of steps of the revision with its number's
 ///   path, and of no other, in the state that agrees with the world;
 /// - `complete_schedule`: the world after a complete schedule agrees with the end of the complete
-///   runs, and every revision has ended, by paths and by number.
+///   runs, and every revision has ended, by paths and by number, but in Twice.
 pub fn simulation_theory<S: Simulated>()
     ensures steps { (s : S) (t : List Path) → Steps (S.simulation s) t }
     ensures runs { (s : S) (t : List Path) → Runs (S.simulation s) t }
