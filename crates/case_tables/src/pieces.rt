@@ -53,6 +53,7 @@ fn put_character(out: &mut Vec<u8>, part: &str) -> Result<(), CaseFault> {
 }
 
 impl Pieces {
+    /// No piece yet.
     pub fn new(alloc: Global) -> Pieces {
         Pieces {
             pieces: Vec::new(alloc),

@@ -11,6 +11,7 @@ pub struct Tally {
 }
 
 impl Tally {
+    /// No case yet.
     pub fn new() -> Tally {
         Tally { cases: 0, wrong: 0 }
     }
