@@ -32,7 +32,7 @@ struct Scope {
     reached: bool,
 }
 
-/// The first misuse of the handle of this name in the rest of its block, if it is one.
+/// The first misuse of this name in the rest of its block, if the name is that of a handle.
 fn misused(scope: &Scope, name: &Name, rest: &[Stmt]) -> Option<AffineFault>
     ensures { result
         ≡ rule.misused scope.now.reached (find name.now.text.items scope.now.locals)
