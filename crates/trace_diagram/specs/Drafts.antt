@@ -128,7 +128,7 @@ abbrev pub Closes : {A : Type 0} → PartialTrace → Option (Vec Part A) → Ty
 Closes p (Some parts) = IsClosedTo p parts.items
 Closes p None = IsClosed p → ⊥
 
--- the trace whose lines these are, or that a line is wanting
+-- the trace whose lines these are, or that it can't end here
 pub record IsFinished (p : PartialTrace) (t : Trace) : Type 0 where
   pub form : IsTrace t
   pub lines : flat_map part_lines t.parts ≡ partial_lines p
