@@ -20,7 +20,8 @@ use revision_alone::LocalState;
 use std::alloc::{AllocError, Global};
 use trace_diagram::Trace;
 
-/// The verdict by the first part that differs, which comes before the revision without a part.
+/// The verdict by the first part that differs, which comes before the revision without a part, or a
+/// yes where no part differs and no revision is without one.
 fn of_parts<'a>(
     alloc: Global,
     stated: &Stated<'a>,
