@@ -58,7 +58,8 @@ pub fn variable(
     })
 }
 
-/// Fun 0 gives its first number and the difference of the two others, and merge 1 applies it.
+/// Fun 0 gives the sum of its first number and the difference of the two others, and merge 1
+/// applies it.
 pub fn fun_and_merge(alloc: Global) -> Result<Vec<CodeBlock>, AllocError> {
     let int = Some(ValueKind::Int);
     let three = [ValueKind::Int, ValueKind::Int, ValueKind::Int];
