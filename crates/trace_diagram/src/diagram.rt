@@ -17,8 +17,8 @@ pub struct Part {
     pub end: PartEnd,
     /// The fuel that was left.
     pub fuel: u64,
-    /// What the revision wrote. The trace of a run has it in ascending order of location, and a text
-    /// that is read may have it in any order.
+    /// What the revision wrote. The trace of a run has it in ascending order of location, and a
+    /// text that is read may have it in any order.
     pub written: Items<Change>,
     /// What the revision printed, whole lines.
     pub text: Bytes,
