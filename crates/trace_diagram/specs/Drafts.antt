@@ -3,6 +3,9 @@
 --   partial_lines  the lines that were read, and stage_of how far they are
 --   IsPartial      what was read has the form of a trace so far
 --   Takes          what a draft becomes with one more line
+--   Closes, Finishes
+--                  what it gives at the end of a part, and of the trace
+--   HasRead        how the bytes are made of what was read and the rest
 use Rattle.std.specs.Prelude.{◌≡◌, ℕ, ◌^◌, ◌<◌, IsTrue, IfSome, is_some, true, List, [], ◌∷◌, ◌++◌, map, Option, Some, None, Vec}
 use Rattle.std.specs.List.{flat_map, AllByRecursion}
 use Rattle.rev_num.specs.Path.{Path, before}
