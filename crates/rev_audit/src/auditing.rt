@@ -21,7 +21,7 @@ use std::alloc::{AllocError, Global};
 use trace_diagram::Trace;
 
 /// The verdict by the first part that differs, which comes before the revision without a part, or a
-/// yes where no part differs and no revision is without one.
+/// yes where no part differs and each revision that begins has one.
 fn of_parts<'a>(
     alloc: Global,
     stated: &Stated<'a>,
