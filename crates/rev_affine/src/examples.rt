@@ -20,7 +20,7 @@ pub fn affine_programs()
 pub fn other_programs()
     ensures joins { IsRefused x.joins_twice used_twice 54 }
     ensures tries { IsRefused x.tries_twice used_twice 74 }
-    ensures passes { IsRefused x.passes_and_joins used_twice 79 }
+    ensures passes { IsRefused x.passes_and_joins used_twice 84 }
     ensures in_turns { IsRefused x.joins_in_loop used_twice 58 }
     ensures renews { IsRefused x.renews_in_loop in_loop 58 }
     ensures copies { IsRefused x.copies copied 47 }
