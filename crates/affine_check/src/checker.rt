@@ -32,7 +32,7 @@ struct Scope {
     reached: bool,
 }
 
-/// The first misuse of the handle of this name in the rest of its block, if it is one.
+/// The first misuse of this name in the rest of its block, if the name is that of a handle.
 fn misused(scope: &Scope, name: &Name, rest: &[Stmt]) -> Option<AffineFault>
     ensures { result
         ≡ rule.misused scope.now.reached (find name.now.text.items scope.now.locals)
@@ -311,7 +311,8 @@ fn first_broken(alloc: Global, p: &Program) -> Result<Option<AffineFault>, Alloc
 }
 
 /// Whether a well-typed program keeps the affine rule; else its first breach, at the least place,
-/// and there of the least number. A program that keeps it never joins a revision twice.
+/// and there of the least number. A program that keeps it never joins a revision twice. The error
+/// `OutOfMemory` says nothing of the program.
 pub fn affine(alloc: Global, typed: &Typed) -> Result<(), AffineFault>
     ensures keeps { OnOk result (IsAffine (whole typed.now.expanded.program)) }
     ensures never { OnOk result

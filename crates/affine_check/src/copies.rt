@@ -65,6 +65,7 @@ fn copied_node(locals: &Locals, copies: bool, node: &Node) -> Option<AffineFault
     }
 }
 
+/// The first handle that arguments copy.
 #[cycle(copies)]
 pub fn copied_args(locals: &Locals, copies: bool, args: &[Expr]) -> Option<AffineFault>
     ensures { result ≡ rule.copied_args locals.now copies None (expressions args.now) }

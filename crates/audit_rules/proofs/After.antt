@@ -72,7 +72,7 @@ module _ (M : Machine) where
               joined lq (subst (λ v. M.next r l ≡ Joins v) ox does) (subst (λ v. M.next v lq ≡ Ended) ox ended) (some_inj (sym there ∙ ap revs (sym ox) ∙ was)) (now ∙ ap Some b)
 
 module _ (M : Machine) (T : Telling M) (P : Path → M.Local → Type 0) (of : M.Local → ℕ) (most : ℕ) (counts : Counts M) (tells : Tells M T P of most) (main : M.Local) (lists_none : T.joined main ≡ []) (forks_none : M.forks main ≡ 0) where
-  -- q is listed by the revision at s
+  -- q is listed by some revision
   pub record IsListed (revs : Revisions M) (q : Path) : Type 0 where
     pub by : Path
     pub entry : Entry M.Local

@@ -267,7 +267,7 @@ module _ (M : Machine) (T : Telling M) (P : Path → M.Local → Type 0) (of : M
                 from (inl e) = same fm (sym e)
                 from (inr less) = absurd (omega arith)
 
-    -- a child lists no join yet
+    -- a revision that begins lists no join yet
     pub begins_none : T.joined main ≡ [] → (r : Path) (a : M.Local) → Begins M T main stated r a → T.joined a ≡ []
     begins_none none r a (of_main _ _ e f) = ap T.joined f ∙ none
     begins_none none r a (of_fork _ _ g first l l' p bg sg pg fg at) = tells.forked g l l' a fg

@@ -1,4 +1,4 @@
--- The trace of a final state of the calculus, and what a joiner takes from a stated part.
+-- The part that a revision of the calculus has in a trace, and what a joiner takes from a stated part.
 use Rattle.std.specs.Prelude.{◌≡◌, ℕ, zero, suc, ◌+◌, ◌≤◌, nat_le, Bool, true, false, ◌&&◌, List, [], ◌∷◌, map, Option, Some, None, if◌then◌else◌}
 use Rattle.rev_num.specs.Path.{Path}
 use Rattle.rev_num.specs.Value.{kind_of, same_kind}

@@ -26,7 +26,7 @@ abbrev pub Audits : Setting → ℕ → Trace → Verdict → Type 0
 Audits s fuel t verdict.Yes = SaysYes s fuel t.parts
 Audits s fuel t (verdict.No r stated c) = SaysNo s fuel t.parts r stated (computed_part c)
 
--- a yes tells of the end of every complete run
+-- a yes to what has the form of a trace tells of the end of every complete run
 abbrev pub YesIsTrue : Setting → ℕ → Type 0
 YesIsTrue s fuel =
     (t : Trace) → form.IsTrace t → Audits s fuel t verdict.Yes → (rs : List Path) (g : Global Local)

@@ -25,6 +25,6 @@ pub enum Computed {
     /// It joins a revision that it joined before, or that a stated part earlier in post-order
     /// joined.
     Twice,
-    /// It joins a revision whose stated part can't be taken.
+    /// It joins a revision that has no stated part, or one that can't be taken.
     Missing,
 }

@@ -1,6 +1,6 @@
 -- The calculus as the rules of a runner.
 --
--- `weight` is how many steps a local state can make with all that it forks, with room for the forks that are counted;
+-- `weight` bounds the steps of a local state with all that it forks, and has room for the forks that are counted;
 -- `rules_of` are the rules of a program; `IsSmall` is what a state within the limit is.
 use Rattle.std.specs.Prelude.{ℕ, ◌+◌, ◌*◌, ◌≤◌, ◌<◌, List}
 use Rattle.revision_machine.specs.Rules.{Rules}

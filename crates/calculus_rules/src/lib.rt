@@ -1,5 +1,5 @@
 //! The calculus of `revision_calculus` as the rules of a runner of `revision_machine`: which
-//! handles a local state holds, how many steps it can make, and the limit within which a run stays.
+//! handles a local state holds, a bound on its steps, and the limit within which a run stays.
 //!
 //! `specs/Rules.antt` has the rules of a program; [`rule_laws`] says that they keep the conditions
 //! of the laws.

@@ -3,7 +3,8 @@
 use crate::fault::CaseFault;
 use std::alloc::Global;
 
-/// What stands in a line behind a mark and a space, if the line begins with the mark.
+/// What stands in a line behind a mark and a space, if the line begins with these; nothing, if the
+/// line is the mark alone.
 pub fn behind<'a>(line: &'a str, mark: &str) -> Option<&'a str> {
     let rest = line.strip_prefix(mark)?;
     if rest.is_empty() {
@@ -32,12 +33,12 @@ pub fn has_only(row: &str, marks: &[&str]) -> bool {
     row.split('\n').all(|line| marks.iter().any(|mark| behind(line, mark).is_some()))
 }
 
-/// The number that a text is.
+/// The number that a text is. A text is malformed that is none below 2^64.
 pub fn number_of(text: &str) -> Result<u64, CaseFault> {
     text.parse::<u64>().map_err(|_| CaseFault::Malformed)
 }
 
-/// The numbers of a text, with spaces between them.
+/// The numbers of a text, with spaces between them, each as in `number_of`.
 pub fn numbers_of(alloc: Global, text: &str) -> Result<Vec<u64>, CaseFault> {
     let mut numbers = Vec::new(alloc);
     for word in text.split_whitespace() {

@@ -53,6 +53,7 @@ fn put_character(out: &mut Vec<u8>, part: &str) -> Result<(), CaseFault> {
 }
 
 impl Pieces {
+    /// No piece yet.
     pub fn new(alloc: Global) -> Pieces {
         Pieces {
             pieces: Vec::new(alloc),
@@ -136,7 +137,10 @@ impl Pieces {
         put_character(out, part)
     }
 
-    /// Appends what a text says.
+    /// Appends what a text says. In it `\[NAME]` is a piece, `\[NAME+1]` the number behind the one
+    /// that a piece is, `\<1 2>` are bytes by their numbers, and `\n`, `\s`, `\t`, `\r` and `\b`
+    /// are a line feed, a space, a tab, a carriage return and a backslash. Another letter behind a
+    /// backslash, a name of no piece and a number of no byte are malformed.
     pub fn put(&self, alloc: Global, out: &mut Vec<u8>, text: &str) -> Result<(), CaseFault> {
         let (first, rest) = text.split_once('\\').unwrap_or((text, ""));
         out.extend_from_slice(first.as_bytes())?;
@@ -156,7 +160,8 @@ impl Pieces {
         Ok(out)
     }
 
-    /// What a text says without its first `@`, and how many bytes stand before that.
+    /// What a text says without its first `@`, and how many bytes stand before that: all of them,
+    /// where there is no `@`.
     pub fn marked(&self, alloc: Global, text: &str) -> Result<(Vec<u8>, usize), CaseFault> {
         let mut bytes = self.bytes_of(alloc, text)?;
         let before = bytes
@@ -169,7 +174,7 @@ impl Pieces {
         Ok((bytes, before))
     }
 
-    /// What a text says, as a text.
+    /// What a text says, as a text. Bytes that are no UTF-8 are malformed.
     pub fn text_of(&self, alloc: Global, text: &str) -> Result<String, CaseFault> {
         let bytes = self.bytes_of(alloc, text)?;
         match str::from_utf8(bytes.as_slice()) {
@@ -196,7 +201,8 @@ impl Pieces {
         Ok(out)
     }
 
-    /// What the lines of a row with this mark say, with line ends between them.
+    /// What the lines of a row with this mark say, as by `lines`, but without the last byte: a line
+    /// end, if the last line does not end in `\c`.
     pub fn body(&self, alloc: Global, row: &str, mark: &str) -> Result<Vec<u8>, CaseFault> {
         let mut out = self.lines(alloc, row, mark)?;
         out.pop();
@@ -233,7 +239,8 @@ impl Pieces {
         Ok(())
     }
 
-    /// Adds the pieces of a row: those of its lines `let`, and by a line `: NAME` its text.
+    /// Adds the pieces of a row: those of its lines `let`, and by a line `: NAME` what its lines
+    /// `|` say.
     pub fn define(&mut self, alloc: Global, row: &str) -> Result<(), CaseFault> {
         self.add_lets(alloc, row)?;
         if let Some(name) = field(row, ":") {

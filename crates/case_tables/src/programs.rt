@@ -6,10 +6,11 @@ use rev_syntax::tokens;
 use rev_types::{Typed, check};
 use std::alloc::Global;
 
-/// The longest text of a program.
+/// The longest text of a program, in bytes.
 pub const MEGABYTE: usize = 1_048_576;
 
-/// The program of a text, if that keeps all rules.
+/// The program of a text, if that keeps all rules and is at most a megabyte. There is none, either,
+/// where no memory is left.
 pub fn typed_of(alloc: Global, text: &[u8]) -> Option<Typed> {
     if text.len() > MEGABYTE {
         return None;

@@ -76,7 +76,8 @@ impl Rounds {
         count
     }
 
-    /// Adds the values of a round as pieces, each what its text says.
+    /// Adds the values of a round as pieces, each what its text says. The first round is 0. A name
+    /// without a value is malformed.
     pub fn add_to(
         &self,
         alloc: Global,

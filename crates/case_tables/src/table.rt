@@ -6,8 +6,8 @@ use crate::pieces::Pieces;
 use crate::tally::Tally;
 use std::io;
 
-/// Plays the rows of a table, and prints the counts. A row with a mark that is none of these is
-/// malformed, and is not given to `play`.
+/// Plays the rows of a table, which have an empty line between them, and prints the counts. A row
+/// with a line that has none of these marks is malformed, and is not given to `play`.
 pub fn play_table<R: AllocGlobal + Print, F: Fn(&mut Pieces, &mut Tally, &str) -> io::Result<()>>(
     rt: &R,
     marks: &[&str],

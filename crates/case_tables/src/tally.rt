@@ -11,11 +11,13 @@ pub struct Tally {
 }
 
 impl Tally {
+    /// No case yet.
     pub fn new() -> Tally {
         Tally { cases: 0, wrong: 0 }
     }
 
-    /// Counts a case, and prints its row where it is wrong.
+    /// Counts a case, and prints its row where it is not good. What is malformed, or for which no
+    /// memory is left, counts as wrong too.
     pub fn count(
         &mut self,
         rt: &impl Print,

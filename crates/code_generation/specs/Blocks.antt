@@ -1,5 +1,5 @@
 -- The table of blocks keeps its rules: of every program's code the last block is the only `main`, each block fits its
--- class, and there are as many funs and procedures as the program declares.
+-- class, and there are as many funs and merges together, and as many procedures, as the program declares.
 use Rattle.std.specs.Prelude.{◌≡◌, true}
 use Rattle.rev_syntax.specs.Trees.{ProgramTree}
 use Rattle.rev_types.specs.Limits.{procs, funs}

@@ -47,8 +47,8 @@ pub fn number_laws()
     ensures variables { VariablesLie }
 {}
 
-/// The table of blocks keeps the verifier's rules, and has as many funs and procedures as the
-/// program.
+/// The table of blocks keeps the verifier's rules, and has as many funs and merges together, and as
+/// many procedures, as the program.
 pub fn block_rules()
     ensures well { BlocksAreWell }
     ensures counted { BlocksAreCounted }

@@ -1,8 +1,8 @@
 -- Laws of a hub of verified code.
 --   ReplaysAreOfCode   the world of a schedule is that of the code, with what runs at each state
---   OverIsOfCode       where no number has a leg in the one, none has in the other
+--   OverIsOfCode       where no number has a leg in the hub's world, none has in the code's
 --   LegComesToJoin     a joiner behind the instructions of a leg stands at the join to which that leg comes
---   MeetingsFit        a joiner and the end that it takes in are of one run, and their fuel is at most that of the start
+--   MeetingsFit        a joiner and its joinee's end are of one run, and together have at most the fuel of its start
 use Rattle.std.specs.Prelude.{◌≡◌, ℕ, ◌+◌, ◌≤◌, List}
 use Rattle.rev_code.specs.State.{State}
 use Rattle.rev_code.specs.Step.{joins}

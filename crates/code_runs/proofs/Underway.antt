@@ -14,7 +14,7 @@ use Rattle.world_runs.specs.Finish.{HasFinished}
 use Rattle.world_runs.specs.Replay.{Replayed}
 use Rattle.code_runs.specs.Completed.{IsAfter, IsUnderway}
 
--- no entry leads to the start of `main`
+-- the schedule without an entry leads to the start of `main`
 pub begun : (g : CodeRun) (fuel n : ℕ) (m : IsMain g n) → fuel ≤ most_fuel → (v : rust.World) → IsWorld g v (begin (numbered g) (start_in g n m.body fuel)) → IsUnderway g fuel v
 begun g fuel n m few v stands = record {
   few = few;

@@ -65,7 +65,8 @@ pub fn run_code(
 }
 
 /// The same of a run that begins with the legs of this schedule, one for each entry, and goes on
-/// with those of the least revisions. It is refused at the first entry that has no leg.
+/// with those of the least revisions. It is refused at the first entry that has no leg. The other
+/// fault is want of memory.
 pub fn replay_code(
     alloc: Global,
     code: Verified,

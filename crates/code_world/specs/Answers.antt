@@ -2,7 +2,7 @@
 --   Leaves        the revision has a leg, and the table stands for the world after it
 --   IsInPhase     a revision that is not marked, in this phase
 --   HasStopped    a revision has ended, with or without the mark
---   Answers       the answer, where the world is no Twice: each has its own cause
+--   Answers       the answer, where the world is no Twice: what each says of the leg
 --   world_after   the world then
 --   LegAnswers    the answer in every world
 use Rattle.std.specs.Prelude.{ℕ, suc, ◌≡◌, length, Some, None}

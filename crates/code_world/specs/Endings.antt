@@ -2,8 +2,8 @@
 --   MainIsOver   `main` is done or has trapped, or a revision was joined a second time
 --   Names        these births name these paths, and no others
 --   HasLeft      what it left in this world, and nothing where a revision was joined a second time
---   IsEndAt      what the revision of this number left, and nothing where none has ended that was
---                not joined
+--   IsEndAt      what the revision of this number left, and nothing where it has not ended, was
+--                joined or is none of the world
 use Rattle.std.specs.Prelude.{ℕ, ◌≡◌, List, [], length, Option, Some, None}
 use Rattle.rev_num.specs.Path.{Path}
 use Rattle.revision_machine.specs.Machine.{Plain}

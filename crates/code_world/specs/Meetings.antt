@@ -1,7 +1,7 @@
 -- The entry that a leg adds to its revision's list of forks and joins.
 --   HasMeeting     of a leg that comes to this, where a child gets this number
 --   MeetingOf      of the leg of this revision
---   HasNoted       where there is a leg to another world
+--   HasNoted       by the answer: none where there is no leg, and in Twice
 --   join_meeting   where the leg came to a join of this revision in this line
 use Rattle.std.specs.Prelude.{ℕ, ◌≡◌, length, Option, Some, None}
 use Rattle.rev_num.specs.Path.{Path}

@@ -76,7 +76,8 @@ impl Table {
 }
 
 impl World {
-    /// The world at the start: `main` alone, with this fuel.
+    /// The world at the start: `main` alone, with this fuel, of which there are at most
+    /// 4,000,000,000 units. Want of memory is the one error.
     pub fn begin(alloc: Global, setting: &CodeSetting, fuel: u64) -> Result<World, AllocError>
         requires setting { IsSetting setting.now }
         requires fuel { fuel ≤ most_fuel }

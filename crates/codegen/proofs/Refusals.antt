@@ -1,4 +1,4 @@
--- Code without a fault is never refused.
+-- Code without a fault is refused for want of memory alone.
 use Rattle.std.proofs.Common.{◌≡◌, ◌≢◌, ◌∙◌, None, Some, refl, sym}
 use Rattle.rev_code.specs.declared.code.Code.{Code}
 use Rattle.rev_syntax.specs.View.{program as whole}

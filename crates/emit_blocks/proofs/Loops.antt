@@ -1,6 +1,6 @@
 -- The code of a loop and of an arm, whose first jump gets its target once its block stands.
 --
---   tested_room    behind the test and the jump there is room for the block
+--   tested_long    how long the code is behind the test and the jump
 --   loop_written   a loop
 --   arm_written    an arm
 use Rattle.std.proofs.Common.{◌≡◌, ℕ, ◌+◌, Bool, true, false, List, [], ◌∷◌, ◌++◌, length, refl, ap, ◌∙◌, arith, append_assoc, length-append}

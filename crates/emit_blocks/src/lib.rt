@@ -1,4 +1,4 @@
-//! The code of a program.
+//! The code of blocks of statements, written behind code that stands.
 #![tactic(auto)]
 
 mod blocks;

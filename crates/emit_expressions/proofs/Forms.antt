@@ -1,7 +1,8 @@
 -- What comes of the tasks of an expression's form is its code.
 --
---   grown      the code that stands is as long as before, or longer
+--   whole-code, arguments-code, linked-code   what a task gives
 --   pick_whole, links_worked, links_decided   the forms with jumps
+--   otherwise_written, decided_written        what is written for these, with its targets
 use Rattle.std.proofs.Common.{◌≡◌, ℕ, ◌+◌, Bool, List, [], ◌∷◌, ◌++◌, length, refl, sym, ap, ◌∙◌, arith, append_assoc, append-nil, length-append}
 use Rattle.std.specs.Prelude.{slice_set}
 use Rattle.std.proofs.Math.Seq.{set-append_seam}

@@ -81,7 +81,7 @@ pub struct Known<'t> {
 }
 
 impl Known<'_> {
-    /// Pushes the local that the name means, or else the shared variable.
+    /// The instruction that pushes the local that the name means, or else the shared variable.
     pub fn load(&self, name: &Name) -> Instr
         ensures { result
             ≡ load (numbers_of self.now.numbers.now) (placed_name name.now)
@@ -93,7 +93,8 @@ impl Known<'_> {
         }
     }
 
-    /// Pops into the local that the name means, or else into the shared variable.
+    /// The instruction that pops into the local that the name means, or else into the shared
+    /// variable.
     pub fn store(&self, name: &Name) -> Instr
         ensures { result
             ≡ store (numbers_of self.now.numbers.now) (placed_name name.now)

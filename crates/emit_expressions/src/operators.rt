@@ -16,6 +16,7 @@ pub enum Way {
     Works(Instr),
 }
 
+/// How this operator goes.
 pub fn way_of(op: BinaryOp) -> Way
     ensures { result ≡ spec.way_of op }
 {
@@ -36,6 +37,7 @@ pub fn way_of(op: BinaryOp) -> Way
     }
 }
 
+/// The instruction of an operator with one operand.
 pub fn unary(op: UnaryOp) -> Instr
     ensures { result ≡ unary_code op }
 {

@@ -21,7 +21,7 @@ pub fn put(code: &mut Vec<Instr>, x: Instr) -> Result<(), AllocError>
     Ok(())
 }
 
-/// Writes an instruction over the one at this place.
+/// Writes an instruction over the one at this place, and nothing where there is none.
 pub fn patch(code: &mut Vec<Instr>, at: usize, x: Instr)
     ensures { code.new.items ≡ slice_set code.old.items at x }
 {

@@ -8,7 +8,7 @@ use Rattle.emit_expressions.specs.declared.known.NameNumbers.{NameNumbers}
 
 -- ---- names
 
--- a name has the next number, if it has none
+-- a name has the next number, if it has none; the number is spent in either case
 abbrev pub entered : Numbered → Name → Numbered
 entered t name = record { table = added t.table name t.next; next = t.next + 1 }
 

@@ -25,7 +25,7 @@ fn none_named(alloc: Global, next: u16) -> Numbered
     }
 }
 
-/// Gives a name the next number, unless it has one.
+/// Gives a name the next number, unless it has one. The number is spent in either case.
 fn enter(alloc: Global, numbered: &mut Numbered, name: &[u8]) -> Result<(), AllocError>
     requires { numbered.old.next + 1 < 2 ^ 16 }
     ensures { OnOk result (numbered.new ≡ entered numbered.old name.now) }

@@ -77,7 +77,7 @@ pub fn emit_assign_cell(
     put(code, Instr::StoreCell(var))
 }
 
-/// A call, whose result is dropped.
+/// A call, whose result is dropped where it leaves one.
 pub fn emit_call(
     alloc: Global,
     known: &Known,

@@ -5,6 +5,8 @@
 --   Reads     locals, variables, input and funs, as names mean them
 --   Gives     what the code leads to: the value on the stack and all else as before; or a trap with the cause; each step leads
 --             to a later place; `GiveAll` so for arguments
+--   ExpressionsRun, ArgumentsRun
+--             where a state reads so, the code of expressions and of arguments gives their values
 use Rattle.std.specs.Prelude.{◌≡◌, ℕ, ◌+◌, ◌<◌, true, false, Option, Some, None, List, [], ◌∷◌, length, map, slice_get, Result, Ok, Err}
 use Rattle.rev_num.specs.Path.{Path}
 use Rattle.rev_num.specs.declared.value.Value.{Value}

@@ -6,8 +6,8 @@
 ghost use Rattle.expression_run.specs.Agrees.{ArgumentsRun, ExpressionsRun};
 ghost use Rattle.expression_run.specs.Blocks.{FunBlocksGive, MergeBlocksGive};
 
-/// From a state that reads as the expression does, the code of an expression leads to its value on
-/// the stack, with all else as before, or to a trap with its cause.
+/// From a state that reads as the expression does, the code of an expression that has a kind leads
+/// to its value on the stack, with all else as before, or to a trap with its cause.
 pub fn expression_law()
     ensures { ExpressionsRun }
 {}
@@ -18,8 +18,8 @@ pub fn arguments_law()
     ensures { ArgumentsRun }
 {}
 
-/// The block of a fun or merge has, for arguments of its parameters' kinds, the value of the body,
-/// or its cause, where the funs that the body applies have theirs.
+/// The block of a fun or merge whose body keeps the rules has, for arguments of its parameters'
+/// kinds, the value of the body, or its cause, where the funs that the body applies have theirs.
 pub fn block_laws()
     ensures funs { FunBlocksGive }
     ensures merges { MergeBlocksGive }

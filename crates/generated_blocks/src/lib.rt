@@ -5,8 +5,8 @@
 
 ghost use Rattle.generated_blocks.specs.Laws.{GeneratedCodeIsAccepted, InstructionsKeepRules};
 
-/// No instruction of the code of a small, well-typed program breaks a rule, and each fun and merge
-/// is within its limits.
+/// No instruction of the code of a small, well-typed program whose funs and merges keep the rules
+/// on funs breaks a rule, and each fun and merge is within its limits.
 pub fn instruction_law()
     ensures { InstructionsKeepRules }
 {}

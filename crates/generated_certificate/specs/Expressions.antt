@@ -2,7 +2,7 @@
 -- the note of its first place says.
 --   word_kind          the kind of the word that the code leaves
 --   expression_notes   a note for each instruction, one case for each form
---   expression_depth   the most words that the code has on the stack at once
+--   expression_depth   so many words at most the code has on the stack at once
 use Rattle.std.specs.Prelude.{ℕ, suc, max, List, [], ◌∷◌, ◌++◌}
 use Rattle.rev_num.specs.declared.value.ValueKind.{ValueKind}
 use Rattle.rev_num.specs.declared.value.ValueKind.TheVariants as k

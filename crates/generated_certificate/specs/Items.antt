@@ -3,7 +3,8 @@ use Rattle.std.specs.Prelude.{ℕ, List, [], ◌∷◌, slice_get, true}
 use Rattle.rev_num.specs.declared.value.ValueKind.{ValueKind}
 use Rattle.code_rules.specs.Pass.{Note, known}
 
--- the note of each place, by the list of them; of a place without a note nothing is known
+-- the note of each place, by the list of them; a place without one has that of an entry, with
+-- nothing on the stack
 abbrev pub noted : List Note → ℕ → Note
 noted ns at = known (slice_get ns at)
 

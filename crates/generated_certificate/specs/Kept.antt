@@ -1,6 +1,6 @@
 -- Code that keeps all rules at its places, by notes.
---   IsWithin   a block whose jumps stay inside and whose last instruction nothing follows, and a
---              number of words
+--   IsWithin   a block whose jumps stay inside and whose last instruction does not go on to the
+--              next place, and a number of words, which has a limit except in a fun or merge
 --   IsKept     an instruction fits the notes, and what it leaves is at most so many words
 --   AllKept    instructions from a place on
 use Rattle.std.specs.Prelude.{◌≡◌, ◌⊎◌, ◌≤◌, ℕ, suc, false, List, [], ◌∷◌, Some, length, slice_get}

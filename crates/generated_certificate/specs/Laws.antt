@@ -19,7 +19,8 @@ use Rattle.generated_certificate.specs.Means.{FunMeans, NamesMean}
 use Rattle.generated_certificate.specs.Kept.{IsWithin, AllKept}
 
 -- An expression that has a kind stands in a block with its notes, above what a first note says, and
--- its value fits the note behind it. Then each of its instructions keeps the rules.
+-- its value fits the note behind it; names mean there what they mean in the program, and there is
+-- room for its words. Then each of its instructions keeps the rules.
 abbrev pub ExpressionsAreCertified : Type 0
 ExpressionsAreCertified =
     (code : Code) (k : ℕ) (b : CodeBlock) (deepest : ℕ)

@@ -20,8 +20,9 @@ use Rattle.generated_certificate.specs.Kept.{IsWithin, AllKept}
 use Rattle.generated_statements.specs.Statements.{statements_notes}
 use Rattle.generated_statements.specs.Bodies.{BodyMeans, Tables}
 
--- Typed statements of a small tree stand in a block with their notes, and nothing is on the stack
--- behind them. Then each of their instructions keeps the rules.
+-- Typed statements of a small tree, whose prints have few items, stand in a block with their notes,
+-- and nothing is on the stack behind them; names mean there what they mean in the program, and the
+-- tables have their kinds and layouts. Then each of their instructions keeps the rules.
 abbrev pub StatementsAreCertified : Type 0
 StatementsAreCertified =
     (code : Code) (k : ℕ) (b : CodeBlock) (n : Numbers) (c : Names) (result : Option ValueKind)

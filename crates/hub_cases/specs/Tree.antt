@@ -1,5 +1,5 @@
 -- A tree of revisions as a machine by numbers. Each but the leaves forks two children and joins two revisions.
---   next, join   what a revision does next, and what a join makes of it
+--   next, joined   what a revision does next, and what a join makes of it
 --   goes_on, is_early   it has not ended, or not forked both children
 use Rattle.std.specs.Prelude.{◌≡◌, ℕ, ◌+◌, ◌-◌, ◌^◌, ◌==◌, min, Bool, true, false, cond}
 use Rattle.revision_machine.specs.Numbered.{Wish, Bears, Wants, Goes, Stops}

@@ -32,7 +32,8 @@ pub enum Stage {
     Over,
 }
 
-/// A revision with so many generations below it. It counts the leaves that it took in.
+/// A revision with so many generations below it. It counts the leaves that it took in, up to
+/// 2^32 - 1.
 #[derive(Clone, Copy, PartialEq, Eq, Debug)]
 pub struct Node {
     pub way: Way,

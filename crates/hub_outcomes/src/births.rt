@@ -30,8 +30,9 @@ fn bear(births: &mut Vec<Birth>, forker: u32) -> Result<(), AllocError>
 }
 
 /// The birth of each revision, by number, from the forkers of all: a revision's place is how many
-/// its forker had forked before. The first revision has itself for its forker and is not counted.
-/// It takes one pass. Want of memory is the one error.
+/// its forker had forked before. The first revision has itself for its forker and is not counted,
+/// and each other has an earlier one. There are at most 2^32. It takes one pass. Want of memory is
+/// the one error.
 pub fn births_of(alloc: Global, forkers: &[u32]) -> Result<Vec<Birth>, AllocError>
     requires first { at_number forkers.now 0 ≡ Some 0 }
     requires earlier { AreEarlier forkers.now }

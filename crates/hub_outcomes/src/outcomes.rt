@@ -19,8 +19,8 @@ use world_outcomes::outcome_of;
 
 /// The outcome of the code, from what a hub kept of its run, over any machine whose ends are those
 /// of code: Twice where a revision was joined a second time, and else by what `main` left. The run
-/// is lent, so what `main` left is copied, once. Births take one pass over the forkers. Want of
-/// memory is the one error.
+/// is lent, so what `main` left is copied, once. Births take one pass over the forkers. The run
+/// itself was not halted for want of memory. Want of memory is the one error.
 pub fn outcome_of_run<'a, L: Revision<End = CodeEnd<'a>>>(
     alloc: Global,
     setting: &CodeSetting,

@@ -51,7 +51,7 @@ impl RunQueue {
         }
     }
 
-    /// Room for one more number.
+    /// Room for one more number. `false` is want of memory.
     pub fn reserve(&mut self) -> bool
         ensures same { KeepsLists self.old self.new }
         ensures long { length self.new.waiters.items ≡ length self.old.waiters.items }
@@ -80,7 +80,7 @@ impl RunQueue {
         self.unfinished += 1;
     }
 
-    /// The first number that is ready, which is no more.
+    /// The first number that is ready, which is then ready no more.
     pub fn take(&mut self) -> Option<u32>
         requires { IsWithin self.old.ready (length self.old.links.items) }
         ensures lists { Takes self.old self.new result }
@@ -91,7 +91,7 @@ impl RunQueue {
         Some(chain.first)
     }
 
-    /// The first number that is ready, and 1; or 0.
+    /// The first number that is ready plus 1, or 0 where none is.
     pub fn mark(&self) -> u64
         ensures { MatchOption self.now.ready (result ≡ 0) (λ chain. result ≡ chain.first + 1) }
     {
@@ -101,7 +101,8 @@ impl RunQueue {
         }
     }
 
-    /// A list of what waits for this number, also where there is no such number yet.
+    /// A list of what waits for this number, also where there is no such number yet. `false` is
+    /// want of memory.
     pub fn reach(&mut self, on: u32) -> bool
         ensures reach { result ≡ true → on < length self.new.waiters.items }
         ensures same { KeepsLists self.old self.new }
@@ -143,7 +144,7 @@ impl RunQueue {
         }
     }
 
-    /// The number has ended.
+    /// The number has ended. What waited for it is ready, before what was.
     pub fn end(&mut self, number: u32)
         requires within { (number < length self.old.waiters.items)
             × IsWithin (chain_at self.old.waiters.items number) (length self.old.links.items) }

@@ -31,7 +31,8 @@ pub struct Revisions<R, A, E> {
     ghost kept_room: { (kept.items ≡ []) × (vec_len slots ≤ vec_capacity kept) },
 }
 
-/// What a revision that is no more asked for leaves.
+/// What `part` gives: by number the ends that nobody joined, the runners and joiners that no seat
+/// has, and by number the forkers.
 pub struct Parted<R, A, E> {
     pub ends: Vec<Option<E>>,
     pub kept: Vec<Kept<R, A>>,

@@ -7,6 +7,6 @@ pub enum HubState {
     All,
     /// A revision was joined a second time.
     Twice,
-    /// There was no memory, or a caller gave up.
+    /// There was no memory, a fork found no number left, or a caller gave up.
     NoMemory,
 }

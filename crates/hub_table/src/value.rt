@@ -43,7 +43,7 @@ impl<R, A, E> Turn<R, A, E> {
     }
 
     /// One more entry, and one more revision, and its number. The runner comes back for want of
-    /// memory.
+    /// memory, and where no number is left.
     pub fn grow(&mut self, of: u32, child: R) -> Result<u32, R>
         requires queue { (length self.old.revisions.queue.links.items
             ≡ length self.old.revisions.slots.items)

@@ -1,5 +1,5 @@
 -- A run by threads.
---   IsNewSeat     a seat as the opening of this hub made it
+--   IsNewSeat     a seat of this hub, with the start and the group of its run
 --   IsHandFor     a hand for the run that this hub began
 --   IsRunFrom     what a run leaves that began in a state, with snapshots of a group
 use Rattle.std.specs.Prelude.{◌≡◌, ℕ, List, Some}

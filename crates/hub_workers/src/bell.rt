@@ -8,10 +8,10 @@ use turn_hub::TurnHub;
 
 /// A count of what happened at a hub, and of the threads that sleep until more happens.
 ///
-/// At most one thread is the scout: it was woken, or is being woken, and has found nothing yet.
-/// While there is one, nobody is woken. Who finds something is the scout no more, and wakes the
-/// next where more is ready. So a wake travels on while there is work, and who makes revisions
-/// ready does not pay for it.
+/// At most one thread is the scout, but for the last case below: it was woken, or is being woken,
+/// and has found nothing yet. While there is one, nobody is woken. Who finds something is the scout
+/// no more, and wakes the next where more is ready. So a wake travels on while there is work, and
+/// who makes revisions ready does not pay for it.
 ///
 /// No revision that is ready is lost:
 /// - A thread reads the count of rings, then looks for work, then counts itself as a sleeper, and

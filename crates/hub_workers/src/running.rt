@@ -136,8 +136,9 @@ where
     Finished { run, hands }
 }
 
-/// A run from its first revision by one thread for each hand. Where a thread can't be made, the
-/// caller does its work; all threads have ended when it returns. The error is want of memory.
+/// A run from its first revision by one thread for each hand, of which there is one at least and
+/// fewer than 2^32. Where a thread can't be made, the caller does its work; all threads have ended
+/// when it returns. The error is want of memory.
 pub fn run<L: Legs + Send + Sync, G: Gate + Sync, R: Threads + Wait + Sync>(
     rt: &R,
     alloc: Global,

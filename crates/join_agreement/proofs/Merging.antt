@@ -1,8 +1,8 @@
 -- The merges of a program's locations are the code's merge blocks.
 --   coded_value        the word of a new value, or the same fault
 --   merge_alike        the merge of the words of three values is the word of that of the values
---   merges_laid        the code has the merges of the program, by location, each declared
---   merges_alike       wherever the joinee wrote
+--   laid_from          the code has the merges of the program, by location, each declared
+--   alike_from         wherever the joinee wrote
 use Rattle.std.proofs.Common.{◌≡◌, ◌∙◌, ℕ, zero, suc, ◌+◌, Bool, true, false, List, [], ◌∷◌, ◌++◌, length, map, replicate, Option, Some, None, option_map, refl, sym, ap, subst, append_assoc, length-append, arith}
 use Rattle.std.specs.Prelude.{slice_get, if◌then◌else◌, is_some, Result, Ok, Err}
 use Rattle.std.proofs.lemmas.List.{length-replicate}

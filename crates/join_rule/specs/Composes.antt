@@ -64,7 +64,7 @@ abbrev pub as_join : List Location → List Location → Composition Value → c
 as_join ms js (Ok xs) = merged (with_new ms js xs)
 as_join ms js (Err f) = faults f.0 f.1
 
--- over as many locations as the program has
+-- with as many locations of the joiner and of the joinee as there are merges
 abbrev pub ComposesAsJoin : Type 0
 ComposesAsJoin = (p : ProgramTree) (ks : List (Option ℕ)) (ms js : List Location)
     → length ms ≡ length ks → length js ≡ length ks

@@ -17,10 +17,12 @@ use rev_vm::{start_main, start_whole};
 use std::alloc::{AllocError, Global};
 use version_map::{EndValue, MergeBy, Snapshot};
 
+/// A copy of these items.
 pub fn items<T: Copy>(alloc: Global, all: &[T]) -> Result<Items<T>, AllocError> {
     Ok(Items::from_vec(Vec::from_slice(alloc, all)?))
 }
 
+/// A block of these parts. The kinds of its locals are those of its parameters first.
 pub fn block(
     alloc: Global,
     class: BlockClass,
@@ -58,7 +60,8 @@ pub fn variable(
     })
 }
 
-/// Fun 0 gives its first number and the difference of the two others, and merge 1 applies it.
+/// Fun 0 gives the sum of its first number and the difference of the two others, and merge 1
+/// applies it.
 pub fn fun_and_merge(alloc: Global) -> Result<Vec<CodeBlock>, AllocError> {
     let int = Some(ValueKind::Int);
     let three = [ValueKind::Int, ValueKind::Int, ValueKind::Int];

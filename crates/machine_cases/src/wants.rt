@@ -1,4 +1,4 @@
-//! A run for which memory is wanting.
+//! Two runs, of which the first may find that memory is wanting.
 
 ghost use Rattle.std.specs.Prelude.{◌≡◌};
 ghost use Rattle.block_run.specs.Area.{count};

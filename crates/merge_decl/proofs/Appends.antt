@@ -9,7 +9,7 @@ use Rattle.merge_decl.specs.FunRules.{Use, count, expression_uses, expressions_u
 use Rattle.merge_decl.specs.Uses.{use_of, uses_of}
 use Rattle.std.proofs.lemmas.List.{append_assoc}
 
--- one list behind another, as the code is told by name
+-- one list behind another; the code names this lemma
 pub appends : {A : Type 0} (a b c : List A) → (a ++ b) ++ c ≡ a ++ (b ++ c)
 appends a b c = append_assoc a b c
 

@@ -1,6 +1,8 @@
 -- What is among two lists, and where a list of faults has its first.
 --
 --   left_among, right_among, among_split, last_among, more_among   what is among a list of two parts
+--   one_first, no_first                                            two first faults are alike; no faults have none
+--   first_from, known_or_later                                     where the first fun of a name is
 use Rattle.std.proofs.Common.{◌≡◌, ℕ, inl, inr, subst, arith, List, [], ◌≤◌, ◌+◌, Bool, true, false, cond, ◌∷◌, ◌++◌, length, Some, ap, ◌⊎◌, if◌then◌else◌, Option, None, refl}
 use Rattle.merge_decl.specs.Least.{Among, IsBefore, IsFirst}
 use Rattle.rev_num.specs.declared.value.ValueKind.{ValueKind}

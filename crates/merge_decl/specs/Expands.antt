@@ -20,6 +20,7 @@ decls_of_merges ms = map (λ m. m.decl) ms
 abbrev pub Refuses : ProgramTree → MergeFault → Type 0
 Refuses p f = f ≢ OutOfMemory → IsFirst place rank (fun_faults p) f
 
--- where names mean these funs: no rule is broken, or the first that is
+-- where names mean these funs: the first rule that the applications break. Want of memory says
+-- nothing.
 abbrev pub IsFirstBroken : (Name → Option FunHead) → List Use → MergeFault → Type 0
 IsFirstBroken named us f = f ≢ OutOfMemory → IsFirst place rank (broken_in named us) f

@@ -20,7 +20,7 @@ count no_expressions = 0
 count (expression x xs) = 1 + count xs
 
 abbrev mutual
-  -- the applications in an expression, in the order of their names' places
+  -- the applications in an expression, from left to right
   pub expression_uses : ℕ → Expression → List Use
   expression_uses n (placed at s) = expression_form_uses n s
 

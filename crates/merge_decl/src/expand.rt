@@ -18,7 +18,8 @@ use rev_num::Items;
 use rev_syntax::{Decl, Program};
 use std::alloc::{AllocError, Global};
 
-/// A rule on funs that a program breaks, with the place of the name of the application.
+/// A rule on funs that a program breaks, with the place of the name of the application; or want of
+/// memory, which says nothing of the program.
 #[derive(Clone, Copy, PartialEq, Eq, Debug, Drop)]
 pub enum MergeFault {
     /// No fun has this name.
@@ -59,7 +60,7 @@ pub struct FunHead {
 }
 
 /// A small program that keeps the rules on funs: the declarations of its funs and of its merges in
-/// order, and for each application, in the order of places, the number of its fun.
+/// order, and for each application, from left to right, the number of its fun.
 #[derive(Drop)]
 pub struct Expanded {
     pub program: Program,

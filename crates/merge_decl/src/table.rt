@@ -10,7 +10,8 @@ use std::marker::Model;
 /// A table from names to values. Contracts see the list of its entries, in the order in which they
 /// came.
 ///
-/// A look-up goes through an ordered map, so that no choice of names makes it slow.
+/// A look-up goes through an ordered map, so that no choice of names makes it slow; no contract
+/// speaks of its time.
 #[derive(Drop)]
 pub struct NameTable<V> {
     entries: Vec<(Vec<u8>, V)>,

@@ -219,7 +219,7 @@ fn add_block<'a>(
     Ok(())
 }
 
-/// Appends the applications of declaration number `decl`, in a program of `all` declarations.
+/// Appends the applications of a declaration of this number, in a program of `all` declarations.
 fn add_decl<'a>(
     uses: &mut Vec<Use<'a>>,
     all: usize,
@@ -239,7 +239,7 @@ fn add_decl<'a>(
 }
 
 #[tactic(auto, using(crate::proofs::Appends::appends))]
-/// The applications of a program, in the order of their places.
+/// The applications of a program, from left to right.
 pub fn uses_in(alloc: Global, program: &Program) -> Result<Vec<Use<'_>>, AllocError>
     ensures { IfOk result (λ us. uses_of us.items ≡ rule.uses_in (whole program.now)) }
 {

@@ -18,7 +18,7 @@ pub struct PlainLanguage<'a> {
 }
 
 impl<'a> PlainLanguage<'a> {
-    /// The language of a program.
+    /// The language of a program, with its inputs and the most fuel that a fork gives.
     pub fn new(
         alloc: Global,
         typed: &'a Typed,

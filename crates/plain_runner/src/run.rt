@@ -21,7 +21,8 @@ use revision_steps::Local;
 use std::alloc::{AllocError, Global};
 
 impl<'a> PlainLanguage<'a> {
-    /// The state before the first step: `main` alone, with this fuel.
+    /// The state before the first step: `main` alone, with this fuel, at most 4,000,000,000 units.
+    /// Want of memory is the one error.
     pub fn start(&self, alloc: Global, fuel: u64) -> Result<GlobalState<Local<'a>>, AllocError>
         requires { fuel ≤ most_fuel }
         ensures start { IfOk result (λ g. global_of g ≡ start_of (setting_of self.now) fuel) }
@@ -33,7 +34,8 @@ impl<'a> PlainLanguage<'a> {
     }
 
     /// The state after a step of the revision at this path, and how the step came out. For `Waits`,
-    /// `Ended` and `NoSuch` it is the given one. Want of memory is the one error.
+    /// `Ended` and `NoSuch` it is the given one, which a run has reached from a first state within
+    /// the limit. Want of memory is the one error.
     pub fn step(
         &self,
         alloc: Global,
@@ -60,8 +62,8 @@ impl<'a> PlainLanguage<'a> {
         machine::copy_state(self, alloc, state)
     }
 
-    /// The states after steps of the revisions at `p` and `q` in both orders. Want of memory is the
-    /// one error.
+    /// The states after steps of the revisions at `p` and `q` in both orders, from a state that a
+    /// run has reached from a first one within the limit. Want of memory is the one error.
     pub fn diamond_step(
         &self,
         alloc: Global,
@@ -76,7 +78,8 @@ impl<'a> PlainLanguage<'a> {
         machine::diamond_step(self, alloc, state, p, q)
     }
 
-    /// The end of a complete run with this fuel, which is the end of every complete run.
+    /// The end of a complete run with this fuel, at most 4,000,000,000 units, which is the end of
+    /// every complete run. Want of memory is the one error.
     pub fn run(&self, alloc: Global, fuel: u64) -> Result<GlobalState<Local<'a>>, AllocError>
         requires { fuel ≤ most_fuel }
         ensures { IfOk result
@@ -88,8 +91,9 @@ impl<'a> PlainLanguage<'a> {
     }
 }
 
-/// The outcome of the program with these inputs, the most fuel that a fork gives, and this fuel:
-/// that of every complete run, whatever the order of its steps. Want of memory is the one error.
+/// The outcome of the program with these inputs, the most fuel that a fork gives, and this fuel, at
+/// most 4,000,000,000 units: that of every complete run, whatever the order of its steps. Want of
+/// memory is the one error.
 pub fn run_plain(
     alloc: Global,
     typed: &Typed,

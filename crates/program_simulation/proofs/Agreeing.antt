@@ -1,8 +1,8 @@
 -- Related revisions agree.
 --   settled_empty      with an empty stack there is nothing to store
 --   work_agrees        a revision at work
---   related_agrees     by paths
---   related_by         by numbers
+--   same_agrees        by paths
+--   related_agrees     by numbers
 use Rattle.std.proofs.Common.{◌≡◌, ◌∙◌, ◌⊎◌, inl, inr, ℕ, Bool, true, false, ◌&&◌, List, [], ◌∷◌, Option, Some, None, refl, sym, ap, subst}
 use Rattle.std.specs.Prelude.{slice_get, map}
 use Rattle.rev_num.specs.Path.{Path}

@@ -1,6 +1,6 @@
 -- Step by step both come to the same event.
 --   Arrives        the code comes to an event, and the calculus with it
---   arrives        from every related state
+--   from           it does so from every related state
 --   legs_alike     the event is that of the leg
 use Rattle.std.proofs.Common.{◌≡◌, inl, inr, ℕ, zero, suc, ◌+◌, ◌≤◌, refl, sym, subst, arith, le_refl}
 use Rattle.std.specs.Prelude.{is_some}

@@ -1,6 +1,6 @@
 -- When a revision of running code agrees with one of the calculus.
---   settled        the state of the code; at the store of what a Fork or TryJoin gave, the state
---                  after that store
+--   settled        the state of the code; at the store to a scalar of what a Fork or TryJoin gave,
+--                  the state after that store
 --   compared       the state that is compared: a revision at work counts as it is settled
 --   PhaseAgrees    both at work, both done, or both trapped with the same cause, line and origin
 --   Agrees         the same phase, and the same snapshot and writes, fuel, forks, list of forks and

@@ -27,7 +27,8 @@ impl LeastHeap {
         Ok(())
     }
 
-    /// The least number, which is taken out once.
+    /// The least number, which is taken out once. The clauses do not say that it stood in the heap:
+    /// it is at most each number that did.
     pub fn take(&mut self) -> Option<u32>
         ensures least { IfSome result
             (λ x. (n : ℕ) → n < 2 ^ 32 → Has self.old n → x ≤ n) }

@@ -33,7 +33,7 @@ impl ReadyQueue {
         }
     }
 
-    /// One number more, for which none waits.
+    /// One number more. What was ready is, and what waited does.
     pub fn grow(&mut self, alloc: Global) -> Result<(), AllocError>
         ensures count { OnOk result
             (length self.new.waiters.items ≡ length self.old.waiters.items + 1) }
@@ -55,7 +55,8 @@ impl ReadyQueue {
         Ok(())
     }
 
-    /// The least number that is ready, which is taken out once.
+    /// The least number that is ready, which is taken out once. The clauses do not say that it was
+    /// ready: it is at most each number that was.
     pub fn take(&mut self) -> Option<u32>
         ensures least { IfSome result
             (λ x. (n : ℕ) → n < 2 ^ 32 → HasReady self.old n → x ≤ n) }

@@ -1,4 +1,4 @@
--- A program that uses each handle once never reaches Twice.
+-- A well-typed program that uses each handle once never reaches Twice.
 use Rattle.std.proofs.Common.{◌≡◌, ◌≢◌, ◌∙◌, ◌⊎◌, inl, inr, ℕ, zero, suc, ◌+◌, ◌<◌, ◌≤◌, Bool, true, false, cond, List, [], ◌∷◌, ◌++◌, Option, Some, None, refl, sym, ap, subst, arith, le_refl}
 use Rattle.rev_num.specs.Path.{Path, child}
 use Rattle.rev_num.specs.Path as path

@@ -1,4 +1,4 @@
--- A program that keeps the affine rule uses each handle once.
+-- A well-typed program that keeps the affine rule uses each handle once.
 use Rattle.std.proofs.Common.{◌≡◌, ◌∙◌, ◌⊎◌, inl, inr, ℕ, zero, suc, Bool, true, false, cond, List, [], ◌∷◌, ◌++◌, Option, Some, None, refl, sym, ap, subst, true≢false, append_assoc}
 use Rattle.rev_num.specs.declared.value.ValueKind.{ValueKind}
 use Rattle.std.proofs.lemmas.Bool.{false_from_ne_true as not_true}

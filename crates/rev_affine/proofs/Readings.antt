@@ -34,11 +34,11 @@ Plain x = (q : Path) → IsHandle x q → ⊥
 pub plain_others : OfOthers Plain
 plain_others = record { int = λ z q e. absurd cc; bool = λ x q e. absurd cc; none = λ q e. absurd cc }
 
--- a handle is of this kind alone
+-- the value is a handle only where this kind is rev
 abbrev pub OfRev : ValueKind → Value → Type 0
 OfRev t x = (q : Path) → IsHandle x q → t ≡ k.Rev
 
--- none is a handle's
+-- no parameter is of kind rev
 abbrev pub PlainParams : List Parameter → Type 0
 PlainParams [] = Unit {0}
 PlainParams (p ∷ ps) = (p.kind ≢ k.Rev) × PlainParams ps

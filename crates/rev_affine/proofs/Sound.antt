@@ -1,4 +1,4 @@
--- The function that gives the places of second uses gives only those that paths have.
+-- In typed statements the function that gives the places of second uses gives only those that paths have.
 use Rattle.std.proofs.Common.{◌≡◌, ◌⊎◌, inl, inr, ℕ, zero, suc, Bool, true, false, cond, List, [], ◌∷◌, ◌++◌, Option, Some, None, refl, sym, ap, subst, append_assoc}
 use Rattle.std.specs.Prelude.{if◌then◌else◌}
 use Rattle.rev_num.specs.declared.value.ValueKind.{ValueKind}

@@ -46,9 +46,9 @@ joins_anew = program (proc "p" [] [] ∷ []) (let_ 1 "h" (rfork "p" []) ∷ rjoi
 abbrev pub tries_twice : ProgramTree
 tries_twice = program (proc "p" [] [] ∷ []) (let_ 1 "h" (rfork "p" []) ∷ let_ 1 "a" (tryjoin (h_at 55)) ∷ let_ 1 "b" (tryjoin (h_at 74)) ∷ [])
 
--- proc p() { } proc q(h: rev) { rjoin h; } main { let h = rfork p(); q(h); rjoin h; }
+-- proc p() { } proc q(h: rev) { rjoin h; } main { let h = rfork p(); call q(h); rjoin h; }
 abbrev pub passes_and_joins : ProgramTree
-passes_and_joins = program (proc "p" [] [] ∷ proc "q" (param "h" k.Rev ∷ []) (rjoin 1 (h_at 36) ∷ []) ∷ []) (let_ 1 "h" (rfork "p" []) ∷ call 1 "q" (h_at 69 ∷ []) ∷ rjoin 1 (h_at 79) ∷ [])
+passes_and_joins = program (proc "p" [] [] ∷ proc "q" (param "h" k.Rev ∷ []) (rjoin 1 (h_at 36) ∷ []) ∷ []) (let_ 1 "h" (rfork "p" []) ∷ call 1 "q" (h_at 74 ∷ []) ∷ rjoin 1 (h_at 84) ∷ [])
 
 -- proc p() { } main { let h = rfork p(); let g = pick(true, h, none); }
 abbrev pub picks : ProgramTree

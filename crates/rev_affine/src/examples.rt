@@ -6,8 +6,8 @@ ghost use Rattle.rev_affine.specs.Affine.{IsAffine, copied, in_loop, stored, use
 ghost use Rattle.rev_affine.specs.Laws.{IsRefused};
 ghost use Rattle.rev_affine.specs.Examples as x;
 
-/// Well-typed programs that keep the rule: one use, one in each arm of an `if`, one before a
-/// `return` and one behind it, and one after each value.
+/// Programs that keep the rule: one use, one in each arm of an `if`, one before a `return` and one
+/// behind it, and one after each value. The third is well typed.
 pub fn affine_programs()
     ensures once { IsAffine x.joins_once }
     ensures either { IsAffine x.joins_in_either }
@@ -16,11 +16,11 @@ pub fn affine_programs()
     ensures typed { IsAccepted x.returns_after_join }
 {}
 
-/// How well-typed programs break the rule first, and where in their texts.
+/// How programs break the rule first, and where in their texts.
 pub fn other_programs()
     ensures joins { IsRefused x.joins_twice used_twice 54 }
     ensures tries { IsRefused x.tries_twice used_twice 74 }
-    ensures passes { IsRefused x.passes_and_joins used_twice 79 }
+    ensures passes { IsRefused x.passes_and_joins used_twice 84 }
     ensures in_turns { IsRefused x.joins_in_loop used_twice 58 }
     ensures renews { IsRefused x.renews_in_loop in_loop 58 }
     ensures copies { IsRefused x.copies copied 47 }

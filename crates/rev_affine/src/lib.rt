@@ -1,4 +1,4 @@
-//! The affine rule on handles, and that a program that keeps it never joins twice.
+//! The affine rule on handles, and that a well-typed program that keeps it never joins twice.
 //!
 //! `specs/Affine.antt` says what the paths through a procedure meet, and the four ways to break the
 //! rule, with their places; `specs/Live.antt` and `specs/Owned.antt` say which places of a state

@@ -378,7 +378,7 @@ module _ (s : Setting) (fuel : ℕ) (parts : List Part) where
         go c (of_none nowhere is) = inl (record { computed = absent; is = of_none nowhere refl; same = subst (λ o. IsSamePart s fuel parts o absent) (sym none) tt })
         go c (of_run b begins run) = inr ((h.holds (record { path = r; local = b }) (all_begun r b begins)).others none)
 
-    -- a revision whose part is the computed one, if it has one, or else that begins nowhere before the one that is kept
+    -- a revision before the one that is kept, if one is, whose part, if it has one, is the computed one
     justified_by : (a : List (Option LocalState)) (u : Option LocalState) → IsKept s fuel parts 0 a u → (r : Path) → ((k : ℕ) (p : Part) → slice_get parts k ≡ Some p → p.path ≡ r → IsJustified s fuel parts p.path) → (IsSoonest u r → ⊥) → IsJustified s fuel parts r
     justified_by a u h r stated none_before = go (part_at parts r) refl
       where

@@ -55,8 +55,8 @@ module _ (s : Setting) (fuel : ℕ) (parts : List Part) where
     pub begun : (k : ℕ) (p : Part) (x : LocalState) → slice_get parts k ≡ Some p → slice_get starts k ≡ Some (Some x) → (x.path ≡ p.path) × BeginsAt s fuel parts x.path x.local
     pub others : BeginsUnstated unstated
 
-  -- it is kept that this revision begins here: with its part, if that has a number below this one, or else as none of
-  -- which one comes before it
+  -- it is kept that this revision begins here: by its part, if that has a number below this one; and if it has no part,
+  -- the revision that is kept as the first of those is this one or comes before it
   pub record Holds (i : ℕ) (starts : List (Option LocalState)) (unstated : Option LocalState) (x : LocalState) : Type 0 where
     pub stated : (k : ℕ) (p : Part) → k < i → slice_get parts k ≡ Some p → p.path ≡ x.path → slice_get starts k ≡ Some (Some x)
     pub others : part_at parts x.path ≡ None → IsSoonest unstated x.path

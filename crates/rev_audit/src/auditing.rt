@@ -20,7 +20,8 @@ use revision_alone::LocalState;
 use std::alloc::{AllocError, Global};
 use trace_diagram::Trace;
 
-/// The verdict by the first part that differs, which comes before the revision without a part.
+/// The verdict by the first part that differs, which comes before the revision without a part, or a
+/// yes where no part differs and each revision that begins has one.
 fn of_parts<'a>(
     alloc: Global,
     stated: &Stated<'a>,
@@ -118,9 +119,10 @@ fn verdict<'a>(
     }
 }
 
-/// Whether the trace is that of the program with these inputs, the most fuel that a fork gives, and
-/// this fuel. Each revision is run by itself, from the state that its forker's own run gives it,
-/// where each join takes what the stated part of the joinee tells. Want of memory is the one error.
+/// Whether the trace, which has the form of one, is that of the program with these inputs, the most
+/// fuel that a fork gives, and this fuel, of which there are at most 4,000,000,000 units. Each
+/// revision is run by itself, from the state that its forker's own run gives it, where each join
+/// takes what the stated part of the joinee tells. Want of memory is the one error.
 pub fn audit(
     alloc: Global,
     typed: &Typed,

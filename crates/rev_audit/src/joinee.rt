@@ -21,9 +21,9 @@ use std::alloc::{AllocError, Global};
 pub(crate) enum Joinee {
     /// The joiner takes this end.
     Told(AloneEnd),
-    /// The revision was joined before.
+    /// The joiner joined the revision before, or a stated part earlier in post-order did.
     Twice,
-    /// Its stated part can't be taken.
+    /// It has no stated part, or one that can't be taken.
     Missing,
 }
 

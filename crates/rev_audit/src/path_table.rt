@@ -7,7 +7,7 @@ use rev_num::Path;
 use std::alloc::{AllocError, Global};
 use std::collections::BTreeMap;
 
-/// A table from paths to numbers. Its map is ordered, so that no choice of paths makes it slow.
+/// A table from paths to numbers, by an ordered map and not by hashes, which could collide.
 #[derive(Drop)]
 pub(crate) struct PathTable {
     pub(crate) map: BTreeMap<Vec<u32>, usize>,

@@ -63,7 +63,7 @@ fn run_on<'a>(
 }
 
 /// What comes of the own run of a revision that begins in this state. It is run once, up to its end
-/// or to a join that gives it none.
+/// or to a join from which it can't go on.
 pub(crate) fn run_alone<'a>(
     alloc: Global,
     stated: &Stated<'a>,

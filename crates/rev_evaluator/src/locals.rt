@@ -28,6 +28,7 @@ pub enum Locals<'l, 'a> {
 }
 
 impl<'l, 'a> Locals<'l, 'a> {
+    /// The value of the name, if it has one.
     pub fn find(&self, name: &[u8]) -> Option<Seen<'a>>
         ensures { option_map seen result ≡ local self.now name.now }
     {

@@ -138,9 +138,9 @@ fn merged<'a>(
 }
 
 /// The value of the merge of this number, as `merge_value` gives it, where each part that is
-/// evaluated, and each link of a chain, takes 1 from what is left.
+/// evaluated but a chain, and each link of a chain, takes 1 from what is left.
 ///
-/// No more is taken than the weight of the merge, and no more may be than there is.
+/// No more is taken than the weight of the merge, and no less than that weight may be left before.
 pub fn counted_merge_value(
     expanded: &Expanded,
     merge: u32,

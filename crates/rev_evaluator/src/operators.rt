@@ -8,6 +8,7 @@ use crate::seen::Seen;
 use rev_num::{Cause, NumFault};
 use rev_syntax::{BinaryOp, UnaryOp};
 
+/// The number of an int; 0 for another value.
 pub fn number(x: Seen) -> i64
     ensures { result ≡ spec.number_of (seen x.entry) }
 {
@@ -18,6 +19,7 @@ pub fn number(x: Seen) -> i64
     }
 }
 
+/// Whether a bool is true; another value counts as false.
 pub fn truth(x: Seen) -> bool
     ensures { result ≡ spec.truth_of (seen x.entry) }
 {
@@ -28,6 +30,7 @@ pub fn truth(x: Seen) -> bool
     }
 }
 
+/// Whether two ints or two bools are the same; other values count as different.
 pub fn same_value(x: Seen, y: Seen) -> bool
     ensures { result ≡ spec.same_value (seen x.entry) (seen y.entry) }
 {

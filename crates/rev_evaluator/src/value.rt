@@ -34,7 +34,7 @@ pub struct Scope<'s, 'l, 'a, E> {
 /// part that faults, from left to right.
 ///
 /// It takes no memory but the stack, and calls itself only where a fun is applied, and for a part
-/// within more than 64 others or an argument behind more than 64 values.
+/// within at least 64 others or an argument behind more than 64 values.
 pub fn evaluate<'a, E: Environment>(
     expanded: &'a Expanded,
     environment: &'a E,
@@ -54,8 +54,8 @@ pub fn evaluate<'a, E: Environment>(
 }
 
 /// The values of an expression's parts are taken in turn. It calls itself only where a fun is
-/// applied and where too many parts wait. Each part and each link takes 1 from what is left, as
-/// long as there is something.
+/// applied and where too many parts wait. Each part but a chain, and each link, takes 1 from what
+/// is left, as long as there is something.
 #[cycle(value)]
 pub fn take_turns<'s, 'l, 'a, E: Environment>(
     scope: &Scope<'s, 'l, 'a, E>,

@@ -28,7 +28,8 @@ use crate::seen::Seen;
 use rev_num::Cause;
 use rev_syntax::{BinaryOp, Expr, Link, Name, Node, UnaryOp};
 
-/// How many parts of an expression wait in one call, and how many values of arguments are kept.
+/// How many parts of an expression may wait in one call, and how many values of arguments may be
+/// kept.
 pub const ROOM: usize = 64;
 
 /// What is to be done with the value of a part of an expression.

@@ -174,7 +174,7 @@ module _ (bytes : List ℕ) where
       (either (level (class.fixed s.Bang) Operand (λ x e. t.placed x.start (t.unary u.Not e)))
       primary)
 
-  -- what a chain of a rank has as operands, and the chains of that rank and those that bind tighter:
+  -- the chains of each rank, from the tightest on; those of one rank are the operands of the next:
   --   product = unary { ( "*" | "/" | "%" ) unary }
   --   sum = product { ( "+" | "-" ) product }
   --   comparison = sum [ ( "==" | "!=" | "<" | "<=" | ">" | ">=" ) sum ]

@@ -8,10 +8,13 @@ ghost use Rattle.rev_expressions.specs.Reads.{Reads, IsWithin, same};
 use rev_syntax::{Fixed, Token, TokenKind};
 use std::alloc::{AllocError, AllocFailed};
 
-/// Why a text has no tree. The cursor stands at the place.
+/// Why a text has no tree, with the cursor at the place; or want of memory, which says nothing of
+/// the text.
 #[derive(Clone, Copy, Drop, Debug)]
 pub enum Fault {
+    /// What is parsed does not go on with the next token, or with the end.
     Unexpected,
+    /// The next token opens a level too many.
     TooDeep,
     OutOfMemory,
 }

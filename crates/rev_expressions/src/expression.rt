@@ -140,7 +140,7 @@ fn applied(name: Name, args: Vec<Expr>) -> Expr
     }
 }
 
-/// The same expression, which begins at an earlier token.
+/// The same expression, from another token on.
 fn moved(at: u32, e: Expr) -> Expr
     ensures { view.expression result ≡ spec.moved at (view.expression e) }
 {

@@ -32,8 +32,8 @@ pub record Gave (old : Stream) (bytes : List ℕ) (new : Stream) : Type 0 where
   pub told : Leave old bytes new
   pub calm : new.faults ≡ old.faults
 
--- one call of `read`: at `Ok n` the first n bytes of the room are what the source gave, and n is 0
--- only at its end; at `Err` the count rose and nothing was taken
+-- one call of `read`: at `Ok n` the first n bytes of the room are what the source gave, and with room
+-- n is 0 only at the end of a source that tells its bytes; at `Err` the count rose and nothing was taken
 abbrev pub Reads : Stream → Stream → List ℕ → List ℕ → Result ℕ Failed → Type 0
 Reads old new before after (Ok n) = (n ≤ length before) × Gave old (take n after) new
     × (n ≡ 0 → 0 < length before → (all : List ℕ) → old.told ≡ Some all → all ≡ [])
@@ -43,8 +43,8 @@ Reads old new before after (Err e) = Rose old new × (new.told ≡ old.told)
 abbrev pub GaveAtMost : ℕ → Stream → Stream → Type 0
 GaveAtMost most old new = (bytes : List ℕ) × (length bytes ≤ most) × Leave old bytes new
 
--- all bytes up to the end, at most `limit`; at most `limit + 1` bytes were taken, and exactly so
--- many where that is too long
+-- all bytes up to the end of a source that tells them, at most `limit`; at most `limit + 1` bytes
+-- were taken, and exactly so many where that is too long
 abbrev pub ReadsText : ℕ → Stream → Stream → Result (Vec ℕ Global) ReadText → Type 0
 ReadsText limit old new (Ok v) = Gave old v.items new × (length v.items ≤ limit)
     × ((all : List ℕ) → old.told ≡ Some all → all ≡ v.items)

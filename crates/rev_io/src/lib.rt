@@ -2,7 +2,7 @@
 //!
 //! A source gives bytes and a sink takes them, some at each call. Either may tell its bytes: those
 //! that a source has left, those that a sink holds. Each keeps a count of its faults, which a call
-//! raises exactly where it answers that it failed.
+//! raises, up to the greatest u64, exactly where it answers that it failed.
 #![tactic(auto)]
 
 ghost use Rattle.rev_io.specs.Stream.{Stream, Reads, Writes};
@@ -46,8 +46,8 @@ pub trait Source {
     // The bytes that are left, if they are told, and the count of faults.
     ghost stream: { Self → Stream };
 
-    /// Moves bytes to the front of `buf` and answers how many. Where `buf` has room, 0 is the end
-    /// of the input.
+    /// Moves bytes to the front of `buf` and answers how many. Where `buf` has room and the source
+    /// tells its bytes, 0 is the end of the input.
     fn read(&mut self, buf: &mut [u8]) -> Result<usize, Failed>
         ensures { Reads (stream self.old) (stream self.new) buf.old buf.new result };
 }

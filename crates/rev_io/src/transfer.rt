@@ -5,8 +5,8 @@ ghost use Rattle.rev_io.specs.Stream.{ReadsText, WritesAll};
 use super::{ReadText, Sink, SinkFault, Source};
 use std::alloc::Global;
 
-/// Reads all bytes up to the end, if there are at most `limit`. It takes at most one byte more than
-/// that from the source.
+/// Reads all bytes up to the end of a source that tells its bytes, if there are at most `limit`. It
+/// takes at most one byte more than that from the source.
 pub fn read_text<S: Source>(
     alloc: Global,
     source: &mut S,

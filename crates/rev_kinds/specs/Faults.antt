@@ -19,7 +19,7 @@ place (NoReturn at) = at
 place (LimitOf at which limit) = at
 place OutOfMemory = 0
 
--- limits have the number 6; of two at one place the earlier in the list of limits counts
+-- limits have the numbers from 6 on; of two at one place the earlier in the list of limits counts
 abbrev pub order : Limit → ℕ
 order Locations = 6
 order Procedures = 7

@@ -1,7 +1,8 @@
 -- The laws between the typing rules of expressions and the list of faults that the checker goes by.
 --
--- `Sound`: what breaks no rule has the kind that the rules give; `Complete`: what has a kind breaks none;
--- `Only`: no expression has two kinds; `Applies`: each application is that of a known fun.
+-- `Sound`: what breaks no rule has the kind that the rules give, where all locals have kinds and all
+-- applied funs are known; `Complete`: what has a kind breaks none; `Only`: no expression has two kinds;
+-- `Applies`: each application is that of a known fun.
 use Rattle.std.specs.Prelude.{◌≡◌, ◌≢◌, ℕ, Option, Some, None, List, [], ◌∷◌, ◌++◌, length}
 use Rattle.rev_num.specs.declared.value.ValueKind.{ValueKind}
 use Rattle.rev_syntax.specs.Trees.{Expression, placed, ExpressionForm, Expressions, Links, int, bool, no_rev, var, cell, apply, input, inputs, pick, unary, chain, no_expressions, expression, no_links, link}
@@ -56,7 +57,8 @@ abbrev mutual
 abbrev pub expression_faults : Names → Locals → Expression → List TypeFault
 expression_faults c l e = r.broken_in_expression [] (λ f. f ∷ []) (λ xs ys. xs ++ ys) c l e
 
--- what breaks no rule has the kind that the rules give
+-- where each local has a kind and each application is that of a known fun: what breaks no rule has the kind
+-- that the rules give
 abbrev pub Sound : Type 0
 Sound = (c : Names) (l : Locals) (e : Expression) → AllKinded l → Applies c e → expression_faults c l e ≡ [] → (t : ValueKind) × (kind_in c l e ≡ Some t) × HasKind c l e t
 

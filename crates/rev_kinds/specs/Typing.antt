@@ -58,7 +58,7 @@ abbrev pub TakesFirst : Links → ValueKind → Type 0
 TakesFirst no_links t = ⊥
 TakesFirst (link op x rest) t = TakesLeft op t
 
--- a parameter of this kind
+-- a parameter of this kind, where there is a parameter
 abbrev pub IsOfKind : Option Parameter → ValueKind → Type 0
 IsOfKind None t = Unit {0}
 IsOfKind (Some p) t = t ≡ p.kind
@@ -91,5 +91,3 @@ abbrev mutual
   pub LinksHave : Names → Locals → ValueKind → Links → Type 0
   LinksHave c l left no_links = Unit {0}
   LinksHave c l left (link op x rest) = ((t : ValueKind) × HasKind c l x t × TakesRightSide op left t) × LinksHave c l left rest
-
--- ---- what the law needs

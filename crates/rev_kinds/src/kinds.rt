@@ -22,6 +22,7 @@ pub fn name_kind(local: Option<Option<ValueKind>>, shared: Option<Holder>) -> Op
     }
 }
 
+/// The kind that a unary operator takes and gives.
 pub fn operand_kind(op: UnaryOp) -> ValueKind
     ensures { result ≡ kind.operand_kind op }
 {

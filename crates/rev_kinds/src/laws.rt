@@ -2,9 +2,9 @@
 
 ghost use Rattle.rev_kinds.specs.Laws.{Sound, Complete, Only};
 
-/// An expression that breaks no rule has a kind by the typing rules, which is the kind that its
-/// outermost form fixes; an expression that has a kind by the typing rules breaks no rule; and it
-/// has no other kind. Each local has a kind, and each application is that of a known fun.
+/// Where each local has a kind and each application is that of a known fun, an expression that
+/// breaks no rule has a kind by the typing rules, which is the kind that its outermost form fixes.
+/// An expression that has a kind by the typing rules breaks no rule, and it has no other kind.
 pub fn typing_laws()
     ensures sound { Sound }
     ensures complete { Complete }

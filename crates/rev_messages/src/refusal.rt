@@ -11,7 +11,7 @@ use rev_num::{Path, append_path};
 use rev_report::{Limit, Report, status};
 use std::alloc::{AllocError, Global};
 
-/// Why a call is refused.
+/// Why a call is refused. Bytes, blocks, instructions and entries are counted from 0.
 #[derive(PartialEq, Eq, Debug, Drop)]
 pub enum Refusal {
     /// The words have no reading.

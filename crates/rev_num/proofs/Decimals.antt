@@ -167,7 +167,7 @@ reads_is bytes (Err e) h =
 pub decimal_in-parses : {E : Type 0} (bytes : List ℕ) (r : Result ℤ E) → get_or bytes 0 0 ≢ 43 → ParsesSigned w64 10 bytes r → result_ok r ≡ decimal_in bytes
 decimal_in-parses bytes r plus h = reads_is bytes r (parsed bytes r plus h)
 
--- ---- bytes that are no text, or begin with a plus
+-- ---- bytes that are no text
 
 digits_ascii : (ds : List ℕ) → all_ascii_digits ds ≡ true → IsAscii ds
 digits_ascii [] h = IsAscii-nil

@@ -1,4 +1,4 @@
--- Laws of words and of decimals.
+-- Laws of words, of decimals and of division.
 use Rattle.std.specs.Prelude.{◌≡◌, ◌≢◌, ℕ, ◌-◌, ◌^◌, ◌<◌, ◌↔◌, ℤ, pos, negsuc, ◌+ℤ◌, ◌*ℤ◌, ◌≤ℤ◌, int_div, int_rem, unsigned_abs, IsTrue, List, Some, Ok, Err}
 use Rattle.std.specs.Fmt.{signed_decimal}
 use Rattle.rev_num.specs.Arith.{fits_i64, quotient_of, remainder_of}
@@ -6,16 +6,17 @@ use Rattle.rev_num.specs.Decimal.{IsDecimal, decimal_in}
 use Rattle.rev_num.specs.Words.{int_of, word_of}
 use Rattle.rev_num.specs.declared.value.NumFault.TheVariants.{Overflow, ZeroDivisor}
 
--- a number goes to its word and back, and a word to its number and back
+-- a number of 64 bits goes to its word and back, and a word of 64 bits to its number and back
 pub record WordsAndNumbersAreInverse : Type 0 where
   pub number : (n : ℤ) → IsTrue (fits_i64 n) → (word_of n < 2 ^ 64) × (int_of (word_of n) ≡ n)
   pub word : (w : ℕ) → w < 2 ^ 64 → IsTrue (fits_i64 (int_of w)) × (word_of (int_of w) ≡ w)
 
--- a number is found exactly in the bytes that are a decimal for it
+-- a number of 64 bits is found exactly in the bytes that are a decimal for it, and no other number
+-- is found
 abbrev pub DecimalsAreExact : Type 0
 DecimalsAreExact = (bytes : List ℕ) (n : ℤ) → (decimal_in bytes ≡ Some n) ↔ (IsTrue (fits_i64 n) × IsDecimal bytes n)
 
--- what is written of a number is read again as that number
+-- what is written of a number of 64 bits is read again as that number
 abbrev pub WrittenIsRead : Type 0
 WrittenIsRead = (n : ℤ) → IsTrue (fits_i64 n) → decimal_in (signed_decimal n) ≡ Some n
 
@@ -33,7 +34,8 @@ DivisionTruncates = (a b : ℤ) → b ≢ pos 0 → IsTruncatedDivision a b (int
 abbrev pub least_i64 : ℤ
 least_i64 = negsuc (2 ^ 63 - 1)
 
--- there is no result at a divisor 0, nor of the least number by -1, and elsewhere there is one
+-- there is no result at a divisor 0, nor of the least number by -1; elsewhere there is one, if 64
+-- bits hold the dividend
 pub record DivisionFailsOnlyThere : Type 0 where
   pub by_zero : (a : ℤ) → (quotient_of a (pos 0) ≡ Err ZeroDivisor) × (remainder_of a (pos 0) ≡ Err ZeroDivisor)
   pub least : (quotient_of least_i64 (negsuc 0) ≡ Err Overflow) × (remainder_of least_i64 (negsuc 0) ≡ Err Overflow)

@@ -12,7 +12,7 @@ use std::alloc::{AllocError, Global};
 pub enum Cause {
     Overflow,
     ZeroDivisor,
-    /// An index or an input's position outside.
+    /// An index outside of its array, or a position where no input stands.
     Index,
     Assert,
     /// A join of the handle `none`.

@@ -52,7 +52,8 @@ pub fn append_path(text: &mut Vec<u8>, path: &Path) -> Result<(), AllocError>
     appended
 }
 
-/// Appends the path that the numbers name, or a front of it where memory is wanting.
+/// Appends the path that the numbers name. Where memory is wanting, the text still begins as
+/// before.
 fn append_dotted(text: &mut Vec<u8>, numbers: &[u32]) -> Result<(), AllocError>
     ensures ok { OnOk result (text.new.items ≡ text.old.items ++ path_text numbers.now) }
     ensures kept { take (length text.old.items) text.new.items ≡ text.old.items }
@@ -66,7 +67,8 @@ fn append_dotted(text: &mut Vec<u8>, numbers: &[u32]) -> Result<(), AllocError>
     }
 }
 
-/// Appends each number with a dot in front of it, or a front of that where memory is wanting.
+/// Appends each number with a dot in front of it. Where memory is wanting, the text still begins as
+/// before.
 fn append_behind_dots(text: &mut Vec<u8>, numbers: &[u32]) -> Result<(), AllocError>
     ensures ok { OnOk result (text.new.items ≡ text.old.items ++ flat_map behind_dot numbers.now) }
     ensures kept { take (length text.old.items) text.new.items ≡ text.old.items }

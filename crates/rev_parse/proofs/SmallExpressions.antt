@@ -120,7 +120,7 @@ arguments_grow n u v x xs levels one more = record {
   small = and_from _ _ (expression_is_small n u x levels one) more.small;
 }
 
--- ---- the forms of a expression
+-- ---- the forms of an expression
 
 abbrev is_leaf : ExpressionForm → Bool
 is_leaf (t.int n) = true

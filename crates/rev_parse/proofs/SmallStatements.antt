@@ -22,7 +22,7 @@ use Rattle.rev_parse.proofs.SmallExpressions.{name_small, expression_is_small, h
 
 -- ---- the properties
 
--- a expression, where no more levels are open than may be
+-- an expression, where no more levels are open than may be
 pub record IsShallow (n w : ℕ) (x : Expression) : Type 0 where
   pub few : 1 + expression_count x ≤ 3 * w
   pub small : expression_small x ≡ true

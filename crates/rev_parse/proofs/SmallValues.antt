@@ -14,7 +14,7 @@ pub record IsSmallName (n w : ℕ) (x : PlacedName) : Type 0 where
   pub few : 2 + name_count x ≤ 3 * w
   pub formed : name_formed x ≡ true
 
--- a expression of a rule of this rank: 0 for a unary expression, and one more for each kind of chain
+-- an expression of a rule of this rank: 0 for a unary expression, and one more for each kind of chain
 pub record IsSmallExpression (rank n w : ℕ) (x : Expression) : Type 0 where
   pub few : 1 + expression_count x ≤ 3 * w
   pub formed : expression_formed x ≡ true

@@ -40,7 +40,7 @@ struct Typed {
     size: Option<Size>,
 }
 
-/// The names that a merge gives to the main, the joined and the first value.
+/// The names that a merge gives to the joiner's, the joinee's and the root's value.
 #[derive(Drop)]
 struct Versions {
     main: Name,

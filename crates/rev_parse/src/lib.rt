@@ -2,8 +2,8 @@
 //! program.
 //!
 //! The crate `rev_expressions` has the grammar and the parser of expressions; here are statements,
-//! declarations and whole programs. The parser is one pass over the tokens; it recurs by levels
-//! alone.
+//! declarations and whole programs. The parser is one pass over the tokens; its calls nest by
+//! levels, and within a level by ranks of operators.
 #![tactic(auto)]
 
 mod declaration;

@@ -14,7 +14,7 @@ use std::alloc::{AllocError, Global};
 pub const MOST_LEVELS: u32 = 200;
 
 /// Why tokens are no program, with the offset of the first token that is at fault, or of the end of
-/// the text.
+/// the text; or want of memory, which says nothing of them.
 #[derive(Clone, Copy, PartialEq, Eq, Debug, Drop)]
 pub enum SyntaxFault {
     /// No program goes on like this.
@@ -46,8 +46,8 @@ fn place(bytes: &[u8], cursor: &Cursor<'_>) -> u32
     }
 }
 
-/// The program that a text is, of which these are the tokens. The tree of a text of at most a
-/// megabyte is small.
+/// The program that a text is, of which these are the tokens, or their first fault. The tree of a
+/// text of at most 1,048,576 bytes is small.
 pub fn parse(alloc: Global, bytes: &[u8], tokens: &[Token]) -> Result<Program, SyntaxFault>
     requires small { length bytes.now < 2 ^ 32 - 1 }
     requires tokens { All (IsToken bytes.now) tokens.now }

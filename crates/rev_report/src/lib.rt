@@ -1,7 +1,8 @@
 //! What a call of the program writes of an outcome, and the status with which it ends.
 //!
-//! A report is what standard output and standard error get, and a status. There is one for each
-//! outcome of a run: it has what `main` printed and the message of its trap.
+//! A report is what standard output and standard error get, and a status. That of a run has what
+//! `main` printed, its values where they are asked for, and the message of its trap; or only the
+//! message that a revision was joined twice.
 #![tactic(auto)]
 
 mod limit;

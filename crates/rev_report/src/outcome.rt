@@ -11,7 +11,8 @@ use rev_num::{
 };
 use std::alloc::{AllocError, Global};
 
-/// Appends a value as `print` and `--values` show it.
+/// Appends a value as `print` and `--values` show it. Where memory is wanting, nothing is said of
+/// the text.
 pub fn append_value(text: &mut Vec<u8>, value: &Value) -> Result<(), AllocError>
     ensures { OnOk result (text.new.items ≡ text.old.items ++ spec.value_text value.now) }
 {
@@ -88,7 +89,8 @@ fn append_location(text: &mut Vec<u8>, values: &[Shown], location: u32) -> Resul
     }
 }
 
-/// Appends that the merge of the location of this number, which is one of these, faulted.
+/// Appends that the merge of the location of this number faulted, with its place if it is one of
+/// these.
 fn append_merge(
     text: &mut Vec<u8>,
     values: &[Shown],
@@ -105,7 +107,7 @@ fn append_merge(
     Ok(())
 }
 
-/// Appends the cause of a trap, with the place of a merge among these.
+/// Appends the cause of a trap; of a merge with the place of its location, if it is one of these.
 fn append_cause(text: &mut Vec<u8>, values: &[Shown], cause: Cause) -> Result<(), AllocError>
     ensures { OnOk result (text.new.items ≡ text.old.items ++ spec.cause_text values.now cause) }
 {
@@ -151,7 +153,7 @@ fn trap_message(alloc: Global, values: &[Shown], trap: &Trap) -> Result<Vec<u8>,
 }
 
 /// The report of an outcome, with the values of `main` where they are asked for. A merge that
-/// faulted is reported with its place among the values.
+/// faulted is reported with the place of its location, if that is one of the values.
 pub fn outcome_bytes(alloc: Global, outcome: &Outcome, values: bool) -> Result<Report, AllocError>
     ensures { IfOk result (λ r. output r ≡ spec.report values outcome.now) }
 {

@@ -84,7 +84,7 @@ abbrev pub scan : ℕ → List ℕ → Scanned
 scan at [] = Err (fault.BadByte at)
 scan at (b ∷ bs) = scan_from at b bs
 
--- The piece of that many bytes, and what the text goes on with.
+-- The piece of that many bytes.
 abbrev pub piece_at : Cut → List ℕ → Piece
 piece_at c s = record { kind = c.kind; bytes = take c.length s }
 

@@ -214,7 +214,7 @@ abbrev mutual
   links_formed no_links = true
   links_formed (link op part rest) = expression_formed part && links_formed rest
 
--- A expression is small: its parts have their forms, and no expression lies too deep in it.
+-- An expression is small: its parts have their forms, and no expression lies too deep in it.
 abbrev pub expression_small : Expression → Bool
 expression_small x =
     expression_formed x && nat_le (nodes_around x) 200 && nat_le (chains_around x) 1005

@@ -1,6 +1,7 @@
 -- Programs as plain data, with no pointer and no room left over.
 --
--- A number before a name, a expression or a form is the offset of its first byte.
+-- A place is the offset of a token's first byte. It is the first number of `placed`, `input`,
+-- `inputs`, `called`, `forked`, `tried`, `text` and `statement`.
 use Rattle.std.specs.Prelude.{ℕ, ℤ, Bool, List, Option}
 use Rattle.rev_num.specs.declared.value.ValueKind.{ValueKind}
 use Rattle.rev_num.specs.declared.value.Value.{Value}

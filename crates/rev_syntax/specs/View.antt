@@ -101,7 +101,7 @@ abbrev pub choice : Arms → Option Statements → StatementForm
 choice arms None = t.choose arms
 choice arms (Some last) = t.choose_or arms last
 
--- one level of a statement, with the steps of its blocks in their places
+-- one level of a statement, with the statements of its blocks in their places
 abbrev pub statement_form_level :
     Form-F StatementForm (Expression × Statements) Statements Statement → StatementForm
 statement_form_level (Form-F.Let name r) = t.bind (placed_name name) (right_side r)

@@ -9,7 +9,8 @@ use crate::token::{Fixed, PieceKind, SIGNS, TokenKind, WORDS};
 use rev_num::read_decimal;
 use std::alloc::AllocFailed;
 
-/// The first place of a text that cannot be cut into tokens.
+/// The first place of a text that cannot be cut into tokens, or want of memory, which says nothing
+/// of the text.
 #[derive(Clone, Copy, PartialEq, Eq, Debug)]
 pub enum LexFault {
     /// A byte that begins no token.

@@ -1,10 +1,11 @@
 -- What a call answers, by its words and by the bytes that it reads.
 --
 -- `reads` is how much of the source a call reads. `SaysAs` is what each mode says of what it read,
--- stage after stage: the text, then the run; or the code file, then its listing; or the text,
--- then the trace behind it, then its audit; or the text, then the schedule, then the run. `Says` is
--- the answer to words and bytes: usage, then the length, then the mode; `Answers` is the same of a
--- source, which may fail. What is handed out of a run by threads stands in `Rans`.
+-- stage after stage: the text, then the run; or the code file, then its listing or its run; or the
+-- text, then the trace behind it, then its audit; or the text, then the schedule, then the run; or
+-- the text, then what is written of the program. `Says` is the answer to words and bytes: usage,
+-- then the length, then the mode; `Answers` is the same of a source, which may fail. What is handed
+-- out of a run by threads stands in `Rans`.
 use Rattle.std.specs.Prelude.{ℕ, List, [], ◌≡◌, ◌≤◌, ◌<◌, ◌⊎◌, ◌+◌, length, Option, Some, None, Result, Ok, Err}
 use Rattle.rev_io.specs.Stream.{Stream, Gave, GaveAtMost, Rose}
 use Rattle.rev_num.specs.declared.outcome.Outcome.{Outcome}

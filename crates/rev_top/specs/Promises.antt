@@ -39,7 +39,7 @@ pub record IsPartOf (words : Option Words) (all : List ℕ) (out out' err err' :
 abbrev pub Cut : ℕ → Type 0
 Cut status = (status ≡ write_fault_status) ⊎ (status ≡ no_memory_status)
 
--- the words, the text, its length or the source was refused
+-- the words, the source, or what it gave was refused, or an entry of the schedule
 abbrev pub IsRefused : ℕ → Type 0
 IsRefused status = (status ≡ refused_status)
     ⊎ ((status ≡ usage_status) ⊎ (status ≡ read_fault_status))

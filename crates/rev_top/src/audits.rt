@@ -83,6 +83,8 @@ fn audit_parts(alloc: Global, words: &Words, text: &[u8], trace: &[u8]) -> Resul
     audit_bytes(alloc, words, &typed, trace)
 }
 
+/// What `audit` says of the text of a program with a trace behind it: that the trace is that of the
+/// program's runs, or what is at fault first.
 pub fn audit(alloc: Global, words: &Words, bytes: &[u8]) -> Result<Report, Stop>
     requires { words.now.fuel ≤ most_fuel }
     ensures { Meets output result (SaysAs Mode.Audit words.now bytes.now) }

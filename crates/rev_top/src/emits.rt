@@ -24,6 +24,7 @@ fn write_file(alloc: Global, typed: &Typed) -> Result<Report, Stop>
     Ok(done_report(alloc, write_code(alloc, code.code())?))
 }
 
+/// What `emit` says of a text that is not too long: the file of its code, or its first fault.
 pub fn emit(alloc: Global, text: &[u8]) -> Result<Report, Stop>
     requires { length text.now ≤ source_limit }
     ensures { (w : Words) → Meets output result (SaysAs Mode.Emit w text.now) }

@@ -23,6 +23,7 @@ fn exec_code(alloc: Global, words: &Words, code: Verified) -> Result<Report, Sto
     Ok(outcome_bytes(alloc, &outcome, words.values)?)
 }
 
+/// What `exec` says of a code file: the report of a run of its code, or its first fault.
 pub fn exec(alloc: Global, words: &Words, bytes: &[u8]) -> Result<Report, Stop>
     requires { words.now.fuel ≤ most_fuel }
     ensures { Meets output result (SaysAs Mode.Exec words.now bytes.now) }

@@ -4,8 +4,8 @@ ghost use Rattle.rev_top.specs.Statuses.{ListingLaw, OneAnswer, StatusLaw};
 
 use code_file::file_laws;
 
-/// To the same words and bytes there is one answer, and no other. `order` alone has several, which
-/// differ in the schedule that they write, and agree in message and status.
+/// To the same words and bytes there is one answer, and no other. `order` alone can have several,
+/// which differ in the schedule that they write, and agree in message and status.
 pub fn one_answer()
     ensures { OneAnswer }
 {}

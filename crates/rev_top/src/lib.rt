@@ -51,9 +51,10 @@ use thread_runs::Ran;
 /// A sink that fails, and want of memory, can come in place of each of them.
 ///
 /// In the modes `run`, `load` and `order` the program is run by threads, each of which enters the
-/// gate before each leg, and all of which have ended when it returns. What is written is made from
-/// their run, which is handed out in `ran`: behind each of the statuses 0, 1 and 3; behind 6 and 7
-/// where there was one. In the other modes, and behind 2, 4 and 5, `ran` is None.
+/// gate before each leg, and all of which have ended when it returns; no clause tells of threads or
+/// of the gate. What is written is made from their run, which is handed out in `ran`: behind each
+/// of the statuses 0, 1 and 3; behind 6 and 7 surely where `out` took a byte. In the other modes,
+/// and behind 2, 4 and 5, `ran` is None.
 pub fn rev_main<
     R: AllocGlobal + Threads + Wait + Sync,
     S: Source,

@@ -46,6 +46,8 @@ fn replay_program(alloc: Global, words: &Words, typed: &Typed) -> Result<Report,
     }
 }
 
+/// What `replay` says of a text that is not too long: the report of a run that begins with the
+/// schedule of the words, or the first fault of the text, and else of the schedule.
 pub fn replay(alloc: Global, words: &Words, text: &[u8]) -> Result<Report, Stop>
     requires limit { length text.now ≤ source_limit }
     requires fuel { words.now.fuel ≤ most_fuel }

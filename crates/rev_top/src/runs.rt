@@ -118,6 +118,7 @@ fn order_program<R: Threads + Wait + Sync, G: Gate + Sync>(
     })
 }
 
+/// What `run` says of a text that is not too long: the report of a run, or the text's first fault.
 pub fn run<R: Threads + Wait + Sync, G: Gate + Sync>(
     rt: &R,
     alloc: Global,
@@ -143,6 +144,7 @@ fn loaded(alloc: Global, words: &Words) -> Result<Typed, Stop>
     checked(alloc, text.as_slice())
 }
 
+/// What `load` says: the report of a run of the program that it makes, or that text's first fault.
 pub fn load<R: Threads + Wait + Sync, G: Gate + Sync>(
     rt: &R,
     alloc: Global,
@@ -158,6 +160,8 @@ pub fn load<R: Threads + Wait + Sync, G: Gate + Sync>(
     load_program(rt, alloc, words, &typed, gate)
 }
 
+/// What `order` says of a text that is not too long: the schedule of a run, with the message and
+/// the status of its outcome, or the text's first fault.
 pub fn order<R: Threads + Wait + Sync, G: Gate + Sync>(
     rt: &R,
     alloc: Global,

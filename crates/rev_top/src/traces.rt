@@ -54,6 +54,8 @@ fn trace_program(alloc: Global, words: &Words, typed: &Typed) -> Result<Report, 
     Ok(trace_report(alloc, text, &run.outcome)?)
 }
 
+/// What `trace` says of a text that is not too long: its trace, with the message and the status of
+/// its outcome, or its first fault.
 pub fn trace(alloc: Global, words: &Words, text: &[u8]) -> Result<Report, Stop>
     requires limit { length text.now ≤ source_limit }
     requires fuel { words.now.fuel ≤ most_fuel }

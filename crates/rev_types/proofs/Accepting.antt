@@ -1,4 +1,4 @@
--- A small program is accepted exactly where it is well typed.
+-- A small program that keeps the rules on funs is accepted exactly where it is well typed.
 use Rattle.std.proofs.Common.{◌≡◌, [], subst}
 use Rattle.rev_syntax.specs.Trees.{ProgramTree}
 use Rattle.rev_syntax.specs.Small.{IsSmall}

@@ -1,4 +1,4 @@
--- The weights of merges are within the limit.
+-- In a program within the limits the weights of merges are within theirs.
 use Rattle.std.proofs.Common.{ℕ, zero, suc, ◌≤◌, List, [], ◌∷◌, take, Option, Some, None, slice_get, arith}
 use Rattle.rev_syntax.specs.Trees.{Declaration, fun, merge, shared, proc, ProgramTree}
 use Rattle.merge_decl.specs.FunRules.{merge_decls}

@@ -1,4 +1,4 @@
--- A name means the first declaration of it.
+-- As a shared variable, a procedure or a fun a name means the first such declaration of it.
 use Rattle.std.proofs.Common.{◌≡◌, inl, inr, Bool, true, false, cond, Option, Some, None, List, [], ◌∷◌, refl, sym, ap, subst}
 use Rattle.std.specs.Cmp.Lexicographic.{same_text, other_text}
 use Rattle.rev_syntax.specs.Trees.{Declaration, fun, merge, shared, proc}

@@ -17,11 +17,11 @@ use Rattle.rev_types.specs.Accepted.{IsWellTyped}
 abbrev pub Typed : Type 0
 Typed = (p : ProgramTree) → IsSmall p → fun_faults p ≡ [] → faults p ≡ [] → IsWellTyped p
 
--- a well-typed program breaks no rule
+-- a well-typed program breaks none of these rules, of which the rules on funs are no part
 abbrev pub Accepts : Type 0
 Accepts = (p : ProgramTree) → IsWellTyped p → faults p ≡ []
 
--- all that a typed program breaks is limits
+-- all that a typed program breaks of these rules is limits
 abbrev pub LimitsAlone : Type 0
 LimitsAlone = (p : ProgramTree) → ProgramTyped p → (f : TypeFault) → Among (faults p) f → IsLimit f
 

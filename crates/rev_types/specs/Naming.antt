@@ -1,4 +1,5 @@
--- A name means the first declaration of it, anywhere in the text.
+-- As a shared variable, as a procedure and as a fun a name means the first declaration that declares
+-- it so, anywhere in the text.
 use Rattle.std.specs.Prelude.{◌≡◌, Option, Some, None, List, ◌∷◌, ◌++◌}
 use Rattle.rev_syntax.specs.Trees.{Declaration, fun, merge, shared, proc}
 use Rattle.merge_decl.specs.Least.{Among}

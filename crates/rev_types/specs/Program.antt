@@ -262,6 +262,6 @@ module _ {M : Type 0} (none : M) (one : TypeFault → M) (both : M → M → M) 
 
 -- ---- well-typed programs
 
--- all rules and limits that a program breaks
+-- all rules and limits that a program breaks, beside the rules on funs
 abbrev pub faults : ProgramTree → List TypeFault
 faults p = broken_in_program [] (λ f. f ∷ []) (λ xs ys. xs ++ ys) p

@@ -156,8 +156,8 @@ fn examined(alloc: Global, p: &Program) -> Result<Tables, TypeFault>
 }
 
 /// The program with the tables of what it declares, or the first rule or limit that it breaks: the
-/// one at the least place, and there the one of the least number. A program is accepted exactly
-/// where it is well typed.
+/// one at the least place, and there the one of the least number. But for want of memory a program
+/// is accepted exactly where it is well typed.
 pub fn check(alloc: Global, expanded: Expanded) -> Result<Typed, TypeFault>
     ensures same { IfOk result (λ t. whole t.expanded.program ≡ whole expanded.program) }
     ensures keeps { OnOk result (program.faults (whole expanded.program) ≡ []) }

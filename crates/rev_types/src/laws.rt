@@ -4,9 +4,10 @@ ghost use Rattle.rev_types.specs.Laws.{Typed, Accepts, LimitsAlone, OwnLimits};
 ghost use Rattle.rev_types.specs.Layout.{LaidOut};
 ghost use Rattle.rev_types.specs.Naming.{FirstCounts};
 
-/// A small program that breaks no rule is typed and within the limits, and a program that is both
-/// breaks none; all that a typed program breaks is limits; each fault of a limit has the number of
-/// that limit; and within the limits each shared variable lies behind the cells of those before it.
+/// A small program that breaks no rule, those on funs included, is typed and within the limits.
+/// Those on funs apart, a program that is both breaks none, and all that a typed program breaks is
+/// limits. Each fault of a limit has the number of that limit, and within the limits each shared
+/// variable lies behind the cells of those before it.
 pub fn program_laws()
     ensures typed { Typed }
     ensures accepts { Accepts }
@@ -15,7 +16,8 @@ pub fn program_laws()
     ensures laid_out { LaidOut }
 {}
 
-/// A name means the first declaration of it.
+/// As a shared variable, as a procedure and as a fun a name means the first declaration that
+/// declares it so.
 pub fn name_laws()
     ensures { FirstCounts }
 {}

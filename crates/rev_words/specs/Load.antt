@@ -4,7 +4,7 @@
 -- next, draw: the numbers drawn from a seed
 -- statement_of, statement_at: the statement that three of them give
 -- statement_text: its text
--- declarations, procedures, program: the lines of the text
+-- declarations, procedures, start, prints, program: the lines of the text
 -- load_text: the text
 use Rattle.std.specs.Prelude.{◌==◌, ℕ, ◌+◌, ◌*◌, ◌/◌, ◌%◌, List, [], ◌∷◌, ◌++◌, codes, if◌then◌else◌, map}
 use Rattle.std.specs.Fmt.{decimal}

@@ -65,7 +65,7 @@ fn command<'a>(alloc: Global) -> Result<Command<'a>, AllocError>
         .arg(number_option(alloc, "size"))
 }
 
-/// Each error of the command but want of memory is wrong usage.
+/// The fault for an error of the command: wrong usage only where the error is no want of memory.
 fn fault_of(error: &Error) -> WordsFault
     ensures { result ≡ WordsFault.Usage → kind_of error.now ≡ ErrorKind.OutOfMemory → ⊥ }
 {
@@ -88,7 +88,7 @@ pub(crate) fn matches_of<'a>(
     }
 }
 
-/// The one value of an argument, where it was used.
+/// The first value of an argument, if it has one.
 pub(crate) fn text_of<'a>(matches: &ArgMatches<'a>, name: &str) -> Option<&'a str>
     ensures { option_map (λ s. s.now) result ≡ first_of name.now (rows_of (found_of matches.now)) }
 {

@@ -78,7 +78,7 @@ fn mode_named(text: &str) -> Option<Mode>
     }
 }
 
-/// The mode that the first word names, if it is built.
+/// The mode that the first word that is no option names, if it is built.
 pub(crate) fn mode_of(matches: &ArgMatches) -> Option<Mode>
     ensures { let text = first_of (codes "mode") (rows_of (found_of matches.now)) in
         result ≡ option_and_then mode_named text }

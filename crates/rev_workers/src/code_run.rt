@@ -28,8 +28,9 @@ pub struct NotRun<'a, 's> {
 }
 
 /// A run of `main` with this fuel, over a snapshot with the words with which the shared variables
-/// start, by one thread for each hand. Its schedule is legal for the code, and complete where no
-/// halt was entered. The error is want of memory.
+/// start, by one thread for each hand, of which there is one at least and fewer than 2^32. Its
+/// schedule is legal for the code, and complete where no halt was entered. The error is want of
+/// memory.
 pub fn run_code<'a, 's, G: Gate + Sync, R: Threads + Wait + Sync>(
     rt: &R,
     alloc: Global,

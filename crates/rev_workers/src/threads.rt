@@ -146,8 +146,9 @@ fn run_over<'a, 's, G: Gate + Sync, R: Threads + Wait + Sync>(
 /// A run of `main` of verified code with this fuel, by so many threads over a store of so many
 /// segments. Where a thread can't be made, the caller does its work; all threads have ended when it
 /// returns. Its schedule is legal for the code and complete, and where a revision was joined a
-/// second time that join is its last entry. All holds are given back, also where memory was
-/// wanting, and no segment of the store is in use at its close.
+/// second time that join is its last entry. No segment of the store is in use at its close.
+/// OutOfMemory: memory was wanting. InUse: segments were in use at the close. The code gives all
+/// holds back, also where memory was wanting, but no clause counts them.
 pub fn run_threads<'a, G: Gate + Sync, R: Threads + Wait + Sync>(
     rt: &R,
     alloc: Global,

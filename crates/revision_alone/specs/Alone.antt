@@ -1,7 +1,7 @@
 -- One revision by itself: its state with its path, what a step answers, and what is told of one that has ended.
 --
 -- `alone_event` is the event that an answer tells, `FitsPhase` when each answer comes; `IsEndOf` says that this is the
--- end of a revision in that state.
+-- end of a revision in that state, `told_state` is a state with such an end, and `JoinsAwaited` what a join leaves.
 use Rattle.std.specs.Prelude.{◌≡◌, ℕ, zero, suc, pos, nat_eq, if◌then◌else◌, List, [], ◌∷◌, length, Option, Some, None}
 use Rattle.rev_num.specs.Path.{Path, child}
 use Rattle.rev_num.specs.declared.value.Value.{Value}
@@ -98,7 +98,8 @@ told_state count e = ended_with (told_from 0 count e.written.items) e.text.items
 
 -- ---- joins
 
--- r, at l, after its join of a revision at q that ended so, whatever else stands in that one's state
+-- r, at l, after its join of a revision at q that ended so, with as many locations, whatever else stands in that one's
+-- state
 abbrev pub JoinsEnd : Setting → Path → Local → Path → AloneEnd → Local → Type 0
 JoinsEnd s r l q e new =
     (j : Local) → length j.locations ≡ length l.locations → IsEndOf e j → new ≡ join s r l q j

@@ -56,8 +56,8 @@ pub fn first_alone<'a>(
     Ok(LocalState { path, local })
 }
 
-/// The next step or fork of a revision, or which revision it wants, or that it has ended. Want of
-/// memory is the one error.
+/// The next step or fork of a revision, or which revision it wants, or that it has ended. Its units
+/// of fuel and its forks are fewer than 2^32 together. Want of memory is the one error.
 #[tactic(auto, using(crate::proofs::Fits::fits))]
 pub fn step_alone<'a>(
     alloc: Global,
@@ -90,8 +90,9 @@ pub fn step_alone<'a>(
     Ok((LocalState { path, local }, answer))
 }
 
-/// The revision after it joined the one that it wants, which ended so; it stays as it is where it
-/// wants none. Want of memory is the one error.
+/// The revision after it joined the one that it wants, which ended so, with as many locations; it
+/// stays as it is where it wants none. The two have less than 2^64 units of fuel together. Want of
+/// memory is the one error.
 pub fn join_alone<'a>(
     alloc: Global,
     setting: &Setting<'a>,

@@ -73,7 +73,7 @@ with_local_held (e ∷ es) name x q h = go (λ i. with_local_held es name x q i)
         wider (inl j) = inl (inr j)
         wider (inr j) = inr j
 
--- the value is not among these values, or it is held
+-- if the value is the handle of a revision, the local state holds that handle
 abbrev pub Held : Local → Value → Type 0
 Held l x = (q : Path) → IsHandle x q → Holds l q
 

@@ -80,7 +80,7 @@ compose_held p n (k ∷ ks) (m ∷ ms) (j ∷ js) cs q e h =
 
 -- ---- joins
 
--- the joiner l at q after its join of the ended j
+-- the joiner l after its join of the ended j
 pub record JoinOk (l j l' : Local) : Type 0 where
   pub forks : l'.forks ≡ l.forks
   pub held : (q : Path) → Holds l' q → Holds l q ⊎ Holds j q

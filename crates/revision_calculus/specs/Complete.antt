@@ -36,7 +36,7 @@ pub record OneOutcome (s : Setting) (fuel : ℕ) : Type 0 where
   pub has : HasOutcome s fuel is
   pub only : (o : Outcome) → HasOutcome s fuel o → o ≡ is
 
--- the report of a final state
+-- the report of a state in which `main` has ended, or that is Twice
 abbrev pub report_of : Setting → Bool → Global Local → Option Output
 report_of s asked g = option_map (report asked) (outcome s g)
 

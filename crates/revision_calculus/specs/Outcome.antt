@@ -1,6 +1,7 @@
 -- The outcome of a run.
 --
--- `show_all` lists the values of a view by location; `outcome` is what a final state gives.
+-- `show_all` lists the values of a view by location; `outcome` is what a state gives in which `main` has ended, or that
+-- is Twice.
 use Rattle.std.specs.Prelude.{ℕ, zero, suc, ◌+◌, List, [], ◌∷◌, ◌++◌, Bool, true, false, Option, Some, None}
 use Rattle.rev_num.specs.declared.outcome.Outcome.{Outcome}
 use Rattle.rev_num.specs.declared.outcome.Outcome.TheVariants as o

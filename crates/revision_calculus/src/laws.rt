@@ -42,7 +42,8 @@ pub fn determinacy_laws()
 /// Each revision but `main` has its forker in the state, which has counted it. Each handle in a
 /// snapshot, in writes, in locals or in a phase names a revision of the state, which precedes its
 /// holder in post-order. `main` stands in every state but that of a second join, and what is marked
-/// has ended. So at the end of a run `main` stands, and every revision has ended.
+/// has ended. So at the end of a run, if it is not that state, `main` stands, and every revision
+/// has ended.
 pub fn handle_laws()
     ensures forkers { (s : Setting) (fuel : ℕ) → ForkerLaw (calculus s) (main s fuel) }
     ensures handles { (s : Setting) (fuel : ℕ) → HandleLaw (calculus s) (main s fuel) Holds }

@@ -63,7 +63,8 @@ fn change(
     }
 }
 
-/// What the join writes at each location, or the least location whose merge faults.
+/// What the join writes at each location, or the least location whose merge faults. `merges` has
+/// the number of each location's merge, if it has one; they are fewer than 2^32.
 pub fn compose(
     alloc: Global,
     typed: &Typed,

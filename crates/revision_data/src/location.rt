@@ -83,7 +83,8 @@ impl Location {
     }
 }
 
-/// What the revision sees at the location of this number, if there is one.
+/// What the revision sees at the location of this number, if there is one. Contracts see the number
+/// 0 where there is none.
 pub fn value_at(locations: &[Location], number: usize) -> Option<&Value>
     ensures { or_zero (option_copied result) ≡ state.view_at locations.now number }
 {

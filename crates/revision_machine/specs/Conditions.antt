@@ -12,7 +12,8 @@ module _ (M : Machine) where
     pub joins : (r q : Path) (l lq : M.Local) → M.next r l ≡ Joins q → M.forks (M.join r l q lq) ≡ M.forks l
 
 module _ (M : Machine) (holds : M.Local → Path → Type 0) where
-  -- the handles that a local state holds come from what it held, from its forker, from a fork or from a joined revision
+  -- the handles that a local state holds come from what it held, from its forker, from a fork or from a joined
+  -- revision; and what it joins it holds
   pub record Handles : Type 0 where
     pub moves : (r q : Path) (l l' : M.Local) → M.next r l ≡ Moves l' → holds l' q → holds l q
     pub forker : (r q : Path) (l l' c : M.Local) → M.next r l ≡ Forks l' c → holds l' q → holds l q ⊎ (q ≡ child r (M.forks l))

@@ -130,7 +130,7 @@ module _ (N : Numbered) (main : N.Local) where
     pub are : paths ≡ [] ∷ children
     pub run : (t rest : List Path) → IsDistinct t → t ≡ paths ++ rest → RunsBearing (machine_by N t) (start (machine_by N t) main) (paths_at t ns) (shows w) children
 
-  -- the paths are those of the world, or in Both those of some world before it
+  -- the paths are those of the world; of Both, which has none, nothing is said
   abbrev pub HasPaths : World N.Local → List Path → Type 0
   HasPaths Both paths = Unit {0}
   HasPaths (Listing w) paths = paths ≡ paths_of w

@@ -1,5 +1,5 @@
--- The rules of a language: a machine over its local states, with their handles and how many steps they can make. And how
--- the runner's values show the events of that machine.
+-- The rules of a language: a machine over its local states, with their handles and a bound on their steps. And how the
+-- runner's values show the events of that machine.
 use Rattle.std.specs.Prelude.{◌≡◌, ◌+◌, ◌≤◌, ℕ}
 use Rattle.rev_num.specs.Path.{Path}
 use Rattle.revision_machine.specs.Machine.{Event, Machine, Global, start}
@@ -19,7 +19,7 @@ pub record Rules (L : Type 0) : Type 1 where
   pub join : Path → L → Path → L → L
   -- it has a handle of the revision at this path
   pub holds : L → Path → Type 0
-  -- the most steps that it can make, with all that it forks
+  -- a bound on the steps that it can make, with all that it forks
   pub weight : L → ℕ
   -- the forks and the weight of all revisions are at most this
   pub limit : ℕ
@@ -34,7 +34,7 @@ module _ {L : Type 0} (rules : Rules L) where
     pub handles : Handles machine_of rules.holds
     pub spends : Spends machine_of 1 rules.weight
 
-  -- the forks that it has made and the steps that it can make
+  -- the forks that it has made and its weight
   abbrev pub extent : L → ℕ
   extent l = rules.forks l + rules.weight l
 

@@ -7,7 +7,8 @@ use Rattle.revision_machine.specs.Simulation.{Agrees}
 use Rattle.revision_machine.specs.Numbered.{Numbered, World, at_number, leg, machine_by, shows, begin, Replays, HasPaths, IsOver, AllStop}
 
 module _ (A : Machine) (N : Numbered) (R : List Path → Path → A.Local → N.Local → Type 0) (a : A.Local) (main : N.Local) where
-  -- by the table of the world's own paths, each once, the world agrees with a state that a run of A reaches
+  -- by the table of the world's own paths, each once, the world agrees with a state that a run of A reaches; Both does
+  -- by some table
   pub record Matches (w : World N.Local) : Type 0 where
     pub table : List Path
     pub own : HasPaths N main w table
@@ -48,7 +49,8 @@ module _ (A : Machine) (N : Numbered) (R : List Path → Path → A.Local → N.
     pub ended : AllEnded A matches.state
     pub stopped : AllStop N main w
 
-  -- the world after a complete schedule agrees with the end of a complete run, and every revision has ended in both
+  -- the world after a complete schedule agrees with the end of a complete run, and, if it is not Both, every revision
+  -- has ended in both
   abbrev pub CompleteScheduleAgrees : Type 0
   CompleteScheduleAgrees =
       (ns : List ℕ) (w : World N.Local) → Replays N (begin N main) ns w → IsOver N main w

@@ -76,7 +76,7 @@ module _ (A B : Machine) (R : Path → A.Local → B.Local → Type 0) (Known : 
       → AllKnown Known cs → (rs : List Path) × (g : Global A.Local) × Runs A (start A a) rs g
       × Agrees A B R g w
 
-  -- at its end every revision has ended
+  -- at its end every revision has ended, if it is not Twice
   abbrev pub UnblockedLaw : Type 0
   UnblockedLaw =
       (ws cs : List Path) (w : Global B.Local) → RunsBearing B (start B b) ws w cs

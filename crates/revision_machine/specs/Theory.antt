@@ -8,8 +8,8 @@ use Rattle.revision_machine.specs.Simulation.{Simulates, StepLaw, RunLaw, Unbloc
 use Rattle.revision_machine.specs.Numbered.{Numbered, machine_by, ScheduleBound, WorldCount}
 use Rattle.revision_machine.specs.Schedules.{ScheduleAgrees, LegLaw, CompleteScheduleAgrees}
 
--- a machine, with the handles of a local state, the most steps that it can make with all that it forks, and an amount
--- that pays for forks
+-- a machine, with the handles of a local state, a bound on the steps that it can make with all that it forks, and an
+-- amount that pays for forks
 pub record Lawful : Type 1 where
   pub machine : Machine
   pub holds : machine.Local → Path → Type 0
@@ -20,8 +20,8 @@ pub record Lawful : Type 1 where
   pub spends : Spends machine 1 weight
   pub pays : PaysForks machine fuel
 
--- a world by number, with the most legs that a local state can have with all that it forks, and an amount that pays for
--- forks; by any table of paths it keeps the conditions
+-- a world by number, with a bound on the legs that a local state can have with all that it forks, and an amount that
+-- pays for forks; by any table of paths it keeps the conditions
 pub record LawfulWorld : Type 1 where
   pub numbered : Numbered
   pub weight : numbered.Local → ℕ
@@ -51,11 +51,11 @@ abbrev pub UnblockedLaws : Lawful → Type 0
 UnblockedLaws l =
     (main : l.machine.Local) → HoldsNone l.machine l.holds main → NoBlockedEnd l.machine main
 
--- the most steps are the weight of the first state
+-- no run has more steps than the weight of the first state
 abbrev pub BoundLaws : Lawful → Type 0
 BoundLaws l = (main : l.machine.Local) → BoundLaw l.machine main (l.weight main)
 
--- the most revisions are 1 and what the first state has to pay for forks
+-- no reached state has more revisions than 1 and what the first state has to pay for forks
 abbrev pub CountLaws : Lawful → Type 0
 CountLaws l = (main : l.machine.Local) → CountLaw l.machine main (1 + l.fuel main)
 

@@ -26,7 +26,8 @@ enum Progress {
     Twice,
 }
 
-/// The start of a run: `main` alone, at this local state, which holds no handle.
+/// The start of a run: `main` alone, at this local state, which holds no handle and is within the
+/// limit. Want of memory is the one error.
 pub fn start<L: Language>(
     language: &L,
     alloc: Global,
@@ -185,8 +186,8 @@ fn has_moved(before: bool, progress: Progress) -> bool
     }
 }
 
-/// The end of a complete run from `main`, which is the end of every complete run. Want of memory is
-/// the one error.
+/// The end of a complete run from `main`, which is the end of every complete run. `main` holds no
+/// handle and is within the limit. Want of memory is the one error.
 pub fn run<L: Language>(
     language: &L,
     alloc: Global,

@@ -31,7 +31,7 @@ pub trait Language {
     ghost rules: { Self → Rules Self.State };
 
     /// Makes the next local step or fork of the revision at this path, or tells what it waits for
-    /// or that it has ended.
+    /// or that it has ended, and then its state stays as it was. The state is within the limit.
     fn advance(
         &self,
         alloc: Global,
@@ -54,7 +54,8 @@ pub trait Language {
     fn has_ended(&self, state: &Self::State, path: &Path) -> bool
         ensures { IsTrue result ↔ ((rules self.now).next path.now state.now ≡ Ended) };
 
-    /// Lets the revision at `at` join the one at `on`, which ended in this local state.
+    /// Lets the revision at `at` join the one at `on`, which ended in this local state. The two are
+    /// within the limit together.
     fn settle(
         &self,
         alloc: Global,

@@ -67,7 +67,8 @@ pub trait Simulated {
 /// - `forkers`: each revision but `main` has its forker, which has counted it;
 /// - `standing`: in every state but Twice `main` stands, and what is marked has ended;
 /// - `handles`, `unblocked`: where `main` holds no handle, each handle names a revision that comes
-///   before its holder in post-order, and where nothing steps every revision has ended;
+///   before its holder in post-order, and where nothing steps, but in Twice, every revision has
+///   ended;
 /// - `bound`: no run has more steps than the weight of `main`;
 /// - `count`: a reached state has no more revisions than 1 and what `main` has to pay for forks;
 /// - `completes`: every run can be completed.
@@ -111,11 +112,11 @@ pub fn schedule_theory<W: NumberedWorld>()
 ///   runs agree, none is blocked, and complete ones agree with complete ones; and any two complete
 ///   runs end in states that agree;
 /// - `schedule`: the world after a legal schedule agrees with a state that a run reaches, by the
-///   table of the world's own paths, each once;
+///   table of the world's own paths, each once, and Both by some table;
 /// - `legs`: each leg of a legal schedule is some number of steps of the revision with its number's
 ///   path, and of no other, in the state that agrees with the world;
 /// - `complete_schedule`: the world after a complete schedule agrees with the end of the complete
-///   runs, and every revision has ended, by paths and by number.
+///   runs, and every revision has ended, by paths and by number, but in Twice.
 pub fn simulation_theory<S: Simulated>()
     ensures steps { (s : S) (t : List Path) → Steps (S.simulation s) t }
     ensures runs { (s : S) (t : List Path) → Runs (S.simulation s) t }

@@ -30,7 +30,8 @@ pub enum StepOutcome {
 }
 
 /// The state after a step of the revision at `path`, and how it came out. For `Waits`, `Ended` and
-/// `NoSuch` it is the given one. Want of memory is the one error.
+/// `NoSuch` it is the given one, which a run has reached from a first state within the limit. Want
+/// of memory is the one error.
 pub fn step<L: Language>(
     language: &L,
     alloc: Global,

@@ -9,7 +9,7 @@ use rev_num::Path;
 use std::alloc::{AllocError, Global};
 use std::collections::BTreeMap;
 
-/// A table from paths to places. Its map is ordered, so that no choice of paths makes it slow.
+/// A table from paths to places. Its map is ordered: no choice of paths can make hashes meet.
 #[derive(Drop)]
 pub struct PlaceTable {
     pub(crate) map: BTreeMap<Vec<u32>, usize>,
@@ -25,14 +25,15 @@ impl PlaceTable {
         }
     }
 
-    /// The place of the path.
+    /// The place of the path, if it was entered.
     pub fn find(&self, path: &Path) -> Option<usize>
         ensures { result ≡ place_by self.now.map path.now }
     {
         self.map.get(path.numbers()).copied()
     }
 
-    /// Enters the path with its place.
+    /// Enters the path with its place, also in the stead of another. An error leaves all places as
+    /// they were.
     pub fn enter(&mut self, alloc: Global, path: &Path, place: usize) -> Result<(), AllocError>
         ensures ok { OnOk result (IsEntered self.old.map self.new.map path.now place) }
         ensures err { OnErr result (place_by self.new.map ≡ place_by self.old.map) }

@@ -28,7 +28,7 @@ pub struct Revisions<R> {
 }
 
 impl<R> Revisions<R> {
-    /// The place of the revision with this path.
+    /// The place in the list of the revision with this path, or none where there is no such one.
     pub fn find(&self, path: &Path) -> Option<usize>
         ensures { MatchOption result (globe self.now.list.items path.now ≡ None)
             (λ i. IsAt self.now.list.items i path.now) }

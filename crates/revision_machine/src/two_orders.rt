@@ -83,8 +83,8 @@ fn after<L: Language>(
     }
 }
 
-/// The states after steps of the revisions at `p` and `q` in both orders. Want of memory is the one
-/// error.
+/// The states after steps of the revisions at `p` and `q` in both orders, from a state that a run
+/// has reached from a first one within the limit. Want of memory is the one error.
 pub fn diamond_step<L: Language>(
     language: &L,
     alloc: Global,

@@ -18,12 +18,12 @@ IsPlaced numbers places locals =
     (name : Name) (k : ℕ) → find name numbers ≡ Some k
     → slice_get places k ≡ Some (position (λ e. same name e.0) locals)
 
--- where each local has a name with a number, no local has a name without one
+-- where there are no others, no local has a name without a number
 abbrev pub AreKnown : {V : Type 0} → Table ℕ → Bool → Table V → Type 0
 AreKnown numbers others locals =
     others ≡ false → (name : Name) → find name numbers ≡ None → position (λ e. same name e.0) locals ≡ None
 
--- these places, where the local at this place has a name with this number, if its name has one
+-- these places, after a local came at this place whose name has this number, if it has one; the first of a name stays
 abbrev pub noted : List (Option ℕ) → Option ℕ → ℕ → List (Option ℕ)
 noted places None at = places
 noted places (Some k) at = if is_some (get_or places k None) then places else set places k (Some at)

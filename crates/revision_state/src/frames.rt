@@ -121,7 +121,7 @@ impl<'a> Frames<'a> {
         }
     }
 
-    /// Takes the next statement out of the frame on top, if it has one.
+    /// Takes the next statement out of the frame on top, if it has one. There is a frame.
     pub fn next(&mut self) -> Result<Option<&'a Stmt>, AllocError>
         requires { 0 < length self.old }
         ensures { IfOk result

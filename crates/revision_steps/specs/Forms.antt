@@ -1,4 +1,4 @@
--- The arms of what a statement does, one for each form, over the parts of the form.
+-- The arms of what a statement does, over the parts of its form; a `return` without a value has none here.
 use Rattle.std.specs.Prelude.{◌++◌, List, Option, Some, if◌then◌else◌}
 use Rattle.rev_num.specs.Path.{Path}
 use Rattle.rev_num.specs.declared.outcome.Cause.TheVariants as cause

@@ -96,7 +96,7 @@ impl<'a> Local<'a> {
         Ok(Own::Forked(child))
     }
 
-    /// `fork name(args);`, or `rfork name(args)` for a left side.
+    /// `rfork name(args);`, or `rfork name(args)` for a left side.
     pub(crate) fn fork(
         &mut self,
         alloc: Global,

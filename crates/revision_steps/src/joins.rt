@@ -161,7 +161,8 @@ impl<'a> Local<'a> {
     }
 
     /// Lets the revision at `path` join the one at `on`, which ended in this state. Where it has
-    /// not ended, the join is listed and nothing else.
+    /// not ended, the join is listed and nothing else. The two have less than 2^64 units of fuel
+    /// together.
     pub fn settle(
         &mut self,
         alloc: Global,

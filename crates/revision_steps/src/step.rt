@@ -189,7 +189,7 @@ impl<'a> Local<'a> {
     }
 
     /// Makes the next step or fork of the revision at this path, or tells which revision it joins
-    /// or that it has ended.
+    /// or that it has ended. Its units of fuel and its forks are fewer than 2^32 together.
     pub fn advance(
         &mut self,
         alloc: Global,

@@ -34,7 +34,7 @@ impl<'a> Model for CodeEnd<'a> {
 }
 
 impl<'a> CodeEnd<'a> {
-    /// What it is of `rev_vm`: its writes, its text, its fuel and how it ended.
+    /// What it is as data: its writes, its text, its fuel and how it ended.
     pub fn value(&self) -> &EndValue
         ensures { IsEnd self.now.run self.now.left result.now }
     {

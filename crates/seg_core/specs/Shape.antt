@@ -1,8 +1,8 @@
--- The core that the cells show.
+-- The core that segments and holders show.
 --   name_of p      the name of a segment, or 0 for none
 --   seg_of g       a segment as the core has it
 --   list_of r      the references of a holder
---   core_in, core_of   the core
+--   core_in        the core
 --   step_of s      a step as the core names it
 --   IsBuiltBy x h  the holder h builds the segment
 use Rattle.std.specs.Prelude.{◌≡◌, ℕ, suc, List, [], ◌∷◌, map, Option, None, Some}

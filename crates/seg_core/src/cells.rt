@@ -91,7 +91,7 @@ impl Cells {
         self.segments[segment as usize].write(location, word);
     }
 
-    /// The segment stands otherwise, with the same words.
+    /// The segment stands otherwise, with the same words where it was not free.
     pub fn turn(&mut self, segment: u32, stage: Stage)
         requires { (x : Stage) × (d : ℕ → Option ℕ)
             × At (core_of self.old) (suc segment) (shape x d) }

@@ -28,7 +28,8 @@ pub struct SegState {
 impl SegState {
     ghost use Rattle.seg_core.specs.States.{state_core};
 
-    /// All segments free, over these initial words, and no references.
+    /// All segments free, with one location for each of the initial words, which are fewer than
+    /// 2^32, and no references. The error is want of memory.
     pub fn empty(alloc: Global, segments: u32, initial: &[u64]) -> Result<SegState, AllocError>
         requires { length initial.now < 2 ^ 32 }
         ensures core { IfOk result (λ s. state_core s ≡ empty (suc segments) 65536
@@ -58,7 +59,7 @@ pub fn apply(state: &mut SegState, step: &SegStep) -> Applied
 }
 
 /// How many references there are to the segment: in the lists of all holders, and of live segments
-/// whose parent it is.
+/// whose parent it is. The segment is one of the state's.
 pub fn refs(state: &SegState, segment: u32) -> u64
     requires { segment < vec_len state.now.cells.segments }
     ensures { result ≡ pure.refs (core_of state.now.cells) (suc segment) }

@@ -3,7 +3,7 @@
 /// A step of a holder on a segment.
 #[derive(Clone, Copy, PartialEq, Eq, Debug)]
 pub enum SegStep {
-    /// Begins to build a free segment.
+    /// Begins to build a free segment. The holder builds none.
     Claim {
         holder: u32,
         segment: u32,
@@ -15,7 +15,8 @@ pub enum SegStep {
         location: u32,
         word: u64,
     },
-    /// Makes the segment that it builds live, over the one that it refers to, with two references.
+    /// Makes the segment that it builds live, over the one that it refers to once, if any. Then it
+    /// refers twice to the new one.
     Publish {
         holder: u32,
         segment: u32,
@@ -25,17 +26,18 @@ pub enum SegStep {
         holder: u32,
         segment: u32,
     },
-    /// Gives up one reference. With the last one the segment gets free.
+    /// Gives up one reference. With the last one the segment gets free, and the holder refers to
+    /// its parent, if any.
     Release {
         holder: u32,
         segment: u32,
     },
-    /// Gives up the segment that it alone refers to, and refers to its parent.
+    /// Gives up the segment that it alone refers to, and refers to its parent, if any.
     Collapse {
         holder: u32,
         segment: u32,
     },
-    /// Gives one of its two references to a holder that has none.
+    /// Gives one of its two references to a holder that has none and builds none.
     HandOn {
         holder: u32,
         segment: u32,
@@ -48,6 +50,7 @@ pub enum SegStep {
 pub enum Applied {
     /// It was made.
     Done,
-    /// The holder or the segment is not in the state that it needs, and nothing changed.
+    /// It cannot be made: a holder or the segment is not in the state that it needs, or there is no
+    /// such holder, segment or location. Nothing changed.
     Refused,
 }

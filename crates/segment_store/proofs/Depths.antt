@@ -1,4 +1,4 @@
--- Ranks fall along a chain, so it is no longer than the words are many.
+-- Ranks fall along a chain, so it has at most as many entries as there are words, and segments.
 use Rattle.std.proofs.Common.{◌≡◌, ℕ, zero, suc, ◌+◌, ◌-◌, ◌*◌, ◌/◌, ◌<◌, ◌≤◌, List, [], ◌∷◌}
 use Rattle.std.proofs.Common.{length, sym, ap, ◌∙◌, arith, mul-le-mul_right}
 use mathlib.Core.Option.{some}

@@ -1,4 +1,4 @@
--- The group of a store names it.
+-- The group of a store names its table.
 use Rattle.std.proofs.Common.{◌≡◌, drop, get_or}
 use Rattle.atomic_table.specs.Seated.{TableId}
 use Rattle.segment_store.specs.Group.{group_of}

@@ -397,7 +397,7 @@ module _ (words stride : ℕ) (some_words : 0 < stride) where
       (publish_own slots id me (subst (λ (y : ℕ). 0 < y) is h) single
       (subst (λ (y : ℕ). look me.0.made (y + 1) ≡ some (first_of me.0.chain)) is parent))
 
-  -- what the first_of segment of a chain tells
+  -- what the first segment of a chain tells
   pub referred : (s : St) (r : Rule s) (id : ℕ) (v : View) → get_elem? s.views id ≡ some v
       → 0 < first_of v.chain
       → IsSegment words stride (first_of v.chain) × (0 < get_or s.words (first_of v.chain) 0)
@@ -425,7 +425,7 @@ module _ (words stride : ℕ) (some_words : 0 < stride) where
       let p : is_at c u.build ≡ 1 = subst (λ (y : ℕ). is_at c y ≡ 1) (sym q) (is_at_same c) in
       omega arith
 
-  -- the last reference: the segment is free, and its parent is the first_of
+  -- the last reference: the segment is free, and its parent is the first
   pop_keeps : (s : St) (r : Rule s) (id : ℕ) (v : View) → get_elem? s.views id ≡ some v
       → (e : Entry) (es : List Entry) (did : List Act) → v.chain ≡ e ∷ es → v.extra ≡ 0
       → get_or s.words e.seg 0 ≡ 1

@@ -13,7 +13,7 @@ IsDepthBound = (words stride segments : ℕ) (s : State (Unit {0}) View) → Kep
     → words ≡ (segments + 1) * stride → (i : ℕ) (v : View) → get_elem? s.views i ≡ some v
     → length v.chain ≤ segments
 
--- each segment with a count is in the chain of some seat
+-- each segment with a count that is not being built is in the chain of some seat
 abbrev pub LiveIsHeld : Type 0
 LiveIsHeld = (words stride : ℕ) (s : State (Unit {0}) View) → Kept words stride s → (c : ℕ)
     → IsSegment words stride c → slice_index s.words c ≢ 0 → slice_index s.words c ≢ building

@@ -1,4 +1,4 @@
--- The list of numbers that names a store. No two stores have the same.
+-- The list of numbers that names a store. Stores of one group have one table.
 --   group_of t        by the identity of its table
 --   hold_group h, spent_group s, closed_group c   the group of the store that a value is of
 use Rattle.std.specs.Prelude.{ℕ, List, ◌∷◌}

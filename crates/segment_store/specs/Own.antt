@@ -17,7 +17,8 @@ abbrev pub IsOwn : ℕ → ℕ → ℕ → Option (Vec ℕ Global) → Type 0
 IsOwn stride masks first own = (ws : Vec ℕ Global) → own ≡ Some ws
     → (2 + masks + vec_len ws ≡ stride) × (first ≡ 0)
 
--- the delta has a value for each location, that of the words where it had none
+-- with words of its own: the delta has a value for each location, that of the words where it had
+-- none; without them it is as before
 abbrev pub IsComplete : Option (Vec ℕ Global) → Delta → Delta → Type 0
 IsComplete own old new = IfNone own (new ≡ old)
     × IfSome own (λ ws. (l : ℕ) → l < vec_len ws

@@ -6,7 +6,8 @@ ghost use Rattle.segment_store.specs.Depth.{IsDepthBound, LiveIsHeld};
 ghost use Rattle.segment_store.specs.Rule.{Reaches, BasesTie};
 
 /// Between any two atomic steps the words and views show a core that the steps of the core lead to
-/// from the empty one, and the base of each seat's chain is that of the core.
+/// from the empty one, and the base of each seat's chain whose words are known (`Sound`) is that of
+/// the core.
 pub fn core_laws()
     ensures shown { (words stride masks : ℕ) → Reaches words stride masks }
     ensures bases { (words stride masks : ℕ) → BasesTie words stride masks }
@@ -17,12 +18,12 @@ pub fn depth_bound()
     ensures { IsDepthBound }
 {}
 
-/// Each segment that has a count is in the chain of some seat.
+/// Each segment that has a count and is not being built is in the chain of some seat.
 pub fn held_law()
     ensures { LiveIsHeld }
 {}
 
-/// The group of a store names it: no other store has the same.
+/// The group of a store names its table: tables of the same group are the same.
 pub fn group_law()
     ensures { (a b : TableId) → group_of a ≡ group_of b → a ≡ b }
 {}

@@ -7,6 +7,7 @@ ghost use Rattle.segment_store.specs.Store.{gathers};
 use crate::board::{Size, View};
 use atomic_table::{Join, Play, Split, TableRule};
 
+/// The rule of a store's table. The first seat has one hold and no chain.
 pub struct Law;
 
 impl TableRule<(), View, Size> for Law {

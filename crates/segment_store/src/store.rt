@@ -103,7 +103,8 @@ impl Store {
     ghost use Rattle.version_map.specs.declared.snapshot.How.TheVariants.{Shared, Copied};
 
     /// A store of the lesser of `segments` and 2^26 divided by the words of a segment, all free,
-    /// and a hold of the initial words.
+    /// and a hold of the initial words, of which there are at most 4096. The error is want of
+    /// memory.
     pub fn open(
         alloc: Global,
         segments: u32,
@@ -202,8 +203,8 @@ impl Store {
         })
     }
 
-    // A hold for a child of the same base. It is `None` where the hold has no segment, or others
-    // changed its count.
+    // A hold for a child of the same base. It is `None` where the hold has no segment, where a look
+    // found the first segment's count 0 or at least 2^32, or where others changed it after that.
     fn fork_share(&self, hold: &mut Hold) -> Option<Hold>
         requires own { IsOf self.now hold.old }
         ensures own { IsOf self.now hold.new × IsSameHold hold.old hold.new }
@@ -229,6 +230,7 @@ impl Store {
     /// A hold for a child, whose base is the hold's under the delta.
     /// Shared: the delta is empty afterwards, and both holds have one first segment.
     /// Copied: the child has words of its own, and each segment's count was found not 0.
+    /// The error is want of memory: the delta is as before, and the hold has its chain and words.
     pub fn fork(
         &self,
         alloc: Global,
@@ -318,7 +320,8 @@ impl Store {
     }
 
     /// Ends the store. `out` is how many of the holds that were made were not gathered, and `live`
-    /// how many segments have a count that is not 0.
+    /// how many segments have a count that is not 0. Where fewer than 2^64 were made, `out` is
+    /// exact, and with none out no segment has a count.
     pub fn close(self, mut all: Spent) -> Closed
         requires own { IsSeatOf self all.seat }
         ensures counts { (s : State (Unit {0}) View) × Rule self.words self.stride self.masks s
@@ -368,7 +371,7 @@ impl Store {
         Spent { seat, holds: 1 }
     }
 
-    /// The word of the hold's base.
+    /// The word of the hold's base at this location, which is one of the store's.
     pub fn read(&self, hold: &mut Hold, location: u32) -> u64
         requires own { IsOf self.now hold.old }
         requires inside { location < vec_len self.now.initial }

@@ -51,7 +51,7 @@ module _ (kinds : List ValueKind) where
     apart = are.apart;
   }
 
-  -- no name has no kind, and what has none has no number
+  -- a name without a kind has no number
   pub names_none : (scope : Scope) (l : Locals) (next : ℕ) (name : Name) → AreNames kinds scope l next → find name l ≡ None → find name scope ≡ None
   names_none scope l next name are h = by (find name scope) refl
     where

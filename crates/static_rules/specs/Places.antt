@@ -185,7 +185,7 @@ operands b.Ge = Some k.Int
 operands b.And = Some k.Bool
 operands b.Or = Some k.Bool
 
--- whether an operator wants operands of one kind
+-- whether an operator compares its operands, which are to be of one kind
 abbrev pub compares : BinaryOp → Bool
 compares b.Eq = true
 compares b.Ne = true

@@ -5,9 +5,9 @@ ghost use Rattle.static_rules.specs.Examples.{Examples};
 ghost use Rattle.static_rules.specs.Laws.{Same, SameFirst, SameFuns, SameFirstFun, FunsKept};
 ghost use Rattle.static_rules.specs.Laws.{Decided, OneOutcome};
 
-/// The checker's list of faults has exactly those of the rules, and so has the list of faults of
-/// funs; and a small program that keeps the rules on funs is well typed, or there is one first rule
-/// that it breaks, and never both.
+/// The checker's list of faults has exactly those of the rules and the same first one, and so has
+/// the list of faults of funs; and a small program that keeps the rules on funs is well typed, or
+/// there is one first rule that it breaks, and never both. Each small program has one outcome.
 pub fn breaks_law()
     ensures same { Same }
     ensures first { SameFirst }

@@ -6,7 +6,8 @@ use rev_parse::{SyntaxFault, parse};
 use rev_syntax::{Form, Item, Node, Program, tokens};
 use std::alloc::Global;
 
-/// What the parser answers for a text.
+/// What the parser answers for a text. A text of more than a megabyte, and one in whose tokens
+/// there is a fault, are told as want of memory.
 pub fn parsed(alloc: Global, text: &[u8]) -> Result<Program, SyntaxFault> {
     if text.len() > MEGABYTE {
         return Err(SyntaxFault::OutOfMemory);

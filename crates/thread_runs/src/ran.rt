@@ -34,7 +34,8 @@ impl Ran {
         self.order.numbers()
     }
 
-    /// How many forks gave the child words of its own, since no segment was free.
+    /// How many forks gave the child words of its own, since they found each segment in use; up to
+    /// 2^64 - 1.
     pub fn copies(&self) -> u64
         ensures { result ≡ self.now.copies }
     {

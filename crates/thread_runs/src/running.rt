@@ -20,7 +20,8 @@ use std::thread::Threads;
 /// 4,000,000,000 units, by so many threads, of which the caller is one. A thread enters the gate
 /// before each leg. Revisions share what they have not written in so many segments at most; where
 /// none is free a fork copies. All threads have ended when it returns. Want of memory is the one
-/// error.
+/// error, which stands for segments in use at the close of the store too. No clause tells of
+/// threads, of the gate or of copies.
 pub fn run_threads<R: Threads + Wait + Sync, G: Gate + Sync>(
     rt: &R,
     alloc: Global,

@@ -4,7 +4,7 @@ use Rattle.token_grammar.specs.Outcome.{Read, Failed, Parser, and_then, after, n
 use Rattle.token_grammar.specs.Form.{Alphabet, Form, nothing, token, level, both, either, many, Rules}
 
 module _ (G : Alphabet) where
-  -- whether the form derives no tokens
+  -- whether the form derives the empty list of tokens
   abbrev pub nullable : {A : Type 0} → Form G A → Bool
   nullable (nothing a) = true
   nullable (token s val) = false

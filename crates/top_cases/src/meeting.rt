@@ -7,7 +7,8 @@ use std::thread;
 /// How many looks at a flag come to nothing before a thread gives up.
 const MOST_LOOKS: u64 = 10_000_000;
 
-/// A gate at which a revision waits for another.
+/// A gate at which a revision waits for another. A revision of a number from 64 on is never seen to
+/// enter.
 #[derive(Drop)]
 pub struct Meeting {
     /// Who waits for whom, by number.

@@ -73,7 +73,7 @@ fn is_third(row: &str, ran: &Option<Ran>) -> Result<bool, CaseFault> {
     })
 }
 
-/// Whether no revision of the run is left.
+/// Whether the run left no segment in use.
 fn is_over(ran: &Option<Ran>) -> bool {
     match ran {
         Some(run) => run.live() == 0,

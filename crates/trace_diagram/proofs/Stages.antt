@@ -1,4 +1,4 @@
--- The stages of a trace's lines: of each stage and line there is one next stage.
+-- The stages of a trace's lines: of each stage and line there is one next stage at most.
 use Rattle.std.proofs.Common.{◌≡◌, ◌∙◌, ◌⊎◌, inl, inr, sym, ap, subst, ℕ, List, [], ◌∷◌, get_or, refl, arith}
 use Rattle.std.specs.Prelude.{codes}
 use Rattle.std.proofs.lemmas.Fmt.{decimal_injective}

@@ -3,6 +3,9 @@
 --   partial_lines  the lines that were read, and stage_of how far they are
 --   IsPartial      what was read has the form of a trace so far
 --   Takes          what a draft becomes with one more line
+--   Closes, Finishes
+--                  what it gives at the end of a part, and of the trace
+--   HasRead        how the bytes are made of what was read and the rest
 use Rattle.std.specs.Prelude.{◌≡◌, ℕ, ◌^◌, ◌<◌, IsTrue, IfSome, is_some, true, List, [], ◌∷◌, ◌++◌, map, Option, Some, None, Vec}
 use Rattle.std.specs.List.{flat_map, AllByRecursion}
 use Rattle.rev_num.specs.Path.{Path, before}
@@ -128,7 +131,7 @@ abbrev pub Closes : {A : Type 0} → PartialTrace → Option (Vec Part A) → Ty
 Closes p (Some parts) = IsClosedTo p parts.items
 Closes p None = IsClosed p → ⊥
 
--- the trace whose lines these are, or that a line is wanting
+-- the trace whose lines these are, or that it can't end here
 pub record IsFinished (p : PartialTrace) (t : Trace) : Type 0 where
   pub form : IsTrace t
   pub lines : flat_map part_lines t.parts ≡ partial_lines p

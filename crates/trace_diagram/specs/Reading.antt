@@ -1,6 +1,7 @@
 -- What is read of some bytes.
---   Reads     what fits and is spelled so, or that there is none
---   IsBehind  what stands behind a prefix
+--   Reads        what fits and is spelled so, or that there is none
+--   LacksPrefix  nothing stands behind a prefix, since the bytes don't begin with it
+--   IsQuote      the line quotes a printable text
 use Rattle.std.specs.Prelude.{◌≡◌, ℕ, ◌<◌, List, ◌++◌, length, Option, Some, None, Vec, IsTrue}
 use Rattle.std.specs.List.{list_all}
 use Rattle.rev_num.specs.Path.{Path}

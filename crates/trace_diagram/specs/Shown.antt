@@ -5,7 +5,7 @@ use Rattle.trace_diagram.specs.declared.diagram.Part.{Part}
 use Rattle.trace_diagram.specs.declared.diagram.PartEnd.{PartEnd}
 use Rattle.trace_diagram.specs.declared.diagram.PartEnd.TheVariants as part_end
 
--- a trap with the location of its merge left out
+-- a cause, with 0 in place of the location of its merge
 abbrev pub cause_shown : Cause → Cause
 cause_shown (cause.Merge n f) = cause.Merge 0 f
 cause_shown c = c

@@ -17,7 +17,8 @@ pub struct Part {
     pub end: PartEnd,
     /// The fuel that was left.
     pub fuel: u64,
-    /// What the revision wrote, in ascending order of location.
+    /// What the revision wrote. The trace of a run has it in ascending order of location, and a
+    /// text that is read may have it in any order.
     pub written: Items<Change>,
     /// What the revision printed, whole lines.
     pub text: Bytes,
@@ -35,7 +36,7 @@ pub enum TraceEvent {
 pub enum PartEnd {
     Done,
     /// By a trap. The place is that of the location whose merge faulted, and empty for other
-    /// causes.
+    /// causes. A text has the place, and not the number of the location.
     Trapped { trap: Trap, place: Bytes },
 }
 

@@ -5,7 +5,7 @@ ghost use Rattle.trace_diagram.specs.declared.fault.TraceFault.TheVariants.{OutO
 
 use std::alloc::AllocError;
 
-/// Why no trace was read: the bytes go wrong at this place, or no memory was left.
+/// Why no trace was read: the bytes go wrong behind this many of them, or no memory was left.
 #[derive(Clone, Copy, PartialEq, Eq, Debug, Drop)]
 pub enum TraceFault {
     Malformed { at: u64 },

@@ -13,7 +13,8 @@ use crate::spelled::behind;
 use std::alloc::Global;
 
 /// The trace of which the bytes are the text, or where they go wrong first: at the start of the
-/// first line with which no trace text begins, or at the end.
+/// first line with which no trace text goes on, or that has no line feed, or at the end. The other
+/// error is want of memory.
 pub fn read_trace(alloc: Global, bytes: &[u8]) -> Result<Trace, TraceFault>
     ensures ok { IfOk result (IsTextOf bytes.now) }
     ensures err { IfErr result (FailsAt bytes.now) }

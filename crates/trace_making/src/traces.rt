@@ -56,9 +56,10 @@ fn parts_of<'a>(
     Ok(parts)
 }
 
-/// The trace of the program with these inputs, the most fuel that a fork gives, and this fuel:
-/// that of the final state of every complete run, whatever the order of its steps, and none where
-/// that is the state of a second join. Want of memory is the one error.
+/// The trace of the program with these inputs, the most fuel that a fork gives, and this fuel, of
+/// which there are at most 4,000,000,000 units: that of the final state of every complete run,
+/// whatever the order of its steps, and none where that is the state of a second join. Want of
+/// memory is the one error.
 pub fn trace_of(
     alloc: Global,
     typed: &Typed,

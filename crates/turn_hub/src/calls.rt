@@ -35,7 +35,8 @@ impl<L: Revision> TurnHub<L> {
     }
 
     /// Hands in the child of a fork of the revision `of`, and answers its number. The child comes
-    /// back for want of memory, which is then entered, and after a halt.
+    /// back for want of memory, and where no number is left, and want of memory is then entered. It
+    /// comes back after a halt too.
     pub fn fork<W: Wait>(
         &self,
         rt: &W,
@@ -180,7 +181,8 @@ impl<L: Revision> TurnHub<L> {
     }
 
     /// The same, and the seat takes what is ready in the same turn. Where that is a joiner, as each
-    /// that waited for this end, it joins in that turn too, by one further entry.
+    /// that waited for this end, it joins in that turn too, by one further entry where there is
+    /// memory for it.
     pub fn end_and_take<W: Wait>(
         &self,
         rt: &W,

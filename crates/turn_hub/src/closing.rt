@@ -15,8 +15,8 @@ use hub_table::{HubState, Kept, Parted, Turn};
 pub use order::HubSchedule;
 use turn_rule::{Revision, TakeIn, View, Witness};
 
-/// A run that a hub kept. `close` alone makes one. It tells where the run began, and what its
-/// snapshots belong to.
+/// A run that a hub kept. `close` alone makes one, and `as_of` makes it one of another machine. It
+/// tells where the run began, and what its snapshots belong to.
 #[derive(Drop)]
 pub struct HubRun<L: Revision> {
     schedule: Vec<u32>,
@@ -127,7 +127,7 @@ impl<L: Revision> TurnHub<L> {
     }
 
     /// What the hub has. All seats that `open` made are handed in, and one of them was answered
-    /// Finished or Halted.
+    /// Finished or Halted, or entered a halt.
     pub fn close(self, seats: Vec<HubSeat<L>>) -> HubEnd<L>
         requires own { AreOf self.turn.shared.table_id (map (λ s. s.place) seats.items) }
         requires every { length seats.items ≡ (first_of self.turn.shared.key.views).parts }

@@ -14,7 +14,7 @@ use turn_rule::{
     Commit, Draw, Give, HandIn, OneHolder, Revision, StopNoMemory, StopTwice, Take, View,
 };
 
-/// What threads look at that have not the turn. It is written in each turn, and what lies beside
+/// What threads look at that have not the turn. It can be written in any turn, and what lies beside
 /// it in a hub is only read, so it has a cache line of its own.
 #[derive(Drop)]
 pub struct Signs {

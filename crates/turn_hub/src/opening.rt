@@ -182,7 +182,8 @@ impl<L: Revision> TurnHub<L> {
         list
     }
 
-    /// A hub with its first revision, and so many seats. The runner comes back for want of memory.
+    /// A hub with its first revision, and so many seats, at least one. The runner comes back for
+    /// want of memory.
     pub fn open(
         alloc: Global,
         first: L::Runner,

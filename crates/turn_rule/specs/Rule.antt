@@ -118,7 +118,7 @@ module _ {L R A E : Type 0} (d : HubMachine L R A E) (ends : E → L → Type 0)
     -- each number that seats have is in one pass
     pub once : (n : ℕ) → total (names n) s.views ≡ times n out
     pub single : (n : ℕ) → times n out ≤ 1
-    -- a seat knows of each halt
+    -- some seat knows of the halt that was entered
     pub known : state ≢ All → 0 < total halts s.views
 
   abbrev Sat : Type 0

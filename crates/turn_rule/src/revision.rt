@@ -47,7 +47,7 @@ pub trait Revision {
         ensures of { claimed result at end }
         ensures group { claimed_group result ≡ machine.joiner_group at };
 
-    /// Takes in the trap of its joinee.
+    /// Takes in the trap of its joinee, which it does not outlive.
     fn trapped(at: Self::AtJoin, end: Self::End) -> Self::Stopped
         requires { (machine.trapped end ≡ true) × (machine.is_try at ≡ false) }
         ensures of { stopped result at end }

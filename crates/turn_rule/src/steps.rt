@@ -14,7 +14,8 @@ pub type Slot<L> = Option<
     Box<Turn<<L as Revision>::Runner, <L as Revision>::AtJoin, <L as Revision>::End>>,
 >;
 
-/// One seat has the turn. The key is a badge whose view has the start and the number of seats.
+/// At most one seat has the turn. The key is a badge whose view has the start and the number of
+/// seats.
 pub struct OneHolder<L: Revision> {
     of: PhantomData<L>,
 }
@@ -47,7 +48,7 @@ impl<L: Revision> Play<Option<Box<Turn<L::Runner, L::AtJoin, L::End>>>, View<L::
     ghost then = { gave L.machine L.ends };
 }
 
-/// The entry is the operand.
+/// The entry, the number of the revision, is the operand.
 pub struct Commit<L: Revision> {
     of: PhantomData<L>,
 }
@@ -57,6 +58,7 @@ impl<L: Revision> Play<Option<Box<Turn<L::Runner, L::AtJoin, L::End>>>, View<L::
     ghost then = { committed L.machine L.ends };
 }
 
+/// The number of the revision is the operand.
 pub struct HandIn<L: Revision> {
     of: PhantomData<L>,
 }
@@ -66,6 +68,7 @@ impl<L: Revision> Play<Option<Box<Turn<L::Runner, L::AtJoin, L::End>>>, View<L::
     ghost then = { handed_in L.machine L.ends };
 }
 
+/// The number of the revision is the operand.
 pub struct Draw<L: Revision> {
     of: PhantomData<L>,
 }

@@ -125,7 +125,8 @@ fn make_least<M: MergeBy>(
 }
 
 /// Makes the leg of the least number that has one, time after time, until none has, with these
-/// notes of the revisions so far. Want of memory is the one error, and the world is lost.
+/// notes of the revisions so far. In Twice nothing is said of the notes. Want of memory is the one
+/// error, and the world is lost.
 pub fn finish_noting<M: MergeBy>(
     alloc: Global,
     setting: &CodeSetting,

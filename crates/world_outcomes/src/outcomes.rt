@@ -71,8 +71,8 @@ fn trap_of(alloc: Global, births: &[Birth], trap: CodeTrap) -> Result<Trap, Allo
 /// The outcome of a world whose `main` left this: its text, which is moved and not copied, the
 /// values of its view by location with their names, and how it ended. `births` is where each
 /// revision of the world comes from, by number; a handle is shown as the path of its revision, and
-/// the origin of a trap too. It takes a step for each location and each number of a path. Want of
-/// memory is the one error.
+/// the origin of a trap too. It takes a step for each location, each write and each number of a
+/// path, though no clause says so. Want of memory is the one error.
 pub fn outcome_of(
     alloc: Global,
     setting: &CodeSetting,

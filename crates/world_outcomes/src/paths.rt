@@ -21,7 +21,7 @@ fn forked_as(births: &[Birth], number: usize) -> Option<Birth>
 }
 
 /// The path of the revision of this number, and that of `main` where there is none. It takes a step
-/// for each number of the path. Want of memory is the one error.
+/// for each number of the path, though no clause says so. Want of memory is the one error.
 pub fn path_of(alloc: Global, births: &[Birth], number: usize) -> Result<Path, AllocError>
     requires { (paths : List DefinedPath) × Names births.now paths }
     ensures { IfOk result (λ p. (paths : List DefinedPath) → Names births.now paths

@@ -161,7 +161,7 @@ module _ (g : CodeRun) where
     world = is;
   }
 
-  -- more legs than the fuel allows
+  -- no more legs than the fuel allows
   pub came_few : IsVerified g → (w : World (Local ℕ)) → IsReached g w → (turns : ℕ) (v : rust.World) (q : ReadyQueue) → Came w turns v q → turns ≤ 12000000002
   came_few ok w h turns v q c =
       let b = entry_bound g ok h.number h.main h.fuel (h.schedule ++ c.schedule) c.last

@@ -2,6 +2,9 @@
 --   IsCovered    the revision is ready, or has ended, or waits for one that has not
 --   Covers       each revision of the world is covered
 --   CoversBut    each but this one
+--   IsKnown      a leg of this one came out so, and each other is covered
+--   IsNoted      each is, once that is noted
+--   IsStill      where there was no leg, nothing was entered
 use Rattle.std.specs.Prelude.{ℕ, ◌≡◌, ◌≢◌, length, Some}
 use Rattle.revision_machine.specs.Numbered as numbers
 use Rattle.revision_machine.specs.Numbered.{Entries, World, Both, Listing}

@@ -88,7 +88,7 @@ fn make_least<M: MergeBy>(
     Ok(Made::None(world))
 }
 
-/// All numbers of a world as ready, and none that waits.
+/// All numbers of a world of this many revisions as ready.
 pub fn all_ready(alloc: Global, count: usize) -> Result<ReadyQueue, AllocError>
     requires { count ≤ 2 ^ 32 }
     ensures count { IfOk result (λ q. length q.waiters.items ≡ count) }

@@ -18,7 +18,7 @@ use leg_run::CodeSetting;
 use std::alloc::{AllocError, Global};
 use version_map::MergeBy;
 
-/// Why a schedule has no world.
+/// Why a schedule gives no world: an entry has no leg, or memory is wanting.
 #[derive(Clone, Copy, PartialEq, Eq, Debug)]
 pub enum ReplayFault {
     /// The first entry without a leg: its place, counted from 0, and its number.
@@ -36,9 +36,9 @@ impl From<AllocError> for ReplayFault {
     }
 }
 
-/// The world after this schedule from the start of `main`, with this fuel. It is refused at the
-/// first entry that names no revision, one that has ended or one that waits, and at any after
-/// Twice.
+/// The world after this schedule from the start of `main`, with this fuel, of which there are at
+/// most 4,000,000,000 units. It is refused at the first entry that names no revision, one that has
+/// ended or one that waits, and at any after Twice.
 pub fn replay<M: MergeBy>(
     alloc: Global,
     setting: &CodeSetting,

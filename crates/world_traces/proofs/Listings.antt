@@ -1,6 +1,6 @@
 -- Listings of the parts of all revisions: of a world by number, and of a state by paths.
 --   Lists          the parts of all revisions of a state, in post-order
---   world_listing  a world has such a listing, and one alone
+--   the_listing    a world has such a listing, and one alone
 --   world_lists    a listing of a world is one of a state that agrees with it
 --   to_lists, of_lists
 --                  those of a state of the calculus are its traces

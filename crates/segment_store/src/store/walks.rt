@@ -43,8 +43,9 @@ impl Store {
         0
     }
 
-    // Where the search for a free segment begins. Threads whose holds refer to different segments
-    // begin at different places, and a hold that gave its segment back finds it at once.
+    // Where the search for a free segment begins. It depends on the hold's first segment, so that
+    // threads whose holds refer to different segments mostly begin at different places, and a hold
+    // that gave its segment back begins where it began before. No clause says so.
     fn begin_at(&self, first: usize) -> usize
         requires { 0 < self.now.segments }
         ensures { (0 < result) × (result % self.now.stride ≡ 0) × (result ≤ self.now.words) }
@@ -338,7 +339,7 @@ impl Store {
         }
     }
 
-    // A seat for a child with words of its own.
+    // A seat with one hold and no chain: of a child with words of its own, or of a purse.
     pub(super) fn split_off(&self, seat: &mut Place, first: usize, depth: u64) -> Place
         requires own { IsSeatOf self.now seat.old }
         requires rests { RestsIn self.now first depth seat.old.me.0 }
