@@ -2,6 +2,7 @@
 --   rows_over        each location has a mask word
 --   bit_set          a location's bit after its mask word was written
 --   bit_else         the other locations' bits then
+--   row_is_unset     the bits of a row that is 0
 --   row_is_zero      a mask word none of whose bits is set is 0
 --   mask_after       the mask that lies behind the words, after one of its words and a word
 --   has_row          the mask behind the words has a row that the cells have
@@ -63,6 +64,12 @@ chosen_one b w x e q = (λ i. chosen (e i) (q i))
 
 pub chosen_zero : (b w : ℕ) → b ≡ 0 → chosen b w ≡ None
 chosen_zero b w e = ap (λ (z : ℕ). chosen z w) e
+
+pub row_is_unset : (mask : List ℕ) (l k : ℕ) → l % 64 ≡ 0 → get_or mask (l / 64) 0 ≡ 0 → l ≤ k
+    → k < l + 64 → bit_in mask k ≡ 0
+row_is_unset mask l k first zero low high = let same : k / 64 ≡ l / 64 = omega arith in
+    ap (λ (z : ℕ). bit_at (get_or mask z 0) (k % 64)) same
+    ∙ (ap (λ (z : ℕ). bit_at z (k % 64)) zero ∙ bit_at-zero (k % 64))
 
 abbrev IsNone : Option ℕ → Type 0
 IsNone None = ⊥

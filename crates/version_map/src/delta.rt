@@ -19,7 +19,7 @@ pub struct Delta {
 }
 
 impl Delta {
-    ghost use Rattle.version_map.specs.Deltas.{at, locations, mask_of, IsEmpty};
+    ghost use Rattle.version_map.specs.Deltas.{at, locations, mask_of, IsEmpty, StartsEmptyRow};
 
     /// No value, for `count` locations.
     pub fn new(alloc: Global, count: u32) -> Result<Delta, AllocError>
@@ -84,6 +84,15 @@ impl Delta {
             }
         }
         true
+    }
+
+    /// Whether a row of the mask begins at this location, and no location of the row has a value.
+    pub fn starts_empty_row(&self, location: u32) -> bool
+        requires { location < locations self.now }
+        ensures { MatchBool result (StartsEmptyRow self.now location)
+            (¬ StartsEmptyRow self.now location) }
+    {
+        location % 64 == 0 && self.mask_row(location as usize / 64) == 0
     }
 
     /// The bits of 64 locations from `64 * row` on, the lowest first, 1 where a location has a

@@ -1,7 +1,7 @@
 //! The words that were there when a revision was forked.
 
-ghost use Rattle.std.specs.Prelude.{◌≡◌, ◌≢◌, ℕ, ◌<◌, Some, IfOk};
-ghost use Rattle.version_map.specs.Deltas.{at, locations, IsEmpty};
+ghost use Rattle.std.specs.Prelude.{◌≡◌, ◌≢◌, ℕ, ◌<◌, Some, IfOk, MatchBool};
+ghost use Rattle.version_map.specs.Deltas.{at, locations, IsEmpty, StartsEmptyRow};
 
 use crate::delta::Delta;
 use std::alloc::{AllocError, Global};
@@ -30,6 +30,15 @@ impl First {
         ensures { result ≡ at self.now.roots location }
     {
         self.roots.get(location)
+    }
+
+    /// Whether a row of 64 locations begins at this one, and none of them has a word.
+    pub fn starts_empty_row(&self, location: u32) -> bool
+        requires { location < locations self.now.roots }
+        ensures { MatchBool result (StartsEmptyRow self.now.roots location)
+            (¬ StartsEmptyRow self.now.roots location) }
+    {
+        self.roots.starts_empty_row(location)
     }
 
     /// Gives the location a word.

@@ -1,4 +1,4 @@
-use Rattle.std.proofs.Common.{◌≡◌}
+use Rattle.std.proofs.Common.{◌≡◌, ◌≤◌, ◌-◌}
 use Rattle.version_map.specs.Deltas.{at}
 use Rattle.version_map.specs.Overlay.{under}
 use Rattle.block_run.specs.Remembering.{written_below, Kept}
@@ -6,6 +6,7 @@ use Rattle.block_run.proofs.memory.Memory.written.Given as goal
 
 abbrev pub invariant-loop-location : goal.invariant-loop-location
 invariant-loop-location g l = record {
+  within : l.location ≤ l.count;
   written : l.written.items ≡ written_below (under l.initial.self.delta (g.P.Snapshot.base l.initial.self.snapshot)) (at l.initial.self.first.roots) l.location;
   kept : Kept (g.P.Snapshot.size l.initial.self.snapshot)
       (under l.initial.self.delta (g.P.Snapshot.base l.initial.self.snapshot)) (under l.self.delta (g.P.Snapshot.base l.self.snapshot))
@@ -13,3 +14,6 @@ invariant-loop-location g l = record {
   size : g.P.Snapshot.size l.self.snapshot ≡ g.P.Snapshot.size l.initial.self.snapshot;
   group : g.P.Snapshot.group l.self.snapshot ≡ g.P.Snapshot.group l.initial.self.snapshot;
 }
+
+abbrev pub decreases-loop-location : goal.decreases-loop-location
+decreases-loop-location g l = l.count - l.location

@@ -1,4 +1,4 @@
-use Rattle.std.proofs.Common.{arith, ◌≡◌, ◌≢◌, ◌<◌, ◌≤◌, ℕ, ◌+◌, ◌*◌, min, sym, ◌∙◌}
+use Rattle.std.proofs.Common.{arith, ◌≡◌, ◌≢◌, ◌<◌, ◌≤◌, ℕ, ◌+◌, ◌*◌, ◌/◌, min, sym, ◌∙◌}
 use Rattle.std.proofs.Common.{subst, refl, Option}
 use Rattle.atomic_table.specs.Table.{Me}
 use mathlib.Core.Logic.{dite}
@@ -7,6 +7,8 @@ use Rattle.version_map.specs.declared.delta.Delta.{Delta}
 use Rattle.version_map.specs.Deltas.{at, locations}
 use Rattle.segment_store.specs.declared.board.View.{View}
 use Rattle.segment_store.specs.Base.{IsTaken}
+use Rattle.segment_store.specs.Store.{Has, look}
+use mathlib.Core.Option.{some}
 use Rattle.segment_store.proofs.store.Store.absorb_row.Goals.{in-Some, in-None}
 use Rattle.segment_store.proofs.store.Store.absorb_row.Goals as goal
 
@@ -68,3 +70,12 @@ returns-clause-values c = let s = c.args.self.now in λ l lo hi lt.
 
 pub returns-clause-before : goal.returns-clause-before
 returns-clause-before c = c.loop-l.invariant.4
+
+pub taken-requires-clause-bits : goal.taken-requires-clause-bits
+taken-requires-clause-bits c = let same = c.loop-l.invariant.0.2 ∙ c.word-bits.ensures.same.2 in
+    let low = c.loop-l.auto.l in
+    let high : c.loop-l.l < 64 * c.args.row + 64 = (let e = c.min-end.ensures in let t = c.loop-l-test.true in omega arith) in
+    let row : c.loop-l.l / 64 ≡ c.args.row = omega (arith, low, high) in
+    λ e w has is. c.word-bits.ensures.word e w
+    (subst (λ (m : Me (Unit {0}) View). Has e m.0.chain) same has)
+    (subst (λ (i : ℕ). look e.body (c.args.segment + (2 + i)) ≡ some w) row is)
