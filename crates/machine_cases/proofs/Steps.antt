@@ -10,7 +10,7 @@ use Rattle.version_map.specs.declared.snapshot.Snapshot.{Ghosts}
 use Rattle.code_machine.specs.Joining.{join_in}
 use Rattle.code_machine.specs.Leg.{leg}
 use Rattle.code_machine.specs.Local.{CodeRun, End, at_work, done, end_of, has_ended}
-use Rattle.rev_vm.specs.declared.end.Stopped.{Stopped}
+use Rattle.rev_vm.specs.Stopping.{StoppedValue}
 use Rattle.rev_vm.specs.declared.fork.AtFork.{AtFork}
 use Rattle.rev_vm.specs.declared.join.AtJoin.{AtJoin}
 use Rattle.rev_vm.specs.declared.join.Claimed.{Claimed}
@@ -41,10 +41,10 @@ module _ {P S : Type 0} {m : Ghosts P S} (g : CodeRun) where
     pub at_join : (e : Event P S m) (a : AtJoin P S m) → e ≡ event.Join a → Comes e → (d : State ℕ) × StandsAtJoin g a d
     at_join e a is h = let q : Comes (event.Join a) = subst Comes is h in (q.0, q.2)
 
-    pub at_end : (e : Event P S m) (s : Stopped P S) → e ≡ event.End s → Comes e → (v : EndValue) → v ≡ s.end → (j : End ℕ) × IsEnd g j v
+    pub at_end : (e : Event P S m) (s : StoppedValue P) → e ≡ event.End s → Comes e → (v : EndValue) → v ≡ s.end → (j : End ℕ) × IsEnd g j v
     at_end e s is h v same = let q : Comes (event.End s) = subst Comes is h in (end_of (has_ended q.0 done), subst (IsEnd g (end_of (has_ended q.0 done))) (sym same) q.3)
 
-    pub at_trap : (e : Event P S m) (s : Stopped P S) → e ≡ event.Trap s → Comes e → (v : EndValue) → v ≡ s.end → (j : End ℕ) × IsEnd g j v
+    pub at_trap : (e : Event P S m) (s : StoppedValue P) → e ≡ event.Trap s → Comes e → (v : EndValue) → v ≡ s.end → (j : End ℕ) × IsEnd g j v
     at_trap e s is h v same =
         let q : Comes (event.Trap s) = subst Comes is h in
         (end_of (has_ended q.0 (trap_of q.0 q.1)), subst (IsEnd g (end_of (has_ended q.0 (trap_of q.0 q.1)))) (sym same) q.3)

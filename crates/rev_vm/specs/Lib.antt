@@ -7,3 +7,4 @@ pub mod States
 pub mod Laws
 pub mod Values
 pub mod Opening
+pub mod Stopping

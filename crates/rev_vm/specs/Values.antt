@@ -4,7 +4,6 @@
 --   Awaits             a forker behind its Fork, that forked in this state with these arguments
 --   StandsAtJoin       a joiner, for this state
 --   HasClaimed         a joiner that was given an end
---   Left               what a revision left, that has ended
 --   runner_state, fork_state, joiner_state   what they stand for
 --   runner_group, ..   what their snapshots belong to
 use Rattle.std.specs.Prelude.{ℕ, List}
@@ -13,14 +12,12 @@ use Rattle.rev_code.specs.State.{State}
 use Rattle.rev_code.specs.Events as events
 use Rattle.version_map.specs.declared.snapshot.Snapshot.{Ghosts}
 use Rattle.code_machine.specs.Local.{CodeRun, End}
-use Rattle.rev_vm.specs.declared.end.Broken.{Broken}
-use Rattle.rev_vm.specs.declared.end.Stopped.{Stopped}
 use Rattle.rev_vm.specs.declared.fork.AtFork.{AtFork}
 use Rattle.rev_vm.specs.declared.fork.Parent.{Parent}
 use Rattle.rev_vm.specs.declared.join.AtJoin.{AtJoin}
 use Rattle.rev_vm.specs.declared.join.Claimed.{Claimed}
 use Rattle.rev_vm.specs.declared.runner.Runner.{Runner}
-use Rattle.rev_vm.specs.Meaning.{IsAt, IsAtFork, IsAtJoin, IsClaimed, IsEnd}
+use Rattle.rev_vm.specs.Meaning.{IsAt, IsAtFork, IsAtJoin, IsClaimed}
 use Rattle.rev_vm.specs.States.{state_at, before_join}
 
 module _ {P S : Type 0} {m : Ghosts P S} where
@@ -90,18 +87,3 @@ module _ {P S : Type 0} {m : Ghosts P S} where
       (m.base k.at.revision.value.memory.snapshot) k.at.revision.value.memory.first.roots
       k.at.written
       k.at.is_try k.at.on k.end c j
-
-  abbrev pub claimed_group : Claimed P S m → List ℕ
-  claimed_group k = joiner_group k.at
-
--- ---- a revision that has ended
-module _ {P S : Type 0} where
-  abbrev pub Left : CodeRun → Stopped P S → End ℕ → Type 0
-  Left g s j = IsEnd g j s.end
-
-  module _ (m : Ghosts P S) where
-    abbrev pub stopped_group : Stopped P S → List ℕ
-    stopped_group s = m.group s.snapshot
-
-    abbrev pub broken_group : Broken P S → List ℕ
-    broken_group b = m.group b.snapshot

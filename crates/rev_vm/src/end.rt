@@ -6,12 +6,33 @@ use block_run::Memory;
 use leg_run::Revision;
 use rev_num::Items;
 use std::alloc::Global;
+use std::marker::Model;
 use version_map::{EndValue, Finish, Snapshot, Written};
 
-/// A revision that is done or has trapped, with what it leaves.
+/// A revision that is done or has trapped. It stays in its box until it is retired, so that it is
+/// small to move. Contracts see its snapshot and what it leaves.
 pub struct Stopped<P: Snapshot> {
-    pub(crate) snapshot: P,
-    pub(crate) end: EndValue,
+    pub(crate) revision: Box<Revision<P>>,
+    pub(crate) written: Items<Written>,
+    pub(crate) finish: Finish,
+}
+
+impl<P: Snapshot> Model for Stopped<P> {
+    ghost use Rattle.rev_vm.specs.Stopping.{StoppedValue};
+
+    ghost Value = { StoppedValue P };
+
+    ghost view = { λ s. record {
+      snapshot = s.revision.value.memory.snapshot;
+      end = record {
+        written = s.written;
+        text = s.revision.value.run.text.items;
+        fuel = s.revision.value.run.registers.fuel;
+        finish = s.finish;
+      };
+    } };
+
+    ghost invariant = { λ _. Unit {0} };
 }
 
 /// What the revision leaves, and its snapshot, given back.
@@ -19,7 +40,23 @@ pub fn retire<P: Snapshot>(stopped: Stopped<P>) -> (EndValue, P::Spent)
     ensures end { result.0 ≡ stopped.end }
     ensures group { P.spent_group result.1 ≡ P.group stopped.snapshot }
 {
-    let Stopped { snapshot, end } = stopped;
+    let Stopped {
+        revision,
+        written,
+        finish,
+    } = stopped;
+    let Revision { memory, run } = Box::into_inner(revision);
+    let Memory {
+        delta: _,
+        first: _,
+        snapshot,
+    } = memory;
+    let end = EndValue {
+        written,
+        text: Items::from_vec(run.text),
+        fuel: run.registers.fuel,
+        finish,
+    };
     (end, snapshot.release())
 }
 
@@ -65,20 +102,10 @@ pub(crate) fn stop<P: Snapshot>(
     ensures finish { result.end.finish ≡ finish }
     ensures snapshot { result.snapshot ≡ revision.value.memory.snapshot }
 {
-    let Revision { memory, run } = Box::into_inner(revision);
-    let Memory {
-        delta,
-        first,
-        snapshot,
-    } = memory;
     Stopped {
-        snapshot,
-        end: EndValue {
-            written,
-            text: Items::from_vec(run.text),
-            fuel: run.registers.fuel,
-            finish,
-        },
+        revision,
+        written,
+        finish,
     }
 }
 
