@@ -2,9 +2,6 @@ use Rattle.rev_vm.specs.Starts.{run_under}
 use Rattle.code_world.proofs.Beginning.{main, main_number}
 use Rattle.code_world.proofs.starting.first_runner.Goals as goal
 
-pub start_main-requires-clause-setting : goal.start_main-requires-clause-setting
-start_main-requires-clause-setting c = c.requires
-
 pub start_main-requires-clause-size : goal.start_main-requires-clause-size
 start_main-requires-clause-size c = c.in_ok-words.ensures.size
 

@@ -1,8 +1,5 @@
 use Rattle.code_world.proofs.world.leg.Goals as goal
 
-pub leg_noting-requires-clause-setting : goal.leg_noting-requires-clause-setting
-leg_noting-requires-clause-setting g c = c.requires.setting
-
 pub leg_noting-requires-clause-reached : goal.leg_noting-requires-clause-reached
 leg_noting-requires-clause-reached g c = c.requires.reached
 
