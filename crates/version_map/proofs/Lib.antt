@@ -1,2 +1,4 @@
 pub mod Bits
 pub mod Composing
+pub mod RowSteps
+pub mod RowParts

@@ -3,4 +3,7 @@ pub mod Deltas
 pub mod Overlay
 pub mod Endings
 pub mod Composing
+pub mod Eights
+pub mod Following
+pub mod Parts
 pub mod Collapsing
