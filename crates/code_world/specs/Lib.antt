@@ -7,3 +7,4 @@ pub mod Answers
 pub mod Endings
 pub mod Counts
 pub mod Meetings
+pub mod Said

@@ -8,6 +8,7 @@ mod ending;
 mod left;
 mod lists;
 mod noted;
+mod said;
 mod slot;
 mod starting;
 mod table;

@@ -1,6 +1,6 @@
 //! Legs of the revisions of a table.
 
-ghost use Rattle.std.specs.Prelude.{◌≡◌, ℕ, IfOk, Some};
+ghost use Rattle.std.specs.Prelude.{◌≡◌, ℕ, IfOk, OnOk, Some};
 ghost use Rattle.rev_code.specs.State.{State};
 ghost use Rattle.block_merges.specs.Merging.{AreMergesOf};
 ghost use Rattle.block_run.specs.Area.{count};
@@ -12,6 +12,7 @@ ghost use Rattle.code_world.specs.declared.slot.Slot.TheVariants as slot;
 ghost use Rattle.code_world.specs.Slots.{StandsAtJoin, WholeJoin};
 ghost use Rattle.code_world.specs.Answers.{Answers};
 ghost use Rattle.code_world.specs.Meetings.{HasNoted};
+ghost use Rattle.code_world.specs.Said.{OthersStay};
 ghost use Rattle.code_world.specs.Turns.{IsGood, StandsOn, Settles, behind, ends_with};
 
 use crate::advance::{Came, advance, meet};
@@ -71,6 +72,8 @@ impl Table {
         ensures answer { (g : CodeRun) (w : Entries (Local ℕ)) → IsGood g self.old w
             → AreMergesOf g (M.merges merges.old)
             → IfOk result (λ a. Answers g w number a self.new) }
+        ensures others { OnOk result
+            (OthersStay self.old.slots.items number self.new.slots.items) }
         ensures size { M.size merges.new ≡ M.size merges.old }
         ensures same { M.merges merges.new ≡ M.merges merges.old }
     {
@@ -95,6 +98,8 @@ impl Table {
         ensures answer { (g : CodeRun) (w : Entries (Local ℕ)) → IsGood g self.old w
             → AreMergesOf g (M.merges merges.old)
             → IfOk result (λ a. Answers g w number a self.new) }
+        ensures others { OnOk result
+            (OthersStay self.old.slots.items number self.new.slots.items) }
         ensures size { M.size merges.new ≡ M.size merges.old }
         ensures same { M.merges merges.new ≡ M.merges merges.old }
     {
@@ -125,6 +130,8 @@ impl Table {
             → IfOk result (λ a. Answers (run_under setting.now) w number a.answer self.new) }
         ensures noted { (w : Entries (Local ℕ)) → IsGood (run_under setting.now) self.old w
             → IfOk result (λ a. HasNoted (run_under setting.now) w number a.answer a.meeting) }
+        ensures others { OnOk result
+            (OthersStay self.old.slots.items number self.new.slots.items) }
         ensures size { M.size merges.new ≡ M.size merges.old }
         ensures same { M.merges merges.new ≡ M.merges merges.old }
     {
@@ -166,6 +173,8 @@ impl Table {
             → IfOk result (λ a. Answers (run_under setting.now) w number a.answer self.new) }
         ensures noted { (w : Entries (Local ℕ)) → IsGood (run_under setting.now) self.old w
             → IfOk result (λ a. HasNoted (run_under setting.now) w number a.answer a.meeting) }
+        ensures others { OnOk result
+            (OthersStay self.old.slots.items number self.new.slots.items) }
         ensures size { M.size merges.new ≡ M.size merges.old }
         ensures same { M.merges merges.new ≡ M.merges merges.old }
     {

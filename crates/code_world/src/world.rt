@@ -10,6 +10,7 @@ ghost use Rattle.revision_machine.specs.Numbered.{Entries, Listing, World as Def
 ghost use Rattle.rev_vm.specs.Starts.{run_under};
 ghost use Rattle.code_world.specs.Answers.{LegAnswers, world_after};
 ghost use Rattle.code_world.specs.Meetings.{HasNoted};
+ghost use Rattle.code_world.specs.Said.{OthersStayIn};
 ghost use Rattle.code_world.specs.Tables.{IsWorld};
 
 use crate::answer::LegAnswer;
@@ -74,6 +75,7 @@ pub fn leg<M: MergeBy>(
     ensures answer { (w : DefinedWorld (Local ℕ)) → IsReached (run_under setting.now) w
         → IsWorld (run_under setting.now) world w
         → IfOk result (λ r. LegAnswers (run_under setting.now) w revision r.1 r.0) }
+    ensures others { IfOk result (λ r. OthersStayIn world revision r.0) }
     ensures size { M.size merges.new ≡ M.size merges.old }
     ensures same { M.merges merges.new ≡ M.merges merges.old }
 {
@@ -100,6 +102,7 @@ pub fn leg_noting<M: MergeBy>(
     ensures noted { (w : Entries (Local ℕ)) → IsReached (run_under setting.now) (Listing w)
         → IsWorld (run_under setting.now) world (Listing w)
         → IfOk result (λ r. HasNoted (run_under setting.now) w revision r.1.answer r.1.meeting) }
+    ensures others { IfOk result (λ r. OthersStayIn world revision r.0) }
     ensures size { M.size merges.new ≡ M.size merges.old }
     ensures same { M.merges merges.new ≡ M.merges merges.old }
 {

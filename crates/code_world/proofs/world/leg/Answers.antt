@@ -14,3 +14,6 @@ leg_noting-requires-clause-merges g c = c.requires.merges
 
 pub returns-clause-answer : goal.returns-clause-answer
 returns-clause-answer g c = c.in_ok-next.ensures.answer
+
+pub returns-clause-others : goal.returns-clause-others
+returns-clause-others g c = c.in_ok-next.ensures.others

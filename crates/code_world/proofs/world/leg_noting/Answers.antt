@@ -6,6 +6,7 @@ use Rattle.code_world.specs.Answers.{LegAnswers}
 use Rattle.code_world.proofs.Listed.{noted_so}
 use Rattle.code_world.proofs.Worlds.{good_listing, good_table, answers_in, twice_in}
 use Rattle.code_world.proofs.world.leg_noting.Goals as goal
+use Rattle.code_world.proofs.Others.{others_in, others_twice}
 
 pub returns-in-Twice-clause-answer : goal.returns-in-Twice-clause-answer
 returns-in-Twice-clause-answer g c = λ w reached is.
@@ -37,3 +38,10 @@ returns-in-Ok-clause-answer g c = λ w reached is.
 pub returns-in-Ok-clause-noted : goal.returns-in-Ok-clause-noted
 returns-in-Ok-clause-noted g c = λ w reached is.
     c.in-Ok.ensures.noted w (good_listing (run_under c.args.setting.now) c.requires.setting.faultless c.args.world w c.in-Live.table c.in-Live.is reached is)
+
+pub returns-in-Twice-clause-others : goal.returns-in-Twice-clause-others
+returns-in-Twice-clause-others g c = others_twice c.args.world world.Twice c.args.revision c.in-Twice.is
+
+pub returns-in-Ok-clause-others : goal.returns-in-Ok-clause-others
+returns-in-Ok-clause-others g c =
+    others_in c.args.world c.world_of.result c.in-Live.table c.leg.new.self c.args.revision c.in-Ok.noted.answer c.in-Live.is c.world_of.ensures c.in-Ok.ensures.others

@@ -1,10 +1,11 @@
-use Rattle.std.proofs.Common.{◌∙◌, ap, subst}
+use Rattle.std.proofs.Common.{◌∙◌, ap, subst, refl}
 use Rattle.revision_machine.specs.Numbered.{at_number}
 use Rattle.code_world.specs.declared.answer.LegAnswer.TheVariants as answer
 use Rattle.code_world.specs.Answers.{Answers}
 use Rattle.code_world.proofs.Finding.{stage_none, stage_running, stage_standing, stage_ended, stage_joined}
 use Rattle.code_world.proofs.Turning.{joinee_known, waits_running, waits_standing, joins_twice}
 use Rattle.code_world.proofs.table.Table.join.Goals as goal
+use Rattle.code_world.proofs.Others.{stays}
 
 pub unreachable-requires : goal.unreachable-requires
 unreachable-requires g c =
@@ -43,3 +44,15 @@ pub returns-in-Joined-clause-answer : goal.returns-in-Joined-clause-answer
 returns-in-Joined-clause-answer g c = λ r w good are.
     let q = c.requires.3 in
     joins_twice r c.args.self.now w good c.args.number q.0 q.1 (ap (at_number c.args.self.now.slots.items) q.2 ∙ stage_joined (at_number c.args.self.now.slots.items c.args.on) c.in-Joined.ensures)
+
+pub returns-in-Running-clause-others : goal.returns-in-Running-clause-others
+returns-in-Running-clause-others g c = stays c.args.self.now.slots.items c.args.self.now.slots.items c.args.number refl
+
+pub returns-in-Standing-clause-others : goal.returns-in-Standing-clause-others
+returns-in-Standing-clause-others g c = stays c.args.self.now.slots.items c.args.self.now.slots.items c.args.number refl
+
+pub returns-in-Ended-clause-others : goal.returns-in-Ended-clause-others
+returns-in-Ended-clause-others g c = c.settle.ensures.others
+
+pub returns-in-Joined-clause-others : goal.returns-in-Joined-clause-others
+returns-in-Joined-clause-others g c = stays c.args.self.now.slots.items c.args.self.now.slots.items c.args.number refl

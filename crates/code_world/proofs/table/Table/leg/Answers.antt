@@ -9,6 +9,7 @@ use Rattle.code_world.proofs.Finding.{stage_none, stage_running, stage_standing,
 use Rattle.code_world.proofs.Listed.{noted_so, join_noted, joins_noted}
 use Rattle.code_world.proofs.Turning.{joiner, no_such, over_ended, over_joined}
 use Rattle.code_world.proofs.table.Table.leg.Goals as goal
+use Rattle.code_world.proofs.Others.{stays}
 
 pub run-requires-clause-setting : goal.run-requires-clause-setting
 run-requires-clause-setting g c = c.requires.setting
@@ -86,3 +87,18 @@ returns-in-Joined-clause-answer g c = λ w good.
 pub returns-in-Joined-clause-noted : goal.returns-in-Joined-clause-noted
 returns-in-Joined-clause-noted g c = λ w good.
     noted_so (run_under c.args.setting.now) w c.args.number answer.Over c.noted_end-in-Joined.result.answer None c.noted_end-in-Joined.result.meeting c.noted_end-in-Joined.ensures.answer c.noted_end-in-Joined.ensures.meeting refl
+
+pub returns-in-NoSuch-clause-others : goal.returns-in-NoSuch-clause-others
+returns-in-NoSuch-clause-others g c = stays c.args.self.now.slots.items c.args.self.now.slots.items c.args.number refl
+
+pub returns-in-Running-clause-others : goal.returns-in-Running-clause-others
+returns-in-Running-clause-others g c = c.run.ensures.others
+
+pub returns-in_ok-answer-in-Standing-clause-others : goal.returns-in_ok-answer-in-Standing-clause-others
+returns-in_ok-answer-in-Standing-clause-others g c = c.in_ok-answer-in-Standing.ensures.others
+
+pub returns-in-Ended-clause-others : goal.returns-in-Ended-clause-others
+returns-in-Ended-clause-others g c = stays c.args.self.now.slots.items c.args.self.now.slots.items c.args.number refl
+
+pub returns-in-Joined-clause-others : goal.returns-in-Joined-clause-others
+returns-in-Joined-clause-others g c = stays c.args.self.now.slots.items c.args.self.now.slots.items c.args.number refl

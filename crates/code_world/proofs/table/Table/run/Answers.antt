@@ -13,6 +13,7 @@ use Rattle.code_world.proofs.Listed.{noted_so, fork_noted, join_noted, end_noted
 use Rattle.code_world.proofs.Turning.{many_slots, births_below, few_forks, at_its_join, still_standing, forks_off, ends_so, runner, world_length}
 use Rattle.code_world.proofs.table.Table.run.Goals as goal
 use Rattle.revision_machine.proofs.Lists.{put_length, at_below}
+use Rattle.code_world.proofs.Others.{fork_stays, put_stays, then_stays}
 
 pub overflow_cast-child : goal.overflow_cast-child
 overflow_cast-child g c =
@@ -134,3 +135,20 @@ returns-in-Ended-clause-noted g c = λ w good.
     noted_so s w c.args.number (ends_with c.in-Ended.end.finish) c.noted_end.result.answer None c.noted_end.result.meeting
     (c.noted_end.ensures.answer ∙ c.answer_of-answer.ensures) c.noted_end.ensures.meeting
     (ends_noted s w c.args.number c.in-Ended.end.finish (end_noted s w c.args.number k.path k.state k.there come.after come.goes))
+
+pub returns-in_ok-bear-in-Forked-clause-others : goal.returns-in_ok-bear-in-Forked-clause-others
+returns-in_ok-bear-in-Forked-clause-others g c =
+    fork_stays c.args.self.now.slots.items c.bear.new.self.slots.items c.args.number slot.Joined (slot.Running c.in-Forked.forker) (slot.Running c.in-Forked.kid)
+    (c.in_ok-bear-in-Forked.ensures.slots ∙ ap (λ ss. put_number ss c.args.number (slot.Running c.in-Forked.forker) ++ slot.Running c.in-Forked.kid ∷ []) c.take_runner-runner.ensures.now)
+
+pub returns-in_ok-answer-in-Standing-clause-others : goal.returns-in_ok-answer-in-Standing-clause-others
+returns-in_ok-answer-in-Standing-clause-others g c =
+    then_stays c.args.self.now.slots.items c.put.new.self.slots.items c.join.new.self.slots.items c.args.number
+    (put_stays c.args.self.now.slots.items c.put.new.self.slots.items c.args.number slot.Joined (slot.Standing c.in-Standing.at)
+    (c.put.ensures.now ∙ ap (λ ss. put_number ss c.args.number (slot.Standing c.in-Standing.at)) c.take_runner-runner.ensures.now))
+    c.in_ok-answer-in-Standing.ensures.others
+
+pub returns-in-Ended-clause-others : goal.returns-in-Ended-clause-others
+returns-in-Ended-clause-others g c =
+    put_stays c.args.self.now.slots.items c.put-in-Ended.new.self.slots.items c.args.number slot.Joined (slot.Ended c.in-Ended.end)
+    (c.put-in-Ended.ensures.now ∙ ap (λ ss. put_number ss c.args.number (slot.Ended c.in-Ended.end)) c.take_runner-runner.ensures.now)

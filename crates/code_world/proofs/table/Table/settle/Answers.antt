@@ -4,6 +4,7 @@ use Rattle.code_world.specs.declared.slot.Slot.TheVariants as slot
 use Rattle.code_world.proofs.Turning.{ended_still, Taken, taken, joiner_state, joinee_end, takes, settles}
 use Rattle.code_world.proofs.table.Table.settle.Goals as goal
 use Rattle.revision_machine.proofs.Lists.{put_length, at_below}
+use Rattle.code_world.proofs.Others.{settle_stays}
 
 pub take_joiner-at-requires : goal.take_joiner-at-requires
 take_joiner-at-requires g c = (c.requires.3.0.0, c.requires.3.0.1)
@@ -42,3 +43,8 @@ returns-clause-answer g c = λ r w good are.
     c.answer_behind-answer.result c.answer_behind-answer.ensures c.put.new.self
     (c.put.ensures.now ∙ ap (λ ss. put_number ss c.args.number c.in_ok-slot.slot) (c.take_end-end.ensures.now ∙ ap (λ ss. put_number ss c.args.on slot.Joined) c.take_joiner-at.ensures.now))
     (c.put.ensures.births ∙ c.take_end-end.ensures.births ∙ c.take_joiner-at.ensures.births)
+
+pub returns-clause-others : goal.returns-clause-others
+returns-clause-others g c =
+    settle_stays c.args.self.now.slots.items c.put.new.self.slots.items c.args.number c.args.on slot.Joined c.in_ok-slot.slot
+    (c.put.ensures.now ∙ ap (λ ss. put_number ss c.args.number c.in_ok-slot.slot) (c.take_end-end.ensures.now ∙ ap (λ ss. put_number ss c.args.on slot.Joined) c.take_joiner-at.ensures.now))
