@@ -8,3 +8,4 @@ pub mod Endings
 pub mod Counts
 pub mod Meetings
 pub mod Said
+pub mod Touches

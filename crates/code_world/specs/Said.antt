@@ -1,8 +1,7 @@
 -- What `main` has printed, as far as a world has it.
 --   slot_text     what a revision has printed: one that stands at its join, up to there
 --   main_text     what `main` has; in Twice nothing
---   OthersStay    a leg of one revision leaves each other as it was, or takes it for joined
-use Rattle.std.specs.Prelude.{ℕ, ◌≡◌, ◌≢◌, ◌⊎◌, List, [], Option, Some, None}
+use Rattle.std.specs.Prelude.{ℕ, List, [], Option, Some, None}
 use Rattle.revision_machine.specs.Numbered.{at_number}
 use Rattle.code_world.specs.declared.slot.Slot.{Slot}
 use Rattle.code_world.specs.declared.slot.Slot.TheVariants as slot
@@ -14,19 +13,9 @@ slot_text None = []
 slot_text (Some (slot.Running r)) = r.revision.value.run.text.items
 slot_text (Some (slot.Standing a)) = a.revision.value.run.text.items
 slot_text (Some (slot.Ended v)) = v.text
-slot_text (Some slot.Joined) = []
+slot_text (Some (slot.Joined v)) = v.text
+slot_text (Some slot.Taken) = []
 
 abbrev pub main_text : rust.World → List ℕ
 main_text world.Twice = []
 main_text (world.Live t) = slot_text (at_number t.slots.items 0)
-
-abbrev pub OthersStay : List Slot → ℕ → List Slot → Type 0
-OthersStay ss n ss' =
-    (m : ℕ) (s : Slot) → m ≢ n → at_number ss m ≡ Some s
-    → (at_number ss' m ≡ Some s) ⊎ (at_number ss' m ≡ Some slot.Joined)
-
--- in Twice there is none
-abbrev pub OthersStayIn : rust.World → ℕ → rust.World → Type 0
-OthersStayIn (world.Live t) n (world.Live t') = OthersStay t.slots.items n t'.slots.items
-OthersStayIn (world.Live t) n world.Twice = Unit {0}
-OthersStayIn world.Twice n v = Unit {0}

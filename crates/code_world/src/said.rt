@@ -17,11 +17,10 @@ impl Table {
             → result.now ≡ slot_text (at_number self.now.slots.items 0) }
     {
         match self.slots.get(0) {
-            None => &[],
+            None | Some(Slot::Taken) => &[],
             Some(Slot::Running(runner)) => runner.text(),
             Some(Slot::Standing(at)) => at.text(),
-            Some(Slot::Ended(end)) => end.text.as_slice(),
-            Some(Slot::Joined) => &[],
+            Some(Slot::Ended(end)) | Some(Slot::Joined(end)) => end.text.as_slice(),
         }
     }
 }

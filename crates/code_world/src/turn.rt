@@ -1,6 +1,6 @@
 //! Legs of the revisions of a table.
 
-ghost use Rattle.std.specs.Prelude.{◌≡◌, ℕ, IfOk, OnOk, Some};
+ghost use Rattle.std.specs.Prelude.{◌≡◌, ℕ, IfOk, Some};
 ghost use Rattle.rev_code.specs.State.{State};
 ghost use Rattle.block_merges.specs.Merging.{AreMergesOf};
 ghost use Rattle.block_run.specs.Area.{count};
@@ -12,7 +12,7 @@ ghost use Rattle.code_world.specs.declared.slot.Slot.TheVariants as slot;
 ghost use Rattle.code_world.specs.Slots.{StandsAtJoin, WholeJoin};
 ghost use Rattle.code_world.specs.Answers.{Answers};
 ghost use Rattle.code_world.specs.Meetings.{HasNoted};
-ghost use Rattle.code_world.specs.Said.{OthersStay};
+ghost use Rattle.code_world.specs.Touches.{Touches, TouchesJoining};
 ghost use Rattle.code_world.specs.Turns.{IsGood, StandsOn, Settles, behind, ends_with};
 
 use crate::advance::{Came, advance, meet};
@@ -72,13 +72,12 @@ impl Table {
         ensures answer { (g : CodeRun) (w : Entries (Local ℕ)) → IsGood g self.old w
             → AreMergesOf g (M.merges merges.old)
             → IfOk result (λ a. Answers g w number a self.new) }
-        ensures others { OnOk result
-            (OthersStay self.old.slots.items number self.new.slots.items) }
+        ensures touches { IfOk result (λ a. TouchesJoining self.old number a self.new) }
         ensures size { M.size merges.new ≡ M.size merges.old }
         ensures same { M.merges merges.new ≡ M.merges merges.old }
     {
+        let end = self.join_end(alloc, on as usize)?;
         let at = self.take_joiner(number as usize);
-        let end = self.take_end(on as usize);
         let slot = meet(alloc, at, end, merges)?;
         let answer = answer_behind(&slot, on);
         self.put(number as usize, slot);
@@ -98,8 +97,7 @@ impl Table {
         ensures answer { (g : CodeRun) (w : Entries (Local ℕ)) → IsGood g self.old w
             → AreMergesOf g (M.merges merges.old)
             → IfOk result (λ a. Answers g w number a self.new) }
-        ensures others { OnOk result
-            (OthersStay self.old.slots.items number self.new.slots.items) }
+        ensures touches { IfOk result (λ a. TouchesJoining self.old number a self.new) }
         ensures size { M.size merges.new ≡ M.size merges.old }
         ensures same { M.merges merges.new ≡ M.merges merges.old }
     {
@@ -130,8 +128,7 @@ impl Table {
             → IfOk result (λ a. Answers (run_under setting.now) w number a.answer self.new) }
         ensures noted { (w : Entries (Local ℕ)) → IsGood (run_under setting.now) self.old w
             → IfOk result (λ a. HasNoted (run_under setting.now) w number a.answer a.meeting) }
-        ensures others { OnOk result
-            (OthersStay self.old.slots.items number self.new.slots.items) }
+        ensures touches { IfOk result (λ a. Touches self.old number a.answer self.new) }
         ensures size { M.size merges.new ≡ M.size merges.old }
         ensures same { M.merges merges.new ≡ M.merges merges.old }
     {
@@ -173,8 +170,7 @@ impl Table {
             → IfOk result (λ a. Answers (run_under setting.now) w number a.answer self.new) }
         ensures noted { (w : Entries (Local ℕ)) → IsGood (run_under setting.now) self.old w
             → IfOk result (λ a. HasNoted (run_under setting.now) w number a.answer a.meeting) }
-        ensures others { OnOk result
-            (OthersStay self.old.slots.items number self.new.slots.items) }
+        ensures touches { IfOk result (λ a. Touches self.old number a.answer self.new) }
         ensures size { M.size merges.new ≡ M.size merges.old }
         ensures same { M.merges merges.new ≡ M.merges merges.old }
     {
