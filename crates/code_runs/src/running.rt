@@ -5,7 +5,6 @@ ghost use Rattle.rev_num.specs.Limits.{most_fuel};
 ghost use Rattle.block_merges.specs.Merging.{AreMergesOf};
 ghost use Rattle.block_run.specs.Area.{count};
 ghost use Rattle.code_outcomes.specs.Outcomes.{HasOutcome};
-ghost use Rattle.leg_run.specs.Setting.{IsSetting};
 ghost use Rattle.rev_vm.specs.Starts.{run_under};
 ghost use Rattle.world_runs.specs.Replay.{IsIllegal};
 ghost use Rattle.code_runs.specs.Completed.{IsUnderway};
@@ -29,7 +28,6 @@ fn complete<M: MergeBy>(
     merges: &mut M,
     world: World,
 ) -> Result<Outcome, AllocError>
-    requires setting { IsSetting setting.now }
     requires underway { (fuel : ℕ) × IsUnderway (run_under setting.now) fuel world }
     requires size { M.size merges.old ≡ count setting.now.code.vars }
     requires merges { AreMergesOf (run_under setting.now) (M.merges merges.old) }
@@ -57,7 +55,7 @@ pub fn run_code(
 {
     note_inputs(&inputs);
     let setting = CodeSetting::new(alloc, code.into_code(), inputs, share)?;
-    let mut merges = BlockMerges::of(alloc, &setting.code)?;
+    let mut merges = BlockMerges::of(alloc, setting.code())?;
     let start = World::begin(alloc, &setting, fuel)?;
     let outcome = complete(alloc, &setting, &mut merges, start)?;
     Ok(outcome)
@@ -83,7 +81,7 @@ pub fn replay_code(
 {
     note_inputs(&inputs);
     let setting = CodeSetting::new(alloc, code.into_code(), inputs, share)?;
-    let mut merges = BlockMerges::of(alloc, &setting.code)?;
+    let mut merges = BlockMerges::of(alloc, setting.code())?;
     let world = replay(alloc, &setting, &mut merges, fuel, schedule)?;
     let outcome = complete(alloc, &setting, &mut merges, world)?;
     Ok(outcome)

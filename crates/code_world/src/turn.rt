@@ -5,7 +5,6 @@ ghost use Rattle.rev_code.specs.State.{State};
 ghost use Rattle.block_merges.specs.Merging.{AreMergesOf};
 ghost use Rattle.block_run.specs.Area.{count};
 ghost use Rattle.code_machine.specs.Local.{CodeRun, Local};
-ghost use Rattle.leg_run.specs.Setting.{IsSetting};
 ghost use Rattle.revision_machine.specs.Numbered.{Entries, at_number};
 ghost use Rattle.rev_vm.specs.Starts.{run_under};
 ghost use Rattle.code_world.specs.declared.slot.Slot.TheVariants as slot;
@@ -118,7 +117,6 @@ impl Table {
         merges: &mut M,
         number: u32,
     ) -> Result<NotedLeg, AllocError>
-        requires setting { IsSetting setting.now }
         requires runs { (w : Entries (Local ℕ)) × IsGood (run_under setting.now) self.old w }
         requires size { M.size merges.old ≡ count setting.now.code.vars }
         requires merges { AreMergesOf (run_under setting.now) (M.merges merges.old) }
@@ -162,7 +160,6 @@ impl Table {
         merges: &mut M,
         number: u32,
     ) -> Result<NotedLeg, AllocError>
-        requires setting { IsSetting setting.now }
         requires good { (w : Entries (Local ℕ)) × IsGood (run_under setting.now) self.old w }
         requires size { M.size merges.old ≡ count setting.now.code.vars }
         requires merges { AreMergesOf (run_under setting.now) (M.merges merges.old) }

@@ -4,7 +4,6 @@ ghost use Rattle.std.specs.Prelude.{◌≡◌, ℕ, IfOk};
 ghost use Rattle.block_merges.specs.Merging.{AreMergesOf};
 ghost use Rattle.block_run.specs.Area.{count};
 ghost use Rattle.code_machine.specs.Local.{Local};
-ghost use Rattle.leg_run.specs.Setting.{IsSetting};
 ghost use Rattle.reached_worlds.specs.Reached.{IsReached};
 ghost use Rattle.revision_machine.specs.Numbered.{Entries, Listing, World as DefinedWorld};
 ghost use Rattle.rev_vm.specs.Starts.{run_under};
@@ -68,7 +67,6 @@ pub fn leg<M: MergeBy>(
     world: World,
     revision: u32,
 ) -> Result<(World, LegAnswer), AllocError>
-    requires setting { IsSetting setting.now }
     requires reached { (w : DefinedWorld (Local ℕ)) × IsReached (run_under setting.now) w
         × IsWorld (run_under setting.now) world w }
     requires size { M.size merges.old ≡ count setting.now.code.vars }
@@ -92,7 +90,6 @@ pub fn leg_meeting<M: MergeBy>(
     world: World,
     revision: u32,
 ) -> Result<(World, NotedLeg), AllocError>
-    requires setting { IsSetting setting.now }
     requires reached { (w : DefinedWorld (Local ℕ)) × IsReached (run_under setting.now) w
         × IsWorld (run_under setting.now) world w }
     requires size { M.size merges.old ≡ count setting.now.code.vars }

@@ -4,7 +4,6 @@ ghost use Rattle.std.specs.Prelude.{◌≡◌, ℕ, IfOk, Some};
 ghost use Rattle.revision_machine.specs.Numbered.{World as DefinedWorld};
 ghost use Rattle.code_machine.specs.Local.{Local};
 ghost use Rattle.code_machine.specs.Outcome as machine;
-ghost use Rattle.leg_run.specs.Setting.{IsSetting};
 ghost use Rattle.reached_worlds.specs.Reached.{IsReached};
 ghost use Rattle.rev_vm.specs.Starts.{run_under};
 ghost use Rattle.code_world.specs.Endings.{HasNoLeg};
@@ -23,7 +22,6 @@ pub fn outcome_of_world(
     setting: &CodeSetting,
     world: &World,
 ) -> Result<Outcome, AllocError>
-    requires setting { IsSetting setting.now }
     requires over { (w : DefinedWorld (Local ℕ)) × IsReached (run_under setting.now) w
         × IsWorld (run_under setting.now) world.now w × HasNoLeg (run_under setting.now) w }
     ensures { IfOk result (λ o. (w : DefinedWorld (Local ℕ)) → IsReached (run_under setting.now) w

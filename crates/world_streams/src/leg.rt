@@ -6,7 +6,6 @@ ghost use Rattle.block_run.specs.Area.{count};
 ghost use Rattle.code_machine.specs.Local.{Local};
 ghost use Rattle.code_world.specs.Answers.{LegAnswers};
 ghost use Rattle.code_world.specs.Tables.{IsWorld};
-ghost use Rattle.leg_run.specs.Setting.{IsSetting};
 ghost use Rattle.reached_worlds.specs.Reached.{IsReached};
 ghost use Rattle.revision_machine.specs.Numbered.{World as DefinedWorld};
 ghost use Rattle.rev_io.specs.Stream.{WritesAll};
@@ -39,7 +38,6 @@ pub fn stream_leg<M: MergeBy, O: Sink>(
     revision: u32,
     out: &mut O,
 ) -> Result<(World, LegAnswer), StreamFault>
-    requires setting { IsSetting setting.now }
     requires reached { (w : DefinedWorld (Local ℕ)) × IsReached (run_under setting.now) w
         × IsWorld (run_under setting.now) world w × NeverTwiceBy (run_under setting.now) w revision }
     requires size { M.size merges.old ≡ count setting.now.code.vars }

@@ -5,7 +5,6 @@ ghost use Rattle.block_merges.specs.Merging.{AreMergesOf};
 ghost use Rattle.block_run.specs.Area.{count};
 ghost use Rattle.code_machine.specs.Local.{Local};
 ghost use Rattle.code_world.specs.Tables.{IsWorld};
-ghost use Rattle.leg_run.specs.Setting.{IsSetting};
 ghost use Rattle.reached_worlds.specs.Reached.{IsReached};
 ghost use Rattle.revision_machine.specs.Numbered.{World as DefinedWorld};
 ghost use Rattle.rev_vm.specs.Starts.{run_under};
@@ -34,7 +33,6 @@ fn try_leg<M: MergeBy, O: Sink>(
     number: u32,
     out: &mut O,
 ) -> Result<Made, StreamFault>
-    requires setting { IsSetting setting.now }
     requires reached { (w : DefinedWorld (Local ℕ)) × IsReached (run_under setting.now) w
         × IsWorld (run_under setting.now) world w × NeverTwiceFrom (run_under setting.now) w
         × CoversWorldBut (run_under setting.now) w queue.old number }
@@ -70,7 +68,6 @@ fn make_least<M: MergeBy, O: Sink>(
     queue: &mut ReadyQueue,
     out: &mut O,
 ) -> Result<Made, StreamFault>
-    requires setting { IsSetting setting.now }
     requires reached { (w : DefinedWorld (Local ℕ)) × IsReached (run_under setting.now) w
         × IsWorld (run_under setting.now) world w × NeverTwiceFrom (run_under setting.now) w
         × CoversWorld (run_under setting.now) w queue.old }
@@ -107,7 +104,6 @@ pub fn stream<M: MergeBy, O: Sink>(
     mut world: World,
     out: &mut O,
 ) -> Result<World, StreamFault>
-    requires setting { IsSetting setting.now }
     requires reached { (w : DefinedWorld (Local ℕ)) × IsReached (run_under setting.now) w
         × IsWorld (run_under setting.now) world w × NeverTwiceFrom (run_under setting.now) w }
     requires size { M.size merges.old ≡ count setting.now.code.vars }

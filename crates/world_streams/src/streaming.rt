@@ -35,7 +35,7 @@ pub fn stream_code<O: Sink>(
 {
     note_inputs(&inputs);
     let setting = CodeSetting::new(alloc, code.into_code(), inputs, share)?;
-    let mut merges = BlockMerges::of(alloc, &setting.code)?;
+    let mut merges = BlockMerges::of(alloc, setting.code())?;
     let start = World::begin(alloc, &setting, fuel)?;
     let end = stream(alloc, &setting, &mut merges, start, out)?;
     let outcome = outcome_after(alloc, &setting, end)?;

@@ -1,8 +1,5 @@
 use Rattle.code_world.proofs.world.leg.Goals as goal
 
-pub leg_meeting-requires-clause-setting : goal.leg_meeting-requires-clause-setting
-leg_meeting-requires-clause-setting g c = c.requires.setting
-
 pub leg_meeting-requires-clause-reached : goal.leg_meeting-requires-clause-reached
 leg_meeting-requires-clause-reached g c = c.requires.reached
 

@@ -11,4 +11,4 @@ use Rattle.world_outcomes.proofs.of_world.outcome_of_world.Goals as goal
 pub returns-in-None : goal.returns-in-None
 returns-in-None c = λ w h is over.
     let s = run_under c.args.setting.now in
-    none_left s c.requires.setting.faultless w h over (c.end_of.ensures s w is)
+    none_left s c.args.setting.now.faultless w h over (c.end_of.ensures s w is)

@@ -5,9 +5,6 @@ use Rattle.reached_worlds.proofs.Reaching.{start_reached}
 use Rattle.world_runs.proofs.Making.{replay_begins, replay_goes, replay_ends, merges_still}
 use Rattle.world_runs.proofs.replaying.replay.Goals as goal
 
-pub begin-requires-clause-setting : goal.begin-requires-clause-setting
-begin-requires-clause-setting g c = c.requires.setting
-
 pub begin-requires-clause-fuel : goal.begin-requires-clause-fuel
 begin-requires-clause-fuel g c = c.requires.fuel
 
@@ -20,9 +17,6 @@ loop-at-init g c =
       size = refl;
       same = refl;
     }
-
-pub make-requires-clause-setting : goal.make-requires-clause-setting
-make-requires-clause-setting g c = c.requires.setting
 
 pub make-requires-clause-reached : goal.make-requires-clause-reached
 make-requires-clause-reached g c = let i = c.loop-at.invariant.reached in (i.0, i.2, i.3)

@@ -4,9 +4,6 @@ use Rattle.code_world.specs.Said.{main_text}
 use Rattle.world_streams.proofs.Gaining.{after_stands, gain_fits, gain_is}
 use Rattle.world_streams.proofs.leg.stream_leg.Goals as goal
 
-pub leg-requires-clause-setting : goal.leg-requires-clause-setting
-leg-requires-clause-setting g c = c.requires.setting
-
 pub leg-requires-clause-reached : goal.leg-requires-clause-reached
 leg-requires-clause-reached g c = let q = c.requires.reached in (q.0, q.1, q.2)
 
@@ -22,7 +19,7 @@ put_behind-requires g c =
     let s = run_under c.args.setting.now in
     let k = c.in-Ok.ensures.answer q.0 q.1 q.2 in
     let u = after_stands s q.0 q.1 q.3.now c.args.revision c.in-Ok.made.1 c.in-Ok.made.0 k in
-    gain_fits s c.requires.setting.faultless c.args.world q.0 q.1 q.2 c.args.revision q.3.now q.3.after c.in-Ok.made.1 c.in-Ok.made.0 k c.in-Ok.ensures.touches
+    gain_fits s c.args.setting.now.faultless c.args.world q.0 q.1 q.2 c.args.revision q.3.now q.3.after c.in-Ok.made.1 c.in-Ok.made.0 k c.in-Ok.ensures.touches
     c.main_text-before.result.now c.main_text.result.now (c.main_text-before.ensures s q.0 q.2) (c.main_text.ensures s u.0 u.1)
 
 pub returns-in-Err-clause-put : goal.returns-in-Err-clause-put
@@ -35,7 +32,7 @@ returns-in-Ok-put_behind-clause-put g c = λ w h is never.
     let u = after_stands s w h never.now c.args.revision c.in-Ok.made.1 c.in-Ok.made.0 k in
     (
       drop (length c.main_text-before.result.now) c.main_text.result.now,
-      gain_is s c.requires.setting.faultless c.args.world w h is c.args.revision never.now never.after c.in-Ok.made.1 c.in-Ok.made.0 k c.in-Ok.ensures.touches
+      gain_is s c.args.setting.now.faultless c.args.world w h is c.args.revision never.now never.after c.in-Ok.made.1 c.in-Ok.made.0 k c.in-Ok.ensures.touches
           c.main_text-before.result.now c.main_text.result.now (c.main_text-before.ensures s w is) (c.main_text.ensures s u.0 u.1),
       c.in-Ok-put_behind.ensures,
     )
@@ -53,7 +50,7 @@ returns-in-Err-Failed-clause-put g c = λ w h is never.
         after = c.in-Ok.made.0;
         answers = k;
         gain = drop (length c.main_text-before.result.now) c.main_text.result.now;
-        gains = gain_is s c.requires.setting.faultless c.args.world w h is c.args.revision never.now never.after c.in-Ok.made.1 c.in-Ok.made.0 k c.in-Ok.ensures.touches
+        gains = gain_is s c.args.setting.now.faultless c.args.world w h is c.args.revision never.now never.after c.in-Ok.made.1 c.in-Ok.made.0 k c.in-Ok.ensures.touches
             c.main_text-before.result.now c.main_text.result.now (c.main_text-before.ensures s w is) (c.main_text.ensures s u.0 u.1);
         part = wrote.1;
       },
@@ -72,7 +69,7 @@ returns-in-Err-OutOfMemory-clause-put g c = λ w h is never.
         after = c.in-Ok.made.0;
         answers = k;
         gain = drop (length c.main_text-before.result.now) c.main_text.result.now;
-        gains = gain_is s c.requires.setting.faultless c.args.world w h is c.args.revision never.now never.after c.in-Ok.made.1 c.in-Ok.made.0 k c.in-Ok.ensures.touches
+        gains = gain_is s c.args.setting.now.faultless c.args.world w h is c.args.revision never.now never.after c.in-Ok.made.1 c.in-Ok.made.0 k c.in-Ok.ensures.touches
             c.main_text-before.result.now c.main_text.result.now (c.main_text-before.ensures s w is) (c.main_text.ensures s u.0 u.1);
         part = wrote.1;
       }),

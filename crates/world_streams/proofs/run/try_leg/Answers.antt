@@ -6,9 +6,6 @@ use Rattle.world_streams.specs.Runs.{world_of}
 use Rattle.world_streams.proofs.Legs.{handed, leg_streams, live_world, never_by, puts_whole, sorted_puts}
 use Rattle.world_streams.proofs.run.try_leg.Goals as goal
 
-pub stream_leg-requires-clause-setting : goal.stream_leg-requires-clause-setting
-stream_leg-requires-clause-setting g c = c.requires.setting
-
 pub stream_leg-requires-clause-reached : goal.stream_leg-requires-clause-reached
 stream_leg-requires-clause-reached g c =
     let q = c.requires.reached in (q.0, q.1, q.2, never_by (run_under c.args.setting.now) q.0 c.args.number q.3)
@@ -24,14 +21,14 @@ note-requires g c =
     let q = c.requires.reached in
     let s = run_under c.args.setting.now in
     let t = live_world s c.args.world q.0 q.2 (q.3 [] q.0 refl) in
-    known_live s c.requires.setting.faultless c.args.world q.0 t.0 t.1 q.1 q.2 c.args.number c.args.queue.now q.4 c.in_ok-next.answer c.in_ok-next.next
+    known_live s c.args.setting.now.faultless c.args.world q.0 t.0 t.1 q.1 q.2 c.args.number c.args.queue.now q.4 c.in_ok-next.answer c.in_ok-next.next
     (c.in_ok-next.ensures.answer q.0 q.1 q.2)
 
 pub returns-in-Ok-clause-tried : goal.returns-in-Ok-clause-tried
 returns-in-Ok-clause-tried g c = λ w reached is never but.
     let s = run_under c.args.setting.now in
     let t = live_world s c.args.world w is (never [] w refl) in
-    tried_live s c.requires.setting.faultless c.args.world w t.0 t.1 reached is c.args.number c.args.queue.now but c.in_ok-next.answer c.in_ok-next.next
+    tried_live s c.args.setting.now.faultless c.args.world w t.0 t.1 reached is c.args.number c.args.queue.now but c.in_ok-next.answer c.in_ok-next.next
     (c.in_ok-next.ensures.answer w reached is)
     c.note.new.queue c.in-Ok.ensures.noted c.in-Ok.ensures.still c.sort_out.result c.sort_out.ensures
 

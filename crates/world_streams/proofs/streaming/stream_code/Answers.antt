@@ -20,8 +20,8 @@ stream-requires-clause-reached g c =
     let never : NeverJoinsTwice (run_under own) c.args.fuel =
     of_run (λ (r : CodeRun). NeverJoinsTwice r c.args.fuel) own.code c.args.code.code own.inputs.items c.args.inputs.items own.share c.args.share
     (sym (s.code ∙ c.into_code.ensures.code)) (sym s.inputs) (sym s.share) c.requires.never in
-    let first = first_reached (run_under own) s.setting.faultless b.0 b.1 c.args.fuel c.requires.few never in
-    let from = never_from (run_under own) s.setting.faultless b.0 b.1 c.args.fuel c.requires.few never in
+    let first = first_reached (run_under own) own.faultless b.0 b.1 c.args.fuel c.requires.few never in
+    let from = never_from (run_under own) own.faultless b.0 b.1 c.args.fuel c.requires.few never in
     (_, first, b.2, from)
 
 pub stream-requires-clause-merges : goal.stream-requires-clause-merges
@@ -50,13 +50,13 @@ returns-in_err-end g c =
     let never : NeverJoinsTwice (run_under own) c.args.fuel =
     of_run (λ (r : CodeRun). NeverJoinsTwice r c.args.fuel) own.code c.args.code.code own.inputs.items c.args.inputs.items own.share c.args.share
     (sym (s.code ∙ c.into_code.ensures.code)) (sym s.inputs) (sym s.share) c.requires.never in
-    let first = first_reached (run_under own) s.setting.faultless b.0 b.1 c.args.fuel c.requires.few never in
-    let from = never_from (run_under own) s.setting.faultless b.0 b.1 c.args.fuel c.requires.few never in
+    let first = first_reached (run_under own) own.faultless b.0 b.1 c.args.fuel c.requires.few never in
+    let from = never_from (run_under own) own.faultless b.0 b.1 c.args.fuel c.requires.few never in
     let given : CodeRun = record { code = c.args.code.code; inputs = c.args.inputs.items; share = c.args.share } in
     handed_on given c.args.fuel (g.O.Sink.stream c.args.out.now) (g.O.Sink.stream c.stream.new.out) c.from_residual-in_err-end.result c.in_err-end.field-0.0 c.from_residual-in_err-end.ensures.1
     (of_run (λ (r : CodeRun). Streamed r c.args.fuel (g.O.Sink.stream c.args.out.now) (g.O.Sink.stream c.stream.new.out) (Err c.in_err-end.field-0.0)) c.args.code.code own.code c.args.inputs.items own.inputs.items c.args.share own.share
     (s.code ∙ c.into_code.ensures.code) s.inputs s.share
-    (faults (run_under own) s.setting.faultless b.0 b.1 c.args.fuel c.requires.few never c.in_ok-start.start c.in_ok-start.ensures.silent (g.O.Sink.stream c.args.out.now) (g.O.Sink.stream c.stream.new.out) c.in_err-end.field-0.0
+    (faults (run_under own) own.faultless b.0 b.1 c.args.fuel c.requires.few never c.in_ok-start.start c.in_ok-start.ensures.silent (g.O.Sink.stream c.args.out.now) (g.O.Sink.stream c.stream.new.out) c.in_err-end.field-0.0
     (c.in_err-end.ensures.put _ first b.2 from)))
 
 pub outcome_after-requires-clause-over : goal.outcome_after-requires-clause-over
@@ -67,8 +67,8 @@ outcome_after-requires-clause-over g c =
     let never : NeverJoinsTwice (run_under own) c.args.fuel =
     of_run (λ (r : CodeRun). NeverJoinsTwice r c.args.fuel) own.code c.args.code.code own.inputs.items c.args.inputs.items own.share c.args.share
     (sym (s.code ∙ c.into_code.ensures.code)) (sym s.inputs) (sym s.share) c.requires.never in
-    let first = first_reached (run_under own) s.setting.faultless b.0 b.1 c.args.fuel c.requires.few never in
-    let from = never_from (run_under own) s.setting.faultless b.0 b.1 c.args.fuel c.requires.few never in
+    let first = first_reached (run_under own) own.faultless b.0 b.1 c.args.fuel c.requires.few never in
+    let from = never_from (run_under own) own.faultless b.0 b.1 c.args.fuel c.requires.few never in
     (c.args.fuel, after_run (run_under own) b.0 b.1 c.args.fuel c.requires.few c.in_ok-end.end (c.in_ok-end.ensures.finished _ first b.2 from))
 
 pub returns-in_err-outcome : goal.returns-in_err-outcome
@@ -79,13 +79,13 @@ returns-in_err-outcome g c =
     let never : NeverJoinsTwice (run_under own) c.args.fuel =
     of_run (λ (r : CodeRun). NeverJoinsTwice r c.args.fuel) own.code c.args.code.code own.inputs.items c.args.inputs.items own.share c.args.share
     (sym (s.code ∙ c.into_code.ensures.code)) (sym s.inputs) (sym s.share) c.requires.never in
-    let first = first_reached (run_under own) s.setting.faultless b.0 b.1 c.args.fuel c.requires.few never in
-    let from = never_from (run_under own) s.setting.faultless b.0 b.1 c.args.fuel c.requires.few never in
+    let first = first_reached (run_under own) own.faultless b.0 b.1 c.args.fuel c.requires.few never in
+    let from = never_from (run_under own) own.faultless b.0 b.1 c.args.fuel c.requires.few never in
     let given : CodeRun = record { code = c.args.code.code; inputs = c.args.inputs.items; share = c.args.share } in
     handed_on given c.args.fuel (g.O.Sink.stream c.args.out.now) (g.O.Sink.stream c.stream.new.out) c.from_residual-in_err-outcome.result fault.OutOfMemory c.from_residual-in_err-outcome.ensures.1
     (of_run (λ (r : CodeRun). Streamed r c.args.fuel (g.O.Sink.stream c.args.out.now) (g.O.Sink.stream c.stream.new.out) (Err fault.OutOfMemory)) c.args.code.code own.code c.args.inputs.items own.inputs.items c.args.share own.share
     (s.code ∙ c.into_code.ensures.code) s.inputs s.share
-    (cut (run_under own) s.setting.faultless b.0 b.1 c.args.fuel c.requires.few never c.in_ok-start.start c.in_ok-start.ensures.silent (g.O.Sink.stream c.args.out.now) (g.O.Sink.stream c.stream.new.out) c.in_ok-end.end
+    (cut (run_under own) own.faultless b.0 b.1 c.args.fuel c.requires.few never c.in_ok-start.start c.in_ok-start.ensures.silent (g.O.Sink.stream c.args.out.now) (g.O.Sink.stream c.stream.new.out) c.in_ok-end.end
     (c.in_ok-end.ensures.put _ first b.2 from) (c.in_ok-end.ensures.finished _ first b.2 from)))
 
 pub returns : goal.returns
@@ -96,10 +96,10 @@ returns g c =
     let never : NeverJoinsTwice (run_under own) c.args.fuel =
     of_run (λ (r : CodeRun). NeverJoinsTwice r c.args.fuel) own.code c.args.code.code own.inputs.items c.args.inputs.items own.share c.args.share
     (sym (s.code ∙ c.into_code.ensures.code)) (sym s.inputs) (sym s.share) c.requires.never in
-    let first = first_reached (run_under own) s.setting.faultless b.0 b.1 c.args.fuel c.requires.few never in
-    let from = never_from (run_under own) s.setting.faultless b.0 b.1 c.args.fuel c.requires.few never in
+    let first = first_reached (run_under own) own.faultless b.0 b.1 c.args.fuel c.requires.few never in
+    let from = never_from (run_under own) own.faultless b.0 b.1 c.args.fuel c.requires.few never in
     of_run (λ (r : CodeRun). Streamed r c.args.fuel (g.O.Sink.stream c.args.out.now) (g.O.Sink.stream c.stream.new.out) (Ok c.in_ok-outcome.outcome)) c.args.code.code own.code c.args.inputs.items own.inputs.items c.args.share own.share
     (s.code ∙ c.into_code.ensures.code) s.inputs s.share
-    (ended (run_under own) s.setting.faultless b.0 b.1 c.args.fuel c.requires.few never c.in_ok-start.start c.in_ok-start.ensures.silent (g.O.Sink.stream c.args.out.now) (g.O.Sink.stream c.stream.new.out) c.in_ok-end.end
+    (ended (run_under own) own.faultless b.0 b.1 c.args.fuel c.requires.few never c.in_ok-start.start c.in_ok-start.ensures.silent (g.O.Sink.stream c.args.out.now) (g.O.Sink.stream c.stream.new.out) c.in_ok-end.end
     (c.in_ok-end.ensures.put _ first b.2 from) (c.in_ok-end.ensures.finished _ first b.2 from) c.in_ok-outcome.outcome
     (c.in_ok-outcome.ensures c.args.fuel (after_run (run_under own) b.0 b.1 c.args.fuel c.requires.few c.in_ok-end.end (c.in_ok-end.ensures.finished _ first b.2 from))))

@@ -11,9 +11,6 @@ use Rattle.code_world.proofs.Turning.{joiner, no_such, over_ended, over_joined}
 use Rattle.code_world.proofs.table.Table.leg.Goals as goal
 use Rattle.code_world.proofs.Touching.{same, touches_so, joining_touches}
 
-pub run-requires-clause-setting : goal.run-requires-clause-setting
-run-requires-clause-setting g c = c.requires.setting
-
 pub run-requires-clause-runs : goal.run-requires-clause-runs
 run-requires-clause-runs g c = c.requires.good
 
