@@ -3,7 +3,7 @@ use Rattle.code_world.specs.Endings.{Names}
 use Rattle.code_world.specs.Tables.{IsWorld}
 use Rattle.code_world.proofs.Ended.{names}
 use Rattle.revision_machine.specs.Numbered.{Listing, paths_of}
-use Rattle.code_world.proofs.births.World.births.Goals as goal
+use Rattle.code_world.proofs.world.World.births.Goals as goal
 
 pub returns-in-Live : goal.returns-in-Live
 returns-in-Live c = λ g w is.
