@@ -17,7 +17,8 @@ impl Table {
         ensures { option_copied result ≡ left_in (at_number self.now.slots.items number) }
     {
         match self.slots.get(number) {
-            Some(Slot::Ended(end)) | Some(Slot::Joined(end)) => Some(end),
+            Some(Slot::Ended(end)) => Some(end),
+            Some(Slot::Joined(end)) => Some(end),
             _ => None,
         }
     }

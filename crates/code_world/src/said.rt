@@ -20,7 +20,8 @@ impl Table {
             None | Some(Slot::Taken) => &[],
             Some(Slot::Running(runner)) => runner.text(),
             Some(Slot::Standing(at)) => at.text(),
-            Some(Slot::Ended(end)) | Some(Slot::Joined(end)) => end.text.as_slice(),
+            Some(Slot::Ended(end)) => end.text.as_slice(),
+            Some(Slot::Joined(end)) => end.text.as_slice(),
         }
     }
 }
