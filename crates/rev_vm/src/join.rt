@@ -1,11 +1,13 @@
 //! Revisions at a join.
 
-ghost use Rattle.std.specs.Prelude.{◌≡◌, ◌<◌, ◌+◌, ◌^◌, true, false};
+ghost use Rattle.std.specs.Prelude.{◌≡◌, ◌<◌, ◌+◌, ◌^◌, ℕ, true, false};
 ghost use Rattle.rev_code.specs.State.{State};
 ghost use Rattle.rev_code.specs.Events.{past_join};
-ghost use Rattle.code_machine.specs.Local.{CodeRun, Trap, end_of};
+ghost use Rattle.code_machine.specs.Local.{CodeRun, End, Trap, end_of};
 ghost use Rattle.code_machine.specs.Joining.{inherit, origin_of};
-ghost use Rattle.rev_vm.specs.Meaning.{IsAt, IsAtJoin, IsEnd, IsReady, IsTold, IsTrap};
+ghost use Rattle.version_map.specs.declared.end.Finish.TheVariants as finish;
+ghost use Rattle.version_map.specs.Ascending.{IsAscending};
+ghost use Rattle.rev_vm.specs.Meaning.{IsAt, IsAtJoin, IsClaimed, IsEnd, IsReady, IsTold, IsTrap};
 ghost use Rattle.rev_vm.specs.States.{is_by_join};
 
 use crate::end::{Stopped, break_off, stop};
@@ -22,13 +24,20 @@ pub struct AtJoin<P: Snapshot> {
     pub(crate) on: u32,
     pub(crate) written: Items<Written>,
     ghost ready: { IsReady revision.value.run },
+    ghost ascending: { IsAscending written },
 }
 
-/// A joiner, and the end of the revision that it joins.
+/// A joiner, and the end of the revision that it joins, which is done. In a run of code in which
+/// the joiner stands at its join, that end is of a revision of the same code: each location is one
+/// of the code, and each word is of its location's kind.
 pub struct Claimed<P: Snapshot> {
     pub(crate) at: AtJoin<P>,
     pub(crate) end: EndValue,
     ghost fuel: { at.revision.value.run.registers.fuel + end.fuel < 2 ^ 64 },
+    ghost done: { end.finish ≡ finish.Done },
+    ghost of: { ∥ (g : CodeRun) × (c : State ℕ) × (j : End ℕ) × IsClaimed g at.revision.value.run
+        at.revision.value.memory.delta (P.base at.revision.value.memory.snapshot)
+        at.revision.value.memory.first.roots at.written at.is_try at.on end c j ∥₁ },
 }
 
 impl<P: Snapshot> AtJoin<P> {
@@ -80,10 +89,15 @@ impl<P: Snapshot> AtJoin<P> {
         self.revision.run.text.as_slice()
     }
 
-    /// The joiner with the end of the revision that it joins, which is done. The fuel of both
-    /// together must have 64 bits.
+    /// The joiner with the end of the revision that it joins, which is done, in a run of code of
+    /// which both are. The fuel of both together must have 64 bits.
     pub fn claim(self, end: EndValue) -> Claimed<P>
-        requires { self.revision.value.run.registers.fuel + end.fuel < 2 ^ 64 }
+        requires fuel { self.revision.value.run.registers.fuel + end.fuel < 2 ^ 64 }
+        requires done { end.finish ≡ finish.Done }
+        requires of { (g : CodeRun) × (c : State ℕ) × (j : End ℕ)
+            × IsAtJoin g self.revision.value.run self.revision.value.memory.delta
+            (P.base self.revision.value.memory.snapshot) self.revision.value.memory.first.roots
+            self.written self.is_try self.on c × IsEnd g j end }
         ensures at { result.at ≡ self }
         ensures end { result.end ≡ end }
     {

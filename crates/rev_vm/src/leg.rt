@@ -6,6 +6,7 @@ ghost use Rattle.rev_code.specs.State.{State};
 ghost use Rattle.rev_code.specs.Step.{ends, forks, joins, traps};
 ghost use Rattle.rev_code.specs.Words.{Word};
 ghost use Rattle.version_map.specs.declared.end.Finish.TheVariants as finish;
+ghost use Rattle.version_map.specs.Ascending.{IsAscending};
 ghost use Rattle.version_map.specs.Deltas.{at};
 ghost use Rattle.version_map.specs.Overlay.{under};
 ghost use Rattle.block_run.specs.Remembering.{Kept, written_below};
@@ -55,6 +56,7 @@ fn come_to_join<P: Snapshot>(
     ensures written { IfOk result (λ ws. ws ≡ written_below
         (under revision.old.memory.delta (P.base revision.old.memory.snapshot))
         (at revision.old.memory.first.roots) (P.size revision.old.memory.snapshot)) }
+    ensures order { IfOk result (λ ws. IsAscending ws) }
     ensures kept { Kept (P.size revision.old.memory.snapshot)
         (under revision.old.memory.delta (P.base revision.old.memory.snapshot))
         (under revision.new.memory.delta (P.base revision.new.memory.snapshot))

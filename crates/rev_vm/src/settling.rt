@@ -192,12 +192,7 @@ pub fn settle<P: Snapshot, M: MergeBy>(
     claimed: Claimed<P>,
     merges: &mut M,
 ) -> Result<Settled<P>, Broken<P>>
-    requires { (g : CodeRun) × (c : State ℕ) × (j : End ℕ)
-        × IsClaimed g claimed.at.revision.value.run
-        claimed.at.revision.value.memory.delta (P.base claimed.at.revision.value.memory.snapshot)
-        claimed.at.revision.value.memory.first.roots claimed.at.written claimed.at.is_try
-        claimed.at.on
-        claimed.end c j × (M.size merges.old ≡ count g.code.vars) }
+    requires { M.size merges.old ≡ P.size claimed.at.revision.value.memory.snapshot }
     ensures settled { (g : CodeRun) (c : State ℕ) (j : End ℕ)
         → IsClaimed g claimed.at.revision.value.run
         claimed.at.revision.value.memory.delta (P.base claimed.at.revision.value.memory.snapshot)
