@@ -21,8 +21,7 @@ use std::alloc::{AllocError, Global};
 use version_map::MergeBy;
 use world_runs::{ReplayFault, finish, replay};
 
-/// The outcome of the code, from its world after a legal schedule: each further leg is that of the
-/// least revision that has one, until none has.
+/// The outcome of the code, from its world after a legal schedule, which is run to its end.
 fn complete<M: MergeBy>(
     alloc: Global,
     setting: &CodeSetting,
@@ -41,8 +40,8 @@ fn complete<M: MergeBy>(
 }
 
 /// The outcome of verified code with these inputs, share and fuel, of which there are at most
-/// 4,000,000,000 units. It runs on one thread: each leg is that of the least revision that has one,
-/// until none has. Want of memory is the one error.
+/// 4,000,000,000 units. It runs on one thread; no complete schedule has another outcome. Want of
+/// memory is the one error.
 pub fn run_code(
     alloc: Global,
     code: Verified,
@@ -62,9 +61,8 @@ pub fn run_code(
     Ok(outcome)
 }
 
-/// The same of a run that begins with the legs of this schedule, one for each entry, and goes on
-/// with those of the least revisions. It is refused at the first entry that has no leg. The other
-/// fault is want of memory.
+/// The same of a run that begins with the legs of this schedule, one for each entry. It is refused
+/// at the first entry that has no leg. The other fault is want of memory.
 pub fn replay_code(
     alloc: Global,
     code: Verified,

@@ -60,8 +60,8 @@ fn traced_after(
 }
 
 /// The outcome and the trace of verified code with these inputs, share and fuel, of which there are
-/// at most 4,000,000,000 units, both from one run. It runs on one thread: each leg is that of the
-/// least revision that has one, until none has. Want of memory is the one error.
+/// at most 4,000,000,000 units. It runs on one thread; no complete schedule has another outcome or
+/// another trace. Want of memory is the one error.
 pub fn trace_code(
     alloc: Global,
     code: Verified,

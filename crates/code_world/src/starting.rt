@@ -5,6 +5,7 @@ ghost use Rattle.rev_num.specs.Limits.{most_fuel};
 ghost use Rattle.code_machine.specs.Machines.{IsMain, numbered, start_in};
 ghost use Rattle.revision_machine.specs.Numbered as numbers;
 ghost use Rattle.rev_vm.specs.Starts.{run_under};
+ghost use Rattle.code_world.specs.Said.{main_text};
 ghost use Rattle.code_world.specs.Starts.{IsAlone, IsFirst};
 ghost use Rattle.code_world.specs.Tables.{IsWorld};
 
@@ -78,7 +79,8 @@ impl World {
     /// 4,000,000,000 units. Want of memory is the one error.
     pub fn begin(alloc: Global, setting: &CodeSetting, fuel: u64) -> Result<World, AllocError>
         requires fuel { fuel ≤ most_fuel }
-        ensures { IfOk result (λ v. (n : ℕ) × (m : IsMain (run_under setting.now) n)
+        ensures silent { IfOk result (λ v. main_text v ≡ []) }
+        ensures begun { IfOk result (λ v. (n : ℕ) × (m : IsMain (run_under setting.now) n)
             × IsWorld (run_under setting.now) v (numbers.begin (numbered (run_under setting.now))
             (start_in (run_under setting.now) n m.body fuel))) }
     {

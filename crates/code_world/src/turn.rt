@@ -11,6 +11,7 @@ ghost use Rattle.code_world.specs.declared.slot.Slot.TheVariants as slot;
 ghost use Rattle.code_world.specs.Slots.{StandsAtJoin, WholeJoin};
 ghost use Rattle.code_world.specs.Answers.{Answers};
 ghost use Rattle.code_world.specs.Meetings.{HasNoted};
+ghost use Rattle.code_world.specs.Touches.{Touches, TouchesJoining};
 ghost use Rattle.code_world.specs.Turns.{IsGood, StandsOn, Settles, behind, ends_with};
 
 use crate::advance::{Came, advance, meet};
@@ -70,11 +71,12 @@ impl Table {
         ensures answer { (g : CodeRun) (w : Entries (Local ℕ)) → IsGood g self.old w
             → AreMergesOf g (M.merges merges.old)
             → IfOk result (λ a. Answers g w number a self.new) }
+        ensures touches { IfOk result (λ a. TouchesJoining self.old number a self.new) }
         ensures size { M.size merges.new ≡ M.size merges.old }
         ensures same { M.merges merges.new ≡ M.merges merges.old }
     {
+        let end = self.join_end(alloc, on as usize)?;
         let at = self.take_joiner(number as usize);
-        let end = self.take_end(on as usize);
         let slot = meet(alloc, at, end, merges)?;
         let answer = answer_behind(&slot, on);
         self.put(number as usize, slot);
@@ -94,6 +96,7 @@ impl Table {
         ensures answer { (g : CodeRun) (w : Entries (Local ℕ)) → IsGood g self.old w
             → AreMergesOf g (M.merges merges.old)
             → IfOk result (λ a. Answers g w number a self.new) }
+        ensures touches { IfOk result (λ a. TouchesJoining self.old number a self.new) }
         ensures size { M.size merges.new ≡ M.size merges.old }
         ensures same { M.merges merges.new ≡ M.merges merges.old }
     {
@@ -123,6 +126,7 @@ impl Table {
             → IfOk result (λ a. Answers (run_under setting.now) w number a.answer self.new) }
         ensures noted { (w : Entries (Local ℕ)) → IsGood (run_under setting.now) self.old w
             → IfOk result (λ a. HasNoted (run_under setting.now) w number a.answer a.meeting) }
+        ensures touches { IfOk result (λ a. Touches self.old number a.answer self.new) }
         ensures size { M.size merges.new ≡ M.size merges.old }
         ensures same { M.merges merges.new ≡ M.merges merges.old }
     {
@@ -163,6 +167,7 @@ impl Table {
             → IfOk result (λ a. Answers (run_under setting.now) w number a.answer self.new) }
         ensures noted { (w : Entries (Local ℕ)) → IsGood (run_under setting.now) self.old w
             → IfOk result (λ a. HasNoted (run_under setting.now) w number a.answer a.meeting) }
+        ensures touches { IfOk result (λ a. Touches self.old number a.answer self.new) }
         ensures size { M.size merges.new ≡ M.size merges.old }
         ensures same { M.merges merges.new ≡ M.merges merges.old }
     {

@@ -4,4 +4,7 @@ pub mod Overlay
 pub mod Endings
 pub mod Ascending
 pub mod Composing
+pub mod Eights
+pub mod Following
+pub mod Parts
 pub mod Collapsing

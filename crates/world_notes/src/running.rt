@@ -17,7 +17,7 @@ ghost use Rattle.world_notes.specs.Runs.{HasFinishedNoting, HasLeastNoting, HasT
 
 use crate::noted::Noted;
 use crate::notes::note_leg;
-use code_world::{NotedLeg, World, leg_noting};
+use code_world::{NotedLeg, World, leg_meeting};
 use leg_run::CodeSetting;
 use ready_queue::ReadyQueue;
 use std::alloc::{AllocError, Global};
@@ -78,7 +78,7 @@ fn try_leg<M: MergeBy>(
         World::Twice => return Ok(Made::None(World::Twice)),
         World::Live(table) => table,
     };
-    let (next, leg) = leg_noting(alloc, setting, merges, World::Live(table), number)?;
+    let (next, leg) = leg_meeting(alloc, setting, merges, World::Live(table), number)?;
     match note_both(alloc, queue, notes, &next, number, leg) {
         Ok(()) => Ok(sort_out(next, leg.answer)),
         Err(error) => {

@@ -12,7 +12,7 @@ pub returns-in-Ok : goal.returns-in-Ok
 returns-in-Ok c =
     let s = run_under c.args.setting.now in
     record {
-      number = main_number s c.requires.faultless;
-      main = main s c.requires.faultless;
-      runs = c.in-Ok.ensures.state (main_number s c.requires.faultless) (main s c.requires.faultless);
+      number = main_number s c.args.setting.now.faultless;
+      main = main s c.args.setting.now.faultless;
+      runs = c.in-Ok.ensures.state (main_number s c.args.setting.now.faultless) (main s c.args.setting.now.faultless);
     }

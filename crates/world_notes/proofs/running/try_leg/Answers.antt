@@ -6,16 +6,16 @@ use Rattle.world_runs.proofs.Leading.{tried_live, tried_twice}
 use Rattle.world_notes.proofs.Leading.{many_notes, noted_live}
 use Rattle.world_notes.proofs.running.try_leg.Goals as goal
 
-pub leg_noting-requires-clause-reached : goal.leg_noting-requires-clause-reached
-leg_noting-requires-clause-reached g c =
+pub leg_meeting-requires-clause-reached : goal.leg_meeting-requires-clause-reached
+leg_meeting-requires-clause-reached g c =
     let q = c.requires.reached in
     (q.0, q.1, subst (λ v. IsWorld (run_under c.args.setting.now) v q.0) c.in-Live.is q.2)
 
-pub leg_noting-requires-clause-size : goal.leg_noting-requires-clause-size
-leg_noting-requires-clause-size g c = c.requires.size
+pub leg_meeting-requires-clause-size : goal.leg_meeting-requires-clause-size
+leg_meeting-requires-clause-size g c = c.requires.size
 
-pub leg_noting-requires-clause-merges : goal.leg_noting-requires-clause-merges
-leg_noting-requires-clause-merges g c = c.requires.merges
+pub leg_meeting-requires-clause-merges : goal.leg_meeting-requires-clause-merges
+leg_meeting-requires-clause-merges g c = c.requires.merges
 
 pub note_both-requires : goal.note_both-requires
 note_both-requires g c =

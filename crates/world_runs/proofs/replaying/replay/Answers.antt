@@ -10,7 +10,7 @@ begin-requires-clause-fuel g c = c.requires.fuel
 
 pub loop-at-init : goal.loop-at-init
 loop-at-init g c =
-    let b = c.in-Ok.ensures in
+    let b = c.in-Ok.ensures.begun in
     let s = run_under c.args.setting.now in
     record {
       reached = (_, replay_begins s c.args.fuel b.0 b.1 [] refl, start_reached s b.0 b.1 c.args.fuel c.requires.fuel, b.2);

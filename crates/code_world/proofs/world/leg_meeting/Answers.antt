@@ -5,7 +5,8 @@ use Rattle.code_world.specs.declared.world.World.TheVariants as world
 use Rattle.code_world.specs.Answers.{LegAnswers}
 use Rattle.code_world.proofs.Listed.{noted_so}
 use Rattle.code_world.proofs.Worlds.{good_listing, good_table, answers_in, twice_in}
-use Rattle.code_world.proofs.world.leg_noting.Goals as goal
+use Rattle.code_world.proofs.world.leg_meeting.Goals as goal
+use Rattle.code_world.proofs.Touching.{touches_in, touches_twice}
 
 pub returns-in-Twice-clause-answer : goal.returns-in-Twice-clause-answer
 returns-in-Twice-clause-answer g c = λ w reached is.
@@ -34,3 +35,10 @@ returns-in-Ok-clause-answer g c = λ w reached is.
 pub returns-in-Ok-clause-noted : goal.returns-in-Ok-clause-noted
 returns-in-Ok-clause-noted g c = λ w reached is.
     c.in-Ok.ensures.noted w (good_listing (run_under c.args.setting.now) c.args.setting.now.faultless c.args.world w c.in-Live.table c.in-Live.is reached is)
+
+pub returns-in-Twice-clause-touches : goal.returns-in-Twice-clause-touches
+returns-in-Twice-clause-touches g c = touches_twice c.args.world world.Twice c.args.revision c.noted_end.result.answer c.in-Twice.is
+
+pub returns-in-Ok-clause-touches : goal.returns-in-Ok-clause-touches
+returns-in-Ok-clause-touches g c =
+    touches_in c.args.world c.world_of.result c.in-Live.table c.leg.new.self c.args.revision c.in-Ok.noted.answer c.in-Live.is c.world_of.ensures c.in-Ok.ensures.touches
