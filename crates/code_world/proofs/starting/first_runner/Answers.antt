@@ -8,10 +8,10 @@ use Rattle.code_world.proofs.Beginning.{main, main_number}
 use Rattle.code_world.proofs.starting.first_runner.Goals as goal
 
 pub start_main-requires-clause-size : goal.start_main-requires-clause-size
-start_main-requires-clause-size c = c.in_ok-words.ensures.size ∙ ap (λ (z : Code). count z.vars) c.code-words.ensures.code
+start_main-requires-clause-size c = c.in_ok-words.ensures.size ∙ ap (λ (z : Code). count z.vars) c.code.ensures.code
 
 pub start_main-requires-clause-base : goal.start_main-requires-clause-base
-start_main-requires-clause-base c = subst (λ (z : Code). StartsWith z.vars (ghosts.base c.in_ok-words.words)) c.code-words.ensures.code c.in_ok-words.ensures.base
+start_main-requires-clause-base c = subst (λ (z : Code). StartsWith z.vars (ghosts.base c.in_ok-words.words)) c.code.ensures.code c.in_ok-words.ensures.base
 
 pub returns-in-Ok : goal.returns-in-Ok
 returns-in-Ok c =

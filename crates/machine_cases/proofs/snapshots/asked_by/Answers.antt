@@ -9,4 +9,4 @@ start_main-requires-clause-base c = λ l w is.
     let z : None ≡ Some w = sym (ap (λ vs. slice_get (words_at_start vs) l) c.requires.none) ∙ is in absurd cc
 
 pub run_to_end-requires-clause-merges : goal.run_to_end-requires-clause-merges
-run_to_end-requires-clause-merges c = c.in_ok-merges.ensures.merges (run_under c.args.setting.now) (sym c.code-merges.ensures.code)
+run_to_end-requires-clause-merges c = c.in_ok-merges.ensures.merges (run_under c.args.setting.now) (sym c.code.ensures.code)
