@@ -122,11 +122,7 @@ impl Table {
     }
 
     /// What a revision left, which is joined by this: the table keeps a copy.
-    pub(crate) fn join_end(
-        &mut self,
-        alloc: Global,
-        number: usize,
-    ) -> Result<EndValue, AllocError>
+    pub(crate) fn join_end(&mut self, alloc: Global, number: usize) -> Result<EndValue, AllocError>
         requires { (v : _) × (at_number self.old.slots.items number ≡ Some (slot.Ended v)) }
         ensures was { IfOk result
             (λ v. at_number self.old.slots.items number ≡ Some (slot.Ended v)) }
