@@ -5,7 +5,7 @@
 --   began                      the first view of a hub: the number of its seats, its start and its group
 --   run_start, run_group       where a run began, and what its snapshots belong to
 --   run_state, run_schedule, run_forkers, run_ends   what a run tells
---   schedule_numbers, schedule_group   what its schedule tells
+--   schedule_numbers, schedule_forkers, schedule_state, schedule_group   what its schedule tells
 use Rattle.std.specs.Global.{Box}
 use Rattle.std.specs.Prelude.{◌≡◌, ℕ, List, map, Option}
 use Rattle.atomic_table.specs.declared.shared.Seat.{Seat}
@@ -23,6 +23,12 @@ use Rattle.turn_rule.specs.Views.{first_of}
 module _ {S : Type 0} where
   abbrev pub schedule_numbers : HubSchedule S → List ℕ
   schedule_numbers order = order.numbers.items
+
+  abbrev pub schedule_forkers : HubSchedule S → List ℕ
+  schedule_forkers order = order.forkers.items
+
+  abbrev pub schedule_state : HubSchedule S → HubState
+  schedule_state order = order.state
 
   abbrev pub schedule_group : HubSchedule S → List ℕ
   schedule_group order = (first_of order.witness.views).group

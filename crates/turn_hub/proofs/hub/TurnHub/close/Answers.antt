@@ -1,5 +1,5 @@
 use Rattle.std.proofs.Common.{sym, ap, ◌∙◌, subst, map}
-use Rattle.turn_rule.specs.Passes.{named}
+use Rattle.turn_rule.specs.Passes.{named, AreStartsOf}
 use Rattle.turn_rule.specs.Views.{first_of}
 use Rattle.turn_hub.specs.Closing.{IsClosed, held_by}
 use Rattle.turn_hub.proofs.Closes.{leaves}
@@ -20,3 +20,8 @@ returns-clause-start g c = c.tell-witness.ensures.told ∙ (sym (ap (λ m. m.0.s
 
 pub returns-clause-group : goal.returns-clause-group
 returns-clause-group g c = c.tell-witness.ensures.group ∙ (sym (ap (λ m. m.0.group) c.tell-witness.ensures.own.1) ∙ c.take_out-schedule.ensures.same.1)
+
+pub returns-clause-behind : goal.returns-clause-behind
+returns-clause-behind g c =
+    c.gather_all-all.ensures.behind c.take_out-schedule.result.schedule.items
+    (subst (AreStartsOf c.take_out-schedule.result.schedule.items) (ap (λ m. m.0.turns) c.tell-witness.ensures.own.1) c.take_out-schedule.ensures.behind)
