@@ -15,6 +15,7 @@ use Rattle.hub_algebra.specs.Replay.{replay}
 use Rattle.hub_table.specs.declared.state.HubState.{HubState}
 use Rattle.hub_table.specs.declared.state.HubState.TheVariants.{All, Twice, NoMemory}
 use Rattle.turn_hub.specs.declared.closing.HubRun.{HubRun}
+use Rattle.turn_rule.specs.declared.revision.Revision.{Ghosts}
 use Rattle.turn_hub.specs.Closing.{Legal, ClosedHub}
 use Rattle.turn_hub.specs.Names.{run_state, run_schedule, run_forkers, run_ends}
 use Rattle.hub_workers.specs.Running.{IsRunFrom}
@@ -172,7 +173,7 @@ module _ (g : CodeRun) (fuel : ℕ) (small_fuel : fuel ≤ most_fuel) (start : C
       })
       o.Twice refl
 
-module _ {M S R A C P : Type 0} (g : CodeRun) (fuel : ℕ) (run : HubRun M S R A LeftValue C P) (is : IsRunOf g fuel run) where
+module _ {M S R A C P : Type 0} {k : Ghosts M S R A LeftValue C P} (g : CodeRun) (fuel : ℕ) (run : HubRun M S R A LeftValue C P k) (is : IsRunOf g fuel run) where
   pub left_of : run_state run ≡ All → Left g fuel (run_schedule run) (run_forkers run) (run_ends run)
   left_of all =
       leaves g fuel is.few is.start is.begins is.group (run_state run) (run_schedule run) (run_forkers run) (run_ends run) is.kept is.taken is.closed all
@@ -195,7 +196,7 @@ module _ (g : CodeRun) (fuel : ℕ) (schedule forkers : List ℕ) (ended : List 
   shown ok x is = shown_by g ok fuel schedule (Listing l.world) l.complete x is
 
 -- a run by threads, of revisions of code
-pub run_of : {M C P : Type 0} (g : CodeRun) (fuel : ℕ) → fuel ≤ most_fuel → (start : CodeState) → IsStart g fuel start
-    → (group : List ℕ) (run : HubRun M CodeState RunnerValue JoinerValue LeftValue C P) → IsRunFrom code_hub is_end start group run → run_state run ≢ NoMemory → IsRunOf g fuel run
+pub run_of : {M C P : Type 0} {k : Ghosts M CodeState RunnerValue JoinerValue LeftValue C P} (g : CodeRun) (fuel : ℕ) → fuel ≤ most_fuel → (start : CodeState) → IsStart g fuel start
+    → (group : List ℕ) (run : HubRun M CodeState RunnerValue JoinerValue LeftValue C P k) → IsRunFrom code_hub is_end start group run → run_state run ≢ NoMemory → IsRunOf g fuel run
 run_of g fuel few start begins group run left known =
     record { few = few; start = start; begins = begins; group = group; kept = left.kept; taken = left.taken; closed = left.closed; known = known }

@@ -10,6 +10,7 @@ use Rattle.reached_worlds.specs.Reached.{most_fuel}
 use Rattle.hub_table.specs.declared.state.HubState.{HubState}
 use Rattle.hub_table.specs.declared.state.HubState.TheVariants.{All, Twice, NoMemory}
 use Rattle.turn_hub.specs.declared.closing.HubRun.{HubRun}
+use Rattle.turn_rule.specs.declared.revision.Revision.{Ghosts}
 use Rattle.turn_hub.specs.Names.{run_state}
 use Rattle.code_machine.specs.Local.{CodeRun, Local}
 use Rattle.code_hub.specs.CodeState.{CodeState}
@@ -67,7 +68,7 @@ module _ (g : CodeRun) (fuel : ℕ) where
   is_run NoMemory ns forkers ended h known left r t has = absurd (known refl)
 
   -- what the outcome is made of
-  pub is_kept : {M C P : Type 0} (group : List ℕ) (run : HubRun M CodeState RunnerValue JoinerValue LeftValue C P) → fuel ≤ most_fuel
+  pub is_kept : {M C P : Type 0} {k : Ghosts M CodeState RunnerValue JoinerValue LeftValue C P} (group : List ℕ) (run : HubRun M CodeState RunnerValue JoinerValue LeftValue C P k) → fuel ≤ most_fuel
       → IsRunOfCode g fuel group run → run_state run ≢ NoMemory → kept.IsRunOf g fuel run
   is_kept group run few h known = record {
     few = few;
