@@ -1,5 +1,5 @@
 -- Lists of seats of one hub, and what they leave.
-use Rattle.std.proofs.Common.{◌≡◌, ◌≢◌, ◌⊎◌, inl, inr, ⊎_elim, ℕ, ◌+◌, Bool, cond, List, [], ◌∷◌, ◌++◌, map, Option, sym, ap, ◌∙◌, refl, eq-eqb, ne_eqb}
+use Rattle.std.proofs.Common.{◌≡◌, ◌≢◌, ◌⊎◌, inl, inr, ⊎_elim, ℕ, ◌+◌, Bool, cond, List, [], ◌∷◌, ◌++◌, map, length, arith, Option, sym, ap, ◌∙◌, refl, eq-eqb, ne_eqb}
 use mathlib.Core.Logic.{dite}
 use native.Mathlib.Decide.{ℕ_discrete}
 use Rattle.atomic_table.specs.Seated.{TableId}
@@ -20,6 +20,10 @@ map_more f (x ∷ xs) y = ap (λ l. f x ∷ l) (map_more f xs y)
 
 pub map_items : {B C : Type 0} → (all front : List B) (x : B) → all ≡ front ++ x ∷ [] → (f : B → C) → map f all ≡ map f front ++ f x ∷ []
 map_items all front x e f = ap (λ l. map f l) e ∙ map_more f front x
+
+pub no_more_seats : {B : Type 0} → (xs : List B) → length xs ≡ 0 → xs ≡ []
+no_more_seats [] e = refl
+no_more_seats (x ∷ xs) e = absurd (omega (arith, e))
 
 either_here : (a b : ℕ) → a ≡ 1 → either_saw a b ≡ 1
 either_here a b e = ap (λ (c : Bool). cond c 1 b) (eq-eqb a 1 e)

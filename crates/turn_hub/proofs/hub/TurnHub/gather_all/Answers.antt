@@ -5,7 +5,7 @@ use Rattle.turn_rule.specs.Views.{either_saw, either_halt}
 use Rattle.turn_rule.specs.Seats.{AreOf, AreBehind}
 use Rattle.turn_rule.proofs.Passes.{starts_parts}
 use Rattle.turn_hub.specs.Closing.{saw_of, halt_known, held_by}
-use Rattle.turn_hub.proofs.Rows.{are_front, saw_last, saw_first, halt_last, halt_next, held_more, named_both, behind_more, map_items}
+use Rattle.turn_hub.proofs.Rows.{are_front, saw_last, saw_first, halt_last, halt_next, held_more, named_both, behind_more, no_more_seats, map_items}
 use Rattle.turn_hub.proofs.hub.TurnHub.gather_all.Goals as goal
 
 pub loop-init : goal.loop-init
@@ -65,3 +65,8 @@ loop-preserved g c =
           i.9 log p.0 (subst (AreBehind log) (sym places) (behind_more log (map (λ s. s.place) c.pop-in-loop.new.self.items) c.unwrap-seat.result.place all p.1))),
       (λ n. let a = held_more n (map (λ s. s.place) c.pop-in-loop.new.self.items) c.unwrap-seat.result.place in let b = ap (held_by n) places in let p = ap (λ m. named n m.0.passes) me in let q = named_both n c.loop.all.me.0.passes c.unwrap-seat.result.place.me.0.passes in let r = i.10 n in omega arith),
     )
+
+pub returns-clause-behind : goal.returns-clause-behind
+returns-clause-behind g c =
+    let none : length c.loop.rest.items ≡ 0 = search rules in
+    λ log one. c.loop.invariant.9 log one (subst (λ l. AreBehind log (map (λ s. s.place) l)) (sym (no_more_seats c.loop.rest.items none)) tt)
