@@ -134,7 +134,7 @@ number_8_steady = record {
 -- ---- a field behind another
 
 -- fewer bytes than two lists have: fewer than the first, or the first and fewer than the second
-Fewer : (xs ys : List ℕ) (n : ℕ) → Type 0
+abbrev Fewer : (xs ys : List ℕ) (n : ℕ) → Type 0
 Fewer xs ys n = ((n < length xs) × (take n (xs ++ ys) ≡ take n xs)) ⊎ ((m : ℕ) × (m < length ys) × (take n (xs ++ ys) ≡ xs ++ take m ys))
 
 fewer_more : (x : ℕ) (xs ys : List ℕ) (n : ℕ) → Fewer xs ys n → Fewer (x ∷ xs) ys (suc n)
@@ -225,7 +225,7 @@ module _ {A B : Type 0} (r : Field A) (k : A → Field B) where
               let p = first.took (start + length bytes) bytes a mid t in
               let whole : start + length bytes ≡ (start + length p.used) + length mid = ap (λ l. start + length l) p.split ∙ behind_at start p.used mid in
               second_broke a start bytes mid at p ((next a).broke (start + length p.used) mid at (ap (λ w. k a w mid) (sym whole) ∙ y))
-          go (Failed f) t y = first_broke start bytes at (first.broke start bytes at (let z : Failed f ≡ Failed (fault.BadField at) = cc in t ∙ ap (λ (g : ReadFault). Failed g) (let same : f ≡ fault.BadField at = cc in same)))
+          go (Failed f) t y = first_broke start bytes at (first.broke start bytes at (let same : f ≡ fault.BadField at = cc in t ∙ ap (λ (g : ReadFault). Failed g) same))
 
 -- ---- a field whose value is tested
 
@@ -335,10 +335,13 @@ magic_took whole bytes u rest e =
       cut = magic_cut;
     }
 
+passed : Unit {0}
+passed = tt
+
 magic_sound : (whole : ℕ) (bytes : List ℕ) (at : ℕ) → magic whole bytes ≡ Failed (fault.BadField at) → ⊥
 magic_sound whole bytes at e = go (starts_with nat_eq bytes (codes "REVC")) (starts_with nat_eq (codes "REVC") bytes) e
   where
-    go : (b c : Bool) → (if b then Got tt (drop 4 bytes) else if c then Failed (fault.Truncated whole) else Failed fault.BadMagic) ≡ Failed (fault.BadField at) → ⊥
+    go : (b c : Bool) → (if b then Got passed (drop 4 bytes) else if c then Failed (fault.Truncated whole) else Failed fault.BadMagic) ≡ Failed (fault.BadField at) → ⊥
     go true c y = absurd (cc)
     go false true y = absurd (cc)
     go false false y = absurd (cc)
@@ -409,7 +412,7 @@ vars_steady wide = then_steady number_16 _ number_16_steady (λ n. more_steady n
 location_count_steady : (wide : Bool) (sum : ℕ) → Steady (location_count wide sum)
 unfolding location_count
 location_count_steady true sum = tested_steady _ _ number_32_steady
-location_count_steady false sum = give_steady tt
+location_count_steady false sum = give_steady passed
 
 text_steady : Steady text
 unfolding text
@@ -473,7 +476,7 @@ blocks_steady may_try = then_steady number_16 _ number_16_steady (λ n. more_ste
 try_total_steady : (may_try wide : Bool) (sum : ℕ) → Steady (try_total may_try wide sum)
 unfolding try_total
 try_total_steady true wide sum = tested_steady _ _ number_32_steady
-try_total_steady false wide sum = give_steady tt
+try_total_steady false wide sum = give_steady passed
 
 code_steady : (wide may_try : Bool) → Steady (code_of wide may_try)
 unfolding code_of

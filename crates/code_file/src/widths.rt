@@ -2,10 +2,26 @@
 //! that it has the range of its type, so it is read once.
 
 ghost use Rattle.std.specs.Prelude.{All};
-ghost use Rattle.code_file.specs.Laws.{IsBlock, IsInstr, IsItem, NumbersFit, VarFits};
+ghost use Rattle.code_file.specs.Laws.{Is8, Is16, Is32, IsBlock, IsInstr, IsItem};
+ghost use Rattle.code_file.specs.Laws.{NumbersFit, VarFits};
 
 use rev_code::{Code, CodeBlock, CodeVar, Instr, LayoutItem};
 use rev_num::Items;
+
+fn note_8(n: u8)
+    ensures { Is8 n }
+{
+}
+
+fn note_16(n: u16)
+    ensures { Is16 n }
+{
+}
+
+fn note_32(n: u32)
+    ensures { Is32 n }
+{
+}
 
 /// Looks at an instruction: its operand has the width of its type.
 fn note_instr(x: &Instr)
@@ -13,12 +29,21 @@ fn note_instr(x: &Instr)
 {
     match *x {
         Instr::PushInt(_n) => {}
-        Instr::LoadLocal(_n) | Instr::StoreLocal(_n) => {}
-        Instr::LoadShared(_n) | Instr::StoreShared(_n) => {}
-        Instr::LoadCell(_n) | Instr::StoreCell(_n) | Instr::CheckCell(_n) => {}
-        Instr::Jump(_n) | Instr::JumpIfFalse(_n) | Instr::JumpIfTrue(_n) => {}
-        Instr::Apply(_n) | Instr::Call(_n) | Instr::Fork(_n) => {}
-        Instr::Charge(_n) | Instr::Print(_n) => {}
+        Instr::LoadLocal(n) => note_8(n),
+        Instr::StoreLocal(n) => note_8(n),
+        Instr::LoadShared(n) => note_16(n),
+        Instr::StoreShared(n) => note_16(n),
+        Instr::LoadCell(n) => note_16(n),
+        Instr::StoreCell(n) => note_16(n),
+        Instr::CheckCell(n) => note_16(n),
+        Instr::Jump(n) => note_32(n),
+        Instr::JumpIfFalse(n) => note_32(n),
+        Instr::JumpIfTrue(n) => note_32(n),
+        Instr::Apply(n) => note_16(n),
+        Instr::Call(n) => note_16(n),
+        Instr::Fork(n) => note_16(n),
+        Instr::Charge(n) => note_32(n),
+        Instr::Print(n) => note_32(n),
         _ => {}
     }
 }
@@ -50,7 +75,7 @@ fn note_item(item: &LayoutItem)
     ensures { IsItem item.now }
 {
     match *item {
-        LayoutItem::Text(_n) => {}
+        LayoutItem::Text(n) => note_32(n),
         _ => {}
     }
 }

@@ -39,7 +39,7 @@ abbrev Bare : Type 0
 Bare = Option (Result (Word ⊥) Cause)
 
 -- a number or a fault that is given with handles of one kind is given with those of another
-given : {H K : Type 0} (a : Bare) (x : Result ℤ NumFault) → word_or_fault (renamed_answer (none {H}) a) ≡ number_word x → word_or_fault (renamed_answer (none {K}) a) ≡ number_word x
+given : {H K : Type 0} (a : Bare) (x : Result ℤ NumFault) → word_or_fault (renamed_answer (none {H = H}) a) ≡ number_word x → word_or_fault (renamed_answer (none {H = K}) a) ≡ number_word x
 given (Some (Ok (int n))) (Ok z) e = let same : n ≡ z = cc in ap (λ i. Ok (int i)) same
 given (Some (Ok (int n))) (Err f) e = absurd (cc)
 given (Some (Ok (bool b))) (Ok z) e = absurd (cc)
@@ -72,10 +72,10 @@ module _ (p : ProgramTree) (well : IsAccepted p) where
   with_any : (H : Type 0) (k : ℕ) (d : MergeDef) → slice_get (merges_in p) k ≡ Some d → (x y z : ℤ) → word_or_fault (block_gives H k x y z) ≡ number_word (merge_answer (merged d (v.Int x) (v.Int y) (v.Int z)))
   with_any H k d is x y z =
       let bare = block_gives ⊥ k x y z in
-      let paths = values_same (none {Path}) (code_of p) (merge_number k p.declarations) (int x ∷ int y ∷ int z ∷ []) in
-      let any = values_same (none {H}) (code_of p) (merge_number k p.declarations) (int x ∷ int y ∷ int z ∷ []) in
+      let paths = values_same (none {H = Path}) (code_of p) (merge_number k p.declarations) (int x ∷ int y ∷ int z ∷ []) in
+      let any = values_same (none {H = H}) (code_of p) (merge_number k p.declarations) (int x ∷ int y ∷ int z ∷ []) in
       ap word_or_fault any
-      ∙ given {Path} {H} bare (merge_answer (merged d (v.Int x) (v.Int y) (v.Int z))) (ap word_or_fault (sym paths) ∙ with_paths k d is x y z)
+      ∙ given {H = Path} {K = H} bare (merge_answer (merged d (v.Int x) (v.Int y) (v.Int z))) (ap word_or_fault (sym paths) ∙ with_paths k d is x y z)
 
   all_declared : (os : List (Option ℕ)) (l : ℕ) (o : Option ℕ) → AllDeclared p os → slice_get os l ≡ Some o → IsDeclared p o
   all_declared [] l o ds e = absurd (let z : None ≡ Some o = e in cc)
@@ -100,4 +100,4 @@ module _ (p : ProgramTree) (well : IsAccepted p) where
       }
 
 pub code_has_the_merges : {H : Type 0} → CodeHasTheMerges H
-code_has_the_merges {H} p well g run l k at = by_location p well H g run l k at
+code_has_the_merges {H = H} p well g run l k at = by_location p well H g run l k at
