@@ -3,6 +3,7 @@
 ghost use Rattle.std.specs.Prelude.{◌≡◌, ◌<◌, ◌++◌, IfOk, Option, option_to_list};
 ghost use Rattle.version_map.specs.declared.snapshot.Collapsed.{Collapsed};
 ghost use Rattle.version_map.specs.declared.snapshot.How.TheVariants as how;
+ghost use Rattle.version_map.specs.Ascending.{IsAscending};
 ghost use Rattle.version_map.specs.Deltas.{at, locations, IsEmpty};
 ghost use Rattle.version_map.specs.Overlay.{under, Agree};
 ghost use Rattle.block_run.specs.Remembering.{written_below, written_there, Kept};
@@ -91,6 +92,7 @@ impl<P: Snapshot> Memory<P> {
         ensures unwritten { IfOk result (λ r. IsEmpty r.0.first.roots) }
         ensures child_size { IfOk result (λ r. P.size r.0.snapshot ≡ P.size self.old.snapshot) }
         ensures child_group { IfOk result (λ r. P.group r.0.snapshot ≡ P.group self.old.snapshot) }
+        ensures how { IfOk result (λ r. P.hows r.1) }
         ensures shared { IfOk result (λ r. r.1 ≡ how.Shared → IsEmpty self.new.delta) }
         ensures copied { IfOk result (λ r. r.1 ≡ how.Copied → self.new.delta ≡ self.old.delta) }
         ensures kept { Kept (P.size self.old.snapshot)
@@ -147,6 +149,7 @@ impl<P: Snapshot> Memory<P> {
         ensures written { IfOk result (λ ws. ws.items ≡ written_below
             (under self.old.delta (P.base self.old.snapshot))
             (at self.old.first.roots) (P.size self.old.snapshot)) }
+        ensures order { IfOk result (λ ws. IsAscending ws.items) }
         ensures kept { Kept (P.size self.old.snapshot)
             (under self.old.delta (P.base self.old.snapshot))
             (under self.new.delta (P.base self.new.snapshot))

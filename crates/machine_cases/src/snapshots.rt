@@ -2,7 +2,6 @@
 
 ghost use Rattle.std.specs.Prelude.{◌≡◌, [], IfOk};
 ghost use Rattle.version_map.specs.Deltas.{locations};
-ghost use Rattle.leg_run.specs.Setting.{IsSetting};
 
 use crate::codes::block;
 use crate::driver::run_to_end;
@@ -15,9 +14,9 @@ use rev_vm::start_main;
 use std::alloc::{AllocError, Global};
 use version_map::{Collapsed, Delta, How, Snapshot, collapse_all};
 
-/// A snapshot whose locations are all 0, and which forks where it has none. It has parts to take,
-/// counts how often it was asked, and knows what its last call other than `read` answered, where
-/// that was a collapse.
+/// A snapshot whose locations are all 0, and which forks where it has none. It has parts to take
+/// over one that is kept, counts how often it was asked, and knows what its last call other than
+/// `read` answered, where that was a collapse.
 #[derive(Drop)]
 struct Parts {
     locations: u32,
@@ -27,7 +26,8 @@ struct Parts {
 }
 
 impl Snapshot for Parts {
-    ghost use Rattle.std.specs.Prelude.{[], ◌≡◌, Some};
+    ghost use Rattle.std.specs.Prelude.{[], ◌≡◌, ◌+◌, Some};
+    ghost use Rattle.version_map.specs.declared.snapshot.How.TheVariants.{Copied};
 
     type Spent = u64;
 
@@ -35,11 +35,13 @@ impl Snapshot for Parts {
 
     ghost base = { λ _ l. 0 };
 
-    ghost depth = { λ p. p.left };
+    ghost depth = { λ p. p.left + 1 };
 
     ghost group = { λ _. [] };
 
     ghost answered = { λ p c. p.last ≡ Some c };
+
+    ghost hows = { λ h. h ≡ Copied };
 
     ghost spent_group = { λ _. [] };
 
@@ -122,11 +124,10 @@ fn fork_and_join(alloc: Global) -> Result<Code, AllocError>
 /// How often the snapshot was asked when code without variables, which ends in three legs, has
 /// ended.
 fn asked_by(alloc: Global, setting: &CodeSetting, parts: Parts) -> Result<Option<u64>, AllocError>
-    requires setting { IsSetting setting.now }
     requires none { setting.now.code.vars ≡ [] }
     requires parts { parts.locations ≡ 0 }
 {
-    let mut merges = BlockMerges::of(alloc, &setting.code)?;
+    let mut merges = BlockMerges::of(alloc, setting.code())?;
     match start_main(alloc, setting, parts, 100) {
         Ok(runner) => match run_to_end(alloc, setting, &mut merges, runner, 3)? {
             Some((_, asked)) => Ok(Some(asked)),

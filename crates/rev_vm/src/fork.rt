@@ -11,15 +11,13 @@ ghost use Rattle.rev_code.specs.Events as events;
 ghost use Rattle.version_map.specs.declared.snapshot.How.TheVariants as how;
 ghost use Rattle.version_map.specs.Deltas.{IsEmpty};
 ghost use Rattle.code_machine.specs.Local.{CodeRun};
-ghost use Rattle.leg_run.specs.Setting.{IsSetting};
-ghost use Rattle.rev_vm.specs.Meaning.{IsAt, IsAtFork};
+ghost use Rattle.rev_vm.specs.Revisions.{ForksAs, StandsAs};
 ghost use Rattle.rev_vm.specs.Starts.{IsBorn, IsForker, IsNamed, IsWaiting, run_under};
 
 use crate::end::{Broken, break_off, in_box};
 use crate::frame::first_frame;
 use crate::runner::Runner;
-use crate::starting::room_at;
-use fun_run::{block_at, params_of};
+use fun_run::params_of;
 use leg_run::{CodeSetting, Meeting, Revision, Run};
 use rev_code::CodeBlock;
 use std::alloc::{AllocError, Global};
@@ -61,17 +59,14 @@ pub struct Parent<P: Snapshot> {
 }
 
 impl<P: Snapshot> Parent<P> {
+    ghost use Rattle.rev_vm.specs.Values.{Awaits, StandsFor, parent_group, runner_group};
+
     /// The forker, which holds its child's number.
     pub fn told(self, number: u32) -> Runner<P>
         ensures state { (g : CodeRun) (c : State _) (args : List (Word _))
-            → IsAt g self.revision.value.run self.revision.value.memory.delta
-            (P.base self.revision.value.memory.snapshot)
-            self.revision.value.memory.first.roots (events.parent g.share c args 0)
-            → IsAt g result.revision.value.run result.revision.value.memory.delta
-            (P.base result.revision.value.memory.snapshot) result.revision.value.memory.first.roots
-            (events.parent g.share c args number) }
-        ensures group { P.group result.revision.value.memory.snapshot
-            ≡ P.group self.revision.value.memory.snapshot }
+            → Awaits g self c args
+            → StandsFor g result (events.parent g.share c args number) }
+        ensures group { runner_group result ≡ parent_group self }
     {
         let Parent { mut revision } = self;
         name_child(&mut revision.run, number);
@@ -80,7 +75,7 @@ impl<P: Snapshot> Parent<P> {
 
     /// Its snapshot, given back.
     pub fn give_up(self) -> P::Spent
-        ensures { P.spent_group result ≡ P.group self.revision.value.memory.snapshot }
+        ensures { P.spent_group result ≡ parent_group self }
     {
         let Parent { revision } = self;
         break_off(revision).give_up()
@@ -125,14 +120,13 @@ fn child_frame(
     b: &CodeBlock,
     run: &Run,
 ) -> Result<Run, AllocError>
-    requires setting { IsSetting setting.now }
     requires block { slice_get setting.now.code.blocks n ≡ Some b.now }
     requires enough { length (params b.now) ≤ run.now.registers.top }
     requires within { run.now.registers.top ≤ length run.now.words.items }
     ensures { IfOk result (λ r. IsBorn setting.now n b.now run.now r) }
 {
-    let room = room_at(setting.rooms.as_slice(), n);
-    let part = part_of(setting.share, run.registers.fuel);
+    let room = setting.room(n);
+    let part = part_of(setting.share(), run.registers.fuel);
     let args = words_on_top(run, params_of(b));
     let child = first_frame(alloc, b, n, room, args, part)?;
     Ok(child)
@@ -166,25 +160,17 @@ fn fork_off<P: Snapshot>(
     block: u16,
     revision: &mut Revision<P>,
 ) -> Result<(Revision<P>, How), AllocError>
-    requires setting { IsSetting setting.now }
-    requires at { (c : State _) × (args : List (Word _)) × IsAtFork (run_under setting.now)
-        revision.old.run revision.old.memory.delta (P.base revision.old.memory.snapshot)
-        revision.old.memory.first.roots block c args }
+    requires at { (c : State _) × (args : List (Word _))
+        × ForksAs (run_under setting.now) revision.old block c args }
     ensures parent { IfOk result (λ _. (c : State _) (args : List (Word _))
-        → IsAtFork (run_under setting.now)
-        revision.old.run revision.old.memory.delta (P.base revision.old.memory.snapshot)
-        revision.old.memory.first.roots block c args
-        → IsAt (run_under setting.now) revision.new.run
-        revision.new.memory.delta (P.base revision.new.memory.snapshot)
-        revision.new.memory.first.roots (events.parent setting.now.share c args 0)) }
+        → ForksAs (run_under setting.now) revision.old block c args
+        → StandsAs (run_under setting.now) revision.new (events.parent setting.now.share c args 0)) }
     ensures child { IfOk result (λ r. (c : State _) (args : List (Word _))
-        → IsAtFork (run_under setting.now)
-        revision.old.run revision.old.memory.delta (P.base revision.old.memory.snapshot)
-        revision.old.memory.first.roots block c args
+        → ForksAs (run_under setting.now) revision.old block c args
         → (b : CodeBlock) × (slice_get setting.now.code.blocks block ≡ Some b)
-        × IsAt (run_under setting.now) r.0.run r.0.memory.delta (P.base r.0.memory.snapshot)
-        r.0.memory.first.roots (events.child setting.now.share c block b args)) }
+        × StandsAs (run_under setting.now) r.0 (events.child setting.now.share c block b args)) }
     ensures waits { IfOk result (λ _. IsWaiting revision.new.run) }
+    ensures how { IfOk result (λ r. P.hows r.1) }
     ensures shared { IfOk result (λ r. r.1 ≡ how.Shared → IsEmpty revision.new.memory.delta) }
     ensures copied { IfOk result (λ r. r.1 ≡ how.Copied
         → revision.new.memory.delta ≡ revision.old.memory.delta) }
@@ -192,9 +178,9 @@ fn fork_off<P: Snapshot>(
     ensures child_group { IfOk result
         (λ r. P.group r.0.memory.snapshot ≡ P.group revision.old.memory.snapshot) }
 {
-    let b = block_at(&setting.code, block);
+    let b = setting.block(block);
     let run = child_frame(alloc, setting, block, b, &revision.run)?;
-    let part = part_of(setting.share, revision.run.registers.fuel);
+    let part = part_of(setting.share(), revision.run.registers.fuel);
     leave_fork(&mut revision.run, params_of(b), part)?;
     let child = revision.memory.fork(alloc)?;
     Ok((
@@ -207,6 +193,9 @@ fn fork_off<P: Snapshot>(
 }
 
 impl<P: Snapshot> AtFork<P> {
+    ghost use Rattle.rev_vm.specs.Values.{Awaits, StandsAtFork, StandsFor};
+    ghost use Rattle.rev_vm.specs.Values.{fork_group, parent_group, runner_group};
+
     /// The forker behind its Fork, its child, and how the child has its words, as the snapshot
     /// answered.
     pub fn fork(
@@ -214,39 +203,25 @@ impl<P: Snapshot> AtFork<P> {
         alloc: Global,
         setting: &CodeSetting,
     ) -> Result<(Parent<P>, Runner<P>, How), BrokenFork<P>>
-        requires setting { IsSetting setting.now }
-        requires at { (c : State _) × (args : List (Word _)) × IsAtFork (run_under setting.now)
-            self.revision.value.run self.revision.value.memory.delta
-            (P.base self.revision.value.memory.snapshot)
-            self.revision.value.memory.first.roots self.block c args }
+        requires at { (c : State _) × (args : List (Word _))
+            × StandsAtFork (run_under setting.now) self c args }
         ensures parent { IfOk result (λ r. (c : State _) (args : List (Word _))
-            → IsAtFork (run_under setting.now)
-            self.revision.value.run self.revision.value.memory.delta
-            (P.base self.revision.value.memory.snapshot)
-            self.revision.value.memory.first.roots self.block c args
-            → IsAt (run_under setting.now) r.0.revision.value.run
-            r.0.revision.value.memory.delta (P.base r.0.revision.value.memory.snapshot)
-            r.0.revision.value.memory.first.roots (events.parent setting.now.share c args 0)) }
+            → StandsAtFork (run_under setting.now) self c args
+            → Awaits (run_under setting.now) r.0 c args) }
         ensures child { IfOk result (λ r. (c : State _) (args : List (Word _))
-            → IsAtFork (run_under setting.now)
-            self.revision.value.run self.revision.value.memory.delta
-            (P.base self.revision.value.memory.snapshot)
-            self.revision.value.memory.first.roots self.block c args
+            → StandsAtFork (run_under setting.now) self c args
             → (b : CodeBlock) × (slice_get setting.now.code.blocks self.block ≡ Some b)
-            × IsAt (run_under setting.now) r.1.revision.value.run
-            r.1.revision.value.memory.delta (P.base r.1.revision.value.memory.snapshot)
-            r.1.revision.value.memory.first.roots (events.child setting.now.share c self.block b
+            × StandsFor (run_under setting.now) r.1 (events.child setting.now.share c self.block b
             args)) }
+        ensures how { IfOk result (λ r. P.hows r.2) }
         ensures shared { IfOk result (λ r. r.2 ≡ how.Shared
             → IsEmpty r.0.revision.value.memory.delta) }
         ensures copied { IfOk result (λ r. r.2 ≡ how.Copied
             → r.0.revision.value.memory.delta ≡ self.revision.value.memory.delta) }
-        ensures group { IfOk result (λ r. P.group r.0.revision.value.memory.snapshot
-            ≡ P.group self.revision.value.memory.snapshot) }
-        ensures child_group { IfOk result (λ r. P.group r.1.revision.value.memory.snapshot
-            ≡ P.group self.revision.value.memory.snapshot) }
+        ensures group { IfOk result (λ r. parent_group r.0 ≡ fork_group self) }
+        ensures child_group { IfOk result (λ r. runner_group r.1 ≡ fork_group self) }
         ensures broken { IfErr result
-            (λ b. P.group b.forker.snapshot ≡ P.group self.revision.value.memory.snapshot) }
+            (λ b. P.group b.forker.snapshot ≡ fork_group self) }
     {
         let AtFork {
             mut revision,
@@ -269,18 +244,15 @@ impl<P: Snapshot> AtFork<P> {
 
     /// The line charged last.
     pub fn line(&self) -> u32
-        ensures { (g : CodeRun) (c : State _) (args : List (Word _)) → IsAtFork g
-            self.now.revision.value.run self.now.revision.value.memory.delta
-            (P.base self.now.revision.value.memory.snapshot)
-            self.now.revision.value.memory.first.roots
-            self.now.block c args → result ≡ c.line }
+        ensures { (g : CodeRun) (c : State _) (args : List (Word _))
+            → StandsAtFork g self.now c args → result ≡ c.line }
     {
         self.revision.run.registers.line
     }
 
     /// Its snapshot, given back.
     pub fn give_up(self) -> P::Spent
-        ensures { P.spent_group result ≡ P.group self.revision.value.memory.snapshot }
+        ensures { P.spent_group result ≡ fork_group self }
     {
         let AtFork { revision, block } = self;
         break_off(revision).give_up()

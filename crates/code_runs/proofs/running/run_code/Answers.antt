@@ -1,4 +1,4 @@
-use Rattle.std.proofs.Common.{◌∙◌, refl}
+use Rattle.std.proofs.Common.{◌∙◌, sym}
 use Rattle.code_machine.specs.Local.{CodeRun}
 use Rattle.code_outcomes.specs.Outcomes.{HasOutcome}
 use Rattle.rev_vm.specs.Starts.{run_under}
@@ -10,15 +10,15 @@ new-requires-clause-inputs c = c.note_inputs.ensures
 
 pub complete-requires-clause-underway : goal.complete-requires-clause-underway
 complete-requires-clause-underway c =
-    let b = c.in_ok-start.ensures in
+    let b = c.in_ok-start.ensures.begun in
     (c.args.fuel, begun (run_under c.in_ok-setting.setting) c.args.fuel b.0 b.1 c.requires c.in_ok-start.start b.2)
 
 pub complete-requires-clause-merges : goal.complete-requires-clause-merges
-complete-requires-clause-merges c = c.in_ok-merges.ensures.merges (run_under c.in_ok-setting.setting) refl
+complete-requires-clause-merges c = c.in_ok-merges.ensures.merges (run_under c.in_ok-setting.setting) (sym c.code.ensures.code)
 
 pub returns : goal.returns
 returns c =
-    let b = c.in_ok-start.ensures in
+    let b = c.in_ok-start.ensures.begun in
     let s = c.in_ok-setting.ensures in
     let own = c.in_ok-setting.setting in
     of_run (λ (g : CodeRun). HasOutcome g c.args.fuel c.in_ok-outcome.outcome)
