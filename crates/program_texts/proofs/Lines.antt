@@ -128,13 +128,13 @@ none_left (b ∷ front) back e = cc
 
 behind_feed : (ps : List Piece) (s front back : List ℕ) → Leads ps s [] → s ≡ front ++ 10 ∷ back → Begins ps back
 behind_feed [] s front back l e = absurd (none_left front back (sym l ∙ e))
-behind_feed (p ∷ ps) s front back l e = by_place (compare p.bytes l.0 front back (sym l.1.split ∙ e))
+behind_feed (p ∷ ps) s front back l e = by_place (λ middle is. behind_feed ps l.0 middle back l.2 is) (compare p.bytes l.0 front back (sym l.1.split ∙ e))
   where
-    by_place : Before p.bytes l.0 front back ⊎ Within p.bytes l.0 front back → Begins (p ∷ ps) back
-    by_place (inl h) =
-        let b = behind_feed ps l.0 h.middle back l.2 h.rest_is in
+    by_place : ((middle : List ℕ) → l.0 ≡ middle ++ 10 ∷ back → Begins ps back) → Before p.bytes l.0 front back ⊎ Within p.bytes l.0 front back → Begins (p ∷ ps) back
+    by_place later (inl h) =
+        let b = later h.middle h.rest_is in
         record { first = p ∷ b.first; more = b.more; is = ap (λ x. p ∷ x) b.is; leads = b.leads }
-    by_place (inr h) =
+    by_place later (inr h) =
         let one = feed_alone p.kind p.bytes l.1.longest.spells front h.middle h.piece_is in
         let here : back ≡ l.0 = h.back_is ∙ ap (λ m. m ++ l.0) one.1 in
         record { first = p ∷ []; more = ps; is = refl; leads = subst (λ v. Leads ps v []) (sym here) l.2 }
@@ -147,13 +147,13 @@ behind_lines ps s front back l e (inr h) =
 
 -- ---- the line with which a trace begins
 
-word : List ℕ → Piece
+abbrev word : List ℕ → Piece
 word w = record { kind = piece.Token k.Name; bytes = w }
 
-blank : Piece
+abbrev blank : Piece
 blank = record { kind = piece.WhiteSpace; bytes = 32 ∷ [] }
 
-two_words : List Piece
+abbrev two_words : List Piece
 two_words = word (codes "revisions") ∷ blank ∷ word (codes "trace") ∷ []
 
 first_words : (more : List ℕ) → Leads two_words (first_line ++ more) (codes " 1" ++ more)

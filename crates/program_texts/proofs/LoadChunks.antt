@@ -20,8 +20,6 @@ use Rattle.rev_syntax.proofs.Lists.{both, first_passes, exact-prefix}
 use Rattle.rev_syntax.proofs.PieceKinds.{blank-no_digit, letter-no_digit}
 use Rattle.rev_words.specs.Load as load
 use Rattle.rev_words.specs.Load.{declarations, load_text, prints, procedures, statements_from}
-use Rattle.rev_words.specs.declared.load.Statement.{Statement}
-use Rattle.rev_words.specs.declared.load.Statement.TheVariants as statements
 use Rattle.program_texts.proofs.Cuts.{cut_some, cut_leads, leads_append}
 use Rattle.program_texts.proofs.Chunks.{Chunk, IsCut, chunk, text_of, AllCut}
 
@@ -75,28 +73,41 @@ number_leads n few b rest no_digit no_letter =
 
 -- ---- the statements
 
+-- a statement of the loop: a cell, and a constant
+pub data Line : Type 0 where
+  add_remainder : ℕ → ℕ → Line
+  add_constant : ℕ → ℕ → Line
+  set_product : ℕ → ℕ → Line
+
+abbrev line_text : Line → List ℕ
+line_text (add_remainder x c) =
+    codes "a[" ++ (decimal x ++ (codes "] = a[" ++ (decimal x ++ (codes "] + k % (" ++ (decimal c ++ codes " + 1);")))))
+line_text (add_constant x c) =
+    codes "b[" ++ (decimal x ++ (codes "] = b[" ++ (decimal x ++ (codes "] + " ++ (decimal c ++ codes ";")))))
+line_text (set_product x c) = codes "v[" ++ (decimal x ++ (codes "] = k * " ++ (decimal c ++ codes ";")))
+
 abbrev pub line : List ℕ → List ℕ
 line w = w ++ 10 ∷ []
 
 abbrev cut_pieces : ℕ → List ℕ → List Piece
 cut_pieces n w = (chunk n w).pieces
 
-abbrev pub statement_pieces : Statement → List Piece
-statement_pieces (statements.AddRemainder x c) =
+abbrev pub statement_pieces : Line → List Piece
+statement_pieces (add_remainder x c) =
     cut_pieces 2 (codes "a[") ++ number x ∷ (cut_pieces 6 (codes "] = a[") ++ number x ∷ (cut_pieces 9 (codes "] + k % (") ++ number c ∷ cut_pieces 7 (line (codes " + 1);"))))
-statement_pieces (statements.AddConstant x c) =
+statement_pieces (add_constant x c) =
     cut_pieces 2 (codes "b[") ++ number x ∷ (cut_pieces 6 (codes "] = b[") ++ number x ∷ (cut_pieces 4 (codes "] + ") ++ number c ∷ cut_pieces 2 (line (codes ";"))))
-statement_pieces (statements.SetProduct x c) =
+statement_pieces (set_product x c) =
     cut_pieces 2 (codes "v[") ++ number x ∷ (cut_pieces 8 (codes "] = k * ") ++ number c ∷ cut_pieces 2 (line (codes ";")))
 
-abbrev pub statement_chunk : Statement → Chunk
-statement_chunk s = record { text = line (load.statement_text s); pieces = statement_pieces s }
+abbrev pub statement_chunk : Line → Chunk
+statement_chunk s = record { text = line (line_text s); pieces = statement_pieces s }
 
 -- its numbers are small
-abbrev pub IsSmall : Statement → Type 0
-IsSmall (statements.AddRemainder x c) = (x ≤ most) × (c ≤ most)
-IsSmall (statements.AddConstant x c) = (x ≤ most) × (c ≤ most)
-IsSmall (statements.SetProduct x c) = (x ≤ most) × (c ≤ most)
+abbrev pub IsSmall : Line → Type 0
+IsSmall (add_remainder x c) = (x ≤ most) × (c ≤ most)
+IsSmall (add_constant x c) = (x ≤ most) × (c ≤ most)
+IsSmall (set_product x c) = (x ≤ most) × (c ≤ most)
 
 -- a line feed and more behind what stands behind other bytes
 over : (ds r more : List ℕ) → ((ds ++ r) ++ 10 ∷ []) ++ more ≡ ds ++ ((r ++ 10 ∷ []) ++ more)
@@ -113,18 +124,18 @@ number_behind m w ps n b r more qs end few no_digit no_letter first rest =
     (leads_append ps (number n ∷ qs) (w ++ (decimal n ++ (((b ∷ r) ++ 10 ∷ []) ++ more))) (decimal n ++ (((b ∷ r) ++ 10 ∷ []) ++ more)) end (first (((b ∷ r) ++ 10 ∷ []) ++ more))
     (leads_append (number n ∷ []) qs (decimal n ++ (((b ∷ r) ++ 10 ∷ []) ++ more)) (((b ∷ r) ++ 10 ∷ []) ++ more) end (number_leads n few b ((r ++ 10 ∷ []) ++ more) no_digit no_letter) rest))
 
-statement_cut : (s : Statement) → IsSmall s → IsCut (statement_chunk s)
-statement_cut (statements.AddRemainder x c) h more =
+statement_cut : (s : Line) → IsSmall s → IsCut (statement_chunk s)
+statement_cut (add_remainder x c) h more =
     number_behind 2 (codes "a[") (cut_pieces 2 (codes "a[")) x 93 _ more _ more h.0 refl refl (λ v. cut_leads 2 _ _ _ refl)
     (number_behind 6 (codes "] = a[") (cut_pieces 6 (codes "] = a[")) x 93 _ more _ more h.0 refl refl (λ v. cut_leads 6 _ _ _ refl)
     (number_behind 9 (codes "] + k % (") (cut_pieces 9 (codes "] + k % (")) c 32 _ more _ more h.1 refl refl (λ v. cut_leads 9 _ _ _ refl)
     (cut_leads 7 _ _ _ refl)))
-statement_cut (statements.AddConstant x c) h more =
+statement_cut (add_constant x c) h more =
     number_behind 2 (codes "b[") (cut_pieces 2 (codes "b[")) x 93 _ more _ more h.0 refl refl (λ v. cut_leads 2 _ _ _ refl)
     (number_behind 6 (codes "] = b[") (cut_pieces 6 (codes "] = b[")) x 93 _ more _ more h.0 refl refl (λ v. cut_leads 6 _ _ _ refl)
     (number_behind 4 (codes "] + ") (cut_pieces 4 (codes "] + ")) c 59 _ more _ more h.1 refl refl (λ v. cut_leads 4 _ _ _ refl)
     (cut_leads 2 _ _ _ refl)))
-statement_cut (statements.SetProduct x c) h more =
+statement_cut (set_product x c) h more =
     number_behind 2 (codes "v[") (cut_pieces 2 (codes "v[")) x 93 _ more _ more h.0 refl refl (λ v. cut_leads 2 _ _ _ refl)
     (number_behind 8 (codes "] = k * ") (cut_pieces 8 (codes "] = k * ")) c 59 _ more _ more h.1 refl refl (λ v. cut_leads 8 _ _ _ refl)
     (cut_leads 2 _ _ _ refl))
@@ -212,16 +223,45 @@ last_chunks size =
     step_line ∷ end_line ∷ end_line ∷ go_lines ∷ main_line ∷ start_line size
     ∷ a_low ∷ a_high ∷ b_low ∷ b_high ∷ v_low ∷ v_high ∷ end_line ∷ []
 
-abbrev pub statement_chunks : List Statement → List Chunk → List Chunk
+abbrev pub statement_chunks : List Line → List Chunk → List Chunk
 statement_chunks [] cs = cs
 statement_chunks (s ∷ ss) cs = statement_chunk s ∷ statement_chunks ss cs
 
-abbrev pub all_chunks : ℕ → ℕ → List Chunk
-all_chunks seed size = first_chunks (statement_chunks (load.statements_from seed 32) (last_chunks size))
+-- the statement that three numbers give, and the i-th of a seed
+abbrev line_of : ℕ → ℕ → ℕ → Line
+line_of first second third =
+    if first % 3 == 0 then add_remainder (second % 16) (third % 100)
+    else if first % 3 == 1 then add_constant (second % 16) (third % 100)
+    else set_product (second % 16) (third % 100)
 
-statements_text : (ss : List Statement) (ls : List (List ℕ)) (cs : List Chunk) → load.lines ls ≡ text_of cs → load.lines (map load.statement_text ss ++ ls) ≡ text_of (statement_chunks ss cs)
+abbrev line_at : ℕ → ℕ → Line
+line_at seed i = line_of (load.draw seed (3 * i + 1)) (load.draw seed (3 * i + 2)) (load.draw seed (3 * i + 3))
+
+abbrev pub lines_from : ℕ → List Line
+lines_from seed = map (line_at seed) (range_with_len 0 32)
+
+-- it has the text of the statement
+same_line : (first second third : ℕ) (x y : Bool) → (first % 3 == 0) ≡ x → (first % 3 == 1) ≡ y → load.statement_text (load.statement_of first second third) ≡ line_text (line_of first second third)
+same_line first second third true y e f = rw e refl
+same_line first second third false true e f = rw (e, f) refl
+same_line first second third false false e f = rw (e, f) refl
+
+same_lines : (seed : ℕ) (is : List ℕ) → map load.statement_text (map (load.statement_at seed) is) ≡ map line_text (map (line_at seed) is)
+same_lines seed [] = refl
+same_lines seed (i ∷ is) =
+    ap (λ l. l ∷ map load.statement_text (map (load.statement_at seed) is)) (same_line (load.draw seed (3 * i + 1)) (load.draw seed (3 * i + 2)) (load.draw seed (3 * i + 3)) _ _ refl refl)
+    ∙ ap (λ ls. line_text (line_at seed i) ∷ ls) (same_lines seed is)
+
+statements_same : (seed : ℕ) → map load.statement_text (load.statements_from seed 32) ≡ map line_text (lines_from seed)
+unfolding statements_from
+statements_same seed = same_lines seed (range_with_len 0 32)
+
+abbrev pub all_chunks : ℕ → ℕ → List Chunk
+all_chunks seed size = first_chunks (statement_chunks (lines_from seed) (last_chunks size))
+
+statements_text : (ss : List Line) (ls : List (List ℕ)) (cs : List Chunk) → load.lines ls ≡ text_of cs → load.lines (map line_text ss ++ ls) ≡ text_of (statement_chunks ss cs)
 statements_text [] ls cs h = h
-statements_text (s ∷ ss) ls cs h = ap (λ l. line (load.statement_text s) ++ l) (statements_text ss ls cs h)
+statements_text (s ∷ ss) ls cs h = ap (λ l. line (line_text s) ++ l) (statements_text ss ls cs h)
 
 last_text : (size : ℕ) → load.lines (load.procedures ++ (load.start size ∷ load.prints)) ≡ text_of (last_chunks size)
 unfolding procedures prints
@@ -230,18 +270,19 @@ last_text size = refl
 pub whole_text : (seed size : ℕ) → load.load_text seed size ≡ text_of (all_chunks seed size)
 unfolding load_text declarations
 whole_text seed size =
-    ap (λ l. text_of (first_chunks []) ++ l) (statements_text (load.statements_from seed 32) (load.procedures ++ (load.start size ∷ load.prints)) (last_chunks size) (last_text size))
+    ap (λ l. text_of (first_chunks []) ++ load.lines (l ++ (load.procedures ++ (load.start size ∷ load.prints)))) (statements_same seed)
+    ∙ ap (λ l. text_of (first_chunks []) ++ l) (statements_text (lines_from seed) (load.procedures ++ (load.start size ∷ load.prints)) (last_chunks size) (last_text size))
 
-abbrev AllSmall : List Statement → Type 0
+abbrev AllSmall : List Line → Type 0
 AllSmall [] = Unit {0}
 AllSmall (s ∷ ss) = IsSmall s × AllSmall ss
 
-small_made : (x y : Bool) (cell constant : ℕ) → cell ≤ most → constant ≤ most → IsSmall (if x then statements.AddRemainder cell constant else if y then statements.AddConstant cell constant else statements.SetProduct cell constant)
+small_made : (x y : Bool) (cell constant : ℕ) → cell ≤ most → constant ≤ most → IsSmall (if x then add_remainder cell constant else if y then add_constant cell constant else set_product cell constant)
 small_made true y cell constant m n = (m, n)
 small_made false true cell constant m n = (m, n)
 small_made false false cell constant m n = (m, n)
 
-small_at : (seed i : ℕ) → IsSmall (load.statement_at seed i)
+small_at : (seed i : ℕ) → IsSmall (line_at seed i)
 small_at seed i =
     let first = load.draw seed (3 * i + 1) in
     let second = load.draw seed (3 * i + 2) in
@@ -250,15 +291,14 @@ small_at seed i =
     let y : third % 100 < 100 = mod-lt third 100 (omega arith) in
     small_made (first % 3 == 0) (first % 3 == 1) (second % 16) (third % 100) (omega (arith, x)) (omega (arith, y))
 
-small_map : (seed : ℕ) (is : List ℕ) → AllSmall (map (load.statement_at seed) is)
+small_map : (seed : ℕ) (is : List ℕ) → AllSmall (map (line_at seed) is)
 small_map seed [] = tt
 small_map seed (i ∷ is) = (small_at seed i, small_map seed is)
 
-all_small : (seed : ℕ) → AllSmall (load.statements_from seed 32)
-unfolding statements_from
+all_small : (seed : ℕ) → AllSmall (lines_from seed)
 all_small seed = small_map seed (range_with_len 0 32)
 
-statements_cut : (ss : List Statement) (cs : List Chunk) → AllSmall ss → AllCut cs → AllCut (statement_chunks ss cs)
+statements_cut : (ss : List Line) (cs : List Chunk) → AllSmall ss → AllCut cs → AllCut (statement_chunks ss cs)
 statements_cut [] cs small h = h
 statements_cut (s ∷ ss) cs small h = (statement_cut s small.0, statements_cut ss cs small.1 h)
 
@@ -292,5 +332,5 @@ all_cut seed size few =
       fixed work_line 12 (λ more. refl),
       fixed let_line 9 (λ more. refl),
       fixed while_line 10 (λ more. refl),
-      statements_cut (load.statements_from seed 32) (last_chunks size) (all_small seed) (last_cut size few),
+      statements_cut (lines_from seed) (last_chunks size) (all_small seed) (last_cut size few),
     )

@@ -13,11 +13,9 @@ use Rattle.rev_expressions.specs.Grammar.{alphabet, Rule, rank_sign, bracketed, 
 use Rattle.rev_expressions.specs.Statements.{block, actual, application, right_side, item, assigned, assignment, arm, else_part, else_parts, let_form, if_form, while_form, call_form, return_form, fork_form, join_form, print_form, assert_form, statement, statements, body}
 use Rattle.rev_expressions.specs.Declarations.{kind, constant, cells, size, first_value, param, params, names, formal, head, meaning, fun_form, merge_form, variable, versioned_form, cumulative_form, proc_form, declaration, declarations, program, inner}
 use Rattle.rev_expressions.specs.Parse.{parse}
-use Rattle.rev_words.specs.declared.load.Statement.{Statement}
-use Rattle.rev_words.specs.declared.load.Statement.TheVariants as made
 use Rattle.program_texts.proofs.Chunks.{Chunk, place, seen, named, HasPieces, HasIn, tokens_in}
 use Rattle.program_texts.proofs.Parsing.{Rows, read_both, read_first, read_second, read_level, read_all}
-use Rattle.program_texts.proofs.LoadChunks.{statement_chunk, statement_chunks, sum_line, most_line, a_line, b_line, v_line, work_line, let_line, while_line, step_line, end_line, main_line, go_lines, start_line, a_low, a_high, b_low, b_high, v_low, v_high, first_chunks, last_chunks}
+use Rattle.program_texts.proofs.LoadChunks.{Line, add_remainder, add_constant, set_product, statement_chunk, statement_chunks, sum_line, most_line, a_line, b_line, v_line, work_line, let_line, while_line, step_line, end_line, main_line, go_lines, start_line, a_low, a_high, b_low, b_high, v_low, v_high, first_chunks, last_chunks}
 use Rattle.program_texts.proofs.LoadTrees.{sum_tree, most_tree, array_tree, let_tree, while_test, step_tree, go_tree, start_tree, print_tree, statement_tree, lines_at, chunk_statement, statement_trees, after, as_spelled, read_sum, read_most, read_a, read_b, read_v, read_let, read_step, read_go, read_start, read_statement, read_a_low, read_a_high, read_b_low, read_b_high, read_v_low, read_v_high}
 use Rattle.program_texts.proofs.LoadRules.{Places, loop, work_tree, shared_declarations, main_tree, inside_tree, program_tree}
 
@@ -30,16 +28,16 @@ longer ts us some = let e = length-append ts us in omega (arith, e, some)
 module _ (bytes : List ℕ) where
   -- ---- the statements of the loop
 
-  begins_statement : (at : ℕ) (us : List Token) (x : Statement) → begins alphabet (statement bytes) (tokens_of at (statement_chunk x).pieces ++ us) ≡ true
+  begins_statement : (at : ℕ) (us : List Token) (x : Line) → begins alphabet (statement bytes) (tokens_of at (statement_chunk x).pieces ++ us) ≡ true
   unfolding read below rank_sign bracketed choice name name_tail primary unary product sum comparison conjunction expr parens index arguments parts block actual application right_side item assigned assignment arm else_part else_parts let_form if_form while_form call_form return_form fork_form join_form print_form assert_form statement statements body kind constant cells size first_value param params names formal head meaning fun_form merge_form variable versioned_form cumulative_form proc_form declaration declarations program inner
-  begins_statement at us (made.AddRemainder x c) = refl
-  begins_statement at us (made.AddConstant x c) = refl
-  begins_statement at us (made.SetProduct x c) = refl
+  begins_statement at us (add_remainder x c) = refl
+  begins_statement at us (add_constant x c) = refl
+  begins_statement at us (set_product x c) = refl
 
-  some_tokens : (at : ℕ) (x : Statement) → 0 < length (tokens_of at (statement_chunk x).pieces)
-  some_tokens at (made.AddRemainder x c) = positive _ _
-  some_tokens at (made.AddConstant x c) = positive _ _
-  some_tokens at (made.SetProduct x c) = positive _ _
+  some_tokens : (at : ℕ) (x : Line) → 0 < length (tokens_of at (statement_chunk x).pieces)
+  some_tokens at (add_remainder x c) = positive _ _
+  some_tokens at (add_constant x c) = positive _ _
+  some_tokens at (set_product x c) = positive _ _
 
   begins_step : (at : ℕ) (us : List Token) → begins alphabet (statement bytes) (tokens_of at step_line.pieces ++ us) ≡ true
   unfolding read below rank_sign bracketed choice name name_tail primary unary product sum comparison conjunction expr parens index arguments parts block actual application right_side item assigned assignment arm else_part else_parts let_form if_form while_form call_form return_form fork_form join_form print_form assert_form statement statements body kind constant cells size first_value param params names formal head meaning fun_form merge_form variable versioned_form cumulative_form proc_form declaration declarations program inner
@@ -63,7 +61,7 @@ module _ (bytes : List ℕ) where
   abbrev spelled_step : ℕ → t.Statement
   spelled_step at = step_tree (place at step_line.pieces) (named at step_line.pieces) (lines_at bytes at step_line.pieces)
 
-  loop_rows : (n at : ℕ) (xs : List Statement) (cs : List Chunk) (rest : List Token) → HasIn bytes at (statement_chunks xs (step_line ∷ cs))
+  loop_rows : (n at : ℕ) (xs : List Line) (cs : List Chunk) (rest : List Token) → HasIn bytes at (statement_chunks xs (step_line ∷ cs))
       → Rows bytes (suc (suc n)) (statement bytes) (tokens_in at (statement_chunks xs (step_line ∷ cs)) rest) (statement_trees bytes at xs (spelled_step (after at xs) ∷ [])) (tokens_in (behind (after at xs) step_line) cs rest)
   loop_rows n at [] cs rest has =
       let us = tokens_in (behind at step_line) cs rest in (
@@ -93,7 +91,7 @@ module _ (bytes : List ℕ) where
   read_inside : (n at : ℕ) (xs : List t.Statement) (us : List Token) → (ts : List Token) → Rows bytes (suc (suc n)) (statement bytes) ts xs (tokens_of at end_line.pieces ++ us) → parse bytes (suc (suc n)) (body bytes) ts ≡ Read (statements_of xs) us
   unfolding read below body statements
   read_inside n at xs us ts rows =
-      read_both bytes (suc (suc n)) _ _ _ ts (tokens_of at end_line.pieces ++ us) us xs tt (read_all bytes (suc (suc n)) (statement bytes) xs ts (tokens_of at end_line.pieces ++ us) rows (stops_at_end at us)) refl
+      read_both bytes (suc (suc n)) _ _ _ ts (tokens_of at end_line.pieces ++ us) us xs _ (read_all bytes (suc (suc n)) (statement bytes) xs ts (tokens_of at end_line.pieces ++ us) rows (stops_at_end at us)) refl
 
   read_loop_seen : (n at : ℕ) (ts us : List Token) (inside : Statements) → parse bytes (suc (suc n)) (body bytes) ts ≡ Read inside us
       → parse bytes (suc (suc (suc n))) (statement bytes) (tokens_of at while_line.pieces ++ ts)
@@ -140,7 +138,7 @@ module _ (bytes : List ℕ) where
 
   -- ---- what is left
 
-  few_left : (at : ℕ) (xs : List Statement) (cs : List Chunk) (rest : List Token) → length (tokens_in (after at xs) cs rest) ≤ length (tokens_in at (statement_chunks xs cs) rest)
+  few_left : (at : ℕ) (xs : List Line) (cs : List Chunk) (rest : List Token) → length (tokens_in (after at xs) cs rest) ≤ length (tokens_in at (statement_chunks xs cs) rest)
   few_left at [] cs rest = omega arith
   few_left at (x ∷ xs) cs rest =
       let c = statement_chunk x in
@@ -148,13 +146,13 @@ module _ (bytes : List ℕ) where
       let e = length-append (tokens_of at c.pieces) (tokens_in (behind at c) (statement_chunks xs cs) rest) in
       omega (arith, more, e)
 
-  has_last : (at : ℕ) (xs : List Statement) (cs : List Chunk) → HasIn bytes at (statement_chunks xs cs) → HasIn bytes (after at xs) cs
+  has_last : (at : ℕ) (xs : List Line) (cs : List Chunk) → HasIn bytes at (statement_chunks xs cs) → HasIn bytes (after at xs) cs
   has_last at [] cs h = h
   has_last at (x ∷ xs) cs h = has_last (behind at (statement_chunk x)) xs cs h.1
 
 -- ---- the whole text
 
-module _ (bytes : List ℕ) (size' : ℕ) (xs : List Statement) where
+module _ (bytes : List ℕ) (size' : ℕ) (xs : List Line) where
   abbrev from : ℕ → Chunk → ℕ
   from at c = behind bytes at c
 

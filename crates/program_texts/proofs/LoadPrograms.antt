@@ -13,13 +13,13 @@ use Rattle.rev_words.specs.Load as load
 use Rattle.rev_words.proofs.Loads.{load_text-short}
 use Rattle.program_texts.specs.Laws.{IsProgramText, LoadMakesPrograms}
 use Rattle.program_texts.proofs.Chunks.{pieces_of, text_of, all_leads, tokens_in, tokens_of_all, HasIn, has_pieces, has_in}
-use Rattle.program_texts.proofs.LoadChunks.{all_chunks, all_cut, whole_text}
+use Rattle.program_texts.proofs.LoadChunks.{all_chunks, all_cut, lines_from, whole_text}
 use Rattle.program_texts.proofs.LoadRules.{tree, no_faults, no_fun_faults}
 use Rattle.program_texts.proofs.LoadParses.{places, read_program}
 
 pub load_programs : LoadMakesPrograms
 load_programs seed size least most =
-    let xs = load.statements_from seed 32 in
+    let xs = lines_from seed in
     let cs = all_chunks seed size in
     let bytes = load.load_text seed size in
     let is : bytes ≡ text_of cs = whole_text seed size in

@@ -11,10 +11,8 @@ use Rattle.rev_kinds.specs.Kinds.{Names, Locals}
 use Rattle.rev_types.specs.Scopes.{outside, locals_after}
 use Rattle.rev_types.specs.Statements.{broken_in_statement, broken_in_statements, left_after}
 use Rattle.rev_types.specs.Program.{faults, broken_in_declarations}
-use Rattle.rev_words.specs.declared.load.Statement.{Statement}
-use Rattle.rev_words.specs.declared.load.Statement.TheVariants as made
 use Rattle.program_texts.proofs.Chunks.{Chunk, place, named}
-use Rattle.program_texts.proofs.LoadChunks.{statement_chunk, sum_line, most_line, a_line, b_line, v_line, work_line, let_line, while_line, step_line, end_line, go_lines, main_line, start_line, a_low, a_high, b_low, b_high, v_low, v_high}
+use Rattle.program_texts.proofs.LoadChunks.{Line, add_remainder, add_constant, set_product, statement_chunk, sum_line, most_line, a_line, b_line, v_line, work_line, let_line, while_line, step_line, end_line, go_lines, main_line, start_line, a_low, a_high, b_low, b_high, v_low, v_high}
 use Rattle.program_texts.proofs.LoadTrees.{sum_tree, most_tree, array_tree, let_tree, while_test, step_tree, go_tree, start_tree, print_tree, statement_tree, lines_at, chunk_statement, statement_trees}
 
 -- ---- the program
@@ -79,7 +77,7 @@ module _ (bytes : List ℕ) (size : ℕ) (at : Places) where
       ∷ of_chunk print_tree at.v_high_at v_high 8
       ∷ []
 
-  abbrev pub inside_tree : List Statement → List t.Statement
+  abbrev pub inside_tree : List Line → List t.Statement
   inside_tree xs = statement_trees bytes at.statements_at xs (of_chunk step_tree at.step_at step_line ∷ [])
 
   abbrev pub program_tree : Statements → ProgramTree
@@ -108,10 +106,10 @@ module _ (bytes : List ℕ) (size : ℕ) (at : Places) where
       lets : left_after left x ≡ left
       uses : (n : ℕ) → statement_uses n x ≡ []
 
-    fine_statement : (left n : ℕ) (x : Statement) → IsFine left (chunk_statement bytes n x)
-    fine_statement left n (made.AddRemainder x c) = record { none = refl; locals = refl; lets = refl; uses = λ n. refl }
-    fine_statement left n (made.AddConstant x c) = record { none = refl; locals = refl; lets = refl; uses = λ n. refl }
-    fine_statement left n (made.SetProduct x c) = record { none = refl; locals = refl; lets = refl; uses = λ n. refl }
+    fine_statement : (left n : ℕ) (x : Line) → IsFine left (chunk_statement bytes n x)
+    fine_statement left n (add_remainder x c) = record { none = refl; locals = refl; lets = refl; uses = λ n. refl }
+    fine_statement left n (add_constant x c) = record { none = refl; locals = refl; lets = refl; uses = λ n. refl }
+    fine_statement left n (set_product x c) = record { none = refl; locals = refl; lets = refl; uses = λ n. refl }
 
     fine_step : (left : ℕ) → IsFine left (of_chunk step_tree at.step_at step_line)
     fine_step left = record { none = refl; locals = refl; lets = refl; uses = λ n. refl }
@@ -126,11 +124,11 @@ module _ (bytes : List ℕ) (size : ℕ) (at : Places) where
         ∙ ap (λ n. broken_all work_locals n [] xs) h.lets
         ∙ more
 
-    none_inside : (left n : ℕ) (xs : List Statement) → broken_all work_locals left [] (statements_of (statement_trees bytes n xs (of_chunk step_tree at.step_at step_line ∷ []))) ≡ []
+    none_inside : (left n : ℕ) (xs : List Line) → broken_all work_locals left [] (statements_of (statement_trees bytes n xs (of_chunk step_tree at.step_at step_line ∷ []))) ≡ []
     none_inside left n [] = one_more left (of_chunk step_tree at.step_at step_line) t.no_statements (fine_step left) refl
     none_inside left n (x ∷ xs) = one_more left (chunk_statement bytes n x) _ (fine_statement left n x) (none_inside left _ xs)
 
-    no_uses : (d n : ℕ) (xs : List Statement) → statements_uses d (statements_of (statement_trees bytes n xs (of_chunk step_tree at.step_at step_line ∷ []))) ≡ []
+    no_uses : (d n : ℕ) (xs : List Line) → statements_uses d (statements_of (statement_trees bytes n xs (of_chunk step_tree at.step_at step_line ∷ []))) ≡ []
     no_uses d n [] = refl
     no_uses d n (x ∷ xs) =
         ap (λ u. u ++ statements_uses d (statements_of (statement_trees bytes _ xs (of_chunk step_tree at.step_at step_line ∷ [])))) ((fine_statement 0 n x).uses d) ∙ no_uses d _ xs
@@ -146,11 +144,11 @@ module _ (bytes : List ℕ) (size : ℕ) (at : Places) where
   none_applied : (inside : Statements) → statements_uses 7 inside ≡ [] → fun_faults (program_tree inside) ≡ []
   none_applied inside h = ap (λ u. broken_in (fun_named (program_tree inside)) (((u ++ []) ++ []) ++ [])) h
 
-  abbrev pub tree : List Statement → ProgramTree
+  abbrev pub tree : List Line → ProgramTree
   tree xs = program_tree (statements_of (inside_tree xs))
 
-  pub no_faults : (xs : List Statement) → faults (tree xs) ≡ []
+  pub no_faults : (xs : List Line) → faults (tree xs) ≡ []
   no_faults xs = let i = statements_of (inside_tree xs) in none_broken i (none_inside i left_inside at.statements_at xs)
 
-  pub no_fun_faults : (xs : List Statement) → fun_faults (tree xs) ≡ []
+  pub no_fun_faults : (xs : List Line) → fun_faults (tree xs) ≡ []
   no_fun_faults xs = let i = statements_of (inside_tree xs) in none_applied i (no_uses i 7 at.statements_at xs)

@@ -20,11 +20,9 @@ use Rattle.rev_expressions.specs.Grammar.{alphabet, Rule, rank_sign, bracketed, 
 use Rattle.rev_expressions.specs.Statements.{block, actual, application, right_side, item, assigned, assignment, arm, else_part, else_parts, let_form, if_form, while_form, call_form, return_form, fork_form, join_form, print_form, assert_form, statement, statements, body}
 use Rattle.rev_expressions.specs.Declarations.{kind, constant, cells, size, first_value, param, params, names, formal, head, meaning, fun_form, merge_form, variable, versioned_form, cumulative_form, proc_form, declaration, declarations, program, inner}
 use Rattle.rev_expressions.specs.Parse.{parse}
-use Rattle.rev_words.specs.declared.load.Statement.{Statement}
-use Rattle.rev_words.specs.declared.load.Statement.TheVariants as made
 use Rattle.program_texts.proofs.Chunks.{Chunk, place, seen, named, HasPieces, HasIn, as_named, tokens_in}
 use Rattle.program_texts.proofs.Parsing.{Rows, read_both, read_first, read_second, read_level, read_all}
-use Rattle.program_texts.proofs.LoadChunks.{statement_chunk, statement_chunks, sum_line, most_line, a_line, b_line, v_line, work_line, let_line, while_line, step_line, end_line, main_line, go_lines, start_line, a_low, a_high, b_low, b_high, v_low, v_high, first_chunks, last_chunks}
+use Rattle.program_texts.proofs.LoadChunks.{Line, add_remainder, add_constant, set_product, statement_chunk, statement_chunks, sum_line, most_line, a_line, b_line, v_line, work_line, let_line, while_line, step_line, end_line, main_line, go_lines, start_line, a_low, a_high, b_low, b_high, v_low, v_high, first_chunks, last_chunks}
 
 -- ---- trees
 
@@ -55,10 +53,10 @@ module _ (q : ℕ → ℕ) (W : ℕ → PlacedName) (L : ℕ → ℕ) where
   abbrev pub start_tree : ℕ → t.Statement
   start_tree size' = t.statement (q 0) (L 0) (t.call (W 2) (t.expression (t.placed (q 4) (t.int (pos size'))) t.no_expressions))
 
-  abbrev pub statement_tree : Statement → t.Statement
-  statement_tree (made.AddRemainder x c) = t.statement (q 0) (L 0) (t.assign_cell (W 0) (t.placed (q 2) (t.int (pos x))) (t.placed (q 7) (t.chain (t.placed (q 7) (t.cell (W 7) (t.placed (q 9) (t.int (pos x))))) (t.link b.Add (t.placed (q 14) (t.chain (t.placed (q 14) (t.var (W 14))) (t.link b.Rem (t.placed (q 18) (t.chain (t.placed (q 19) (t.int (pos c))) (t.link b.Add (t.placed (q 23) (t.int (pos 1))) t.no_links))) t.no_links))) t.no_links))))
-  statement_tree (made.AddConstant x c) = t.statement (q 0) (L 0) (t.assign_cell (W 0) (t.placed (q 2) (t.int (pos x))) (t.placed (q 7) (t.chain (t.placed (q 7) (t.cell (W 7) (t.placed (q 9) (t.int (pos x))))) (t.link b.Add (t.placed (q 14) (t.int (pos c))) t.no_links))))
-  statement_tree (made.SetProduct x c) = t.statement (q 0) (L 0) (t.assign_cell (W 0) (t.placed (q 2) (t.int (pos x))) (t.placed (q 7) (t.chain (t.placed (q 7) (t.var (W 7))) (t.link b.Mul (t.placed (q 11) (t.int (pos c))) t.no_links))))
+  abbrev pub statement_tree : Line → t.Statement
+  statement_tree (add_remainder x c) = t.statement (q 0) (L 0) (t.assign_cell (W 0) (t.placed (q 2) (t.int (pos x))) (t.placed (q 7) (t.chain (t.placed (q 7) (t.cell (W 7) (t.placed (q 9) (t.int (pos x))))) (t.link b.Add (t.placed (q 14) (t.chain (t.placed (q 14) (t.var (W 14))) (t.link b.Rem (t.placed (q 18) (t.chain (t.placed (q 19) (t.int (pos c))) (t.link b.Add (t.placed (q 23) (t.int (pos 1))) t.no_links))) t.no_links))) t.no_links))))
+  statement_tree (add_constant x c) = t.statement (q 0) (L 0) (t.assign_cell (W 0) (t.placed (q 2) (t.int (pos x))) (t.placed (q 7) (t.chain (t.placed (q 7) (t.cell (W 7) (t.placed (q 9) (t.int (pos x))))) (t.link b.Add (t.placed (q 14) (t.int (pos c))) t.no_links))))
+  statement_tree (set_product x c) = t.statement (q 0) (L 0) (t.assign_cell (W 0) (t.placed (q 2) (t.int (pos x))) (t.placed (q 7) (t.chain (t.placed (q 7) (t.var (W 7))) (t.link b.Mul (t.placed (q 11) (t.int (pos c))) t.no_links))))
 
   -- a cell of an array at a piece
   abbrev pub cell_item : ℕ → ℕ → PrintItem
@@ -118,11 +116,11 @@ module _ (bytes : List ℕ) (n at : ℕ) (rest : List Token) where
   unfolding read below rank_sign bracketed choice name name_tail primary unary product sum comparison conjunction expr parens index arguments parts block actual application right_side item assigned assignment arm else_part else_parts let_form if_form while_form call_form return_form fork_form join_form print_form assert_form statement statements body kind constant cells size first_value param params names formal head meaning fun_form merge_form variable versioned_form cumulative_form proc_form declaration declarations program inner
   read_start size' = refl
 
-  read_statement : (x : Statement) → parse bytes (suc (suc n)) (statement bytes) (tokens_of at (statement_chunk x).pieces ++ rest) ≡ Read (statement_tree (place at (statement_chunk x).pieces) (seen bytes at (statement_chunk x).pieces) (lines_at bytes at (statement_chunk x).pieces) x) rest
+  read_statement : (x : Line) → parse bytes (suc (suc n)) (statement bytes) (tokens_of at (statement_chunk x).pieces ++ rest) ≡ Read (statement_tree (place at (statement_chunk x).pieces) (seen bytes at (statement_chunk x).pieces) (lines_at bytes at (statement_chunk x).pieces) x) rest
   unfolding read below rank_sign bracketed choice name name_tail primary unary product sum comparison conjunction expr parens index arguments parts block actual application right_side item assigned assignment arm else_part else_parts let_form if_form while_form call_form return_form fork_form join_form print_form assert_form statement statements body kind constant cells size first_value param params names formal head meaning fun_form merge_form variable versioned_form cumulative_form proc_form declaration declarations program inner
-  read_statement (made.AddRemainder x c) = refl
-  read_statement (made.AddConstant x c) = refl
-  read_statement (made.SetProduct x c) = refl
+  read_statement (add_remainder x c) = refl
+  read_statement (add_constant x c) = refl
+  read_statement (set_product x c) = refl
 
   abbrev IsPrint : Chunk → ℕ → Type 0
   IsPrint c m = parse bytes (suc (suc n)) (statement bytes) (tokens_of at c.pieces ++ rest) ≡ Read (print_tree (place at c.pieces) (seen bytes at c.pieces) (lines_at bytes at c.pieces) m) rest
@@ -153,14 +151,14 @@ module _ (bytes : List ℕ) (n at : ℕ) (rest : List Token) where
 
 -- ---- the statements of the loop, at their places
 
-abbrev pub after : ℕ → List Statement → ℕ
+abbrev pub after : ℕ → List Line → ℕ
 after at [] = at
 after at (x ∷ xs) = after (at + array_size (statement_chunk x).pieces) xs
 
-abbrev pub chunk_statement : List ℕ → ℕ → Statement → t.Statement
+abbrev pub chunk_statement : List ℕ → ℕ → Line → t.Statement
 chunk_statement bytes at x =
     statement_tree (place at (statement_chunk x).pieces) (named at (statement_chunk x).pieces) (lines_at bytes at (statement_chunk x).pieces) x
 
-abbrev pub statement_trees : List ℕ → ℕ → List Statement → List t.Statement → List t.Statement
+abbrev pub statement_trees : List ℕ → ℕ → List Line → List t.Statement → List t.Statement
 statement_trees bytes at [] more = more
 statement_trees bytes at (x ∷ xs) more = chunk_statement bytes at x ∷ statement_trees bytes (at + array_size (statement_chunk x).pieces) xs more

@@ -18,7 +18,7 @@ use Rattle.rev_types.specs.Accepted.{IsWellTyped}
 use Rattle.rev_types.proofs.Accepting.{well_typed, accepts}
 use Rattle.rev_types.proofs.OwnLimits.{own_limits}
 use Rattle.static_rules.specs.Front.{Outcome, of_funs, accepted, of_types, fault_in}
-use Rattle.static_rules.specs.Breaks.{Breaks, BreaksNone, IsFirstBroken}
+use Rattle.static_rules.specs.Breaks.{BreaksNone, IsFirstBroken}
 use Rattle.static_rules.specs.Laws.{Decided, SameFirst, OneOutcome, TypedWhereNone}
 use Rattle.static_rules.specs.Funs.{IsFirstBrokenFun}
 use Rattle.static_rules.proofs.FunFaults.{same_first_fun, funs_kept}
