@@ -14,27 +14,27 @@ use Rattle.rev_syntax.proofs.PieceKinds.{one-kind, spells-some}
 
 -- ---- the scanner, some pieces at a time
 
-abbrev Some_cut : Type 0
-Some_cut = Option (List Piece × List ℕ)
+abbrev pub SomeCut : Type 0
+SomeCut = Option (List Piece × List ℕ)
 
-abbrev next_cut : (Piece → List ℕ → Some_cut) → List ℕ → Scanned → Some_cut
+abbrev pub next_cut : (Piece → List ℕ → SomeCut) → List ℕ → Scanned → SomeCut
 next_cut go s (Ok c) = go (piece_at c s) (drop c.length s)
 next_cut go s (Err f) = None
 
-abbrev behind : Piece → Some_cut → Some_cut
+abbrev pub behind : Piece → SomeCut → SomeCut
 behind p None = None
 behind p (Some x) = Some (p ∷ x.0, x.1)
 
-abbrev pub cut_some : ℕ → List ℕ → Some_cut
+abbrev pub cut_some : ℕ → List ℕ → SomeCut
 cut_some zero s = Some ([], s)
 cut_some (suc n) [] = None
 cut_some (suc n) (b ∷ bs) = next_cut (λ p rest. behind p (cut_some n rest)) (b ∷ bs) (scan_from 0 b bs)
 
-abbrev Sound : List ℕ → Some_cut → Type 0
+abbrev Sound : List ℕ → SomeCut → Type 0
 Sound s None = Unit {0}
 Sound s (Some x) = Leads x.0 s x.1
 
-sound_behind : (s : List ℕ) (p : Piece) (rest : List ℕ) (o : Some_cut) → Next s p rest → Sound rest o → Sound s (behind p o)
+sound_behind : (s : List ℕ) (p : Piece) (rest : List ℕ) (o : SomeCut) → Next s p rest → Sound rest o → Sound s (behind p o)
 sound_behind s p rest None n h = tt
 sound_behind s p rest (Some x) n h = (rest, n, h)
 
@@ -43,7 +43,7 @@ cut_sound zero s = refl
 cut_sound (suc n) [] = tt
 cut_sound (suc n) (b ∷ bs) = by_answer (cut_some n) (cut_sound n) (scan_from 0 b bs) (exact 0 b bs)
   where
-    by_answer : (go : List ℕ → Some_cut) → ((rest : List ℕ) → Sound rest (go rest)) → (r : Scanned) → Answers 0 (b ∷ bs) r → Sound (b ∷ bs) (next_cut (λ p rest. behind p (go rest)) (b ∷ bs) r)
+    by_answer : (go : List ℕ → SomeCut) → ((rest : List ℕ) → Sound rest (go rest)) → (r : Scanned) → Answers 0 (b ∷ bs) r → Sound (b ∷ bs) (next_cut (λ p rest. behind p (go rest)) (b ∷ bs) r)
     by_answer go each (Ok c) a = sound_behind (b ∷ bs) (piece_at c (b ∷ bs)) (drop c.length (b ∷ bs)) (go (drop c.length (b ∷ bs))) a.0 (each (drop c.length (b ∷ bs)))
     by_answer go each (Err f) a = tt
 

@@ -126,19 +126,19 @@ number_behind m w ps n b r more qs end few no_digit no_letter first rest =
 
 statement_cut : (s : Line) → IsSmall s → IsCut (statement_chunk s)
 statement_cut (add_remainder x c) h more =
-    number_behind 2 (codes "a[") (cut_pieces 2 (codes "a[")) x 93 _ more _ more h.0 refl refl (λ v. cut_leads 2 _ _ _ refl)
-    (number_behind 6 (codes "] = a[") (cut_pieces 6 (codes "] = a[")) x 93 _ more _ more h.0 refl refl (λ v. cut_leads 6 _ _ _ refl)
-    (number_behind 9 (codes "] + k % (") (cut_pieces 9 (codes "] + k % (")) c 32 _ more _ more h.1 refl refl (λ v. cut_leads 9 _ _ _ refl)
-    (cut_leads 7 _ _ _ refl)))
+    number_behind 2 (codes "a[") (cut_pieces 2 (codes "a[")) x 93 (codes " = a[" ++ (decimal x ++ (codes "] + k % (" ++ (decimal c ++ codes " + 1);")))) more (cut_pieces 6 (codes "] = a[") ++ number x ∷ (cut_pieces 9 (codes "] + k % (") ++ number c ∷ cut_pieces 7 (line (codes " + 1);")))) more h.0 refl refl (λ v. cut_leads 2 (codes "a[" ++ (decimal x ++ v)) (cut_pieces 2 (codes "a[")) (decimal x ++ v) refl)
+    (number_behind 6 (codes "] = a[") (cut_pieces 6 (codes "] = a[")) x 93 (codes " + k % (" ++ (decimal c ++ codes " + 1);")) more (cut_pieces 9 (codes "] + k % (") ++ number c ∷ cut_pieces 7 (line (codes " + 1);"))) more h.0 refl refl (λ v. cut_leads 6 (codes "] = a[" ++ (decimal x ++ v)) (cut_pieces 6 (codes "] = a[")) (decimal x ++ v) refl)
+    (number_behind 9 (codes "] + k % (") (cut_pieces 9 (codes "] + k % (")) c 32 (codes "+ 1);") more (cut_pieces 7 (line (codes " + 1);"))) more h.1 refl refl (λ v. cut_leads 9 (codes "] + k % (" ++ (decimal c ++ v)) (cut_pieces 9 (codes "] + k % (")) (decimal c ++ v) refl)
+    (cut_leads 7 (line (codes " + 1);") ++ more) (cut_pieces 7 (line (codes " + 1);"))) more refl)))
 statement_cut (add_constant x c) h more =
-    number_behind 2 (codes "b[") (cut_pieces 2 (codes "b[")) x 93 _ more _ more h.0 refl refl (λ v. cut_leads 2 _ _ _ refl)
-    (number_behind 6 (codes "] = b[") (cut_pieces 6 (codes "] = b[")) x 93 _ more _ more h.0 refl refl (λ v. cut_leads 6 _ _ _ refl)
-    (number_behind 4 (codes "] + ") (cut_pieces 4 (codes "] + ")) c 59 _ more _ more h.1 refl refl (λ v. cut_leads 4 _ _ _ refl)
-    (cut_leads 2 _ _ _ refl)))
+    number_behind 2 (codes "b[") (cut_pieces 2 (codes "b[")) x 93 (codes " = b[" ++ (decimal x ++ (codes "] + " ++ (decimal c ++ codes ";")))) more (cut_pieces 6 (codes "] = b[") ++ number x ∷ (cut_pieces 4 (codes "] + ") ++ number c ∷ cut_pieces 2 (line (codes ";")))) more h.0 refl refl (λ v. cut_leads 2 (codes "b[" ++ (decimal x ++ v)) (cut_pieces 2 (codes "b[")) (decimal x ++ v) refl)
+    (number_behind 6 (codes "] = b[") (cut_pieces 6 (codes "] = b[")) x 93 (codes " + " ++ (decimal c ++ codes ";")) more (cut_pieces 4 (codes "] + ") ++ number c ∷ cut_pieces 2 (line (codes ";"))) more h.0 refl refl (λ v. cut_leads 6 (codes "] = b[" ++ (decimal x ++ v)) (cut_pieces 6 (codes "] = b[")) (decimal x ++ v) refl)
+    (number_behind 4 (codes "] + ") (cut_pieces 4 (codes "] + ")) c 59 ([]) more (cut_pieces 2 (line (codes ";"))) more h.1 refl refl (λ v. cut_leads 4 (codes "] + " ++ (decimal c ++ v)) (cut_pieces 4 (codes "] + ")) (decimal c ++ v) refl)
+    (cut_leads 2 (line (codes ";") ++ more) (cut_pieces 2 (line (codes ";"))) more refl)))
 statement_cut (set_product x c) h more =
-    number_behind 2 (codes "v[") (cut_pieces 2 (codes "v[")) x 93 _ more _ more h.0 refl refl (λ v. cut_leads 2 _ _ _ refl)
-    (number_behind 8 (codes "] = k * ") (cut_pieces 8 (codes "] = k * ")) c 59 _ more _ more h.1 refl refl (λ v. cut_leads 8 _ _ _ refl)
-    (cut_leads 2 _ _ _ refl))
+    number_behind 2 (codes "v[") (cut_pieces 2 (codes "v[")) x 93 (codes " = k * " ++ (decimal c ++ codes ";")) more (cut_pieces 8 (codes "] = k * ") ++ number c ∷ cut_pieces 2 (line (codes ";"))) more h.0 refl refl (λ v. cut_leads 2 (codes "v[" ++ (decimal x ++ v)) (cut_pieces 2 (codes "v[")) (decimal x ++ v) refl)
+    (number_behind 8 (codes "] = k * ") (cut_pieces 8 (codes "] = k * ")) c 59 ([]) more (cut_pieces 2 (line (codes ";"))) more h.1 refl refl (λ v. cut_leads 8 (codes "] = k * " ++ (decimal c ++ v)) (cut_pieces 8 (codes "] = k * ")) (decimal c ++ v) refl)
+    (cut_leads 2 (line (codes ";") ++ more) (cut_pieces 2 (line (codes ";"))) more refl))
 
 -- ---- the other lines
 
@@ -209,7 +209,9 @@ v_high = chunk 50 (line (codes "print v[8], v[9], v[10], v[11], v[12], v[13], v[
 
 start_cut : (size : ℕ) → size ≤ most → IsCut (start_line size)
 start_cut size few more =
-    number_behind 4 (codes "call go(") (cut_pieces 4 (codes "call go(")) size 41 _ more _ more few refl refl (λ v. cut_leads 4 _ _ _ refl) (cut_leads 3 _ _ _ refl)
+    number_behind 4 (codes "call go(") (cut_pieces 4 (codes "call go(")) size 41 (codes ";") more (cut_pieces 3 (line (codes ");"))) more few refl refl
+    (λ v. cut_leads 4 (codes "call go(" ++ (decimal size ++ v)) (cut_pieces 4 (codes "call go(")) (decimal size ++ v) refl)
+    (cut_leads 3 (line (codes ");") ++ more) (cut_pieces 3 (line (codes ");"))) more refl)
 
 -- ---- all of them
 
@@ -287,8 +289,8 @@ small_at seed i =
     let first = load.draw seed (3 * i + 1) in
     let second = load.draw seed (3 * i + 2) in
     let third = load.draw seed (3 * i + 3) in
-    let x : second % 16 < 16 = mod-lt second 16 (omega arith) in
-    let y : third % 100 < 100 = mod-lt third 100 (omega arith) in
+    let x : second % 16 < 16 = mod-lt second (omega arith) in
+    let y : third % 100 < 100 = mod-lt third (omega arith) in
     small_made (first % 3 == 0) (first % 3 == 1) (second % 16) (third % 100) (omega (arith, x)) (omega (arith, y))
 
 small_map : (seed : ℕ) (is : List ℕ) → AllSmall (map (line_at seed) is)
@@ -304,33 +306,10 @@ statements_cut (s ∷ ss) cs small h = (statement_cut s small.0, statements_cut 
 
 last_cut : (size : ℕ) → size ≤ most → AllCut (last_chunks size)
 last_cut size few =
-    let fixed : (c : Chunk) (n : ℕ) → ((more : List ℕ) → cut_some n (c.text ++ more) ≡ Some (c.pieces, more)) → IsCut c = λ c n is more. cut_leads n (c.text ++ more) c.pieces more (is more) in (
-      fixed step_line 11 (λ more. refl),
-      fixed end_line 2 (λ more. refl),
-      fixed end_line 2 (λ more. refl),
-      fixed go_lines 57 (λ more. refl),
-      fixed main_line 4 (λ more. refl),
-      start_cut size few,
-      fixed a_low 50 (λ more. refl),
-      fixed a_high 50 (λ more. refl),
-      fixed b_low 50 (λ more. refl),
-      fixed b_high 50 (λ more. refl),
-      fixed v_low 50 (λ more. refl),
-      fixed v_high 50 (λ more. refl),
-      fixed end_line 2 (λ more. refl),
-      tt,
-    )
+    let fixed : (c : Chunk) (n : ℕ) → ((more : List ℕ) → cut_some n (c.text ++ more) ≡ Some (c.pieces, more)) → IsCut c = λ c n is more. cut_leads n (c.text ++ more) c.pieces more (is more) in
+    (fixed step_line 11 (λ more. refl), (fixed end_line 2 (λ more. refl), (fixed end_line 2 (λ more. refl), (fixed go_lines 57 (λ more. refl), (fixed main_line 4 (λ more. refl), (start_cut size few, (fixed a_low 50 (λ more. refl), (fixed a_high 50 (λ more. refl), (fixed b_low 50 (λ more. refl), (fixed b_high 50 (λ more. refl), (fixed v_low 50 (λ more. refl), (fixed v_high 50 (λ more. refl), (fixed end_line 2 (λ more. refl), tt)))))))))))))
 
 pub all_cut : (seed size : ℕ) → size ≤ most → AllCut (all_chunks seed size)
 all_cut seed size few =
-    let fixed : (c : Chunk) (n : ℕ) → ((more : List ℕ) → cut_some n (c.text ++ more) ≡ Some (c.pieces, more)) → IsCut c = λ c n is more. cut_leads n (c.text ++ more) c.pieces more (is more) in (
-      fixed sum_line 26 (λ more. refl),
-      fixed most_line 31 (λ more. refl),
-      fixed a_line 16 (λ more. refl),
-      fixed b_line 16 (λ more. refl),
-      fixed v_line 12 (λ more. refl),
-      fixed work_line 12 (λ more. refl),
-      fixed let_line 9 (λ more. refl),
-      fixed while_line 10 (λ more. refl),
-      statements_cut (lines_from seed) (last_chunks size) (all_small seed) (last_cut size few),
-    )
+    let fixed : (c : Chunk) (n : ℕ) → ((more : List ℕ) → cut_some n (c.text ++ more) ≡ Some (c.pieces, more)) → IsCut c = λ c n is more. cut_leads n (c.text ++ more) c.pieces more (is more) in
+    (fixed sum_line 26 (λ more. refl), (fixed most_line 31 (λ more. refl), (fixed a_line 16 (λ more. refl), (fixed b_line 16 (λ more. refl), (fixed v_line 12 (λ more. refl), (fixed work_line 12 (λ more. refl), (fixed let_line 9 (λ more. refl), (fixed while_line 10 (λ more. refl), statements_cut (lines_from seed) (last_chunks size) (all_small seed) (last_cut size few)))))))))

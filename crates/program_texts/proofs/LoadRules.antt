@@ -4,6 +4,7 @@ use Rattle.std.specs.Prelude.{Option, Some, None, pos, codes}
 use Rattle.rev_num.specs.declared.value.ValueKind.TheVariants as kinds
 use Rattle.rev_syntax.specs.Trees as t
 use Rattle.rev_syntax.specs.Trees.{PlacedName, Parameter, Declaration, ProgramTree, Statements}
+use Rattle.rev_syntax.specs.Tokens.{array_size}
 use Rattle.rev_syntax.specs.View.{statements_of}
 use Rattle.merge_decl.specs.FunRules.{statements_uses, statement_uses, uses_in, broken_in, fun_named, fun_faults}
 use Rattle.rev_kinds.specs.declared.fault.TypeFault.{TypeFault}
@@ -126,12 +127,15 @@ module _ (bytes : List ℕ) (size : ℕ) (at : Places) where
 
     none_inside : (left n : ℕ) (xs : List Line) → broken_all work_locals left [] (statements_of (statement_trees bytes n xs (of_chunk step_tree at.step_at step_line ∷ []))) ≡ []
     none_inside left n [] = one_more left (of_chunk step_tree at.step_at step_line) t.no_statements (fine_step left) refl
-    none_inside left n (x ∷ xs) = one_more left (chunk_statement bytes n x) _ (fine_statement left n x) (none_inside left _ xs)
+    none_inside left n (x ∷ xs) =
+        let after = n + array_size (statement_chunk x).pieces in
+        one_more left (chunk_statement bytes n x) (statements_of (statement_trees bytes after xs (of_chunk step_tree at.step_at step_line ∷ []))) (fine_statement left n x) (none_inside left after xs)
 
     no_uses : (d n : ℕ) (xs : List Line) → statements_uses d (statements_of (statement_trees bytes n xs (of_chunk step_tree at.step_at step_line ∷ []))) ≡ []
     no_uses d n [] = refl
     no_uses d n (x ∷ xs) =
-        ap (λ u. u ++ statements_uses d (statements_of (statement_trees bytes _ xs (of_chunk step_tree at.step_at step_line ∷ [])))) ((fine_statement 0 n x).uses d) ∙ no_uses d _ xs
+        let after = n + array_size (statement_chunk x).pieces in
+        ap (λ u. u ++ statements_uses d (statements_of (statement_trees bytes after xs (of_chunk step_tree at.step_at step_line ∷ [])))) ((fine_statement 0 n x).uses d) ∙ no_uses d after xs
 
   -- ---- the whole
 

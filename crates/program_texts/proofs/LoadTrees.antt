@@ -21,7 +21,6 @@ use Rattle.rev_expressions.specs.Statements.{block, actual, application, right_s
 use Rattle.rev_expressions.specs.Declarations.{kind, constant, cells, size, first_value, param, params, names, formal, head, meaning, fun_form, merge_form, variable, versioned_form, cumulative_form, proc_form, declaration, declarations, program, inner}
 use Rattle.rev_expressions.specs.Parse.{parse}
 use Rattle.program_texts.proofs.Chunks.{Chunk, place, seen, named, HasPieces, HasIn, as_named, tokens_in}
-use Rattle.program_texts.proofs.Parsing.{Rows, read_both, read_first, read_second, read_level, read_all}
 use Rattle.program_texts.proofs.LoadChunks.{Line, add_remainder, add_constant, set_product, statement_chunk, statement_chunks, sum_line, most_line, a_line, b_line, v_line, work_line, let_line, while_line, step_line, end_line, main_line, go_lines, start_line, a_low, a_high, b_low, b_high, v_low, v_high, first_chunks, last_chunks}
 
 -- ---- trees
@@ -76,47 +75,47 @@ abbrev pub lines_at : List ℕ → ℕ → List Piece → ℕ → ℕ
 lines_at bytes at ps i = line_of bytes (place at ps i)
 
 -- what is read of a chunk with the names that the text has there is read with those that it spells
-as_spelled : {A : Type 0} (bytes : List ℕ) (at : ℕ) (ps : List Piece) (o : Outcome Token A) (tree : (ℕ → PlacedName) → A) (rest : List Token) → HasPieces bytes at ps → o ≡ Read (tree (seen bytes at ps)) rest → o ≡ Read (tree (named at ps)) rest
+pub as_spelled : {A : Type 0} (bytes : List ℕ) (at : ℕ) (ps : List Piece) (o : Outcome Token A) (tree : (ℕ → PlacedName) → A) (rest : List Token) → HasPieces bytes at ps → o ≡ Read (tree (seen bytes at ps)) rest → o ≡ Read (tree (named at ps)) rest
 as_spelled bytes at ps o tree rest has h = h ∙ ap (λ W. Read (tree W) rest) (as_named bytes at ps has)
 
 module _ (bytes : List ℕ) (n at : ℕ) (rest : List Token) where
-  read_sum : parse bytes (suc (suc n)) (declaration bytes) (tokens_of at sum_line.pieces ++ rest) ≡ Read (sum_tree (place at sum_line.pieces) (seen bytes at sum_line.pieces) (lines_at bytes at sum_line.pieces)) rest
+  pub read_sum : parse bytes (suc (suc n)) (declaration bytes) (tokens_of at sum_line.pieces ++ rest) ≡ Read (sum_tree (place at sum_line.pieces) (seen bytes at sum_line.pieces) (lines_at bytes at sum_line.pieces)) rest
   unfolding read below rank_sign bracketed choice name name_tail primary unary product sum comparison conjunction expr parens index arguments parts block actual application right_side item assigned assignment arm else_part else_parts let_form if_form while_form call_form return_form fork_form join_form print_form assert_form statement statements body kind constant cells size first_value param params names formal head meaning fun_form merge_form variable versioned_form cumulative_form proc_form declaration declarations program inner
   read_sum = refl
 
-  read_most : parse bytes (suc (suc n)) (declaration bytes) (tokens_of at most_line.pieces ++ rest) ≡ Read (most_tree (place at most_line.pieces) (seen bytes at most_line.pieces) (lines_at bytes at most_line.pieces)) rest
+  pub read_most : parse bytes (suc (suc n)) (declaration bytes) (tokens_of at most_line.pieces ++ rest) ≡ Read (most_tree (place at most_line.pieces) (seen bytes at most_line.pieces) (lines_at bytes at most_line.pieces)) rest
   unfolding read below rank_sign bracketed choice name name_tail primary unary product sum comparison conjunction expr parens index arguments parts block actual application right_side item assigned assignment arm else_part else_parts let_form if_form while_form call_form return_form fork_form join_form print_form assert_form statement statements body kind constant cells size first_value param params names formal head meaning fun_form merge_form variable versioned_form cumulative_form proc_form declaration declarations program inner
   read_most = refl
 
-  read_a : parse bytes (suc (suc n)) (declaration bytes) (tokens_of at a_line.pieces ++ rest) ≡ Read (array_tree (place at a_line.pieces) (seen bytes at a_line.pieces) (lines_at bytes at a_line.pieces) (Some (seen bytes at a_line.pieces 13))) rest
+  pub read_a : parse bytes (suc (suc n)) (declaration bytes) (tokens_of at a_line.pieces ++ rest) ≡ Read (array_tree (place at a_line.pieces) (seen bytes at a_line.pieces) (lines_at bytes at a_line.pieces) (Some (seen bytes at a_line.pieces 13))) rest
   unfolding read below rank_sign bracketed choice name name_tail primary unary product sum comparison conjunction expr parens index arguments parts block actual application right_side item assigned assignment arm else_part else_parts let_form if_form while_form call_form return_form fork_form join_form print_form assert_form statement statements body kind constant cells size first_value param params names formal head meaning fun_form merge_form variable versioned_form cumulative_form proc_form declaration declarations program inner
   read_a = refl
 
-  read_b : parse bytes (suc (suc n)) (declaration bytes) (tokens_of at b_line.pieces ++ rest) ≡ Read (array_tree (place at b_line.pieces) (seen bytes at b_line.pieces) (lines_at bytes at b_line.pieces) (Some (seen bytes at b_line.pieces 13))) rest
+  pub read_b : parse bytes (suc (suc n)) (declaration bytes) (tokens_of at b_line.pieces ++ rest) ≡ Read (array_tree (place at b_line.pieces) (seen bytes at b_line.pieces) (lines_at bytes at b_line.pieces) (Some (seen bytes at b_line.pieces 13))) rest
   unfolding read below rank_sign bracketed choice name name_tail primary unary product sum comparison conjunction expr parens index arguments parts block actual application right_side item assigned assignment arm else_part else_parts let_form if_form while_form call_form return_form fork_form join_form print_form assert_form statement statements body kind constant cells size first_value param params names formal head meaning fun_form merge_form variable versioned_form cumulative_form proc_form declaration declarations program inner
   read_b = refl
 
-  read_v : parse bytes (suc (suc n)) (declaration bytes) (tokens_of at v_line.pieces ++ rest) ≡ Read (array_tree (place at v_line.pieces) (seen bytes at v_line.pieces) (lines_at bytes at v_line.pieces) None) rest
+  pub read_v : parse bytes (suc (suc n)) (declaration bytes) (tokens_of at v_line.pieces ++ rest) ≡ Read (array_tree (place at v_line.pieces) (seen bytes at v_line.pieces) (lines_at bytes at v_line.pieces) None) rest
   unfolding read below rank_sign bracketed choice name name_tail primary unary product sum comparison conjunction expr parens index arguments parts block actual application right_side item assigned assignment arm else_part else_parts let_form if_form while_form call_form return_form fork_form join_form print_form assert_form statement statements body kind constant cells size first_value param params names formal head meaning fun_form merge_form variable versioned_form cumulative_form proc_form declaration declarations program inner
   read_v = refl
 
-  read_let : parse bytes (suc (suc n)) (statement bytes) (tokens_of at let_line.pieces ++ rest) ≡ Read (let_tree (place at let_line.pieces) (seen bytes at let_line.pieces) (lines_at bytes at let_line.pieces)) rest
+  pub read_let : parse bytes (suc (suc n)) (statement bytes) (tokens_of at let_line.pieces ++ rest) ≡ Read (let_tree (place at let_line.pieces) (seen bytes at let_line.pieces) (lines_at bytes at let_line.pieces)) rest
   unfolding read below rank_sign bracketed choice name name_tail primary unary product sum comparison conjunction expr parens index arguments parts block actual application right_side item assigned assignment arm else_part else_parts let_form if_form while_form call_form return_form fork_form join_form print_form assert_form statement statements body kind constant cells size first_value param params names formal head meaning fun_form merge_form variable versioned_form cumulative_form proc_form declaration declarations program inner
   read_let = refl
 
-  read_step : parse bytes (suc (suc n)) (statement bytes) (tokens_of at step_line.pieces ++ rest) ≡ Read (step_tree (place at step_line.pieces) (seen bytes at step_line.pieces) (lines_at bytes at step_line.pieces)) rest
+  pub read_step : parse bytes (suc (suc n)) (statement bytes) (tokens_of at step_line.pieces ++ rest) ≡ Read (step_tree (place at step_line.pieces) (seen bytes at step_line.pieces) (lines_at bytes at step_line.pieces)) rest
   unfolding read below rank_sign bracketed choice name name_tail primary unary product sum comparison conjunction expr parens index arguments parts block actual application right_side item assigned assignment arm else_part else_parts let_form if_form while_form call_form return_form fork_form join_form print_form assert_form statement statements body kind constant cells size first_value param params names formal head meaning fun_form merge_form variable versioned_form cumulative_form proc_form declaration declarations program inner
   read_step = refl
 
-  read_go : parse bytes (suc (suc (suc (suc n)))) (declaration bytes) (tokens_of at go_lines.pieces ++ rest) ≡ Read (go_tree (place at go_lines.pieces) (seen bytes at go_lines.pieces) (lines_at bytes at go_lines.pieces)) rest
+  pub read_go : parse bytes (suc (suc (suc (suc n)))) (declaration bytes) (tokens_of at go_lines.pieces ++ rest) ≡ Read (go_tree (place at go_lines.pieces) (seen bytes at go_lines.pieces) (lines_at bytes at go_lines.pieces)) rest
   unfolding read below rank_sign bracketed choice name name_tail primary unary product sum comparison conjunction expr parens index arguments parts block actual application right_side item assigned assignment arm else_part else_parts let_form if_form while_form call_form return_form fork_form join_form print_form assert_form statement statements body kind constant cells size first_value param params names formal head meaning fun_form merge_form variable versioned_form cumulative_form proc_form declaration declarations program inner
   read_go = refl
 
-  read_start : (size' : ℕ) → parse bytes (suc (suc n)) (statement bytes) (tokens_of at (start_line size').pieces ++ rest) ≡ Read (start_tree (place at (start_line size').pieces) (seen bytes at (start_line size').pieces) (lines_at bytes at (start_line size').pieces) size') rest
+  pub read_start : (size' : ℕ) → parse bytes (suc (suc n)) (statement bytes) (tokens_of at (start_line size').pieces ++ rest) ≡ Read (start_tree (place at (start_line size').pieces) (seen bytes at (start_line size').pieces) (lines_at bytes at (start_line size').pieces) size') rest
   unfolding read below rank_sign bracketed choice name name_tail primary unary product sum comparison conjunction expr parens index arguments parts block actual application right_side item assigned assignment arm else_part else_parts let_form if_form while_form call_form return_form fork_form join_form print_form assert_form statement statements body kind constant cells size first_value param params names formal head meaning fun_form merge_form variable versioned_form cumulative_form proc_form declaration declarations program inner
   read_start size' = refl
 
-  read_statement : (x : Line) → parse bytes (suc (suc n)) (statement bytes) (tokens_of at (statement_chunk x).pieces ++ rest) ≡ Read (statement_tree (place at (statement_chunk x).pieces) (seen bytes at (statement_chunk x).pieces) (lines_at bytes at (statement_chunk x).pieces) x) rest
+  pub read_statement : (x : Line) → parse bytes (suc (suc n)) (statement bytes) (tokens_of at (statement_chunk x).pieces ++ rest) ≡ Read (statement_tree (place at (statement_chunk x).pieces) (seen bytes at (statement_chunk x).pieces) (lines_at bytes at (statement_chunk x).pieces) x) rest
   unfolding read below rank_sign bracketed choice name name_tail primary unary product sum comparison conjunction expr parens index arguments parts block actual application right_side item assigned assignment arm else_part else_parts let_form if_form while_form call_form return_form fork_form join_form print_form assert_form statement statements body kind constant cells size first_value param params names formal head meaning fun_form merge_form variable versioned_form cumulative_form proc_form declaration declarations program inner
   read_statement (add_remainder x c) = refl
   read_statement (add_constant x c) = refl
@@ -125,27 +124,27 @@ module _ (bytes : List ℕ) (n at : ℕ) (rest : List Token) where
   abbrev IsPrint : Chunk → ℕ → Type 0
   IsPrint c m = parse bytes (suc (suc n)) (statement bytes) (tokens_of at c.pieces ++ rest) ≡ Read (print_tree (place at c.pieces) (seen bytes at c.pieces) (lines_at bytes at c.pieces) m) rest
 
-  read_a_low : IsPrint a_low 0
+  pub read_a_low : IsPrint a_low 0
   unfolding read below rank_sign bracketed choice name name_tail primary unary product sum comparison conjunction expr parens index arguments parts block actual application right_side item assigned assignment arm else_part else_parts let_form if_form while_form call_form return_form fork_form join_form print_form assert_form statement statements body kind constant cells size first_value param params names formal head meaning fun_form merge_form variable versioned_form cumulative_form proc_form declaration declarations program inner
   read_a_low = refl
 
-  read_a_high : IsPrint a_high 8
+  pub read_a_high : IsPrint a_high 8
   unfolding read below rank_sign bracketed choice name name_tail primary unary product sum comparison conjunction expr parens index arguments parts block actual application right_side item assigned assignment arm else_part else_parts let_form if_form while_form call_form return_form fork_form join_form print_form assert_form statement statements body kind constant cells size first_value param params names formal head meaning fun_form merge_form variable versioned_form cumulative_form proc_form declaration declarations program inner
   read_a_high = refl
 
-  read_b_low : IsPrint b_low 0
+  pub read_b_low : IsPrint b_low 0
   unfolding read below rank_sign bracketed choice name name_tail primary unary product sum comparison conjunction expr parens index arguments parts block actual application right_side item assigned assignment arm else_part else_parts let_form if_form while_form call_form return_form fork_form join_form print_form assert_form statement statements body kind constant cells size first_value param params names formal head meaning fun_form merge_form variable versioned_form cumulative_form proc_form declaration declarations program inner
   read_b_low = refl
 
-  read_b_high : IsPrint b_high 8
+  pub read_b_high : IsPrint b_high 8
   unfolding read below rank_sign bracketed choice name name_tail primary unary product sum comparison conjunction expr parens index arguments parts block actual application right_side item assigned assignment arm else_part else_parts let_form if_form while_form call_form return_form fork_form join_form print_form assert_form statement statements body kind constant cells size first_value param params names formal head meaning fun_form merge_form variable versioned_form cumulative_form proc_form declaration declarations program inner
   read_b_high = refl
 
-  read_v_low : IsPrint v_low 0
+  pub read_v_low : IsPrint v_low 0
   unfolding read below rank_sign bracketed choice name name_tail primary unary product sum comparison conjunction expr parens index arguments parts block actual application right_side item assigned assignment arm else_part else_parts let_form if_form while_form call_form return_form fork_form join_form print_form assert_form statement statements body kind constant cells size first_value param params names formal head meaning fun_form merge_form variable versioned_form cumulative_form proc_form declaration declarations program inner
   read_v_low = refl
 
-  read_v_high : IsPrint v_high 8
+  pub read_v_high : IsPrint v_high 8
   unfolding read below rank_sign bracketed choice name name_tail primary unary product sum comparison conjunction expr parens index arguments parts block actual application right_side item assigned assignment arm else_part else_parts let_form if_form while_form call_form return_form fork_form join_form print_form assert_form statement statements body kind constant cells size first_value param params names formal head meaning fun_form merge_form variable versioned_form cumulative_form proc_form declaration declarations program inner
   read_v_high = refl
 

@@ -1,36 +1,13 @@
--- What the parser reads of tokens, part by part.
+-- What the parser reads of a rule as often as it comes.
 use Rattle.std.proofs.Common.{◌≡◌, ℕ, zero, suc, ◌+◌, ◌≤◌, Bool, true, false, List, [], ◌∷◌, ◌++◌, length, refl, sym, ap, ◌∙◌, subst, arith, append_assoc, append-nil}
 use Rattle.std.specs.Prelude.{cond}
 use Rattle.rev_syntax.specs.declared.token.Token.{Token}
-use Rattle.token_grammar.specs.Form.{nothing, token, level, both, either, many}
-use Rattle.token_grammar.specs.Outcome.{Outcome, Read, Failed, Unexpected, and_then}
-use Rattle.token_grammar.specs.Reader.{begins, read, below, repeat}
-use Rattle.rev_expressions.specs.Classes.{Class, class_of, is_same}
-use Rattle.rev_expressions.specs.Grammar.{alphabet, Rule, Inner, Value, never, all}
-use Rattle.rev_expressions.specs.Declarations.{inner}
+use Rattle.token_grammar.specs.Outcome.{Read, and_then}
+use Rattle.token_grammar.specs.Reader.{begins, read, repeat}
+use Rattle.rev_expressions.specs.Grammar.{alphabet, Rule, never, all}
 use Rattle.rev_expressions.specs.Parse.{parse}
 
 module _ (bytes : List ℕ) (n : ℕ) where
-  pub read_both : {A B C : Type 0} (f : A → B → C) (P : Rule A) (Q : Rule B) (ts us vs : List Token) (a : A) (b : B) → parse bytes n P ts ≡ Read a us → parse bytes n Q us ≡ Read b vs → parse bytes n (both f P Q) ts ≡ Read (f a b) vs
-  unfolding read
-  read_both f P Q ts us vs a b h i =
-      ap (λ o. and_then o (λ a rest. and_then (parse bytes n Q rest) (λ b rest2. Read (f a b) rest2))) h
-      ∙ ap (λ o. and_then o (λ b rest2. Read (f a b) rest2)) i
-
-  pub read_first : {A : Type 0} (P Q : Rule A) (ts : List Token) (o : Outcome Token A) → begins alphabet P ts ≡ true → parse bytes n P ts ≡ o → parse bytes n (either P Q) ts ≡ o
-  unfolding read
-  read_first P Q ts o b h = ap (λ x. cond x (parse bytes n P ts) (parse bytes n Q ts)) b ∙ h
-
-  pub read_second : {A : Type 0} (P Q : Rule A) (ts : List Token) (o : Outcome Token A) → begins alphabet P ts ≡ false → parse bytes n Q ts ≡ o → parse bytes n (either P Q) ts ≡ o
-  unfolding read
-  read_second P Q ts o b h = ap (λ x. cond x (parse bytes n P ts) (parse bytes n Q ts)) b ∙ h
-
-  pub read_level : {A : Type 0} (s : Class) (i : Inner) (val : Token → Value i → A) (t : Token) (ts us : List Token) (y : Value i) → is_same s (class_of t.kind) ≡ true → parse bytes n (inner bytes i) ts ≡ Read y us → parse bytes (suc n) (level s i val) (t ∷ ts) ≡ Read (val t y) us
-  unfolding read below
-  read_level s i val t ts us y is h =
-      ap (λ b. cond b (and_then (parse bytes n (inner bytes i) ts) (λ y rest. Read (val t y) rest)) (Failed Unexpected (t ∷ ts))) is
-      ∙ ap (λ o. and_then o (λ y rest. Read (val t y) rest)) h
-
   -- the tokens are these values in a row, and the rest
   abbrev pub Rows : {A : Type 0} → Rule A → List Token → List A → List Token → Type 0
   Rows P ts [] rest = ts ≡ rest
