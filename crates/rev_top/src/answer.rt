@@ -8,7 +8,8 @@ ghost use Rattle.rev_words.specs.declared.Words.{Words};
 ghost use Rattle.rev_report.specs.Report.{output};
 ghost use Rattle.rev_top.specs.Answer.{Accepts, Answers, Given, IsWithin, Lists};
 ghost use Rattle.rev_top.specs.Answer.{SaysAs, Takes, reads, reads_of, source_limit};
-ghost use Rattle.rev_top.specs.Rans.{Holds, IsMade, Leaves, said, without_run};
+ghost use Rattle.rev_top.specs.Making.{IsMade, said, without_run};
+ghost use Rattle.rev_top.specs.Rans.{Holds, Leaves};
 ghost use Rattle.rev_top.specs.Stops.{Meets};
 
 use crate::audits::audit;

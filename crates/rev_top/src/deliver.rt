@@ -8,7 +8,7 @@ ghost use Rattle.rev_messages.specs.Refusals.{no_memory};
 ghost use Rattle.rev_report.specs.Status.{no_memory_status};
 ghost use Rattle.rev_top.specs.Answer.{Takes, reads};
 ghost use Rattle.rev_top.specs.Delivery.{Delivered};
-ghost use Rattle.rev_top.specs.Rans.{Ended};
+ghost use Rattle.rev_top.specs.Rans.{Happened};
 
 use crate::answer::make_report;
 use hub_workers::Gate;
@@ -56,7 +56,7 @@ pub fn happen<R: Threads + Wait + Sync, S: Source, O: Sink, E: Sink, G: Gate + S
     gate: &G,
     ran: &mut Option<Ran>,
 ) -> u8
-    ensures ended { Ended (reading (map string_bytes words.now))
+    ensures happened { Happened (reading (map string_bytes words.now))
         (S.stream source.old) (S.stream source.new) (O.stream out.old) (O.stream out.new)
         (E.stream err.old) (E.stream err.new) ran.new result }
     ensures takes { Takes (reads (reading (map string_bytes words.now)))

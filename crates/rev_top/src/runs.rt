@@ -7,7 +7,8 @@ ghost use Rattle.code_generation.specs.Generated.{code_of};
 ghost use Rattle.revision_calculus.specs.Complete.{HasOutcome};
 ghost use Rattle.thread_runs.specs.Runs.{IsRunOf};
 ghost use Rattle.rev_top.specs.Answer.{code_run, setting, source_limit};
-ghost use Rattle.rev_top.specs.Rans.{RunsBy, RunsText, of_load, of_order, of_run, told};
+ghost use Rattle.rev_top.specs.Making.{RunsBy, RunsText, told};
+ghost use Rattle.rev_top.specs.Rans.{of_load, of_order, of_run};
 ghost use Rattle.rev_top.specs.Stops.{Meets};
 ghost use Rattle.rev_top.specs.Texts.{Checks};
 
