@@ -5,6 +5,7 @@ pub mod Codes
 pub mod Faults
 pub mod Findings
 pub mod Kept
+pub mod Handles
 pub mod Listings
 pub mod OneAnswers
 pub mod Rans

@@ -194,6 +194,7 @@ reports_end modes.Trace w read r x h = absurd h
 reports_end modes.Audit w read r x h = absurd h
 reports_end modes.Replay w read r x h = absurd h
 reports_end modes.Order w read r x h = by_output x (of_order r) h.1 (report_ends false r.outcome)
+reports_end modes.Stream w read r x h = absurd h
 
 no_run : (m : Mode) (w : Words) (read : List ℕ) (r : Ran) (x : Output) → goes_by_threads m ≡ false → Reports m w read r x → ⊥
 no_run modes.Run w read r x is h = cc
@@ -206,6 +207,7 @@ no_run modes.Trace w read r x is h = h
 no_run modes.Audit w read r x is h = h
 no_run modes.Replay w read r x is h = h
 no_run modes.Order w read r x is h = cc
+no_run modes.Stream w read r x is h = h
 
 -- ---- where the source told its bytes
 

@@ -1,4 +1,5 @@
 pub mod Accepted
+pub mod Affine
 pub mod Answer
 pub mod Codes
 pub mod Delivery

@@ -105,6 +105,8 @@ fn say<R: Threads + Wait + Sync, G: Gate + Sync>(
         Mode::Audit => alone(audit(alloc, words, bytes)),
         Mode::Replay => alone(replay(alloc, words, bytes)),
         Mode::Order => order(rt, alloc, words, bytes, gate),
+        // (a stub, whose contract holds: the mode's definitions alone are tried here)
+        Mode::Stream => Err(Stop::OutOfMemory),
     }
 }
 
@@ -124,6 +126,7 @@ fn limit_of(mode: Mode) -> Option<usize>
         Mode::Audit => Some(FILE_LIMIT),
         Mode::Replay => Some(SOURCE_LIMIT),
         Mode::Order => Some(SOURCE_LIMIT),
+        Mode::Stream => Some(SOURCE_LIMIT),
     }
 }
 
