@@ -2,6 +2,7 @@ pub mod Accepting
 pub mod Answering
 pub mod CodeRuns
 pub mod Codes
+pub mod Ending
 pub mod Faults
 pub mod Findings
 pub mod Kept
@@ -12,6 +13,7 @@ pub mod Rans
 pub mod Real
 pub mod Replaying
 pub mod Stages
+pub mod Streams
 pub mod Steps
 pub mod WhyStatus
 pub mod Auditing
