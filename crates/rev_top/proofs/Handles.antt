@@ -1,5 +1,5 @@
 -- A program keeps the affine rule, or has one first breach of it.
-use Rattle.std.proofs.Common.{◌≡◌, ◌∙◌, ◌<◌, ◌≤◌, ◌⊎◌, inl, inr, refl, sym, ap, ℕ, List, arith}
+use Rattle.std.proofs.Common.{◌≡◌, ◌∙◌, ◌<◌, ◌≤◌, ◌⊎◌, inl, inr, refl, sym, subst, ap, ℕ, List, arith}
 use Rattle.std.specs.Prelude.{Option, Some, None, Result, Ok, Err}
 use Rattle.rev_syntax.specs.Trees.{ProgramTree}
 use Rattle.merge_decl.specs.Least.{IsBefore}
@@ -11,8 +11,13 @@ use Rattle.rev_affine.specs.Affine.{Breach, copied, stored, used_twice, in_loop,
 use Rattle.rev_affine.specs.Laws.{Decides}
 use Rattle.rev_affine.specs.Places.{first_breakage}
 use Rattle.rev_affine.proofs.Places.{decided}
-use Rattle.rev_top.specs.Affine.{KeepsAffine, breach_fault}
+use Rattle.affine_check.specs.Faults.{Refuses}
+use Rattle.affine_check.specs.declared.fault.AffineFault.{AffineFault}
+use Rattle.affine_check.specs.declared.fault.AffineFault.TheVariants as affine
+use Rattle.rev_top.specs.Affine.{KeepsAffine, breach_fault, report_of_affine}
+use Rattle.rev_top.specs.Stops.{Meets, stop_of}
 use Rattle.rev_top.specs.Texts.{fault_at}
+use Rattle.rev_top.specs.declared.stop.Stop.{Stop}
 use Rattle.rev_top.proofs.Stages.{One}
 
 same_breach : (b c : Breach) → number b ≡ number c → b ≡ c
@@ -60,3 +65,15 @@ some_affine text p accepted = by (first_breakage p) (decided p (rules_kept p acc
 
 pub affine_refused : (text : List ℕ) (p : ProgramTree) (f : Refusal) → KeepsAffine text p (Err f) → status_of f ≡ 2
 affine_refused text p f h = ap status_of h.2
+
+-- what the checker refuses is refused
+pub refuses_affine : {X : Type 0} (view : X → ProgramTree) (text : List ℕ) (p : ProgramTree) (f : AffineFault) (e : Stop)
+    → e ≡ stop_of (report_of_affine text f) → Refuses p f → Meets view (Err e) (KeepsAffine text p)
+refuses_affine view text p f e is h = subst (λ (x : Stop). Meets view (Err x) (KeepsAffine text p)) (sym is) (go f h)
+  where
+    go : (g : AffineFault) → Refuses p g → Meets view (Err (stop_of (report_of_affine text g))) (KeepsAffine text p)
+    go (affine.Copied at) k = (record { at = at; how = copied }, k, refl)
+    go (affine.Stored at) k = (record { at = at; how = stored }, k, refl)
+    go (affine.UsedTwice at) k = (record { at = at; how = used_twice }, k, refl)
+    go (affine.InLoop at) k = (record { at = at; how = in_loop }, k, refl)
+    go affine.OutOfMemory k = tt

@@ -13,6 +13,7 @@ pub mod Rans
 pub mod Real
 pub mod Replaying
 pub mod Stages
+pub mod StreamAnswers
 pub mod Streams
 pub mod Steps
 pub mod WhyStatus
