@@ -2,7 +2,8 @@
 
 ghost use Rattle.std.specs.Prelude.{◌≡◌, ◌<◌, ◌≤◌, ◌+◌, ◌^◌, ℕ, Bool, All, IfSome, length};
 ghost use Rattle.rev_num.specs.declared.value.NumFault.{NumFault};
-ghost use Rattle.version_map.specs.Composing.{Merges, composed, entries, IsComposed};
+ghost use Rattle.version_map.specs.Composing.{Merges, TrapsAtLeast, composed, entries};
+ghost use Rattle.version_map.specs.Composing.{IsComposed};
 ghost use Rattle.version_map.specs.Eights.{merged_eight};
 ghost use Rattle.version_map.specs.Parts.{IsPart};
 
@@ -64,7 +65,7 @@ pub trait MergeBy {
     }
 }
 
-/// The first location whose merge faults, and how.
+/// The least location whose merge faults, and how.
 #[derive(Clone, Copy, PartialEq, Eq, Debug)]
 pub struct MergeTrap {
     pub location: u32,
@@ -72,8 +73,8 @@ pub struct MergeTrap {
 }
 
 /// Puts the joiner's new words at the locations that the joinee wrote into `values`, in the order
-/// of `end.written`. `mains` are the joiner's words there before. After a fault nothing is said of
-/// `values`.
+/// of `end.written`. `mains` are the joiner's words there before. The error is the least location
+/// whose merge faults, after which nothing is said of `values`.
 ///
 /// Eight written locations that follow each other and are merged at once go by eight; an eight
 /// with a fault goes one by one, so that its first fault is told.
@@ -88,6 +89,7 @@ pub fn compose<M: MergeBy>(
     requires within { All (λ w. w.location < M.size merges.old) end.now.written }
     ensures composed { IsComposed
         (composed (M.merges merges.old) mains.now (entries end.now.written)) result values.new }
+    ensures least { TrapsAtLeast (M.merges merges.old) mains.now end.now.written result }
     ensures size { M.size merges.new ≡ M.size merges.old }
     ensures merges { M.merges merges.new ≡ M.merges merges.old }
 {
