@@ -19,7 +19,7 @@ is_some : {A : Type 0} → Option A → Type 0
 is_some None = ⊥
 is_some (Some x) = Unit {0}
 
-none_some : {A : Type 0} {x : A} → ◌≡◌ {A = Option A} None (Some x) → ⊥
+pub none_some : {A : Type 0} {x : A} → ◌≡◌ {A = Option A} None (Some x) → ⊥
 unfolding is_some
 none_some e = subst is_some (sym e) tt
 

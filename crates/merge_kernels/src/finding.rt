@@ -1,6 +1,6 @@
 //! A kernel in a list, by its definition.
 
-ghost use Rattle.std.specs.Prelude.{◌≡◌, ◌<◌, IfNone, IfSome, Some, length, map, slice_get};
+ghost use Rattle.std.specs.Prelude.{◌≡◌, ◌<◌, IfNone, IfSome, Some, is_some, length, map, slice_get};
 ghost use Rattle.merge_kernels.specs.Lists.{IsFirst, IsNowhere};
 ghost use Rattle.merge_kernels.specs.Terms.{definition};
 
@@ -8,9 +8,12 @@ use crate::equal::same;
 use crate::kernel::Kernel;
 use crate::term::MergeDef;
 
-fn kernel_at(kernels: &[Kernel], n: usize) -> &Kernel
+/// The kernel at this place.
+pub fn kernel_at(kernels: &[Kernel], n: usize) -> &Kernel
     requires { n < length kernels.now }
-    ensures { slice_get (map (λ k. definition k.def) kernels.now) n
+    ensures row { slice_get (map (λ k. is_some k.row) kernels.now) n
+        ≡ Some (is_some result.now.row) }
+    ensures def { slice_get (map (λ k. definition k.def) kernels.now) n
         ≡ Some (definition result.now.def) }
 {
     &kernels[n]

@@ -1,10 +1,11 @@
 //! Which kernel merges which location.
 
-ghost use Rattle.std.specs.Prelude.{◌≡◌, IfSome, is_some, length, map, option_map};
+ghost use Rattle.std.specs.Prelude.{◌≡◌, ◌≤◌, ◌+◌, IfSome, drop, is_some, length, map, option_map, take};
 ghost use Rattle.std.specs.Option.{option_copied};
 ghost use Rattle.merge_kernels.specs.Plans.{AreWithin, IsRowFor, choice_at, chosen_at, has_row, have, row_choice};
 ghost use Rattle.merge_kernels.specs.Terms.{definition};
 
+use crate::finding::kernel_at;
 use crate::kernel::{Kernel, RowKernel};
 
 /// For each location the number of a kernel, or none. It is made once, and lent to all threads of a
@@ -57,7 +58,7 @@ impl<'k> KernelPlan<'k> {
             (map (λ k. definition k.def) self.now.kernels.now) first (definition r.now.def)) }
     {
         match self.one_choice(first) {
-            Some(n) => self.kernels[n as usize].row(),
+            Some(n) => kernel_at(self.kernels, n as usize).row(),
             None => None,
         }
     }
@@ -66,20 +67,32 @@ impl<'k> KernelPlan<'k> {
     fn one_choice(&self, first: u32) -> Option<u32>
         ensures { result ≡ row_choice self.now.choices.items first }
     {
-        let first = first as usize;
+        let at = first as usize;
         let choices = self.choices.as_slice();
-        if choices.len() < first + 8 {
+        if choices.len() < at + 8 {
             return None;
         }
-        let Some(n) = choices[first] else {
+        let Some(n) = self.choice(first) else {
             return None;
         };
-        if all_have(&choices[first..first + 8], n) {
+        if all_have(&eight_choices(choices, at), n) {
             Some(n)
         } else {
             None
         }
     }
+}
+
+/// The choices of eight locations.
+fn eight_choices(choices: &[Option<u32>], at: usize) -> [Option<u32>; 8]
+    requires { at + 8 ≤ length choices.now }
+    ensures { result ≡ take 8 (drop at choices.now) }
+{
+    let mut eight = [None; 8];
+    for k in 0..8usize {
+        eight[k] = choices[at + k];
+    }
+    eight
 }
 
 /// Whether each of these is this choice.
