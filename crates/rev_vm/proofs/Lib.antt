@@ -11,3 +11,4 @@ pub mod Legs
 pub mod Values
 pub mod Mains
 pub mod Boxes
+pub mod Claims
