@@ -42,12 +42,7 @@ fn taken_over(
     let end = end_of(alloc, count)?;
     let mains = mains_of(alloc, count, greatest)?;
     let mut values = mains_of(alloc, count, &[])?;
-    match compose(
-        mains.as_slice(),
-        &end,
-        &mut merges,
-        values.as_mut_slice(),
-    ) {
+    match compose(mains.as_slice(), &end, &mut merges, values.as_mut_slice()) {
         Ok(()) => Ok(Ok(values)),
         Err(trap) => Ok(Err(trap)),
     }
@@ -97,7 +92,14 @@ pub fn traps_in_each(
             return Ok(false);
         }
         greatest.push(at)?;
-        if !composes(alloc, kernels, plans, count, greatest.as_slice(), want.as_str())? {
+        if !composes(
+            alloc,
+            kernels,
+            plans,
+            count,
+            greatest.as_slice(),
+            want.as_str(),
+        )? {
             return Ok(false);
         }
     }

@@ -15,7 +15,7 @@ pub fn is_found(
     let Some(typed) = typed_of(alloc, text.as_bytes()) else {
         return Err(CaseFault::Malformed);
     };
-    if typed.expanded.merges.len() == 0 {
+    if typed.expanded.merges.as_slice().is_empty() {
         return Err(CaseFault::Malformed);
     }
     let Some(def) = closed(alloc, &typed.expanded, 0)? else {

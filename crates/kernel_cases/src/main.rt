@@ -14,8 +14,10 @@ mod plans;
 mod rows;
 
 use case_tables::{Pieces, Tally, play_table};
-use merge_kernels::{Kernel, RowKernel, RowRun, Run, sum_lanes};
-use merge_kernels::{greatest, greatest_def, least, least_def, sum, sum_def};
+use merge_kernels::{
+    Kernel, RowKernel, RowRun, Run, greatest, greatest_def, least, least_def, sum, sum_def,
+    sum_lanes,
+};
 use rev_num::NumFault;
 use rows::{MARKS, play};
 use std::io;

@@ -8,7 +8,9 @@ use std::alloc::Global;
 use std::io;
 
 /// The marks that a line may have.
-pub const MARKS: &[&str] = &["#", "find", "compose", "each", "k", "plan", "main", "|", ">"];
+pub const MARKS: &[&str] = &[
+    "#", "find", "compose", "each", "k", "plan", "main", "|", ">",
+];
 
 /// The first so many kernels, as the row says; all, where it says nothing.
 fn kernels_of<'a>(all: &'a [Kernel], row: &str) -> Result<&'a [Kernel], CaseFault> {

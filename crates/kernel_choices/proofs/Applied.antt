@@ -128,7 +128,7 @@ module _ (m j r : PlacedName) where
   found w =
       find-added w r.text (Some k.Int) two
       ∙ ap (λ o. or_else o (if same w r.text then Some (Some k.Int) else None))
-        (find-added w j.text (Some k.Int) one ∙ ap (λ o. or_else o (if same w j.text then Some (Some k.Int) else None)) (find-added w m.text (Some k.Int) []))
+      (find-added w j.text (Some k.Int) one ∙ ap (λ o. or_else o (if same w j.text then Some (Some k.Int) else None)) (find-added w m.text (Some k.Int) []))
 
   -- a name that means none of the three is no local
   name_by : (x y z : Bool) (o : Option (Option ValueKind))

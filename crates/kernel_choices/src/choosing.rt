@@ -42,7 +42,7 @@ fn kernel_of(
     ensures { IfOk result (IsChoice (whole typed.now.expanded.program)
         (map (λ k. definition k.def) kernels.now) (Some merge)) }
 {
-    if merge as usize >= typed.expanded.merges.len() {
+    if merge as usize >= typed.expanded.merges.as_slice().len() {
         return Ok(None);
     }
     match closed(alloc, &typed.expanded, merge)? {

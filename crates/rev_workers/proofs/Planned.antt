@@ -47,6 +47,6 @@ pub stands_too : (g : CodeRun) (choices : List (Option ℕ)) (kernels : List Exp
 stands_too g choices kernels ok plan stands l kind at x y z u v w hx hy hz =
     by_choice (chosen_at choices kernels l) _ (word_merges g.code l) u v w (stands l kind at x y z u v w hx hy hz)
     (λ e is.
-      let p = plan.1 l e is in
-      let i = int_there g.code ok l p.0 kind p.1 at in
-      agrees g.code choices kernels plan l e is u v w (below x u (hx.of_kind ∙ i) hx.word) (below y v (hy.of_kind ∙ i) hy.word) (below z w (hz.of_kind ∙ i) hz.word))
+    let p = plan.1 l e is in
+    let i = int_there g.code ok l p.0 kind p.1 at in
+    agrees g.code choices kernels plan l e is u v w (below x u (hx.of_kind ∙ i) hx.word) (below y v (hy.of_kind ∙ i) hy.word) (below z w (hz.of_kind ∙ i) hz.word))

@@ -26,13 +26,13 @@ abbrev pub IsValueOf : Code → ℕ → Expression → Type 0
 IsValueOf code n e =
     (main join root : ℤ) → fits_i64 main ≡ true → fits_i64 join ≡ true → fits_i64 root ≡ true
     → merged_by (values {H = ℕ} code) (Some n) (int main) (int join) (int root)
-      ≡ number_word (answer_of e main join root)
+    ≡ number_word (answer_of e main join root)
 
 abbrev pub IsPlanFor : Code → List (Option ℕ) → List Expression → Type 0
 IsPlanFor code choices kernels =
     (length choices ≡ count code.vars)
     × ((location : ℕ) (e : Expression) → chosen_at choices kernels location ≡ Some e
-      → (n : ℕ) × (slice_get (merges_of code.vars) location ≡ Some (Some n)) × IsValueOf code n e)
+    → (n : ℕ) × (slice_get (merges_of code.vars) location ≡ Some (Some n)) × IsValueOf code n e)
 
 abbrev pub planned : Code → List (Option ℕ) → List Expression → Merges ℕ
 planned code choices kernels = overlaid choices kernels (word_merges code)

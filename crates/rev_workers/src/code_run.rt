@@ -30,13 +30,7 @@ pub struct NotRun<'a, 's, M: MergeBy> {
 /// start, by one thread for each hand, of which there is one at least and fewer than 2^32. Its
 /// schedule is legal for the code, and complete where no halt was entered. The error is want of
 /// memory.
-pub fn run_code<
-    'a,
-    's,
-    M: MergeBy + Send + Sync,
-    G: Gate + Sync,
-    R: Threads + Wait + Sync,
->(
+pub fn run_code<'a, 's, M: MergeBy + Send + Sync, G: Gate + Sync, R: Threads + Wait + Sync>(
     rt: &R,
     alloc: Global,
     setting: &'a CodeSetting,

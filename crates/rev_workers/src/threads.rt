@@ -106,13 +106,7 @@ fn left_of<'a, 's, M: MergeBy + Drop>(
 }
 
 // A run over an open store, by a thread for each of these merges.
-fn run_over<
-    'a,
-    's,
-    M: MergeBy + Drop + Send + Sync,
-    G: Gate + Sync,
-    R: Threads + Wait + Sync,
->(
+fn run_over<'a, 's, M: MergeBy + Drop + Send + Sync, G: Gate + Sync, R: Threads + Wait + Sync>(
     rt: &R,
     alloc: Global,
     setting: &'a CodeSetting,
