@@ -10,7 +10,7 @@ ghost use Rattle.thread_runs.specs.Runs.{IsRunOf};
 use crate::ran::Ran;
 use code_runs::note_inputs;
 use code_verifier::Verified;
-use hub_outcomes::outcome_of_run;
+use hub_outcomes::{outcome_of_run, owned_ends};
 use hub_workers::Gate;
 use leg_run::CodeSetting;
 use merge_kernels::KernelPlan;
@@ -59,9 +59,12 @@ pub fn run_threads<'k, R: Threads + Wait + Sync, G: Gate + Sync>(
         live,
         closed,
     } = left;
+    let (order, kept) = run.into_schedule();
+    let ends = owned_ends(alloc, kept)?;
     Ok(Ran {
         outcome,
-        order: run.into_schedule(),
+        order,
+        ends,
         copies,
         live,
         closed,
