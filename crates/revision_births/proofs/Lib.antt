@@ -1,0 +1,4 @@
+pub mod Witness
+pub mod Births
+pub mod Leaves
+pub mod News
