@@ -31,11 +31,10 @@ use Rattle.rev_messages.specs.declared.fault.TextFault.TheVariants as fault
 use Rattle.rev_messages.specs.declared.refusal.Refusal.{Refusal}
 use Rattle.rev_messages.specs.declared.refusal.Refusal.TheVariants as refusals
 use Rattle.rev_messages.specs.Refusals.{status_of}
-use Rattle.rev_types.proofs.Accepting.{accepts}
 use Rattle.static_rules.specs.Funs.{IsFirstBrokenFun}
 use Rattle.static_rules.specs.Breaks.{IsFirstBroken}
 use Rattle.static_rules.proofs.FunFaults.{same_first_fun}
-use Rattle.static_rules.proofs.Fronts.{same_first}
+use Rattle.static_rules.proofs.Fronts.{none_listed, same_first}
 use Rattle.rev_top.specs.Stops.{Meets, report_of_syntax, stop_of}
 use Rattle.rev_top.specs.Stages.{Reports}
 use Rattle.rev_top.specs.Texts.{Checks, ChecksTokens, ChecksTree, Cuts, KeepsFuns, KeepsTypes, Reads, fault_at, place_in, reading, report_of_funs, report_of_lexical, report_of_types, unexpected_at}
@@ -144,9 +143,9 @@ of_list text p r h = record { fault = h.fault; comes = (same_first p h.fault).1 
 one_types : (text : List ℕ) (p : ProgramTree) → One (KeepsTypes text p)
 one_types text p (Ok q) (Ok r) h k = ap (λ (x : ProgramTree). Ok x) (h.0 ∙ sym k.0)
 one_types text p (Ok q) (Err s) h k =
-    absurd (no_first types.place types.rank (program.faults p) k.fault (accepts p h.1) ((same_first p k.fault).1 k.comes))
+    absurd (no_first types.place types.rank (program.faults p) k.fault (none_listed p h.1) ((same_first p k.fault).1 k.comes))
 one_types text p (Err r) (Ok q) h k =
-    absurd (no_first types.place types.rank (program.faults p) h.fault (accepts p k.1) ((same_first p h.fault).1 h.comes))
+    absurd (no_first types.place types.rank (program.faults p) h.fault (none_listed p k.1) ((same_first p h.fault).1 h.comes))
 one_types text p (Err r) (Err s) h k =
     ap (λ (x : Refusal). Err x) (one_report types.place types.rank (report_of_types text) (types_by text) (program.faults p) (λ f among. types_by_rank text f (own_limits p f among)) r s (of_list text p r h) (of_list text p s k))
 

@@ -13,12 +13,12 @@ use Rattle.rev_parse.proofs.SomeVerdict.{some_verdict}
 use Rattle.rev_parse.proofs.SmallPrograms.{program_small}
 use Rattle.merge_decl.specs.declared.expand.MergeFault.{MergeFault}
 use Rattle.rev_kinds.specs.declared.fault.TypeFault.{TypeFault}
-use Rattle.rev_types.specs.Accepted.{IsWellTyped}
 use Rattle.rev_types.proofs.Accepting.{accepts}
 use Rattle.static_rules.specs.Front.{Outcome, fault_in}
 use Rattle.static_rules.specs.Front as outcome
 use Rattle.static_rules.proofs.FunFaults.{funs_kept}
-use Rattle.static_rules.proofs.Fronts.{has_one}
+use Rattle.static_rules.specs.Breaks.{BreaksNone}
+use Rattle.static_rules.proofs.Fronts.{has_one, none_broken, typed_where_none}
 use Rattle.rev_messages.specs.declared.refusal.Refusal.{Refusal}
 use Rattle.rev_top.specs.Answer.{source_limit}
 use Rattle.rev_top.specs.Stages.{Onward}
@@ -116,7 +116,8 @@ module _ (text : List ℕ) (short : length text ≤ source_limit) where
       let e : q ≡ p = k.0 ∙ h.0 in
       let d : r ≡ p = h.0 in
       subst (λ (x : ProgramTree). IsFinding text (accepted x)) (sym e)
-      (record { tokens = ts; cut = cut; verdict = v }, h.1, subst (λ (x : ProgramTree). IsWellTyped x) d k.1)
+      (let here : HasVerdict text (tree p) = record { tokens = ts; cut = cut; verdict = v } in
+      (here, h.1, (typed_where_none p (small p here) h.1).0 (subst (λ (x : ProgramTree). BreaksNone x) d k.1)))
   of_kept ts p q cut v (Err f) h k = cc
 
   of_read : (ts : List Token) (q : ProgramTree) → IsTokens text ts → (v : Verdict) → IsVerdict text ts v → Onward (ChecksTree text) (reading text v) (Ok q) → IsFinding text (accepted q)
@@ -134,7 +135,7 @@ module _ (text : List ℕ) (short : length text ≤ source_limit) where
 
   to_check : (q : ProgramTree) → IsFinding text (accepted q) → Checks text (Ok q)
   unfolding Checks
-  to_check q h = (Ok h.0.tokens, h.0.cut, (Ok q, (tree q, h.0.verdict, refl), (Ok q, (refl, h.1), (refl, h.2))))
+  to_check q h = (Ok h.0.tokens, h.0.cut, (Ok q, (tree q, h.0.verdict, refl), (Ok q, (refl, h.1), (refl, none_broken q h.2))))
 
   front : HasOneFinding text
   front =

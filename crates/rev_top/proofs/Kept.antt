@@ -7,8 +7,10 @@ use Rattle.rev_words.specs.Reading.{reading}
 use Rattle.rev_words.specs.declared.Words.{Words}
 use Rattle.rev_messages.specs.Refusals.{shown}
 use Rattle.rev_top.specs.Answer.{Answer, Answers, Takes, reads}
-use Rattle.rev_top.specs.Delivery.{Happened, Wrote, all_written, answered, err_failed, no_report, no_room_at_err, no_room_at_out, out_failed}
+use Rattle.thread_runs.specs.declared.ran.Ran.{Ran}
+use Rattle.rev_top.specs.Delivery.{Wrote, all_written, err_failed, no_room_at_err, no_room_at_out, out_failed}
 use Rattle.rev_top.specs.Promises.{Calm, Cut, Feeds, IsPartOf, IsRefused, IsWritten, Keeps}
+use Rattle.rev_top.specs.Rans.{Happened, answered, no_report}
 use Rattle.rev_top.proofs.Answering.{Why, answer_to, at_most_5, failed, out_of, plain, unread, why}
 use Rattle.rev_top.proofs.OneAnswers.{one_answer_to}
 
@@ -69,27 +71,27 @@ module _ (w : Option Words) (old new : Stream) (Sinks : Type 0) (status : ℕ) w
   write_fault_of (inr (inl both)) at = both.1
   write_fault_of (inr (inr is)) at = absurd (omega arith)
 
-module _ (w : Option Words) (source source' out out' err err' : Stream) (status : ℕ) where
-  causes : Happened w source source' out out' err err' status → Causes w source source' (Rose out out' ⊎ Rose err err') status
-  causes (answered a h (all_written wrote)) = inl (subst (λ (n : ℕ). Why w source source' n) (sym wrote.ends) (why w source source' a h))
-  causes (answered a h (out_failed is d)) = inr (inl (is, inl d.rose))
-  causes (answered a h (err_failed is d)) = inr (inl (is, inr d.rose))
-  causes (answered a h (no_room_at_out is d)) = inr (inr is)
-  causes (answered a h (no_room_at_err is d)) = inr (inr is)
-  causes (no_report is d) = inr (inr is)
+module _ (w : Option Words) (source source' out out' err err' : Stream) (ran : Option Ran) (status : ℕ) where
+  causes : Happened w source source' out out' err err' ran status → Causes w source source' (Rose out out' ⊎ Rose err err') status
+  causes (answered a h l (all_written wrote)) = inl (subst (λ (n : ℕ). Why w source source' n) (sym wrote.ends) (why w source source' a h))
+  causes (answered a h l (out_failed is d)) = inr (inl (is, inl d.rose))
+  causes (answered a h l (err_failed is d)) = inr (inl (is, inr d.rose))
+  causes (answered a h l (no_room_at_out is d)) = inr (inr is)
+  causes (answered a h l (no_room_at_err is d)) = inr (inr is)
+  causes (no_report is none d) = inr (inr is)
 
   -- what was written where nothing cut it short
-  written_of : Happened w source source' out out' err err' status → (Cut status → ⊥)
+  written_of : Happened w source source' out out' err err' ran status → (Cut status → ⊥)
       → (a : Answer) × Answers w source source' a × Wrote (shown a) out out' err err' status
-  written_of (answered a h (all_written wrote)) whole = (a, h, wrote)
-  written_of (answered a h (out_failed is d)) whole = absurd (whole (inl is))
-  written_of (answered a h (err_failed is d)) whole = absurd (whole (inl is))
-  written_of (answered a h (no_room_at_out is d)) whole = absurd (whole (inr is))
-  written_of (answered a h (no_room_at_err is d)) whole = absurd (whole (inr is))
-  written_of (no_report is d) whole = absurd (whole (inr is))
+  written_of (answered a h l (all_written wrote)) whole = (a, h, wrote)
+  written_of (answered a h l (out_failed is d)) whole = absurd (whole (inl is))
+  written_of (answered a h l (err_failed is d)) whole = absurd (whole (inl is))
+  written_of (answered a h l (no_room_at_out is d)) whole = absurd (whole (inr is))
+  written_of (answered a h l (no_room_at_err is d)) whole = absurd (whole (inr is))
+  written_of (no_report is none d) whole = absurd (whole (inr is))
 
   -- where nothing failed, no sink cut the answer short
-  not_cut : Happened w source source' out out' err err' status → Calm out out' err err' status → Cut status → ⊥
+  not_cut : Happened w source source' out out' err err' ran status → Calm out out' err err' status → Cut status → ⊥
   not_cut h calm (inl is) = go (write_fault_of w source source' (Rose out out' ⊎ Rose err err') status (causes h) is)
     where
       go : Rose out out' ⊎ Rose err err' → ⊥
@@ -97,27 +99,27 @@ module _ (w : Option Words) (source source' out out' err err' : Stream) (status 
       go (inr rose) = calm.told rose
   not_cut h calm (inr is) = calm.room is
 
-  headline_of : Happened w source source' out out' err err' status → Calm out out' err err' status
+  headline_of : Happened w source source' out out' err err' ran status → Calm out out' err err' status
       → (all : List ℕ) → Feeds (reads w) source source' all → IsWritten w all out out' err err' status
   headline_of h calm all fed =
       let one = written_of h (not_cut h calm) in
       record { answer = one.0; says = answer_to w source source' one.0 one.1 all fed; wrote = one.2 }
 
-  out_failed_of : Happened w source source' out out' err err' status → out.faults < out'.faults → status ≡ 6
-  out_failed_of (answered a h (all_written wrote)) rose = absurd (omega (arith, wrote.on_out.calm))
-  out_failed_of (answered a h (out_failed is d)) rose = is
-  out_failed_of (answered a h (err_failed is d)) rose = is
-  out_failed_of (answered a h (no_room_at_out is d)) rose = absurd (omega (arith, d.calm))
-  out_failed_of (answered a h (no_room_at_err is d)) rose = absurd (omega (arith, d.on_out.calm))
-  out_failed_of (no_report is d) rose = absurd (omega (arith, ap (λ (x : Stream). x.faults) d.untouched))
+  out_failed_of : Happened w source source' out out' err err' ran status → out.faults < out'.faults → status ≡ 6
+  out_failed_of (answered a h l (all_written wrote)) rose = absurd (omega (arith, wrote.on_out.calm))
+  out_failed_of (answered a h l (out_failed is d)) rose = is
+  out_failed_of (answered a h l (err_failed is d)) rose = is
+  out_failed_of (answered a h l (no_room_at_out is d)) rose = absurd (omega (arith, d.calm))
+  out_failed_of (answered a h l (no_room_at_err is d)) rose = absurd (omega (arith, d.on_out.calm))
+  out_failed_of (no_report is none d) rose = absurd (omega (arith, ap (λ (x : Stream). x.faults) d.untouched))
 
-  err_failed_of : Happened w source source' out out' err err' status → err.faults < err'.faults → Cut status
-  err_failed_of (answered a h (all_written wrote)) rose = absurd (omega (arith, wrote.on_err.calm))
-  err_failed_of (answered a h (out_failed is d)) rose = inl is
-  err_failed_of (answered a h (err_failed is d)) rose = inl is
-  err_failed_of (answered a h (no_room_at_out is d)) rose = inr is
-  err_failed_of (answered a h (no_room_at_err is d)) rose = inr is
-  err_failed_of (no_report is d) rose = inr is
+  err_failed_of : Happened w source source' out out' err err' ran status → err.faults < err'.faults → Cut status
+  err_failed_of (answered a h l (all_written wrote)) rose = absurd (omega (arith, wrote.on_err.calm))
+  err_failed_of (answered a h l (out_failed is d)) rose = inl is
+  err_failed_of (answered a h l (err_failed is d)) rose = inl is
+  err_failed_of (answered a h l (no_room_at_out is d)) rose = inr is
+  err_failed_of (answered a h l (no_room_at_err is d)) rose = inr is
+  err_failed_of (no_report is none d) rose = inr is
 
   uncut : IsRefused status → Cut status → ⊥
   uncut (inl two) (inl six) = absurd (omega arith)
@@ -127,38 +129,38 @@ module _ (w : Option Words) (source source' out out' err err' : Stream) (status 
   uncut (inr (inr five)) (inl six) = absurd (omega arith)
   uncut (inr (inr five)) (inr seven) = absurd (omega arith)
 
-  refusal_of : Happened w source source' out out' err err' status → IsRefused status → Took out [] out'
+  refusal_of : Happened w source source' out out' err err' ran status → IsRefused status → Took out [] out'
   refusal_of h refused =
       let one = written_of h (uncut refused) in
       subst (λ (bytes : List ℕ). Took out bytes out')
       (out_of w source source' one.0 one.1 (subst (λ (n : ℕ). IsRefused n) one.2.ends refused)) one.2.on_out
 
 -- a first part of an answer, where memory ran out
-module _ (texts : List (List ℕ)) (source source' out out' err err' : Stream) (status : ℕ) where
-  no_room_of : Happened (reading texts) source source' out out' err err' status → status ≡ 7 → (all : List ℕ) → Feeds (reads (reading texts)) source source' all
+module _ (texts : List (List ℕ)) (source source' out out' err err' : Stream) (ran : Option Ran) (status : ℕ) where
+  no_room_of : Happened (reading texts) source source' out out' err err' ran status → status ≡ 7 → (all : List ℕ) → Feeds (reads (reading texts)) source source' all
       → IsPartOf (reading texts) all out out' err err'
-  no_room_of (answered a h (all_written wrote)) at all fed =
+  no_room_of (answered a h l (all_written wrote)) at all fed =
       absurd (omega (arith, wrote.ends, at_most_5 (reading texts) source source' (shown a).status (why (reading texts) source source' a h)))
-  no_room_of (answered a h (out_failed is d)) at all fed = absurd (omega arith)
-  no_room_of (answered a h (err_failed is d)) at all fed = absurd (omega arith)
-  no_room_of (answered a h (no_room_at_out is d)) at all fed =
+  no_room_of (answered a h l (out_failed is d)) at all fed = absurd (omega arith)
+  no_room_of (answered a h l (err_failed is d)) at all fed = absurd (omega arith)
+  no_room_of (answered a h l (no_room_at_out is d)) at all fed =
       record { answer = a; says = answer_to (reading texts) source source' a h all fed; on_out = d.part; on_err = inr d.message }
-  no_room_of (answered a h (no_room_at_err is d)) at all fed =
+  no_room_of (answered a h l (no_room_at_err is d)) at all fed =
       record { answer = a; says = answer_to (reading texts) source source' a h all fed; on_out = some_of out out' (shown a).out d.on_out; on_err = inl d.part }
-  no_room_of (no_report is d) at all fed =
+  no_room_of (no_report is none d) at all fed =
       let one = one_answer_to texts all in
       record { answer = one.answer; says = one.says; on_out = none_of out out' (shown one.answer).out d.untouched; on_err = inr d.message }
 
-pub keeps : (texts : List (List ℕ)) (source source' out out' err err' : Stream) (status : ℕ)
-    → Happened (reading texts) source source' out out' err err' status → Takes (reads (reading texts)) source source'
-    → Keeps (reading texts) source source' out out' err err' status
-keeps texts source source' out out' err err' status h takes =
+pub keeps : (texts : List (List ℕ)) (source source' out out' err err' : Stream) (ran : Option Ran) (status : ℕ)
+    → Happened (reading texts) source source' out out' err err' ran status → Takes (reads (reading texts)) source source'
+    → Keeps (reading texts) source source' out out' err err' ran status
+keeps texts source source' out out' err err' ran status h takes =
     let w : Option Words = reading texts in
-    let cause = causes w source source' out out' err err' status h in
+    let cause = causes w source source' out out' err err' ran status h in
     let untouched : reads w ≡ None → source' ≡ source = unread_of (reads w) source source' takes in
     record {
       happened = h;
-      headline = headline_of w source source' out out' err err' status h;
+      headline = headline_of w source source' out out' err err' ran status h;
       usage = usage_of w source source' (Rose out out' ⊎ Rose err err') status cause;
       no_reading = no_reading_of w source source' (Rose out out' ⊎ Rose err err') status cause;
       unread = untouched;
@@ -166,8 +168,8 @@ keeps texts source source' out out' err err' status h takes =
       read_fault = read_fault_of w source source' (Rose out out' ⊎ Rose err err') status cause;
       source_failed = source_failed_of w source source' (Rose out out' ⊎ Rose err err') status (λ none. untouched (ap reads none)) cause;
       write_fault = write_fault_of w source source' (Rose out out' ⊎ Rose err err') status cause;
-      out_failed = out_failed_of w source source' out out' err err' status h;
-      err_failed = err_failed_of w source source' out out' err err' status h;
-      refusal = refusal_of w source source' out out' err err' status h;
-      no_room = no_room_of texts source source' out out' err err' status h;
+      out_failed = out_failed_of w source source' out out' err err' ran status h;
+      err_failed = err_failed_of w source source' out out' err err' ran status h;
+      refusal = refusal_of w source source' out out' err err' ran status h;
+      no_room = no_room_of texts source source' out out' err err' ran status h;
     }

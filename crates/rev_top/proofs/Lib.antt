@@ -1,3 +1,4 @@
+pub mod Accepting
 pub mod Answering
 pub mod CodeRuns
 pub mod Codes
@@ -14,3 +15,4 @@ pub mod Steps
 pub mod WhyStatus
 pub mod Auditing
 pub mod TraceTexts
+pub mod TextLaws

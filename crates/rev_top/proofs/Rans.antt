@@ -20,10 +20,11 @@ use Rattle.code_generation.specs.Generated.{code_of}
 use Rattle.revision_calculus.specs.Complete.{HasOutcome}
 use Rattle.thread_runs.specs.Runs.{IsRunOf, numbers_of}
 use Rattle.rev_top.specs.Answer.{Answer, Fits, Given, Orders, RunsTo, SaysAs, code_run, reads, reads_of, setting}
-use Rattle.rev_top.specs.Delivery.{Delivered, Happened, Wrote, all_written, err_failed, no_room_at_err, no_room_at_out, out_failed}
-use Rattle.rev_top.specs.Delivery as happened
+use Rattle.rev_top.specs.Delivery.{Delivered, Wrote, all_written, err_failed, no_room_at_err, no_room_at_out, out_failed}
 use Rattle.rev_top.specs.Promises.{IsRefused}
-use Rattle.rev_top.specs.Rans.{Ended, Holds, IsDelivered, IsMade, IsRunStatus, IsReported, IsRunOfCall, Leaves, RanSays, Reports, RunsBy, RunsText, Tells, Told, answered, goes_by_threads, no_report, of_load, of_order, of_run, said, told}
+use Rattle.rev_top.specs.Making.{IsMade, RunsBy, RunsText, Told, said, told}
+use Rattle.rev_top.specs.RanLaws.{IsDelivered, IsRunStatus, IsReported, IsRunOfCall, RanLaw, RanSays, Tells}
+use Rattle.rev_top.specs.Rans.{Happened, Holds, Leaves, Reports, answered, goes_by_threads, no_report, of_load, of_order, of_run}
 use Rattle.rev_top.specs.Stages.{Onward, Then}
 use Rattle.rev_top.specs.Stops.{Meets}
 use Rattle.rev_top.specs.Texts.{Checks}
@@ -123,16 +124,11 @@ pub leaves_by : (w : Words) (old new : Stream) (read : List ℕ) → Given (read
 leaves_by w old new read given (Ok m) h = (read, given, h)
 leaves_by w old new read given (Err e) h = tt
 
--- ---- what happened, without the run
+-- ---- what happened
 
-pub happened_of : (words : Option Words) (source source' out out' err err' : Stream) (ran : Option Ran) (status : ℕ)
-    → Ended words source source' out out' err err' ran status → Happened words source source' out out' err err' status
-happened_of words source source' out out' err err' ran status (answered a h l d) = happened.answered a h d
-happened_of words source source' out out' err err' ran status (no_report is none d) = happened.no_report is d
-
-pub ended : (words : Option Words) (source source' out out' err err' : Stream) (ran : Option Ran) (status : ℕ) (o : Output)
-    → IsMade words source source' ran o → Delivered o out out' err err' status → Ended words source source' out out' err err' ran status
-ended words source source' out out' err err' ran status o m d =
+pub happened : (words : Option Words) (source source' out out' err err' : Stream) (ran : Option Ran) (status : ℕ) (o : Output)
+    → IsMade words source source' ran o → Delivered o out out' err err' status → Happened words source source' out out' err err' ran status
+happened words source source' out out' err err' ran status o m d =
     answered m.0 m.1 m.2 (subst (λ (x : Output). Delivered x out out' err err' status) m.3 d)
 
 -- ---- statuses
@@ -281,7 +277,7 @@ module _ (w : Words) (source source' : Stream) where
 
 module _ (source source' out out' err err' : Stream) (ran : Option Ran) (status : ℕ) where
   abbrev EndedBy : Option Words → Type 0
-  EndedBy words = Ended words source source' out out' err err' ran status
+  EndedBy words = Happened words source source' out out' err err' ran status
 
   ends_at : (a : Answer) → Delivered (shown a) out out' err err' status → status ≤ 5 → status ≡ (shown a).status
   ends_at a d most = (wrote (shown a) out out' err err' status d most).ends
@@ -343,8 +339,7 @@ module _ (source source' out out' err err' : Stream) (ran : Option Ran) (status 
   behind_of words (answered (Ok x) h l d) w is threads held told more =
       is_there w source source' ran x (subst (λ (y : Option Words). Leaves y source source' ran (Ok x)) is l) threads
 
-pub ran_says : (words : Option Words) (source source' out out' err err' : Stream) (ran : Option Ran) (status : ℕ)
-    → Ended words source source' out out' err err' ran status → RanSays words source out out' err err' ran status
+pub ran_says : RanLaw
 ran_says words source source' out out' err err' ran status e = record {
   present = present_of source source' out out' err err' ran status words e;
   reported = reported_of source source' out out' err err' ran status words e;

@@ -1,12 +1,16 @@
+pub mod Accepted
 pub mod Answer
 pub mod Codes
 pub mod Delivery
 pub mod Findings
+pub mod Making
 pub mod Promises
+pub mod RanLaws
 pub mod Rans
 pub mod Schedules
 pub mod Stages
 pub mod Statuses
 pub mod Stops
+pub mod TextLaws
 pub mod Texts
 pub mod Traces

@@ -1,12 +1,14 @@
 -- What the top call promises: `Keeps`, of the words, of what the source and both sinks tell before
--- and after the call, and of its status.
+-- and after the call, of the run that it hands out, and of its status.
 use Rattle.std.specs.Prelude.{ℕ, List, [], ◌≡◌, ◌<◌, ◌⊎◌, ◌+◌, Option, Some, None}
 use Rattle.rev_io.specs.Stream.{Stream, GaveAtMost, Rose, Took, TookSome}
 use Rattle.rev_words.specs.declared.Words.{Words}
 use Rattle.rev_messages.specs.Refusals.{no_memory, shown}
 use Rattle.rev_report.specs.Status.{no_memory_status, read_fault_status, refused_status, usage_status, write_fault_status}
 use Rattle.rev_top.specs.Answer.{Answer, Says, reads}
-use Rattle.rev_top.specs.Delivery.{Happened, Wrote}
+use Rattle.thread_runs.specs.declared.ran.Ran.{Ran}
+use Rattle.rev_top.specs.Delivery.{Wrote}
+use Rattle.rev_top.specs.Rans.{Happened}
 
 -- the source told all these bytes before and did not fail; where a call reads nothing, nothing is
 -- asked of it
@@ -44,11 +46,12 @@ abbrev pub IsRefused : ℕ → Type 0
 IsRefused status = (status ≡ refused_status)
     ⊎ ((status ≡ usage_status) ⊎ (status ≡ read_fault_status))
 
-pub record Keeps (words : Option Words) (source source' out out' err err' : Stream) (status : ℕ)
-    : Type 0 where
-  -- the call made an answer that belongs to its words and to what the source gave, and delivered it,
-  -- up to where a sink failed or memory ran out; or memory ran out before
-  pub happened : Happened words source source' out out' err err' status
+pub record Keeps (words : Option Words) (source source' out out' err err' : Stream) (ran : Option Ran)
+    (status : ℕ) : Type 0 where
+  -- the call made an answer that belongs to its words and to what the source gave, with the run that
+  -- it hands out, and delivered it, up to where a sink failed or memory ran out; or memory ran out
+  -- before
+  pub happened : Happened words source source' out out' err err' ran status
   -- where nothing failed, there is an answer to the words and to all bytes that the source had left,
   -- and the status and the bytes that both sinks took are its own
   pub headline : Calm out out' err err' status → (all : List ℕ)

@@ -14,9 +14,8 @@ use Rattle.merge_decl.specs.declared.expand.MergeFault.{MergeFault}
 use Rattle.merge_decl.specs.declared.expand.MergeFault.TheVariants as fun
 use Rattle.rev_kinds.specs.declared.fault.TypeFault.{TypeFault}
 use Rattle.rev_kinds.specs.declared.fault.TypeFault.TheVariants as type
-use Rattle.rev_types.specs.Accepted.{IsWellTyped}
 use Rattle.static_rules.specs.Funs.{IsFirstBrokenFun, KeepsFunRules}
-use Rattle.static_rules.specs.Breaks.{IsFirstBroken}
+use Rattle.static_rules.specs.Breaks.{BreaksNone, IsFirstBroken}
 use Rattle.rev_messages.specs.declared.fault.Place.{Place}
 use Rattle.rev_messages.specs.declared.fault.TextFault.{TextFault}
 use Rattle.rev_messages.specs.declared.fault.TextFault.TheVariants as fault
@@ -79,9 +78,9 @@ abbrev pub KeepsFuns : List ℕ → ProgramTree → Result ProgramTree Refusal �
 KeepsFuns text p (Ok q) = (q ≡ p) × KeepsFunRules p
 KeepsFuns text p (Err r) = Reports (IsFirstBrokenFun p) (report_of_funs text) r
 
--- the program, where it is well typed and within the limits, or the first of the other rules that it breaks
+-- the program, where it breaks none of the other rules and no limit, or the first that it breaks
 abbrev pub KeepsTypes : List ℕ → ProgramTree → Result ProgramTree Refusal → Type 0
-KeepsTypes text p (Ok q) = (q ≡ p) × IsWellTyped p
+KeepsTypes text p (Ok q) = (q ≡ p) × BreaksNone p
 KeepsTypes text p (Err r) = Reports (IsFirstBroken p) (report_of_types text) r
 
 abbrev pub ChecksTree : List ℕ → ProgramTree → Result ProgramTree Refusal → Type 0

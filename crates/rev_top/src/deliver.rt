@@ -8,10 +8,11 @@ ghost use Rattle.rev_messages.specs.Refusals.{no_memory};
 ghost use Rattle.rev_report.specs.Status.{no_memory_status};
 ghost use Rattle.rev_top.specs.Answer.{Takes, reads};
 ghost use Rattle.rev_top.specs.Delivery.{Delivered};
-ghost use Rattle.rev_top.specs.Rans.{Ended};
+ghost use Rattle.rev_top.specs.Rans.{Happened};
 
 use crate::answer::make_report;
 use hub_workers::Gate;
+use merge_kernels::Kernel;
 use rev_io::{Sink, SinkFault, Source, write_all};
 use rev_messages::no_memory_message;
 use rev_report::{Report, status};
@@ -55,14 +56,15 @@ pub fn happen<R: Threads + Wait + Sync, S: Source, O: Sink, E: Sink, G: Gate + S
     err: &mut E,
     gate: &G,
     ran: &mut Option<Ran>,
+    kernels: &[Kernel],
 ) -> u8
-    ensures ended { Ended (reading (map string_bytes words.now))
+    ensures happened { Happened (reading (map string_bytes words.now))
         (S.stream source.old) (S.stream source.new) (O.stream out.old) (O.stream out.new)
         (E.stream err.old) (E.stream err.new) ran.new result }
     ensures takes { Takes (reads (reading (map string_bytes words.now)))
         (S.stream source.old) (S.stream source.new) }
 {
-    match make_report(rt, alloc, words, source, gate) {
+    match make_report(rt, alloc, words, source, gate, kernels) {
         Ok(made) => {
             *ran = made.ran;
             deliver(out, err, &made.report)

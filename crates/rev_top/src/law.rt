@@ -1,6 +1,9 @@
 //! Laws of the definitions: functions that do nothing, whose clauses are the laws.
 ghost use Rattle.rev_top.specs.Findings.{FrontEnd};
+ghost use Rattle.rev_top.specs.RanLaws.{RanLaw};
 ghost use Rattle.rev_top.specs.Statuses.{ListingLaw, OneAnswer, StatusLaw};
+ghost use Rattle.rev_top.specs.TextLaws.{AuditsOwnTrace, LoadEndsAsRuns, LoadIsAccepted};
+ghost use Rattle.rev_top.specs.TextLaws.{NoProgramBeginsATrace};
 
 use code_file::file_laws;
 
@@ -31,4 +34,23 @@ pub fn listing_law()
 /// takes as a program, and it meets the premise of the laws on kinds.
 pub fn one_finding()
     ensures { FrontEnd }
+{}
+
+/// What is handed out of a run follows from what happened in the call, whatever the source tells.
+pub fn ran_law()
+    ensures { RanLaw }
+{}
+
+/// For each seed and each size in range the text that `load` makes is accepted, and so an answer of
+/// `load` has the status of a run: done, trapped, or a revision was joined twice.
+pub fn load_law()
+    ensures accepted { LoadIsAccepted }
+    ensures ends { LoadEndsAsRuns }
+{}
+
+/// Behind whole lines of a text that is accepted no trace begins; so the answer of `audit` to such
+/// a text of whole lines and the trace of its runs is `yes`, where that has the form of a trace.
+pub fn trace_law()
+    ensures none_begins { NoProgramBeginsATrace }
+    ensures own_trace { AuditsOwnTrace }
 {}

@@ -4,8 +4,9 @@
 ghost use Rattle.std.specs.Prelude.{map};
 ghost use Rattle.std.specs.String.{string_bytes};
 ghost use Rattle.rev_words.specs.Reading.{reading};
+ghost use Rattle.rev_top.specs.Accepted.{Accepted};
 ghost use Rattle.rev_top.specs.Promises.{Keeps};
-ghost use Rattle.rev_top.specs.Rans.{RanSays};
+ghost use Rattle.rev_top.specs.RanLaws.{RanSays};
 
 mod answer;
 mod audits;
@@ -24,7 +25,8 @@ mod traces;
 use deliver::happen;
 pub use deliver::out_of_memory;
 use hub_workers::Gate;
-pub use law::{listing_law, one_answer, one_finding, statuses};
+pub use law::{listing_law, load_law, one_answer, one_finding, ran_law, statuses, trace_law};
+use merge_kernels::Kernel;
 use rev_io::{Sink, Source};
 use std::sync::Wait;
 use std::thread::Threads;
@@ -69,13 +71,17 @@ pub fn rev_main<
     err: &mut E,
     gate: &G,
     ran: &mut Option<Ran>,
+    kernels: &[Kernel],
 ) -> u8
     ensures keeps { Keeps (reading (map string_bytes words.now))
+        (S.stream source.old) (S.stream source.new) (O.stream out.old) (O.stream out.new)
+        (E.stream err.old) (E.stream err.new) ran.new result }
+    ensures accepted { Accepted (reading (map string_bytes words.now))
         (S.stream source.old) (S.stream source.new) (O.stream out.old) (O.stream out.new)
         (E.stream err.old) (E.stream err.new) result }
     ensures ran { RanSays (reading (map string_bytes words.now))
         (S.stream source.old) (O.stream out.old) (O.stream out.new)
         (E.stream err.old) (E.stream err.new) ran.new result }
 {
-    happen(rt, rt.alloc(), words, source, out, err, gate, ran)
+    happen(rt, rt.alloc(), words, source, out, err, gate, ran, kernels)
 }

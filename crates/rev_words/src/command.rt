@@ -1,6 +1,6 @@
 //! The command that takes the words, and what it finds in them.
 
-ghost use Rattle.std.specs.Prelude.{◌≡◌, IfOk, false, map, option_map};
+ghost use Rattle.std.specs.Prelude.{◌≡◌, ◌↔◌, IfOk, false, map, option_map};
 ghost use Rattle.std.specs.String.{string_bytes};
 ghost use Rattle.clap.specs.Words.{all_of, app_of, first_of, found_of, kind_of, rows_of, rule_of};
 ghost use Rattle.rev_words.specs.Command as spec;
@@ -65,9 +65,9 @@ fn command<'a>(alloc: Global) -> Result<Command<'a>, AllocError>
         .arg(number_option(alloc, "size"))
 }
 
-/// The fault for an error of the command: wrong usage only where the error is no want of memory.
+/// The fault for an error of the command: wrong usage exactly where the error is no want of memory.
 fn fault_of(error: &Error) -> WordsFault
-    ensures { result ≡ WordsFault.Usage → kind_of error.now ≡ ErrorKind.OutOfMemory → ⊥ }
+    ensures { (result ≡ WordsFault.Usage) ↔ (kind_of error.now ≡ ErrorKind.OutOfMemory → ⊥) }
 {
     match error.kind() {
         ErrorKind::OutOfMemory => WordsFault::OutOfMemory,

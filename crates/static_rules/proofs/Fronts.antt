@@ -1,5 +1,5 @@
 -- A program is well typed, or there is one first rule that it breaks.
-use Rattle.std.proofs.Common.{◌≡◌, ◌∙◌, ◌⊎◌, inl, inr, ℕ, ◌<◌, ◌≤◌, cond, nat_eq, Option, Some, None, [], refl, sym, ap, subst, arith}
+use Rattle.std.proofs.Common.{◌≡◌, ◌∙◌, ◌⊎◌, inl, inr, ℕ, ◌<◌, ◌≤◌, cond, nat_eq, Option, Some, None, List, [], ◌∷◌, refl, sym, ap, subst, arith}
 use Rattle.rev_syntax.specs.Trees.{ProgramTree}
 use Rattle.rev_syntax.specs.Small.{IsSmall}
 use Rattle.merge_decl.specs.FunRules.{fun_faults}
@@ -18,8 +18,8 @@ use Rattle.rev_types.specs.Accepted.{IsWellTyped}
 use Rattle.rev_types.proofs.Accepting.{well_typed, accepts}
 use Rattle.rev_types.proofs.OwnLimits.{own_limits}
 use Rattle.static_rules.specs.Front.{Outcome, of_funs, accepted, of_types, fault_in}
-use Rattle.static_rules.specs.Breaks.{IsFirstBroken}
-use Rattle.static_rules.specs.Laws.{Decided, SameFirst, OneOutcome}
+use Rattle.static_rules.specs.Breaks.{BreaksNone, IsFirstBroken}
+use Rattle.static_rules.specs.Laws.{Decided, SameFirst, OneOutcome, TypedWhereNone}
 use Rattle.static_rules.specs.Funs.{IsFirstBrokenFun}
 use Rattle.static_rules.proofs.FunFaults.{same_first_fun, funs_kept}
 use Rattle.static_rules.proofs.Whole.{same}
@@ -67,10 +67,27 @@ decide : (p : ProgramTree) → IsSmall p → fun_faults p ≡ [] → (o : Option
 decide p small funs None e = inl (well_typed p small funs (none_is place rank (faults p) e))
 decide p small funs (Some f) e = inr (f, first_broken p f (first_is place rank (faults p) f e))
 
+-- ---- where nothing is broken
+
+-- what is well typed breaks nothing
+pub none_broken : (p : ProgramTree) → IsWellTyped p → BreaksNone p
+none_broken p w f b = absurd (subst (λ fs. Among fs f) (accepts p w) ((same p f).1 b))
+
+none_among : (fs : List TypeFault) → ((f : TypeFault) → Among fs f → ⊥) → fs ≡ []
+none_among [] h = refl
+none_among (f ∷ fs) h = absurd (h f (inl refl))
+
+-- and the checker's list is empty where nothing is broken
+pub none_listed : (p : ProgramTree) → BreaksNone p → faults p ≡ []
+none_listed p h = none_among (faults p) (λ f m. h f ((same p f).0 m))
+
+pub typed_where_none : TypedWhereNone
+typed_where_none p small kept = (λ h. well_typed p small ((funs_kept p).1 kept) (none_listed p h), none_broken p)
+
 pub decided : Decided
 decided p small kept = record {
   one = decide p small ((funs_kept p).1 kept) _ refl;
-  not_both = λ f w b. absurd (subst (λ fs. Among fs f) (accepts p w) ((same p f).1 b));
+  not_both = λ f w b. none_broken p w f b;
   only = one_first p;
 }
 

@@ -154,6 +154,10 @@ pub data Breaks (p : ProgramTree) : TypeFault → Type 0 where
   too_heavy : {before : List Declaration} {e : Declaration}
       → IsBehind before e p.declarations → most limits.Weight < declaration_weight (weights_after [] before) e → Breaks p (exceeded (word_of e).at limits.Weight)
 
+-- a program breaks no rule and no limit
+abbrev pub BreaksNone : ProgramTree → Type 0
+BreaksNone p = (f : TypeFault) → Breaks p f → ⊥
+
 -- of all that a program breaks this is at the least place, and there of the least number
 pub record IsFirstBroken (p : ProgramTree) (f : TypeFault) : Type 0 where
   pub broken : Breaks p f

@@ -3,7 +3,7 @@
 --
 -- `Same`, `SameFuns`: the list has exactly the faults of the rules; `SameFirst`, `SameFirstFun`: and the
 -- same first one; `FunsKept`: no fault of a fun; `Decided`: a program is well typed or has a first fault;
--- `OneOutcome`: with the faults of funs before.
+-- `TypedWhereNone`: it is well typed where it breaks none; `OneOutcome`: with the faults of funs before.
 use Rattle.std.specs.Prelude.{◌≡◌, ◌↔◌, []}
 use Rattle.rev_syntax.specs.Trees.{ProgramTree}
 use Rattle.rev_syntax.specs.Small.{IsSmall}
@@ -13,7 +13,8 @@ use Rattle.merge_decl.specs.declared.expand.MergeFault.{MergeFault}
 use Rattle.rev_kinds.specs.declared.fault.TypeFault.{TypeFault}
 use Rattle.rev_kinds.specs.Faults.{place, rank}
 use Rattle.rev_types.specs.Program.{faults}
-use Rattle.static_rules.specs.Breaks.{Breaks, IsFirstBroken}
+use Rattle.rev_types.specs.Accepted.{IsWellTyped}
+use Rattle.static_rules.specs.Breaks.{Breaks, BreaksNone, IsFirstBroken}
 use Rattle.static_rules.specs.Funs.{BreaksFun, IsFirstBrokenFun, KeepsFunRules}
 use Rattle.static_rules.specs.Front.{IsDecided, Outcome, fault_in}
 
@@ -37,6 +38,10 @@ FunsKept = (p : ProgramTree) → (funs.fun_faults p ≡ []) ↔ KeepsFunRules p
 -- each small program that keeps the rules on funs is decided
 abbrev pub Decided : Type 0
 Decided = (p : ProgramTree) → IsSmall p → KeepsFunRules p → IsDecided p
+
+-- such a program is well typed exactly where it breaks no rule and no limit
+abbrev pub TypedWhereNone : Type 0
+TypedWhereNone = (p : ProgramTree) → IsSmall p → KeepsFunRules p → BreaksNone p ↔ IsWellTyped p
 
 -- the checker's answer is the first rule that is broken
 abbrev pub SameFirst : Type 0

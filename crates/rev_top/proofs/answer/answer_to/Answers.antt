@@ -2,7 +2,8 @@ use Rattle.std.proofs.Common.{Vec, Global, ℕ, List, subst}
 use Rattle.std.specs.Prelude.{IfOk}
 use Rattle.rev_report.specs.Report.{output}
 use Rattle.rev_top.specs.Answer.{Given, SaysAs, reads_of}
-use Rattle.rev_top.specs.Rans.{Holds, said}
+use Rattle.rev_top.specs.Making.{said}
+use Rattle.rev_top.specs.Rans.{Holds}
 use Rattle.rev_top.specs.Stops.{Meets}
 use Rattle.rev_top.proofs.Rans.{leaves_by}
 use Rattle.rev_top.proofs.Stages.{goes_on, leaves}

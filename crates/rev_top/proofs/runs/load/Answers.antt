@@ -1,7 +1,8 @@
 use Rattle.rev_syntax.specs.View.{program as whole}
 use Rattle.rev_types.specs.declared.typed.Typed.{Typed}
 use Rattle.rev_words.specs.Load.{load_text}
-use Rattle.rev_top.specs.Rans.{RunsBy, of_load, told}
+use Rattle.rev_top.specs.Making.{RunsBy, told}
+use Rattle.rev_top.specs.Rans.{of_load}
 use Rattle.rev_top.specs.Texts.{Checks}
 use Rattle.rev_top.proofs.Stages.{goes_on, leaves}
 use Rattle.rev_top.proofs.runs.load.Goals as goal

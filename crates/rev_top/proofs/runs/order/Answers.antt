@@ -1,6 +1,7 @@
 use Rattle.rev_syntax.specs.View.{program as whole}
 use Rattle.rev_types.specs.declared.typed.Typed.{Typed}
-use Rattle.rev_top.specs.Rans.{RunsBy, of_order, told}
+use Rattle.rev_top.specs.Making.{RunsBy, told}
+use Rattle.rev_top.specs.Rans.{of_order}
 use Rattle.rev_top.specs.Texts.{Checks}
 use Rattle.rev_top.proofs.Stages.{goes_on, leaves}
 use Rattle.rev_top.proofs.runs.order.Goals as goal

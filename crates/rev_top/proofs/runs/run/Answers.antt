@@ -1,6 +1,7 @@
 use Rattle.rev_syntax.specs.View.{program as whole}
 use Rattle.rev_types.specs.declared.typed.Typed.{Typed}
-use Rattle.rev_top.specs.Rans.{RunsBy, of_run, told}
+use Rattle.rev_top.specs.Making.{RunsBy, told}
+use Rattle.rev_top.specs.Rans.{of_run}
 use Rattle.rev_top.specs.Texts.{Checks}
 use Rattle.rev_top.proofs.Stages.{goes_on, leaves}
 use Rattle.rev_top.proofs.runs.run.Goals as goal

@@ -1,7 +1,11 @@
 use Rattle.rev_syntax.specs.View.{program as whole}
 use Rattle.rev_types.specs.declared.typed.Typed.{Typed}
+use Rattle.static_rules.proofs.Fronts.{none_broken}
 use Rattle.rev_top.proofs.Faults.{no_types}
 use Rattle.rev_top.proofs.text.typed_of.Goals as goal
+
+pub returns-in-Ok : goal.returns-in-Ok
+returns-in-Ok c = (c.in-Ok.ensures.same, none_broken (whole c.args.expanded.program) c.in-Ok.ensures.typed)
 
 pub returns-in-Err : goal.returns-in-Err
 returns-in-Err c =

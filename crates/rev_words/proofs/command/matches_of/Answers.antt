@@ -33,7 +33,7 @@ returns-in-Err c =
     let is = c.in_ok-command.ensures in
     let kinds = c.in-Err.ensures.kinds (ap is_simple_and_free is ∙ free) in
     let usage : c.fault_of.result ≡ Usage → is_empty (fault_of spec.command (map string_bytes c.args.words.now)) ≡ false = λ u.
-    ap (λ (a : App). is_empty (fault_of a (map string_bytes c.args.words.now))) (sym is) ∙ refused _ c.in-Err.error kinds (c.fault_of.ensures u) in
+    ap (λ (a : App). is_empty (fault_of a (map string_bytes c.args.words.now))) (sym is) ∙ refused _ c.in-Err.error kinds (c.fault_of.ensures.0 u) in
     finds c.fault_of.result _ usage
   where
     finds : (f : WordsFault) (words : List Text) → (f ≡ Usage → is_taken words ≡ false) → Finds (Err f) words

@@ -1,0 +1,10 @@
+pub mod Chunks
+pub mod Cuts
+pub mod Lines
+pub mod LoadChunks
+pub mod LoadParses
+pub mod LoadPrograms
+pub mod LoadRules
+pub mod LoadTrees
+pub mod Parsing
+pub mod Sides

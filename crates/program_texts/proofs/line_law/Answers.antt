@@ -1,0 +1,5 @@
+use Rattle.program_texts.proofs.Lines.{no_trace_line}
+use Rattle.program_texts.proofs.line_law.Goals as goal
+
+pub returns : goal.returns
+returns c = no_trace_line

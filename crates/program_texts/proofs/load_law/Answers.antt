@@ -1,0 +1,5 @@
+use Rattle.program_texts.proofs.LoadPrograms.{load_programs}
+use Rattle.program_texts.proofs.load_law.Goals as goal
+
+pub returns : goal.returns
+returns c = load_programs

@@ -1,0 +1,8 @@
+use Rattle.rev_top.proofs.TextLaws.{load_accepted, load_ends}
+use Rattle.rev_top.proofs.law.load_law.Goals as goal
+
+pub returns-clause-accepted : goal.returns-clause-accepted
+returns-clause-accepted c = load_accepted
+
+pub returns-clause-ends : goal.returns-clause-ends
+returns-clause-ends c = load_ends

@@ -1,0 +1,46 @@
+-- Laws of texts: that of `load` is a program, no program has a line that begins a trace, and a text
+-- with the trace of its runs behind it has the audit `yes`.
+use Rattle.std.specs.Prelude.{ℕ, ◌≡◌, ◌≤◌, List, ◌++◌, length, Some, Ok}
+use Rattle.rev_words.specs.Load.{load_text}
+use Rattle.rev_words.specs.Reading.{KeepsRanges}
+use Rattle.rev_words.specs.declared.Mode.TheVariants as modes
+use Rattle.rev_words.specs.declared.Words.{Words}
+use Rattle.rev_messages.specs.Modes.{agreed}
+use Rattle.rev_messages.specs.Refusals.{shown}
+use Rattle.rev_syntax.specs.Trees.{ProgramTree}
+use Rattle.trace_diagram.specs.Traces.{IsTrace, IsWholeLines, trace_text}
+use Rattle.trace_diagram.specs.declared.diagram.Trace.{Trace}
+use Rattle.trace_source.specs.Dividing.{IsCutAt}
+use Rattle.trace_making.specs.Traced.{HasTrace}
+use Rattle.rev_top.specs.Answer.{Answer, Says, file_limit, setting, source_limit}
+use Rattle.rev_top.specs.RanLaws.{IsRunStatus}
+use Rattle.rev_top.specs.Texts.{Checks}
+
+-- the text that `load` makes is accepted, whatever the seed and the size
+abbrev pub LoadIsAccepted : Type 0
+LoadIsAccepted =
+    (seed size : ℕ) → 1 ≤ size → size ≤ 500
+    → (p : ProgramTree) × Checks (load_text seed size) (Ok p)
+
+-- so an answer of `load` has the status of a run, and is no refusal
+abbrev pub LoadEndsAsRuns : Type 0
+LoadEndsAsRuns =
+    (w : Words) → KeepsRanges w → w.mode ≡ modes.Load → (all : List ℕ) (a : Answer)
+    → Says (Some w) all a → IsRunStatus (shown a).status
+
+-- behind whole lines of a program no trace begins
+abbrev pub NoProgramBeginsATrace : Type 0
+NoProgramBeginsATrace =
+    (text : List ℕ) (p : ProgramTree) → Checks text (Ok p)
+    → (front back : List ℕ) → IsCutAt text front back → ⊥
+
+-- The answer of `audit` to a program's text of whole lines and, behind it, the trace of its runs with
+-- the numbers, the share and the fuel of the words is `yes`, where that has the form of a trace and
+-- the two together are not too long.
+abbrev pub AuditsOwnTrace : Type 0
+AuditsOwnTrace =
+    (w : Words) → w.mode ≡ modes.Audit → (text : List ℕ) (p : ProgramTree) → Checks text (Ok p)
+    → IsWholeLines text → length text ≤ source_limit
+    → (t : Trace) → HasTrace (setting w p) w.fuel (Some t) → IsTrace t
+    → length (text ++ trace_text t) ≤ file_limit
+    → Says (Some w) (text ++ trace_text t) (Ok agreed)
