@@ -25,6 +25,7 @@ use crate::traces::trace;
 use code_listing::disassemble;
 use code_verifier::Verified;
 use hub_workers::Gate;
+use merge_kernels::Kernel;
 use rev_io::{Source, read_text};
 use rev_messages::{accepted_report, done_report};
 use rev_report::Report;
@@ -86,6 +87,7 @@ fn say<R: Threads + Wait + Sync, G: Gate + Sync>(
     words: &Words,
     bytes: &[u8],
     gate: &G,
+    kernels: &[Kernel],
 ) -> Result<Made, Stop>
     requires mode { words.now.mode ≢ modes.Stream }
     requires limit { IsWithin (reads_of words.now.mode) (length bytes.now) }
@@ -96,16 +98,16 @@ fn say<R: Threads + Wait + Sync, G: Gate + Sync>(
         Holds words.now.mode words.now bytes.now m.ran (output m.report)) }
 {
     match words.mode {
-        Mode::Run => run(rt, alloc, words, bytes, gate),
+        Mode::Run => run(rt, alloc, words, bytes, gate, kernels),
         Mode::Check => alone(check(alloc, words, bytes)),
-        Mode::Load => load(rt, alloc, words, gate),
+        Mode::Load => load(rt, alloc, words, gate, kernels),
         Mode::Dis => alone(dis(alloc, bytes)),
         Mode::Exec => alone(exec(alloc, words, bytes)),
         Mode::Emit => alone(emit(alloc, bytes)),
         Mode::Trace => alone(trace(alloc, words, bytes)),
         Mode::Audit => alone(audit(alloc, words, bytes)),
         Mode::Replay => alone(replay(alloc, words, bytes)),
-        Mode::Order => order(rt, alloc, words, bytes, gate),
+        Mode::Order => order(rt, alloc, words, bytes, gate, kernels),
         Mode::Stream => unreachable!(),
     }
 }
@@ -165,6 +167,7 @@ fn answer_to<R: Threads + Wait + Sync, S: Source, G: Gate + Sync>(
     words: &Words,
     source: &mut S,
     gate: &G,
+    kernels: &[Kernel],
 ) -> Result<Made, Stop>
     requires mode { words.now.mode ≢ modes.Stream }
     requires fuel { words.now.fuel ≤ most_fuel }
@@ -176,7 +179,7 @@ fn answer_to<R: Threads + Wait + Sync, S: Source, G: Gate + Sync>(
     ensures takes { Takes (reads_of words.now.mode) (S.stream source.old) (S.stream source.new) }
 {
     let bytes = read_source(alloc, words.mode, source)?;
-    say(rt, alloc, words, bytes.as_slice(), gate)
+    say(rt, alloc, words, bytes.as_slice(), gate, kernels)
 }
 
 /// The report of a call that does not print as it runs, and the run of which it was made, unless
@@ -187,6 +190,7 @@ pub fn make_report<R: Threads + Wait + Sync, S: Source, G: Gate + Sync>(
     words: &Words,
     source: &mut S,
     gate: &G,
+    kernels: &[Kernel],
 ) -> Result<Made, AllocError>
     requires mode { words.now.mode ≢ modes.Stream }
     requires fuel { words.now.fuel ≤ most_fuel }
@@ -195,7 +199,7 @@ pub fn make_report<R: Threads + Wait + Sync, S: Source, G: Gate + Sync>(
         (S.stream source.old) (S.stream source.new) m.ran (output m.report)) }
     ensures takes { Takes (reads_of words.now.mode) (S.stream source.old) (S.stream source.new) }
 {
-    match answer_to(rt, alloc, words, source, gate) {
+    match answer_to(rt, alloc, words, source, gate, kernels) {
         Ok(made) => Ok(made),
         Err(stop) => {
             let report = refused(alloc, stop)?;
