@@ -14,6 +14,7 @@ pub mod Real
 pub mod Replaying
 pub mod Stages
 pub mod StreamAnswers
+pub mod StreamLaws
 pub mod Streams
 pub mod Steps
 pub mod WhyStatus

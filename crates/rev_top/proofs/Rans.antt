@@ -19,7 +19,7 @@ use Rattle.thread_runs.specs.declared.ran.Ran.{Ran}
 use Rattle.code_generation.specs.Generated.{code_of}
 use Rattle.revision_calculus.specs.Complete.{HasOutcome}
 use Rattle.thread_runs.specs.Runs.{IsRunOf, numbers_of}
-use Rattle.rev_top.specs.Answer.{Answer, Fits, Given, Orders, RunsTo, SaysAs, code_run, reads, reads_of, setting}
+use Rattle.rev_top.specs.Answer.{Answer, Answers, Fits, Given, Orders, RunsTo, SaysAs, code_run, reads, reads_of, setting}
 use Rattle.rev_top.specs.Delivery.{Delivered, Wrote, all_written, err_failed, no_room_at_err, no_room_at_out, out_failed}
 use Rattle.rev_top.specs.Promises.{IsRefused}
 use Rattle.rev_top.specs.Making.{IsMade, RunsBy, RunsText, Told, said, told}
@@ -123,6 +123,11 @@ pub leaves_by : (w : Words) (old new : Stream) (read : List ℕ) → Given (read
     → IfOk r (λ m. Leaves (Some w) old new m.ran (Ok (output m.report)))
 leaves_by w old new read given (Ok m) h = (read, given, h)
 leaves_by w old new read given (Err e) h = tt
+
+-- a refusal is made into a report without a run
+pub refusal_made : (words : Option Words) (old new : Stream) (e : Stop) → Meets said (Err e) (Answers words old new)
+    → (f : Refusal) → e ≡ stops.Refused f → (o : Output) → o ≡ shown (Err f) → IsMade words old new None o
+refusal_made words old new e h f is o same = (Err f, subst (λ (x : Stop). Meets said (Err x) (Answers words old new)) is h, refl, same)
 
 -- ---- what happened
 

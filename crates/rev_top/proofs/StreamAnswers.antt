@@ -1,20 +1,24 @@
--- What happened in a call that prints as it runs.
+-- What happened in a call that prints as it runs, or whose words have no reading.
 use Rattle.std.proofs.Common.{◌≡◌, inl, inr, refl, sym, subst, ap, List, ℕ, false}
-use Rattle.std.specs.Prelude.{Some, None, Result, Ok, Err}
+use Rattle.std.specs.Prelude.{Option, Some, None, Result, Ok, Err}
 use Rattle.rev_io.specs.Stream.{Stream}
 use Rattle.rev_num.specs.declared.outcome.Outcome.{Outcome}
+use Rattle.rev_words.specs.Answer.{Gives}
 use Rattle.rev_words.specs.declared.Mode.{Mode}
 use Rattle.rev_words.specs.declared.Mode.TheVariants as modes
 use Rattle.rev_words.specs.declared.Words.{Words}
+use Rattle.rev_words.specs.declared.fault.WordsFault.{WordsFault}
+use Rattle.rev_words.specs.declared.fault.WordsFault.TheVariants as faults
 use Rattle.rev_report.specs.Outcome.{report}
 use Rattle.rev_messages.specs.declared.refusal.Refusal.{Refusal}
+use Rattle.rev_messages.specs.declared.refusal.Refusal.TheVariants as refusals
 use Rattle.rev_syntax.specs.Trees.{ProgramTree}
 use Rattle.revision_calculus.specs.Complete.{HasOutcome}
 use Rattle.rev_top.specs.Affine.{KeepsAffine, ReadsAffine}
 use Rattle.rev_top.specs.Answer.{Answer, Answers, Given, SaysAs, Streams, reads_of, setting, source_limit}
 use Rattle.rev_top.specs.Rans.{Happened, Leaves, answered, goes_by_threads, no_report}
 use Rattle.rev_top.specs.Stages.{Onward, Then}
-use Rattle.rev_top.specs.Stops.{Meets}
+use Rattle.rev_top.specs.Stops.{Meets, stop_of_words}
 use Rattle.rev_top.specs.Streaming.{DeliversOutcome, DeliversRefusal}
 use Rattle.rev_top.specs.Texts.{Checks}
 use Rattle.rev_top.specs.declared.stop.Stop.{Stop}
@@ -84,3 +88,22 @@ module _ (w : Words) (mode : w.mode ≡ modes.Stream) (source source' : Stream) 
     refused view (stops.Refused f) h (inl d) = answered (Err f) (answers_refusal f h) refl d
     refused view (stops.Refused f) h (inr n) = no_report n.0 refl n.1
     refused view stops.OutOfMemory h n = no_report n.0 refl n.1
+
+-- ---- words without a reading
+
+module _ (source out out' err err' : Stream) (status : ℕ) where
+  by_words : (fault : WordsFault) (words : Option Words) → Gives (λ (w : Words). w) (Err fault) words
+      → DeliversRefusal (stop_of_words fault) out out' err err' status → Happened words source source out out' err err' None status
+  by_words faults.Usage words unread d =
+      subst (λ (x : Option Words). Happened x source source out out' err err' None status) (sym unread) (go d)
+    where
+      go : DeliversRefusal (stops.Refused refusals.Usage) out out' err err' status → Happened None source source out out' err err' None status
+      go (inl d) = answered (Err refusals.Usage) (refl, refl) refl d
+      go (inr n) = no_report n.0 refl n.1
+  by_words faults.OutOfMemory words unread n = no_report n.0 refl n.1
+
+  pub words_refused : (fault : WordsFault) (words : Option Words) → Gives (λ (w : Words). w) (Err fault) words
+      → (e : Stop) → e ≡ stop_of_words fault → DeliversRefusal e out out' err err' status
+      → Happened words source source out out' err err' None status
+  words_refused fault words unread e is d =
+      by_words fault words unread (subst (λ (x : Stop). DeliversRefusal x out out' err err' status) is d)

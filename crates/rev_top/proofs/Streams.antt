@@ -28,7 +28,7 @@ use Rattle.rev_top.specs.Answer.{code_run, setting}
 use Rattle.rev_top.specs.Streaming.{Streamed, StreamsOutcome}
 
 -- the report without the values has the text of the outcome
-report_says : (end : Outcome) → said end ≡ (report false end).out
+pub report_says : (end : Outcome) → said end ≡ (report false end).out
 report_says (o.Done text values) = sym (append-nil text)
 report_says (o.Trapped text values t) = sym (append-nil text)
 report_says o.Twice = refl

@@ -12,6 +12,7 @@ pub mod Schedules
 pub mod Stages
 pub mod Statuses
 pub mod Stops
+pub mod StreamLaws
 pub mod Streaming
 pub mod TextLaws
 pub mod Texts
