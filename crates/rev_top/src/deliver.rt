@@ -13,7 +13,6 @@ use crate::endings::{deliver, out_of_memory, refuse};
 use crate::stop::Stop;
 use crate::streams::stream;
 use hub_workers::Gate;
-use merge_kernels::Kernel;
 use rev_io::{Sink, Source};
 use rev_words::{Mode, Words, read_words};
 use std::alloc::Global;
@@ -31,7 +30,6 @@ fn happen_to<R: Threads + Wait + Sync, S: Source, O: Sink, E: Sink, G: Gate + Sy
     err: &mut E,
     gate: &G,
     ran: &mut Option<Ran>,
-    kernels: &[Kernel],
 ) -> u8
     requires fuel { words.now.fuel ≤ most_fuel }
     requires workers { 1 ≤ words.now.workers }
@@ -44,7 +42,7 @@ fn happen_to<R: Threads + Wait + Sync, S: Source, O: Sink, E: Sink, G: Gate + Sy
         *ran = None;
         return stream(alloc, words, source, out, err);
     }
-    match make_report(rt, alloc, words, source, gate, kernels) {
+    match make_report(rt, alloc, words, source, gate) {
         Ok(made) => {
             *ran = made.ran;
             deliver(out, err, &made.report)
@@ -66,7 +64,6 @@ pub fn happen<R: Threads + Wait + Sync, S: Source, O: Sink, E: Sink, G: Gate + S
     err: &mut E,
     gate: &G,
     ran: &mut Option<Ran>,
-    kernels: &[Kernel],
 ) -> u8
     ensures happened { Happened (reading (map string_bytes words.now))
         (S.stream source.old) (S.stream source.new) (O.stream out.old) (O.stream out.new)
@@ -75,7 +72,7 @@ pub fn happen<R: Threads + Wait + Sync, S: Source, O: Sink, E: Sink, G: Gate + S
         (S.stream source.old) (S.stream source.new) }
 {
     match read_words(alloc, words) {
-        Ok(words) => happen_to(rt, alloc, &words, source, out, err, gate, ran, kernels),
+        Ok(words) => happen_to(rt, alloc, &words, source, out, err, gate, ran),
         Err(fault) => {
             *ran = None;
             refuse(alloc, Stop::from(fault), out, err)
