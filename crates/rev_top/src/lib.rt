@@ -26,7 +26,6 @@ use deliver::happen;
 pub use deliver::out_of_memory;
 use hub_workers::Gate;
 pub use law::{listing_law, load_law, one_answer, one_finding, ran_law, statuses, trace_law};
-use merge_kernels::Kernel;
 use rev_io::{Sink, Source};
 use std::sync::Wait;
 use std::thread::Threads;
@@ -71,7 +70,6 @@ pub fn rev_main<
     err: &mut E,
     gate: &G,
     ran: &mut Option<Ran>,
-    kernels: &[Kernel],
 ) -> u8
     ensures keeps { Keeps (reading (map string_bytes words.now))
         (S.stream source.old) (S.stream source.new) (O.stream out.old) (O.stream out.new)
@@ -83,5 +81,5 @@ pub fn rev_main<
         (S.stream source.old) (O.stream out.old) (O.stream out.new)
         (E.stream err.old) (E.stream err.new) ran.new result }
 {
-    happen(rt, rt.alloc(), words, source, out, err, gate, ran, kernels)
+    happen(rt, rt.alloc(), words, source, out, err, gate, ran)
 }
