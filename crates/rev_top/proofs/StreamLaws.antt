@@ -1,5 +1,5 @@
 -- What standard output takes in a call that prints as it runs.
-use Rattle.std.proofs.Common.{◌≡◌, ◌∙◌, inl, inr, refl, sym, subst, ap, List, [], ◌++◌, ℕ, take, rules}
+use Rattle.std.proofs.Common.{◌≡◌, ◌∙◌, inl, inr, refl, sym, subst, ap, List, [], ◌++◌, ℕ, false, take, rules}
 use Rattle.std.specs.Prelude.{Option, Some, None, Result, Ok, Err}
 use Rattle.rev_io.specs.Stream.{Stream, Took, TookSome}
 use Rattle.rev_io.proofs.Whole.{all_taken}
