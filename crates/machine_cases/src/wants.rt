@@ -77,7 +77,8 @@ pub fn two_runs(alloc: Global) -> Result<(Result<bool, AllocError>, bool), Alloc
     let Some(setting) = setting_of(alloc, code(alloc)?, Vec::new(alloc))? else {
         return Ok((Ok(false), false));
     };
-    let mut merges = BlockMerges::of(alloc, setting.code())?;
+    let program = setting.code();
+    let mut merges = BlockMerges::of(alloc, program)?;
     let first = comes_to(alloc, &setting, &mut merges, PRINTED);
     let second = comes_to(alloc, &setting, &mut merges, PRINTED)?;
     Ok((first, second))

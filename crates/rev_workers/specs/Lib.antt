@@ -1,5 +1,4 @@
+pub mod Hands
 pub mod Runs
 pub mod Stores
-pub mod Hands
-pub mod Plans
 pub mod Ran

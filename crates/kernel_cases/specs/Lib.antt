@@ -1,2 +1,0 @@
-pub mod Versioned
-pub mod Written
