@@ -39,5 +39,6 @@ fn main(rt: HostRuntime) -> ExitCode {
         &mut err,
         &OpenGate,
         &mut ran,
+        &[],
     ))
 }

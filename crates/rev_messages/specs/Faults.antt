@@ -22,6 +22,10 @@ name_of_fault f.Redeclared = codes "redeclared name"
 name_of_fault f.WrongType = codes "wrong type"
 name_of_fault f.WrongCount = codes "wrong count"
 name_of_fault f.NoReturn = codes "missing return"
+name_of_fault f.Copied = codes "handle copied"
+name_of_fault f.Stored = codes "handle stored"
+name_of_fault f.UsedTwice = codes "handle used twice"
+name_of_fault f.InLoop = codes "handle used in a loop"
 
 abbrev pub name_of_file_fault : FileFault → List ℕ
 name_of_file_fault file.Truncated = codes "truncated"

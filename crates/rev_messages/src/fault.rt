@@ -40,6 +40,14 @@ pub enum TextFault {
     WrongCount,
     /// A procedure with a result that may end without one.
     NoReturn,
+    /// A handle that is given to a second name.
+    Copied,
+    /// A handle in a shared variable.
+    Stored,
+    /// A second use of a handle.
+    UsedTwice,
+    /// A use in a loop of a handle from outside of it.
+    InLoop,
 }
 
 impl TextFault {
@@ -62,6 +70,10 @@ impl TextFault {
             TextFault::WrongType => "wrong type",
             TextFault::WrongCount => "wrong count",
             TextFault::NoReturn => "missing return",
+            TextFault::Copied => "handle copied",
+            TextFault::Stored => "handle stored",
+            TextFault::UsedTwice => "handle used twice",
+            TextFault::InLoop => "handle used in a loop",
         }
     }
 }

@@ -24,11 +24,13 @@ use Rattle.audit_rules.specs.declared.verdict.Verdict.{Verdict}
 use Rattle.audit_rules.specs.declared.verdict.Verdict.TheVariants as verdict
 use Rattle.rev_top.specs.Codes.{ChecksCode}
 use Rattle.rev_top.specs.Traces.{Judges, Parts, ReadsTrace, Splits, answer_of, text_of}
-use Rattle.rev_top.specs.Answer.{Accepts, Answer, Answers, AuditsParts, AuditsTrace, Emits, Fits, Given, Lists, Orders, Replays, RunsCode, RunsTo, Says, SaysAs, Traces, code_run, reads, reads_of, setting}
+use Rattle.rev_top.specs.Answer.{Accepts, Answer, Answers, AuditsParts, AuditsTrace, Emits, Fits, Given, Lists, Orders, Replays, RunsCode, RunsTo, Says, SaysAs, Streams, Traces, code_run, reads, reads_of, setting}
 use Rattle.rev_top.specs.Schedules.{ReplaysCode}
 use Rattle.rev_top.specs.Promises.{Feeds, IsRefused}
+use Rattle.rev_top.specs.Affine.{KeepsAffine}
 use Rattle.rev_top.proofs.Codes.{code_refused}
 use Rattle.rev_top.proofs.Faults.{text_refused}
+use Rattle.rev_top.proofs.Handles.{affine_refused}
 use Rattle.rev_top.proofs.Replaying.{replay_refused}
 
 -- ---- the status of what a mode says
@@ -155,6 +157,12 @@ replayed w p a h =
     of_stage (ReplaysCode (code_run w (code_of p)) w.fuel w.schedule) (replay_refused (code_run w (code_of p)) w.fuel w.schedule)
     (λ v. RunsTo w (report w.values) p) (λ v b k. run_ends (report w.values) (report_status w.values) w p b k) a h
 
+-- ---- of a stream
+
+streamed : (w : Words) (text : List ℕ) (p : ProgramTree) (a : Answer) → Streams w text p a → IsPlain a
+streamed w text p a h =
+    of_stage (KeepsAffine text p) (affine_refused text p) (RunsTo w (report false)) (run_ends (report false) (report_status false) w) a h
+
 -- one line for each mode
 says_plain : (m : Mode) (w : Words) (read : List ℕ) (a : Answer) → SaysAs m w read a → IsPlain a
 unfolding SaysAs
@@ -169,6 +177,7 @@ says_plain modes.Trace w read a h = of_text read (Traces w) (trace_ends w) a h
 says_plain modes.Audit w read a h = of_stages (Splits read) (split_refused read) (AuditsParts w) (audited w) a h
 says_plain modes.Replay w read a h = of_stages (Checks read) (text_refused read) (Replays w) (replayed w) a h
 says_plain modes.Order w read a h = of_text read (Orders w) (order_ends w) a h
+says_plain modes.Stream w read a h = of_stages (Checks read) (text_refused read) (Streams w read) (streamed w read) a h
 
 at_most_3 : (a : Answer) → IsPlain a → (shown a).status ≤ 3
 at_most_3 a (ends is) = is.0

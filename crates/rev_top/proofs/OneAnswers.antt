@@ -26,11 +26,12 @@ use Rattle.rev_report.specs.Report.{done}
 use Rattle.code_file.specs.Files.{file_of}
 use Rattle.code_generation.specs.Generated.{code_of}
 use Rattle.code_listing.specs.Listing.{listing}
+use Rattle.rev_top.specs.Affine.{KeepsAffine}
 use Rattle.rev_top.specs.Codes.{ChecksCode}
 use Rattle.rev_top.specs.Stages.{Onward, Then}
 use Rattle.rev_top.specs.Texts.{Checks, ChecksTree, reading as read_of}
 use Rattle.rev_top.specs.Findings.{Finding, lexical, syntax, of_funs, of_rules, accepted as accepts, HasVerdict, IsFinding, IsSyntaxFault}
-use Rattle.rev_top.specs.Answer.{Accepts, Answer, AuditsParts, AuditsTrace, Emits, Fits, IsWithin, Lists, Orders, Replays, RunsCode, RunsTo, Says, SaysAs, Traces, code_run, reads_of, setting, source_limit}
+use Rattle.rev_top.specs.Answer.{Accepts, Answer, AuditsParts, AuditsTrace, Emits, Fits, IsWithin, Lists, Orders, Replays, RunsCode, RunsTo, Says, SaysAs, Streams, Traces, code_run, reads_of, setting, source_limit}
 use Rattle.rev_top.specs.Schedules.{ReplaysCode}
 use Rattle.code_verifier.specs.Verdicts.{KeepsRules}
 use Rattle.code_outcomes.proofs.Outcomes.{each_has_one}
@@ -41,6 +42,7 @@ use Rattle.rev_top.proofs.Auditing.{one_audited, one_split, some_audited, some_s
 use Rattle.rev_top.proofs.Codes.{kept_of, one_code, some_code}
 use Rattle.rev_top.proofs.Faults.{one_check}
 use Rattle.rev_top.proofs.Findings.{front_end}
+use Rattle.rev_top.proofs.Handles.{one_affine, some_affine}
 use Rattle.rev_top.proofs.Real.{funs_told, lexical_told, types_told}
 use Rattle.rev_top.proofs.Replaying.{one_replay, program_verified, some_replay}
 use Rattle.rev_top.proofs.Stages.{One, one_after, one_then}
@@ -87,6 +89,9 @@ one_replays w p accepted =
     one_then (ReplaysCode (code_run w (code_of p)) w.fuel w.schedule) (λ v. RunsTo w (report w.values) p)
     (one_replay (code_run w (code_of p)) w.fuel w.schedule (program_verified w p accepted)) (λ v. one_run w (report w.values) p)
 
+one_streams : (w : Words) (text : List ℕ) (p : ProgramTree) → One (Streams w text p)
+one_streams w text p = one_then (KeepsAffine text p) (RunsTo w (report false)) (one_affine text p) (one_run w (report false))
+
 one_audit : (w : Words) (all : List ℕ) → One (SaysAs modes.Audit w all)
 unfolding SaysAs
 one_audit w all =
@@ -111,6 +116,7 @@ one_as modes.Audit w read other short = one_audit w read
 one_as modes.Replay w read other short =
     one_after (Checks read) (Replays w) (one_check read) (λ p h. one_replays w p (accepted_of read short p h))
 one_as modes.Order w read other short = absurd (other refl)
+one_as modes.Stream w read other short = one_then (Checks read) (Streams w read) (one_check read) (one_streams w read)
 
 pub one_fits : (r : Option ℕ) (all : List ℕ) → One (Fits r all)
 one_fits None all a b h k = h ∙ sym k
@@ -174,6 +180,7 @@ order_or modes.Trace = inr (λ is. cc)
 order_or modes.Audit = inr (λ is. cc)
 order_or modes.Replay = inr (λ is. cc)
 order_or modes.Order = inl refl
+order_or modes.Stream = inr (λ is. cc)
 
 says_alike : (m : Mode) (w : Words) (read : List ℕ) → IsWithin (reads_of m) (length read)
     → (a b : Answer) → SaysAs m w read a → SaysAs m w read b → EndAlike a b
@@ -286,6 +293,10 @@ some_orders w p accepted =
       record { schedule = h.schedule; world = h.world; complete = h.complete; outcome = one.is; has_outcome = one.has; writes = refl },
     )
 
+some_streams : (w : Words) (text : List ℕ) (p : ProgramTree) → IsAccepted p → (a : Answer) × Streams w text p a
+some_streams w text p accepted =
+    some_stage (KeepsAffine text p) (some_affine text p accepted) (RunsTo w (report false)) (some_run w (report false))
+
 some_audit : (w : Words) (all : List ℕ) → (a : Answer) × SaysAs modes.Audit w all a
 unfolding SaysAs
 some_audit w all =
@@ -317,6 +328,9 @@ some_as modes.Replay w keeps read all h =
 some_as modes.Order w keeps read all h =
     let short : length read ≤ source_limit = subst (λ (t : List ℕ). length t ≤ source_limit) (sym h.0) h.1 in
     some_after (Checks read) (some_check read short) (Orders w) (λ p c. some_orders w p (accepted_of read short p c))
+some_as modes.Stream w keeps read all h =
+    let short : length read ≤ source_limit = subst (λ (t : List ℕ). length t ≤ source_limit) (sym h.0) h.1 in
+    some_after (Checks read) (some_check read short) (Streams w read) (λ p c. some_streams w read p (accepted_of read short p c))
 
 some_says : (w : Words) → KeepsRanges w → (all : List ℕ) → (a : Answer) × Says (Some w) all a
 some_says w keeps all = let one = some_fits (reads_of w.mode) all in go one.0 one.1

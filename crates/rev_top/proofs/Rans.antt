@@ -19,7 +19,7 @@ use Rattle.thread_runs.specs.declared.ran.Ran.{Ran}
 use Rattle.code_generation.specs.Generated.{code_of}
 use Rattle.revision_calculus.specs.Complete.{HasOutcome}
 use Rattle.thread_runs.specs.Runs.{IsRunOf, numbers_of}
-use Rattle.rev_top.specs.Answer.{Answer, Fits, Given, Orders, RunsTo, SaysAs, code_run, reads, reads_of, setting}
+use Rattle.rev_top.specs.Answer.{Answer, Answers, Fits, Given, Orders, RunsTo, SaysAs, code_run, reads, reads_of, setting}
 use Rattle.rev_top.specs.Delivery.{Delivered, Wrote, all_written, err_failed, no_room_at_err, no_room_at_out, out_failed}
 use Rattle.rev_top.specs.Promises.{IsRefused}
 use Rattle.rev_top.specs.Making.{IsMade, RunsBy, RunsText, Told, said, told}
@@ -124,6 +124,11 @@ pub leaves_by : (w : Words) (old new : Stream) (read : List ℕ) → Given (read
 leaves_by w old new read given (Ok m) h = (read, given, h)
 leaves_by w old new read given (Err e) h = tt
 
+-- a refusal is made into a report without a run
+pub refusal_made : (words : Option Words) (old new : Stream) (e : Stop) → Meets said (Err e) (Answers words old new)
+    → (f : Refusal) → e ≡ stops.Refused f → (o : Output) → o ≡ shown (Err f) → IsMade words old new None o
+refusal_made words old new e h f is o same = (Err f, subst (λ (x : Stop). Meets said (Err x) (Answers words old new)) is h, refl, same)
+
 -- ---- what happened
 
 pub happened : (words : Option Words) (source source' out out' err err' : Stream) (ran : Option Ran) (status : ℕ) (o : Output)
@@ -194,6 +199,7 @@ reports_end modes.Trace w read r x h = absurd h
 reports_end modes.Audit w read r x h = absurd h
 reports_end modes.Replay w read r x h = absurd h
 reports_end modes.Order w read r x h = by_output x (of_order r) h.1 (report_ends false r.outcome)
+reports_end modes.Stream w read r x h = absurd h
 
 no_run : (m : Mode) (w : Words) (read : List ℕ) (r : Ran) (x : Output) → goes_by_threads m ≡ false → Reports m w read r x → ⊥
 no_run modes.Run w read r x is h = cc
@@ -206,6 +212,7 @@ no_run modes.Trace w read r x is h = h
 no_run modes.Audit w read r x is h = h
 no_run modes.Replay w read r x is h = h
 no_run modes.Order w read r x is h = cc
+no_run modes.Stream w read r x is h = h
 
 -- ---- where the source told its bytes
 

@@ -1,5 +1,5 @@
 -- The statuses 1, 2 and 3 have their causes, and come exactly there.
-use Rattle.std.proofs.Common.{◌≡◌, ◌∙◌, refl, sym, subst, ap, List, ℕ, length, inl, inr, arith}
+use Rattle.std.proofs.Common.{◌≡◌, ◌∙◌, refl, sym, subst, ap, List, ℕ, false, length, inl, inr, arith}
 use Rattle.std.specs.Prelude.{Option, Some, None, Result, Ok, Err}
 use Rattle.rev_num.specs.declared.outcome.Outcome.{Outcome}
 use Rattle.rev_num.specs.declared.outcome.Outcome.TheVariants as o
@@ -15,6 +15,7 @@ use Rattle.rev_messages.specs.Refusals.{shown, status_of}
 use Rattle.rev_messages.specs.declared.refusal.Refusal.{Refusal}
 use Rattle.rev_messages.specs.declared.refusal.Refusal.TheVariants as refusals
 use Rattle.revision_calculus.specs.Program.{Setting}
+use Rattle.revision_calculus.specs.Complete.{HasOutcome}
 use Rattle.trace_diagram.specs.declared.diagram.Trace.{Trace}
 use Rattle.audit_rules.specs.Verdicts.{Audits}
 use Rattle.audit_rules.specs.declared.verdict.Verdict.{Verdict}
@@ -23,17 +24,19 @@ use Rattle.rev_code.specs.declared.code.Code.{Code}
 use Rattle.code_generation.specs.Generated.{code_of}
 use Rattle.revision_machine.specs.Numbered.{World}
 use Rattle.code_machine.specs.Local.{Local}
+use Rattle.rev_top.specs.Affine.{KeepsAffine}
 use Rattle.rev_top.specs.Codes.{ChecksCode}
 use Rattle.rev_top.specs.Stages.{Onward, Then}
 use Rattle.rev_top.specs.Texts.{Checks}
 use Rattle.rev_top.specs.Traces.{Judges, Parts, ReadsTrace, Splits, answer_of, text_of}
-use Rattle.rev_top.specs.Answer.{Accepts, Answer, AuditsParts, AuditsTrace, Emits, Fits, IsWithin, Lists, Orders, Replays, RunsCode, RunsTo, Says, SaysAs, Traces, code_run, reads_of, setting}
+use Rattle.rev_top.specs.Answer.{Accepts, Answer, AuditsParts, AuditsTrace, Emits, Fits, IsWithin, Lists, Orders, Replays, RunsCode, RunsTo, Says, SaysAs, Streams, Traces, code_run, reads_of, setting}
 use Rattle.rev_top.specs.Schedules.{ReplaysCode}
-use Rattle.rev_top.specs.Statuses.{Ends, EndsAs, HasCauses, IsAtFault, IsAuditFault, IsFault, IsReplayFault, IsTrap, Ran, StatusLaw, differs, in_length, in_program, in_schedule, in_text, in_trace}
+use Rattle.rev_top.specs.Statuses.{Ends, EndsAs, HasCauses, IsAtFault, IsAuditFault, IsFault, IsReplayFault, IsStreamFault, IsTrap, Ran, StatusLaw, differs, in_length, in_program, in_schedule, in_handles, in_text, in_text_of, in_trace}
 use Rattle.rev_top.proofs.Answering.{end_status, ordered_status, report_status, split_refused, summary_status, trace_refused, traced_status}
 use Rattle.rev_top.proofs.TraceTexts.{some_trace}
 use Rattle.rev_top.proofs.Codes.{code_refused}
 use Rattle.rev_top.proofs.Faults.{text_refused}
+use Rattle.rev_top.proofs.Handles.{affine_refused}
 use Rattle.rev_top.proofs.OneAnswers.{accepted_of, all_alike, within}
 use Rattle.program_outcomes.proofs.Outcomes.{of_code}
 use Rattle.rev_top.proofs.Replaying.{replay_refused}
@@ -148,6 +151,24 @@ tells_replay w read a h = go h.0 h.1 h.2
     go (Ok p) s on = tells_schedule w read p s a on
     go (Err f) s on = at_fault f (in_program s) on
 
+-- ---- of a stream
+
+tells_handles : (w : Words) (read : List ℕ) (p : ProgramTree) → Checks read (Ok p) → (a : Answer) → Streams w read p a → Tells modes.Stream w read a
+tells_handles w read p checked a h = go h.0 h.1 h.2
+  where
+    go : (found : Result ProgramTree Refusal) → KeepsAffine read p found → Onward (RunsTo w (report false)) found a → Tells modes.Stream w read a
+    go (Ok q) k on =
+        at_end on.0 (p, checked, k.1, subst (λ (x : ProgramTree). HasOutcome (setting w x) w.fuel on.0) k.0 on.1)
+        (ap (λ (x : Answer). (shown x).status) on.2 ∙ report_status false on.0)
+    go (Err f) k on = at_fault f (in_handles p checked k) on
+
+tells_stream : (w : Words) (read : List ℕ) (a : Answer) → Then (Checks read) (Streams w read) a → Tells modes.Stream w read a
+tells_stream w read a h = go h.0 h.1 h.2
+  where
+    go : (found : Result ProgramTree Refusal) → Checks read found → Onward (Streams w read) found a → Tells modes.Stream w read a
+    go (Ok p) s on = tells_handles w read p s a on
+    go (Err f) s on = at_fault f (in_text_of s) on
+
 -- one line for each mode
 tells : (m : Mode) (w : Words) (read : List ℕ) (a : Answer) → SaysAs m w read a → Tells m w read a
 unfolding SaysAs
@@ -166,6 +187,7 @@ tells modes.Trace w read a h = tells_trace w read a h
 tells modes.Audit w read a h = tells_audit w read a h
 tells modes.Replay w read a h = tells_replay w read a h
 tells modes.Order w read a h = tells_order w read a h
+tells modes.Stream w read a h = tells_stream w read a h
 
 -- an answer of the mode, where what it runs has an outcome, with this status
 says_end : (m : Mode) (w : Words) (read : List ℕ) → IsWithin (reads_of m) (length read) → (x : Outcome) → Ends m w read x → (a : Answer) × SaysAs m w read a × ((shown a).status ≡ end_status x)
@@ -188,6 +210,8 @@ says_end modes.Order w read short x h =
       (Ok h.0, h.1, record { schedule = code.schedule; world = code.world; complete = code.complete; outcome = x; has_outcome = h.2; writes = refl }),
       ordered_status code.schedule x,
     )
+says_end modes.Stream w read short x h =
+    (Ok (report false x), (Ok h.0, h.1, (Ok h.0, (refl, h.2), (x, h.3, refl))), report_status false x)
 
 trap_status : (x : Outcome) → end_status x ≡ 1 → IsTrap x
 unfolding end_status
@@ -234,6 +258,10 @@ replay_fault_refused : (w : Words) (text : List ℕ) (f : Refusal) → IsReplayF
 replay_fault_refused w text f (in_program c) = text_refused text f c
 replay_fault_refused w text f (in_schedule p c r) = replay_refused (code_run w (code_of p)) w.fuel w.schedule f r
 
+stream_fault_refused : (text : List ℕ) (f : Refusal) → IsStreamFault text f → status_of f ≡ 2
+stream_fault_refused text f (in_text_of c) = text_refused text f c
+stream_fault_refused text f (in_handles p c k) = affine_refused text p f k
+
 -- one line for each mode
 fault_is_refused : (m : Mode) (w : Words) (read : List ℕ) (f : Refusal) → IsFault m w read f → status_of f ≡ 2
 fault_is_refused modes.Run w read f h = text_refused read f h
@@ -246,6 +274,7 @@ fault_is_refused modes.Trace w read f h = text_refused read f h
 fault_is_refused modes.Audit w read f h = audit_refused w read f h
 fault_is_refused modes.Replay w read f h = replay_fault_refused w read f h
 fault_is_refused modes.Order w read f h = text_refused read f h
+fault_is_refused modes.Stream w read f h = stream_fault_refused read f h
 
 module _ (w : Words) (all : List ℕ) where
   -- too long

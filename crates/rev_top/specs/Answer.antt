@@ -6,7 +6,7 @@
 -- the text, then what is written of the program. `Says` is the answer to words and bytes: usage,
 -- then the length, then the mode; `Answers` is the same of a source, which may fail. What is handed
 -- out of a run by threads stands in `Rans`.
-use Rattle.std.specs.Prelude.{ℕ, List, [], ◌≡◌, ◌≤◌, ◌<◌, ◌⊎◌, ◌+◌, length, Option, Some, None, Result, Ok, Err}
+use Rattle.std.specs.Prelude.{ℕ, List, [], ◌≡◌, ◌≤◌, ◌<◌, ◌⊎◌, ◌+◌, false, length, Option, Some, None, Result, Ok, Err}
 use Rattle.rev_io.specs.Stream.{Stream, Gave, GaveAtMost, Rose}
 use Rattle.rev_num.specs.declared.outcome.Outcome.{Outcome}
 use Rattle.rev_words.specs.Load.{load_text}
@@ -31,6 +31,7 @@ use Rattle.revision_calculus.specs.Program.{Setting}
 use Rattle.revision_calculus.specs.Complete.{HasOutcome}
 use Rattle.trace_diagram.specs.declared.diagram.Trace.{Trace}
 use Rattle.trace_making.specs.Traced.{HasTrace}
+use Rattle.rev_top.specs.Affine.{KeepsAffine}
 use Rattle.rev_top.specs.Codes.{ChecksCode}
 use Rattle.rev_top.specs.Schedules.{ReplaysCode}
 use Rattle.rev_top.specs.Stages.{Then}
@@ -62,6 +63,7 @@ reads_of modes.Trace = Some source_limit
 reads_of modes.Audit = Some file_limit
 reads_of modes.Replay = Some source_limit
 reads_of modes.Order = Some source_limit
+reads_of modes.Stream = Some source_limit
 
 -- words without a reading read nothing
 abbrev pub reads : Option Words → Option ℕ
@@ -132,6 +134,11 @@ pub record Orders (w : Words) (p : ProgramTree) (a : Answer) : Type 0 where
 abbrev pub Lists : Code → Answer → Type 0
 Lists c a = a ≡ Ok (done (listing c))
 
+-- the program keeps the affine rule, and what `run` writes of its outcome is written, without the
+-- values
+abbrev pub Streams : Words → (text : List ℕ) → ProgramTree → Answer → Type 0
+Streams w text p = Then (KeepsAffine text p) (RunsTo w (report false))
+
 -- what each mode says of the bytes that it read
 unfoldable pub SaysAs : Mode → Words → List ℕ → Answer → Type 0
 SaysAs modes.Run w text = Then (Checks text) (RunsTo w (report w.values))
@@ -145,6 +152,7 @@ SaysAs modes.Trace w text = Then (Checks text) (Traces w)
 SaysAs modes.Audit w all = Then (Splits all) (AuditsParts w)
 SaysAs modes.Replay w text = Then (Checks text) (Replays w)
 SaysAs modes.Order w text = Then (Checks text) (Orders w)
+SaysAs modes.Stream w text = Then (Checks text) (Streams w text)
 
 -- ---- the order of the refusals: words, read fault, length, and what the mode says
 

@@ -1,4 +1,5 @@
 pub mod Accepted
+pub mod Affine
 pub mod Answer
 pub mod Codes
 pub mod Delivery
@@ -11,6 +12,8 @@ pub mod Schedules
 pub mod Stages
 pub mod Statuses
 pub mod Stops
+pub mod StreamLaws
+pub mod Streaming
 pub mod TextLaws
 pub mod Texts
 pub mod Traces

@@ -29,6 +29,8 @@ use Rattle.rev_top.specs.Codes.{ChecksCode}
 use Rattle.rev_top.specs.Schedules.{ReplaysCode}
 use Rattle.rev_top.specs.Texts.{Checks}
 use Rattle.rev_top.specs.Traces.{Judges, Parts, ReadsTrace, Splits}
+use Rattle.rev_affine.specs.Affine.{IsAffine}
+use Rattle.rev_top.specs.Affine.{KeepsAffine}
 use Rattle.rev_top.specs.Answer.{Answer, Fits, Says, code_run, file_limit, reads_of, setting}
 
 -- ---- one answer
@@ -69,6 +71,11 @@ ReplayEndsAs w text end =
     (p : ProgramTree) × Checks text (Ok p) × IsLegal (code_run w (code_of p)) w.fuel w.schedule
     × HasOutcome (setting w p) w.fuel end
 
+-- a program that keeps all rules and the affine rule, and its outcome
+abbrev pub StreamEndsAs : Words → (text : List ℕ) → Outcome → Type 0
+StreamEndsAs w text end =
+    (p : ProgramTree) × Checks text (Ok p) × IsAffine p × HasOutcome (setting w p) w.fuel end
+
 -- the mode runs what it read, and this is the outcome
 abbrev pub Ends : Mode → Words → List ℕ → Outcome → Type 0
 Ends modes.Run w read end = EndsAs w read end
@@ -81,6 +88,7 @@ Ends modes.Trace w read end = EndsAs w read end
 Ends modes.Audit w read end = ⊥
 Ends modes.Replay w read end = ReplayEndsAs w read end
 Ends modes.Order w read end = EndsAs w read end
+Ends modes.Stream w read end = StreamEndsAs w read end
 
 -- what is at fault first in the parts of a source: the text is too long or no program, or the trace
 -- is none, or it is not that of the program's runs
@@ -100,6 +108,12 @@ pub data IsReplayFault (w : Words) (text : List ℕ) (f : Refusal) : Type 0 wher
   in_schedule : (p : ProgramTree) → Checks text (Ok p)
       → ReplaysCode (code_run w (code_of p)) w.fuel w.schedule (Err f) → IsReplayFault w text f
 
+-- what is at fault first of a text that is to keep the affine rule: it is no program, or breaks it
+pub data IsStreamFault (text : List ℕ) (f : Refusal) : Type 0 where
+  in_text_of : Checks text (Err f) → IsStreamFault text f
+  in_handles : (p : ProgramTree) → Checks text (Ok p) → KeepsAffine text p (Err f)
+      → IsStreamFault text f
+
 -- what the mode is given is at fault, first of all in this: the text of a program, a code file, a
 -- text with a trace, or a schedule
 abbrev pub IsFault : Mode → Words → List ℕ → Refusal → Type 0
@@ -113,6 +127,7 @@ IsFault modes.Trace w read f = Checks read (Err f)
 IsFault modes.Audit w read f = IsAuditFault w read f
 IsFault modes.Replay w read f = IsReplayFault w read f
 IsFault modes.Order w read f = Checks read (Err f)
+IsFault modes.Stream w read f = IsStreamFault read f
 
 -- something was run, and this is its outcome
 pub record Ran (w : Words) (all : List ℕ) (end : Outcome) : Type 0 where

@@ -1,13 +1,12 @@
 //! The report that belongs to the words and to what the source gives.
-ghost use Rattle.std.specs.Prelude.{◌<◌, ◌≤◌, ◌^◌, ◌≡◌, IfOk, IfSome, length, map};
-ghost use Rattle.std.specs.String.{string_bytes};
+ghost use Rattle.std.specs.Prelude.{◌<◌, ◌≤◌, ◌^◌, ◌≡◌, ◌≢◌, IfOk, IfSome, Some, length};
 ghost use Rattle.rev_num.specs.Limits.{most_fuel};
 ghost use Rattle.rev_syntax.specs.View.{program as whole};
-ghost use Rattle.rev_words.specs.Reading.{reading};
+ghost use Rattle.rev_words.specs.declared.Mode.TheVariants as modes;
 ghost use Rattle.rev_words.specs.declared.Words.{Words};
 ghost use Rattle.rev_report.specs.Report.{output};
 ghost use Rattle.rev_top.specs.Answer.{Accepts, Answers, Given, IsWithin, Lists};
-ghost use Rattle.rev_top.specs.Answer.{SaysAs, Takes, reads, reads_of, source_limit};
+ghost use Rattle.rev_top.specs.Answer.{SaysAs, Takes, reads_of, source_limit};
 ghost use Rattle.rev_top.specs.Making.{IsMade, said, without_run};
 ghost use Rattle.rev_top.specs.Rans.{Holds, Leaves};
 ghost use Rattle.rev_top.specs.Stops.{Meets};
@@ -15,6 +14,7 @@ ghost use Rattle.rev_top.specs.Stops.{Meets};
 use crate::audits::audit;
 use crate::code::checked_code;
 use crate::emits::emit;
+use crate::endings::refused;
 use crate::execs::exec;
 use crate::made::Made;
 use crate::replays::replay;
@@ -26,10 +26,10 @@ use code_listing::disassemble;
 use code_verifier::Verified;
 use hub_workers::Gate;
 use rev_io::{Source, read_text};
-use rev_messages::{accepted_report, done_report, refusal_bytes};
+use rev_messages::{accepted_report, done_report};
 use rev_report::Report;
 use rev_types::Typed;
-use rev_words::{Mode, Words, read_words};
+use rev_words::{Mode, Words};
 use std::alloc::{AllocError, Global};
 use std::sync::Wait;
 use std::thread::Threads;
@@ -87,6 +87,7 @@ fn say<R: Threads + Wait + Sync, G: Gate + Sync>(
     bytes: &[u8],
     gate: &G,
 ) -> Result<Made, Stop>
+    requires mode { words.now.mode ≢ modes.Stream }
     requires limit { IsWithin (reads_of words.now.mode) (length bytes.now) }
     requires fuel { words.now.fuel ≤ most_fuel }
     requires workers { 1 ≤ words.now.workers }
@@ -105,6 +106,7 @@ fn say<R: Threads + Wait + Sync, G: Gate + Sync>(
         Mode::Audit => alone(audit(alloc, words, bytes)),
         Mode::Replay => alone(replay(alloc, words, bytes)),
         Mode::Order => order(rt, alloc, words, bytes, gate),
+        Mode::Stream => unreachable!(),
     }
 }
 
@@ -124,11 +126,16 @@ fn limit_of(mode: Mode) -> Option<usize>
         Mode::Audit => Some(FILE_LIMIT),
         Mode::Replay => Some(SOURCE_LIMIT),
         Mode::Order => Some(SOURCE_LIMIT),
+        Mode::Stream => Some(SOURCE_LIMIT),
     }
 }
 
 /// All bytes up to the end of the source.
-fn whole_source<S: Source>(alloc: Global, source: &mut S, limit: usize) -> Result<Vec<u8>, Stop>
+pub(crate) fn whole_source<S: Source>(
+    alloc: Global,
+    source: &mut S,
+    limit: usize,
+) -> Result<Vec<u8>, Stop>
     requires { limit < 2 ^ 32 }
     ensures meets { Meets (λ v. v.items) result
         (Given (Some limit) (S.stream source.old) (S.stream source.new)) }
@@ -151,7 +158,7 @@ fn read_source<S: Source>(alloc: Global, mode: Mode, source: &mut S) -> Result<V
     }
 }
 
-/// The answer to words that have a reading.
+/// The answer to words that have a reading, of a mode that does not print as it runs.
 fn answer_to<R: Threads + Wait + Sync, S: Source, G: Gate + Sync>(
     rt: &R,
     alloc: Global,
@@ -159,6 +166,7 @@ fn answer_to<R: Threads + Wait + Sync, S: Source, G: Gate + Sync>(
     source: &mut S,
     gate: &G,
 ) -> Result<Made, Stop>
+    requires mode { words.now.mode ≢ modes.Stream }
     requires fuel { words.now.fuel ≤ most_fuel }
     requires workers { 1 ≤ words.now.workers }
     ensures meets { Meets said result
@@ -171,43 +179,27 @@ fn answer_to<R: Threads + Wait + Sync, S: Source, G: Gate + Sync>(
     say(rt, alloc, words, bytes.as_slice(), gate)
 }
 
-fn answer<R: Threads + Wait + Sync, S: Source, G: Gate + Sync>(
-    rt: &R,
-    alloc: Global,
-    words: &[String],
-    source: &mut S,
-    gate: &G,
-) -> Result<Made, Stop>
-    ensures meets { Meets said result (Answers (reading (map string_bytes words.now))
-        (S.stream source.old) (S.stream source.new)) }
-    ensures leaves { IfOk result (λ m. Leaves (reading (map string_bytes words.now))
-        (S.stream source.old) (S.stream source.new) m.ran (Ok (output m.report))) }
-    ensures takes { Takes (reads (reading (map string_bytes words.now)))
-        (S.stream source.old) (S.stream source.new) }
-{
-    let words = read_words(alloc, words)?;
-    answer_to(rt, alloc, &words, source, gate)
-}
-
-/// The report of the call and the run of which it was made, unless memory runs out.
+/// The report of a call that does not print as it runs, and the run of which it was made, unless
+/// memory runs out.
 pub fn make_report<R: Threads + Wait + Sync, S: Source, G: Gate + Sync>(
     rt: &R,
     alloc: Global,
-    words: &[String],
+    words: &Words,
     source: &mut S,
     gate: &G,
 ) -> Result<Made, AllocError>
-    ensures report { IfOk result (λ m. IsMade (reading (map string_bytes words.now))
+    requires mode { words.now.mode ≢ modes.Stream }
+    requires fuel { words.now.fuel ≤ most_fuel }
+    requires workers { 1 ≤ words.now.workers }
+    ensures report { IfOk result (λ m. IsMade (Some words.now)
         (S.stream source.old) (S.stream source.new) m.ran (output m.report)) }
-    ensures takes { Takes (reads (reading (map string_bytes words.now)))
-        (S.stream source.old) (S.stream source.new) }
+    ensures takes { Takes (reads_of words.now.mode) (S.stream source.old) (S.stream source.new) }
 {
-    match answer(rt, alloc, words, source, gate) {
+    match answer_to(rt, alloc, words, source, gate) {
         Ok(made) => Ok(made),
-        Err(Stop::Refused(refusal)) => {
-            let report = refusal_bytes(alloc, &refusal)?;
+        Err(stop) => {
+            let report = refused(alloc, stop)?;
             Ok(Made { report, ran: None })
         }
-        Err(Stop::OutOfMemory) => Err(AllocError),
     }
 }

@@ -1,51 +1,60 @@
-//! Writing the report: out bytes first, then err bytes.
-ghost use Rattle.std.specs.Prelude.{◌≡◌, map};
+//! What happens in a call: its words are read, and then its report is made and written, or the program
+//! prints as it runs.
+
+ghost use Rattle.std.specs.Prelude.{◌≡◌, ◌≤◌, Some, map};
 ghost use Rattle.std.specs.String.{string_bytes};
-ghost use Rattle.rev_io.specs.Stream.{TookSome};
+ghost use Rattle.rev_num.specs.Limits.{most_fuel};
 ghost use Rattle.rev_words.specs.Reading.{reading};
-ghost use Rattle.rev_report.specs.Report.{output};
-ghost use Rattle.rev_messages.specs.Refusals.{no_memory};
-ghost use Rattle.rev_report.specs.Status.{no_memory_status};
-ghost use Rattle.rev_top.specs.Answer.{Takes, reads};
-ghost use Rattle.rev_top.specs.Delivery.{Delivered};
+ghost use Rattle.rev_top.specs.Answer.{Takes, reads, reads_of};
 ghost use Rattle.rev_top.specs.Rans.{Happened};
 
 use crate::answer::make_report;
+use crate::endings::{deliver, out_of_memory, refuse};
+use crate::stop::Stop;
+use crate::streams::stream;
 use hub_workers::Gate;
-use rev_io::{Sink, SinkFault, Source, write_all};
-use rev_messages::no_memory_message;
-use rev_report::{Report, status};
+use rev_io::{Sink, Source};
+use rev_words::{Mode, Words, read_words};
 use std::alloc::Global;
 use std::sync::Wait;
 use std::thread::Threads;
 use thread_runs::Ran;
 
-/// Writes the message for want of memory, as far as `err` takes it, and answers its status. For a
-/// caller that has no memory for the words of a call.
-pub fn out_of_memory<E: Sink>(err: &mut E) -> u8
-    ensures status { result ≡ no_memory_status }
-    ensures some { TookSome (E.stream err.old) no_memory (E.stream err.new) }
+/// What happens in a call whose words have a reading.
+fn happen_to<R: Threads + Wait + Sync, S: Source, O: Sink, E: Sink, G: Gate + Sync>(
+    rt: &R,
+    alloc: Global,
+    words: &Words,
+    source: &mut S,
+    out: &mut O,
+    err: &mut E,
+    gate: &G,
+    ran: &mut Option<Ran>,
+) -> u8
+    requires fuel { words.now.fuel ≤ most_fuel }
+    requires workers { 1 ≤ words.now.workers }
+    ensures happened { Happened (Some words.now)
+        (S.stream source.old) (S.stream source.new) (O.stream out.old) (O.stream out.new)
+        (E.stream err.old) (E.stream err.new) ran.new result }
+    ensures takes { Takes (reads_of words.now.mode) (S.stream source.old) (S.stream source.new) }
 {
-    let _ = write_all(err, no_memory_message());
-    status::NO_MEMORY
-}
-
-fn deliver<O: Sink, E: Sink>(out: &mut O, err: &mut E, report: &Report) -> u8
-    ensures { Delivered (output report.now) (O.stream out.old) (O.stream out.new)
-        (E.stream err.old) (E.stream err.new) result }
-{
-    match write_all(out, report.out.as_slice()) {
-        Err(SinkFault::Failed) => status::WRITE_FAULT,
-        Err(SinkFault::OutOfMemory) => out_of_memory(err),
-        Ok(()) => match write_all(err, report.err.as_slice()) {
-            Err(SinkFault::Failed) => status::WRITE_FAULT,
-            Err(SinkFault::OutOfMemory) => status::NO_MEMORY,
-            Ok(()) => report.status,
-        },
+    if words.mode == Mode::Stream {
+        *ran = None;
+        return stream(alloc, words, source, out, err);
+    }
+    match make_report(rt, alloc, words, source, gate) {
+        Ok(made) => {
+            *ran = made.ran;
+            deliver(out, err, &made.report)
+        }
+        Err(_) => {
+            *ran = None;
+            out_of_memory(err)
+        }
     }
 }
 
-/// Makes the report and writes it. It hands out the run of which the report was made.
+/// Does what the words say, and hands out the run by threads of which the report was made.
 pub fn happen<R: Threads + Wait + Sync, S: Source, O: Sink, E: Sink, G: Gate + Sync>(
     rt: &R,
     alloc: Global,
@@ -62,14 +71,11 @@ pub fn happen<R: Threads + Wait + Sync, S: Source, O: Sink, E: Sink, G: Gate + S
     ensures takes { Takes (reads (reading (map string_bytes words.now)))
         (S.stream source.old) (S.stream source.new) }
 {
-    match make_report(rt, alloc, words, source, gate) {
-        Ok(made) => {
-            *ran = made.ran;
-            deliver(out, err, &made.report)
-        }
-        Err(_) => {
+    match read_words(alloc, words) {
+        Ok(words) => happen_to(rt, alloc, &words, source, out, err, gate, ran),
+        Err(fault) => {
             *ran = None;
-            out_of_memory(err)
+            refuse(alloc, Stop::from(fault), out, err)
         }
     }
 }

@@ -2,6 +2,7 @@
 ghost use Rattle.rev_top.specs.Findings.{FrontEnd};
 ghost use Rattle.rev_top.specs.RanLaws.{RanLaw};
 ghost use Rattle.rev_top.specs.Statuses.{ListingLaw, OneAnswer, StatusLaw};
+ghost use Rattle.rev_top.specs.StreamLaws.{PrintsFirstParts};
 ghost use Rattle.rev_top.specs.TextLaws.{AuditsOwnTrace, LoadEndsAsRuns, LoadIsAccepted};
 ghost use Rattle.rev_top.specs.TextLaws.{NoProgramBeginsATrace};
 
@@ -53,4 +54,11 @@ pub fn load_law()
 pub fn trace_law()
     ensures none_begins { NoProgramBeginsATrace }
     ensures own_trace { AuditsOwnTrace }
+{}
+
+/// Of a program that keeps the affine rule: whatever happens in a call of `stream` and whatever its
+/// status is, standard output takes a first part of what `main` has printed at the end of every
+/// complete run.
+pub fn stream_law()
+    ensures { PrintsFirstParts }
 {}

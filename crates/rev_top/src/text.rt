@@ -29,7 +29,7 @@ fn place_in(text: &[u8], at: u32) -> Place
     Place { line, column }
 }
 
-fn fault_at(text: &[u8], at: u32, fault: TextFault) -> Stop
+pub(crate) fn fault_at(text: &[u8], at: u32, fault: TextFault) -> Stop
     requires { length text.now ≤ source_limit }
     ensures { result ≡ stops.Refused (fault_at text.now at fault) }
 {

@@ -30,6 +30,7 @@ mode_named text =
     else if bytes_eq text (codes "audit") then Some modes.Audit
     else if bytes_eq text (codes "replay") then Some modes.Replay
     else if bytes_eq text (codes "order") then Some modes.Order
+    else if bytes_eq text (codes "stream") then Some modes.Stream
     else None
 
 -- the numbers that the texts spell, if each is a decimal in 64 bits

@@ -65,6 +65,8 @@ pub record RowsAreRead : Type 0 where
         workers = 2;
         segments = 0;
       })
+  pub stream : reading (words_in (codes "stream --values 3"))
+      ≡ Some (record run_alone { mode = modes.Stream; numbers = pos 3 ∷ []; values = true })
 
 pub record RowsAreUsage : Type 0 where
   pub no_words : reading [] ≡ None

@@ -51,6 +51,9 @@ pub enum Mode {
     Replay,
     /// Reads the text of a program, runs it on threads and writes the schedule that they made.
     Order,
+    /// Reads the text of a program that keeps the affine rule, runs it, and writes what `main` prints
+    /// while it runs.
+    Stream,
 }
 
 /// What words say.

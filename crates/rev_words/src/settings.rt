@@ -74,6 +74,7 @@ fn mode_named(text: &str) -> Option<Mode>
         "audit" => Some(Mode::Audit),
         "replay" => Some(Mode::Replay),
         "order" => Some(Mode::Order),
+        "stream" => Some(Mode::Stream),
         _ => None,
     }
 }

@@ -1,5 +1,5 @@
-use Rattle.rev_top.proofs.Rans.{happened}
+use Rattle.rev_top.proofs.StreamAnswers.{words_refused}
 use Rattle.rev_top.proofs.deliver.happen.Goals as goal
 
-pub returns-in-Ok-clause-happened : goal.returns-in-Ok-clause-happened
-returns-in-Ok-clause-happened g c = happened _ _ _ _ _ _ _ _ _ _ c.in-Ok.ensures.report c.deliver.ensures
+pub returns-in-Err-clause-happened : goal.returns-in-Err-clause-happened
+returns-in-Err-clause-happened g c = words_refused _ _ _ _ _ _ c.in-Err.fault _ c.in-Err.ensures.reading c.from.result c.from.ensures c.refuse.ensures

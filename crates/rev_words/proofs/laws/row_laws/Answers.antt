@@ -24,6 +24,7 @@ returns-clause-read c = record {
   replay_by_default = refl;
   greatest_entry = refl;
   order = refl;
+  stream = refl;
 }
 
 pub returns-clause-usage : goal.returns-clause-usage

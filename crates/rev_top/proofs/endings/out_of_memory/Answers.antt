@@ -1,7 +1,7 @@
 use Rattle.std.proofs.Common.{ℕ, List, subst}
 use Rattle.rev_io.specs.Stream.{TookSome}
 use Rattle.rev_io.proofs.Whole.{some_taken}
-use Rattle.rev_top.proofs.deliver.out_of_memory.Goals as goal
+use Rattle.rev_top.proofs.endings.out_of_memory.Goals as goal
 
 pub returns-clause-some : goal.returns-clause-some
 returns-clause-some g c =

@@ -1,0 +1,5 @@
+use Rattle.rev_top.proofs.StreamLaws.{prints_first_parts}
+use Rattle.rev_top.proofs.law.stream_law.Goals as goal
+
+pub returns : goal.returns
+returns c = prints_first_parts

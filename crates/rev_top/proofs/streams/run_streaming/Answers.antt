@@ -1,0 +1,18 @@
+use Rattle.std.proofs.Common.{◌∙◌}
+use Rattle.rev_syntax.specs.View.{program as whole}
+use Rattle.rev_top.proofs.Streams.{never, streams}
+use Rattle.rev_top.proofs.streams.run_streaming.Goals as goal
+
+pub stream_code-requires-never : goal.stream_code-requires-never
+stream_code-requires-never g c =
+    let t = c.args.typed.now in
+    never c.args.words.now (whole t.expanded.program) (record { small = t.expanded.small; funs = t.expanded.keeps_rules; rules = t.well_typed })
+    c.in_ok-code.code.code c.in_ok-numbers.numbers.items c.in_ok-code.ensures (c.in_ok-numbers.ensures.items ∙ c.as_slice.ensures)
+    c.never_laws.ensures.affine c.requires.affine
+
+pub returns : goal.returns
+returns g c =
+    let t = c.args.typed.now in
+    streams c.args.words.now (whole t.expanded.program) (record { small = t.expanded.small; funs = t.expanded.keeps_rules; rules = t.well_typed })
+    c.in_ok-code.code.code c.in_ok-numbers.numbers.items c.in_ok-code.ensures (c.in_ok-numbers.ensures.items ∙ c.as_slice.ensures)
+    _ _ c.stream_code.result c.stream_code.ensures

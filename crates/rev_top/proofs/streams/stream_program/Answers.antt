@@ -1,0 +1,9 @@
+use Rattle.rev_syntax.specs.View.{program as whole}
+use Rattle.revision_calculus.proofs.Outcomes.{one_outcome}
+use Rattle.rev_top.specs.Answer.{setting}
+use Rattle.rev_top.proofs.streams.stream_program.Goals as goal
+
+pub returns : goal.returns
+returns g c =
+    let one = one_outcome (setting c.args.words.now (whole c.args.typed.now.expanded.program)) c.args.words.now.fuel in
+    record { outcome = one.is; has_outcome = one.has; delivered = c.end_stream.ensures one.is _ _ (c.run_streaming.ensures one.is one.has) }
