@@ -27,7 +27,9 @@ mod traces;
 use deliver::happen;
 pub use endings::out_of_memory;
 use hub_workers::Gate;
-pub use law::{listing_law, load_law, one_answer, one_finding, ran_law, statuses, stream_law, trace_law};
+pub use law::{
+    listing_law, load_law, one_answer, one_finding, ran_law, statuses, stream_law, trace_law,
+};
 use rev_io::{Sink, Source};
 use std::sync::Wait;
 use std::thread::Threads;
