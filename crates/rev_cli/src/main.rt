@@ -39,6 +39,5 @@ fn main(rt: HostRuntime) -> ExitCode {
         &mut err,
         &OpenGate,
         &mut ran,
-        &[],
     ))
 }

@@ -6,6 +6,7 @@ pub mod Ending
 pub mod Faults
 pub mod Findings
 pub mod Kept
+pub mod Printing
 pub mod Handles
 pub mod Listings
 pub mod OneAnswers
@@ -15,7 +16,6 @@ pub mod Replaying
 pub mod Stages
 pub mod StreamAnswers
 pub mod StreamLaws
-pub mod Streams
 pub mod Steps
 pub mod WhyStatus
 pub mod Auditing

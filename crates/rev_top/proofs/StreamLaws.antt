@@ -24,7 +24,7 @@ use Rattle.rev_top.specs.Stages.{Onward, Then}
 use Rattle.rev_top.specs.StreamLaws.{PrintsFirstParts}
 use Rattle.rev_top.specs.Texts.{Checks}
 use Rattle.rev_top.proofs.Faults.{one_check}
-use Rattle.rev_top.proofs.Streams.{report_says, untouched}
+use Rattle.rev_top.proofs.Printing.{report_says, untouched}
 
 -- ---- what was delivered
 

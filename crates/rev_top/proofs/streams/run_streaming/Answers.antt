@@ -1,6 +1,6 @@
 use Rattle.std.proofs.Common.{◌∙◌}
 use Rattle.rev_syntax.specs.View.{program as whole}
-use Rattle.rev_top.proofs.Streams.{never, streams}
+use Rattle.rev_top.proofs.Printing.{never, streams}
 use Rattle.rev_top.proofs.streams.run_streaming.Goals as goal
 
 pub stream_code-requires-never : goal.stream_code-requires-never
