@@ -14,6 +14,7 @@ use Rattle.rev_messages.specs.declared.refusal.Refusal.{Refusal}
 use Rattle.rev_messages.specs.declared.refusal.Refusal.TheVariants as refusals
 use Rattle.rev_syntax.specs.Trees.{ProgramTree}
 use Rattle.revision_calculus.specs.Complete.{HasOutcome}
+use Rattle.rev_affine.specs.Affine.{IsAffine}
 use Rattle.rev_top.specs.Affine.{KeepsAffine, ReadsAffine}
 use Rattle.rev_top.specs.Answer.{Answer, Answers, Given, SaysAs, Streams, reads_of, setting, source_limit}
 use Rattle.rev_top.specs.Rans.{Happened, Leaves, answered, goes_by_threads, no_report}
@@ -45,6 +46,21 @@ module _ (w : Words) (text : List ℕ) where
           → Then (Checks text) (Streams w text) (Err f)
       go (Ok q) s on = (Ok q, s, (Err f, on, refl))
       go (Err g) s on = let e : f ≡ g = cc in (Err g, s, ap (λ (z : Refusal). Err z) e)
+
+-- what was read is a program that keeps the affine rule
+affine_text : (text : List ℕ) (p : ProgramTree) (found : Result ProgramTree Refusal) → Checks text found
+    → Onward (KeepsAffine text) found (Ok p) → IsAffine p
+affine_text text p (Ok q) s on = subst (λ (x : ProgramTree). IsAffine x) (sym on.0) on.1
+affine_text text p (Err f) s on = cc
+
+affine_read : (source source' : Stream) (p : ProgramTree) (found : Result (List ℕ) Refusal)
+    → Given (Some source_limit) source source' found → Onward ReadsAffine found (Ok p) → IsAffine p
+affine_read source source' p (Ok text) g on = affine_text text p on.0 on.1 on.2
+affine_read source source' p (Err f) g on = cc
+
+pub keeps_affine : (source source' : Stream) (p : ProgramTree)
+    → Then (Given (Some source_limit) source source') ReadsAffine (Ok p) → IsAffine p
+keeps_affine source source' p h = affine_read source source' p h.0 h.1 h.2
 
 module _ (w : Words) (mode : w.mode ≡ modes.Stream) (source source' : Stream) where
   abbrev Reads : Result ProgramTree Refusal → Type 0
