@@ -13,6 +13,7 @@ use Rattle.rev_report.specs.Outcome.{report}
 use Rattle.rev_messages.specs.declared.refusal.Refusal.{Refusal}
 use Rattle.rev_messages.specs.declared.refusal.Refusal.TheVariants as refusals
 use Rattle.rev_syntax.specs.Trees.{ProgramTree}
+use Rattle.rev_affine.specs.Affine.{IsAffine}
 use Rattle.revision_calculus.specs.Complete.{HasOutcome}
 use Rattle.rev_top.specs.Affine.{KeepsAffine, ReadsAffine}
 use Rattle.rev_top.specs.Answer.{Answer, Answers, Given, SaysAs, Streams, reads_of, setting, source_limit}
@@ -45,6 +46,21 @@ module _ (w : Words) (text : List ℕ) where
           → Then (Checks text) (Streams w text) (Err f)
       go (Ok q) s on = (Ok q, s, (Err f, on, refl))
       go (Err g) s on = let e : f ≡ g = cc in (Err g, s, ap (λ (z : Refusal). Err z) e)
+
+-- what was read keeps the affine rule
+kept_affine : (text : List ℕ) (p : ProgramTree) → ReadsAffine text (Ok p) → IsAffine p
+kept_affine text p h = go h.0 h.2
+  where
+    go : (found : Result ProgramTree Refusal) → Onward (KeepsAffine text) found (Ok p) → IsAffine p
+    go (Ok q) on = subst (λ (x : ProgramTree). IsAffine x) (sym on.0) on.1
+    go (Err f) on = cc
+
+pub read_affine : (source source' : Stream) (p : ProgramTree) → Then (Given (Some source_limit) source source') ReadsAffine (Ok p) → IsAffine p
+read_affine source source' p h = go h.0 h.2
+  where
+    go : (found : Result (List ℕ) Refusal) → Onward ReadsAffine found (Ok p) → IsAffine p
+    go (Ok text) on = kept_affine text p on
+    go (Err f) on = cc
 
 module _ (w : Words) (mode : w.mode ≡ modes.Stream) (source source' : Stream) where
   abbrev Reads : Result ProgramTree Refusal → Type 0
