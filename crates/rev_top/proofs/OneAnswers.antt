@@ -45,6 +45,7 @@ use Rattle.rev_top.proofs.Findings.{front_end}
 use Rattle.rev_top.proofs.Handles.{one_affine, some_affine}
 use Rattle.rev_top.proofs.Real.{funs_told, lexical_told, types_told}
 use Rattle.rev_top.proofs.Replaying.{one_replay, program_verified, some_replay}
+use Rattle.static_rules.proofs.Fronts.{none_broken}
 use Rattle.rev_top.proofs.Stages.{One, one_after, one_then}
 use Rattle.rev_top.proofs.TraceTexts.{one_trace, some_trace}
 
@@ -234,7 +235,7 @@ module _ (text : List ℕ) where
   of_finding (of_rules p f) h =
       let told = types_told text p f h.2.broken in
       of_tokens (tree p) h.0 (Err told.0) (Ok p, (refl, h.1), record { fault = f; comes = h.2; reported = told.1 })
-  of_finding (accepts p) h = of_tokens (tree p) h.0 (Ok p) (Ok p, (refl, h.1), (refl, h.2))
+  of_finding (accepts p) h = of_tokens (tree p) h.0 (Ok p) (Ok p, (refl, h.1), (refl, none_broken p h.2))
 
   some_check : length text ≤ source_limit → (found : Result ProgramTree Refusal) × Checks text found
   some_check short = let one = front_end text short in of_finding one.finding one.found

@@ -1,6 +1,6 @@
 -- A run of a program that keeps the affine rule, whose text goes to `out` as it runs.
 use Rattle.std.proofs.Common.{◌≡◌, ◌∙◌, refl, sym, subst, ap, inl, inr, List, [], ◌++◌, ℕ, ℤ, false}
-use Rattle.std.specs.Prelude.{Option, Some, None, Result, Ok, Err}
+use Rattle.std.specs.Prelude.{IsErrAnd, Option, Some, None, Result, Ok, Err}
 use Rattle.std.proofs.lemmas.List.{append-nil}
 use Rattle.rev_io.specs.Stream.{Stream, Rose, Took, TookSome}
 use Rattle.rev_num.specs.declared.outcome.Outcome.{Outcome}
@@ -39,8 +39,10 @@ untouched old bytes held told = (0, told ∙ ap (λ (xs : List ℕ). Some xs) (s
 
 module _ (w : Words) (p : ProgramTree) (accepted : IsAccepted p) where
   -- before there is code to run
-  pub not_begun : (old : Stream) (r : Result Outcome StreamFault) → r ≡ Err stream.OutOfMemory → StreamsOutcome w p old old r
-  not_begun old r e end has = subst (λ (x : Result Outcome StreamFault). Streamed end old old x) (sym e) (refl, untouched old (report false end).out)
+  pub not_begun : (old : Stream) (r : Result Outcome StreamFault) → IsErrAnd r (λ f. f ≡ stream.OutOfMemory) → StreamsOutcome w p old old r
+  not_begun old (Ok x) never end has = absurd never
+  not_begun old (Err f) e end has =
+      subst (λ (x : StreamFault). Streamed end old old (Err x)) (sym e) (refl, untouched old (report false end).out)
 
   module _ (c : Code) (inputs : List ℤ) (is : c ≡ code_of p) (same : inputs ≡ w.numbers) where
     abbrev made : CodeRun

@@ -13,8 +13,8 @@ use Rattle.rev_report.specs.Outcome.{report}
 use Rattle.rev_messages.specs.declared.refusal.Refusal.{Refusal}
 use Rattle.rev_messages.specs.declared.refusal.Refusal.TheVariants as refusals
 use Rattle.rev_syntax.specs.Trees.{ProgramTree}
-use Rattle.revision_calculus.specs.Complete.{HasOutcome}
 use Rattle.rev_affine.specs.Affine.{IsAffine}
+use Rattle.revision_calculus.specs.Complete.{HasOutcome}
 use Rattle.rev_top.specs.Affine.{KeepsAffine, ReadsAffine}
 use Rattle.rev_top.specs.Answer.{Answer, Answers, Given, SaysAs, Streams, reads_of, setting, source_limit}
 use Rattle.rev_top.specs.Rans.{Happened, Leaves, answered, goes_by_threads, no_report}
@@ -47,20 +47,20 @@ module _ (w : Words) (text : List ℕ) where
       go (Ok q) s on = (Ok q, s, (Err f, on, refl))
       go (Err g) s on = let e : f ≡ g = cc in (Err g, s, ap (λ (z : Refusal). Err z) e)
 
--- what was read is a program that keeps the affine rule
-affine_text : (text : List ℕ) (p : ProgramTree) (found : Result ProgramTree Refusal) → Checks text found
-    → Onward (KeepsAffine text) found (Ok p) → IsAffine p
-affine_text text p (Ok q) s on = subst (λ (x : ProgramTree). IsAffine x) (sym on.0) on.1
-affine_text text p (Err f) s on = cc
+-- what was read keeps the affine rule
+kept_affine : (text : List ℕ) (p : ProgramTree) → ReadsAffine text (Ok p) → IsAffine p
+kept_affine text p h = go h.0 h.2
+  where
+    go : (found : Result ProgramTree Refusal) → Onward (KeepsAffine text) found (Ok p) → IsAffine p
+    go (Ok q) on = subst (λ (x : ProgramTree). IsAffine x) (sym on.0) on.1
+    go (Err f) on = cc
 
-affine_read : (source source' : Stream) (p : ProgramTree) (found : Result (List ℕ) Refusal)
-    → Given (Some source_limit) source source' found → Onward ReadsAffine found (Ok p) → IsAffine p
-affine_read source source' p (Ok text) g on = affine_text text p on.0 on.1 on.2
-affine_read source source' p (Err f) g on = cc
-
-pub keeps_affine : (source source' : Stream) (p : ProgramTree)
-    → Then (Given (Some source_limit) source source') ReadsAffine (Ok p) → IsAffine p
-keeps_affine source source' p h = affine_read source source' p h.0 h.1 h.2
+pub read_affine : (source source' : Stream) (p : ProgramTree) → Then (Given (Some source_limit) source source') ReadsAffine (Ok p) → IsAffine p
+read_affine source source' p h = go h.0 h.2
+  where
+    go : (found : Result (List ℕ) Refusal) → Onward ReadsAffine found (Ok p) → IsAffine p
+    go (Ok text) on = kept_affine text p on
+    go (Err f) on = cc
 
 module _ (w : Words) (mode : w.mode ≡ modes.Stream) (source source' : Stream) where
   abbrev Reads : Result ProgramTree Refusal → Type 0

@@ -3,7 +3,7 @@ use Rattle.rev_report.specs.Report.{output}
 use Rattle.rev_top.proofs.Rans.{refusal_made}
 use Rattle.rev_top.proofs.answer.make_report.Goals as goal
 
-pub returns-in-Err-clause-report : goal.returns-in-Err-clause-report
-returns-in-Err-clause-report g c =
+pub returns-in_ok-report-in-Err-clause-report : goal.returns-in_ok-report-in-Err-clause-report
+returns-in_ok-report-in-Err-clause-report g c =
     let h = c.in_ok-report.ensures in
     refusal_made (Some c.args.words.now) _ _ c.in-Err.stop c.in-Err.ensures.meets h.0 h.1 (output c.in_ok-report.report) h.2

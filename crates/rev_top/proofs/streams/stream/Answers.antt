@@ -1,6 +1,6 @@
 use Rattle.rev_syntax.specs.View.{program as whole}
 use Rattle.rev_types.specs.declared.typed.Typed.{Typed}
-use Rattle.rev_top.proofs.StreamAnswers.{keeps_affine, refused, streamed}
+use Rattle.rev_top.proofs.StreamAnswers.{read_affine, refused, streamed}
 use Rattle.rev_top.proofs.streams.stream.Goals as goal
 
 pub returns-in-Ok-clause-happened : goal.returns-in-Ok-clause-happened
@@ -12,4 +12,4 @@ returns-in-Err-clause-happened g c =
     refused c.args.words.now c.requires.mode _ _ _ _ _ _ _ (λ (t : Typed). whole t.expanded.program) c.in-Err.stop c.in-Err.ensures.meets c.refuse.ensures
 
 pub stream_program-requires-clause-affine : goal.stream_program-requires-clause-affine
-stream_program-requires-clause-affine g c = keeps_affine _ _ (whole c.in-Ok.typed.expanded.program) c.in-Ok.ensures.meets
+stream_program-requires-clause-affine g c = read_affine _ _ (whole c.in-Ok.typed.expanded.program) c.in-Ok.ensures.meets
