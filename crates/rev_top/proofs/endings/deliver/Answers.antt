@@ -6,4 +6,4 @@ use Rattle.rev_top.proofs.endings.deliver.Goals as goal
 pub returns-in-Ok : goal.returns-in-Ok
 returns-in-Ok g c =
     c.end_report.ensures (output c.args.report.now) _ _ refl
-    (subst (λ (bytes : List ℕ). Took (g.O.Sink.stream c.args.out.now) bytes (g.O.Sink.stream c.write_all.new.sink)) c.as_slice.ensures c.in-Ok.ensures)
+    (subst (λ (bytes : List ℕ). Took (g.O.Sink.stream c.args.out.now) bytes (g.O.Sink.stream c.write_all.new.sink)) c.as_slice.ensures.value c.in-Ok.ensures)

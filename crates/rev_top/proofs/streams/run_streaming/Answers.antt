@@ -18,4 +18,4 @@ returns g c =
     _ _ c.stream_code.result c.stream_code.ensures
 
 pub returns-in_err-numbers : goal.returns-in_err-numbers
-returns-in_err-numbers g c = not_begun c.args.words.now (whole c.args.typed.now.expanded.program) _ _ c.from_residual.ensures.1
+returns-in_err-numbers g c = not_begun c.args.words.now (whole c.args.typed.now.expanded.program) _ _ c.from_residual-in_err-numbers.ensures.1
