@@ -18,4 +18,7 @@ returns g c =
     _ _ c.stream_code.result c.stream_code.ensures
 
 pub returns-in_err-numbers : goal.returns-in_err-numbers
-returns-in_err-numbers g c = not_begun c.args.words.now (whole c.args.typed.now.expanded.program) _ _ c.from_residual-in_err-numbers.ensures.1
+returns-in_err-numbers g c =
+    let t = c.args.typed.now in
+    not_begun c.args.words.now (whole t.expanded.program) (record { small = t.expanded.small; funs = t.expanded.keeps_rules; rules = t.well_typed })
+    _ c.from_residual-in_err-numbers.result c.from_residual-in_err-numbers.ensures.1
