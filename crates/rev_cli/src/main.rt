@@ -2,7 +2,15 @@
 //! the status of the call as exit status.
 #![tactic(auto)]
 
+ghost use Rattle.std.specs.Prelude.{◌≡◌};
+ghost use Rattle.merge_kernels.specs.Lanes.{lanes_answer};
+ghost use Rattle.merge_kernels.specs.Terms.{answer_of};
+ghost use Rattle.merge_kernels.specs.Three.{greatest_expression, least_expression, sum_expression};
+
 use hub_workers::OpenGate;
+use merge_kernels::{Kernel, RowKernel, RowRun, Run, sum_lanes};
+use merge_kernels::{greatest, greatest_def, least, least_def, sum, sum_def};
+use rev_num::NumFault;
 use rev_io::{StdSink, StdSource};
 use rev_top::{out_of_memory, rev_main};
 use std::env::Env;
@@ -39,5 +47,6 @@ fn main(rt: HostRuntime) -> ExitCode {
         &mut err,
         &OpenGate,
         &mut ran,
+        &[],
     ))
 }

@@ -24,6 +24,7 @@ use crate::traces::trace;
 use code_listing::disassemble;
 use code_verifier::Verified;
 use hub_workers::Gate;
+use merge_kernels::Kernel;
 use rev_io::{Source, read_text};
 use rev_messages::{accepted_report, done_report, refusal_bytes};
 use rev_report::Report;
@@ -85,6 +86,7 @@ fn say<R: Threads + Wait + Sync, G: Gate + Sync>(
     words: &Words,
     bytes: &[u8],
     gate: &G,
+    kernels: &[Kernel],
 ) -> Result<Made, Stop>
     requires limit { IsWithin (reads_of words.now.mode) (length bytes.now) }
     requires fuel { words.now.fuel ≤ most_fuel }
@@ -94,16 +96,16 @@ fn say<R: Threads + Wait + Sync, G: Gate + Sync>(
         Holds words.now.mode words.now bytes.now m.ran (output m.report)) }
 {
     match words.mode {
-        Mode::Run => run(rt, alloc, words, bytes, gate),
+        Mode::Run => run(rt, alloc, words, bytes, gate, kernels),
         Mode::Check => alone(check(alloc, words, bytes)),
-        Mode::Load => load(rt, alloc, words, gate),
+        Mode::Load => load(rt, alloc, words, gate, kernels),
         Mode::Dis => alone(dis(alloc, bytes)),
         Mode::Exec => alone(exec(alloc, words, bytes)),
         Mode::Emit => alone(emit(alloc, bytes)),
         Mode::Trace => alone(trace(alloc, words, bytes)),
         Mode::Audit => alone(audit(alloc, words, bytes)),
         Mode::Replay => alone(replay(alloc, words, bytes)),
-        Mode::Order => order(rt, alloc, words, bytes, gate),
+        Mode::Order => order(rt, alloc, words, bytes, gate, kernels),
     }
 }
 
@@ -157,6 +159,7 @@ fn answer_to<R: Threads + Wait + Sync, S: Source, G: Gate + Sync>(
     words: &Words,
     source: &mut S,
     gate: &G,
+    kernels: &[Kernel],
 ) -> Result<Made, Stop>
     requires fuel { words.now.fuel ≤ most_fuel }
     requires workers { 1 ≤ words.now.workers }
@@ -167,7 +170,7 @@ fn answer_to<R: Threads + Wait + Sync, S: Source, G: Gate + Sync>(
     ensures takes { Takes (reads_of words.now.mode) (S.stream source.old) (S.stream source.new) }
 {
     let bytes = read_source(alloc, words.mode, source)?;
-    say(rt, alloc, words, bytes.as_slice(), gate)
+    say(rt, alloc, words, bytes.as_slice(), gate, kernels)
 }
 
 fn answer<R: Threads + Wait + Sync, S: Source, G: Gate + Sync>(
@@ -176,6 +179,7 @@ fn answer<R: Threads + Wait + Sync, S: Source, G: Gate + Sync>(
     words: &[String],
     source: &mut S,
     gate: &G,
+    kernels: &[Kernel],
 ) -> Result<Made, Stop>
     ensures meets { Meets said result (Answers (reading (map string_bytes words.now))
         (S.stream source.old) (S.stream source.new)) }
@@ -185,7 +189,7 @@ fn answer<R: Threads + Wait + Sync, S: Source, G: Gate + Sync>(
         (S.stream source.old) (S.stream source.new) }
 {
     let words = read_words(alloc, words)?;
-    answer_to(rt, alloc, &words, source, gate)
+    answer_to(rt, alloc, &words, source, gate, kernels)
 }
 
 /// The report of the call and the run of which it was made, unless memory runs out.
@@ -195,13 +199,14 @@ pub fn make_report<R: Threads + Wait + Sync, S: Source, G: Gate + Sync>(
     words: &[String],
     source: &mut S,
     gate: &G,
+    kernels: &[Kernel],
 ) -> Result<Made, AllocError>
     ensures report { IfOk result (λ m. IsMade (reading (map string_bytes words.now))
         (S.stream source.old) (S.stream source.new) m.ran (output m.report)) }
     ensures takes { Takes (reads (reading (map string_bytes words.now)))
         (S.stream source.old) (S.stream source.new) }
 {
-    match answer(rt, alloc, words, source, gate) {
+    match answer(rt, alloc, words, source, gate, kernels) {
         Ok(made) => Ok(made),
         Err(Stop::Refused(refusal)) => {
             let report = refusal_bytes(alloc, &refusal)?;

@@ -12,6 +12,7 @@ ghost use Rattle.rev_top.specs.Rans.{Ended};
 
 use crate::answer::make_report;
 use hub_workers::Gate;
+use merge_kernels::Kernel;
 use rev_io::{Sink, SinkFault, Source, write_all};
 use rev_messages::no_memory_message;
 use rev_report::{Report, status};
@@ -55,6 +56,7 @@ pub fn happen<R: Threads + Wait + Sync, S: Source, O: Sink, E: Sink, G: Gate + S
     err: &mut E,
     gate: &G,
     ran: &mut Option<Ran>,
+    kernels: &[Kernel],
 ) -> u8
     ensures ended { Ended (reading (map string_bytes words.now))
         (S.stream source.old) (S.stream source.new) (O.stream out.old) (O.stream out.new)
@@ -62,7 +64,7 @@ pub fn happen<R: Threads + Wait + Sync, S: Source, O: Sink, E: Sink, G: Gate + S
     ensures takes { Takes (reads (reading (map string_bytes words.now)))
         (S.stream source.old) (S.stream source.new) }
 {
-    match make_report(rt, alloc, words, source, gate) {
+    match make_report(rt, alloc, words, source, gate, kernels) {
         Ok(made) => {
             *ran = made.ran;
             deliver(out, err, &made.report)

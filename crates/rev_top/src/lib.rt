@@ -24,6 +24,7 @@ mod traces;
 use deliver::happen;
 pub use deliver::out_of_memory;
 use hub_workers::Gate;
+use merge_kernels::Kernel;
 pub use law::{listing_law, one_answer, one_finding, statuses};
 use rev_io::{Sink, Source};
 use std::sync::Wait;
@@ -69,6 +70,7 @@ pub fn rev_main<
     err: &mut E,
     gate: &G,
     ran: &mut Option<Ran>,
+    kernels: &[Kernel],
 ) -> u8
     ensures keeps { Keeps (reading (map string_bytes words.now))
         (S.stream source.old) (S.stream source.new) (O.stream out.old) (O.stream out.new)
@@ -77,5 +79,15 @@ pub fn rev_main<
         (S.stream source.old) (O.stream out.old) (O.stream out.new)
         (E.stream err.old) (E.stream err.new) ran.new result }
 {
-    happen(rt, rt.alloc(), words, source, out, err, gate, ran)
+    happen(
+        rt,
+        rt.alloc(),
+        words,
+        source,
+        out,
+        err,
+        gate,
+        ran,
+        kernels,
+    )
 }

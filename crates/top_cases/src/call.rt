@@ -47,7 +47,7 @@ fn called<R: AllocGlobal + Threads + Wait + Sync, S: Source, O: Sink, E: Sink, G
     gate: &G,
 ) -> (u8, Option<Ran>) {
     let mut ran = None;
-    let status = rev_main(rt, words, source, out, err, gate, &mut ran);
+    let status = rev_main(rt, words, source, out, err, gate, &mut ran, &[]);
     (status, ran)
 }
 
