@@ -1,5 +1,6 @@
 //! A run of verified code by threads, from its store's opening to its close.
 ghost use Rattle.std.specs.Prelude.{◌≡◌, ◌≢◌, ◌<◌, ◌^◌, All, IfErr, IfOk, IfSome, length, map};
+ghost use Rattle.block_run.specs.Area.{count};
 ghost use Rattle.rev_vm.specs.Starts.{run_under};
 ghost use Rattle.segment_store.specs.Group.{closed_group};
 ghost use Rattle.segment_store.specs.Names.{IsSeatOf};
@@ -8,13 +9,14 @@ ghost use Rattle.turn_hub.specs.Names.{run_state, run_schedule};
 ghost use Rattle.run_revision.specs.CodeRuns.{IsOfCode};
 ghost use Rattle.merge_kernels.specs.Terms.{definition};
 ghost use Rattle.rev_workers.specs.Hands.{AreMergesFor, IsHandAt, store_group};
-ghost use Rattle.rev_workers.specs.Plans.{IsPlanFor};
+ghost use Rattle.rev_workers.specs.Plans.{IsPlanFor, planned};
 ghost use Rattle.rev_workers.specs.Ran.{IsNotRan};
 ghost use Rattle.rev_workers.specs.Runs.{IsRunOfCode, IsSameRun};
 ghost use Rattle.rev_workers.specs.Stores.{IsOpened};
 
 use crate::code_run::{NotRun, run_code};
 use crate::hands::{StoreRevisions, give_back, hands_for, merges_for};
+use crate::merges::KernelMerges;
 use block_merges::BlockMerges;
 use hub_table::HubState;
 use hub_workers::{Finished, Gate};
@@ -150,6 +152,32 @@ fn run_over<'a, 's, M: MergeBy + Drop + Send + Sync, G: Gate + Sync, R: Threads 
     }
 }
 
+// A run over an open store, by a thread for each of these merges by kernels.
+fn run_planned<'a, 's, 'k, G: Gate + Sync, R: Threads + Wait + Sync>(
+    rt: &R,
+    alloc: Global,
+    setting: &'a CodeSetting,
+    store: &'s Store,
+    hold: Hold,
+    fuel: u64,
+    merges: Vec<KernelMerges<'k, BlockMerges<'a>>>,
+    gate: &G,
+) -> Left<'a>
+    requires opened { IsOpened setting.now.code.vars store.now hold }
+    requires some { (0 < length merges.items) × (length merges.items < 2 ^ 32) }
+    requires merges { All (AreMergesFor (λ m. count m.inner.code.now.vars)
+        (λ m. planned m.inner.code.now m.plan.now.choices.items
+        (map (λ k. definition k.def) m.plan.now.kernels.now)) setting.now) merges.items }
+    ensures own { IsSeatOf store.entry.now result.all.seat }
+    ensures state { IfSome result.run (λ r. run_state r ≢ NoMemory) }
+    ensures schedule { IfSome result.run (λ r. IsOfCode (run_under setting.entry.now) fuel
+        (run_state r) (run_schedule r)) }
+    ensures run { IfSome result.run (λ r. IsRunOfCode (run_under setting.entry.now) fuel
+        (store_group store.entry.now) r) }
+{
+    run_over(rt, alloc, setting, store, hold, fuel, merges, gate)
+}
+
 /// A run of `main` of verified code with this fuel, by so many threads over a store of so many
 /// segments. Where a thread can't be made, the caller does its work; all threads have ended when it
 /// returns. Its schedule is legal for the code and complete, and where a revision was joined a
@@ -184,7 +212,9 @@ pub fn run_threads<'a, 'k, G: Gate + Sync, R: Threads + Wait + Sync>(
     let Ok((store, hold)) = open_store(alloc, setting, segments) else {
         return Err(NotRan::OutOfMemory);
     };
-    let Left { run, all, copies } = run_over(rt, alloc, setting, &store, hold, fuel, merges, gate);
+    let Left { run, all, copies } = run_planned(
+        rt, alloc, setting, &store, hold, fuel, merges, gate,
+    );
     let closed = store.close(all);
     let Some(run) = run else {
         return Err(NotRan::OutOfMemory);

@@ -11,13 +11,13 @@ use Rattle.rev_workers.proofs.Planned.{agrees, stands_too}
 use Rattle.rev_workers.proofs.hands.merges_by.Goals as goal
 
 pub new-requires : goal.new-requires
-new-requires c =
+new-requires g c =
     let choices = c.args.plan.now.choices.items in
     let kernels = map (λ k. definition k.def) c.args.plan.now.kernels.now in
     subst (λ (x : Code). Agrees choices kernels (word_merges x)) (sym (c.in_ok-inner.ensures.code ∙ c.code.ensures.code)) (agrees c.args.setting.now.code choices kernels c.requires)
 
 pub returns : goal.returns
-returns c =
+returns g c =
     let run = run_under c.args.setting.now in
     let choices = c.args.plan.now.choices.items in
     let kernels = map (λ k. definition k.def) c.args.plan.now.kernels.now in

@@ -8,7 +8,7 @@ use Rattle.rev_workers.specs.Plans.{planned}
 use Rattle.rev_workers.proofs.hands.merges_for.Goals as goal
 
 pub loop-preserved : goal.loop-preserved
-loop-preserved c =
+loop-preserved g c =
     let i = c.loop.invariant in
     let e = c.in_ok-push.ensures.items in
     let a : length c.push.new.self.items ≡ length c.loop.list.items + 1 = ap length e ∙ many_more c.loop.list.items c.in_ok-merges_by.field-0 in
