@@ -1,14 +1,31 @@
-use Rattle.std.proofs.Common.{◌∙◌, ap, subst}
+use Rattle.std.proofs.Common.{◌∙◌, sym, ap, subst}
+use Rattle.std.specs.Option.{option_copied}
 use Rattle.revision_machine.specs.Laws.{local_of}
-use Rattle.revision_machine.specs.Numbered.{Listing, paths_of}
 use Rattle.rev_vm.specs.Starts.{run_under}
 use Rattle.code_machine.specs.Outcome.{outcome}
-use Rattle.code_world.specs.Endings.{Names}
+use Rattle.code_world.specs.Endings.{IsEndAt}
 use Rattle.code_world.specs.Tables.{IsWorld}
+use Rattle.world_outcomes.specs.Ends.{IsEndOfMain}
 use Rattle.world_outcomes.proofs.Left.{left_by, none_left}
 use Rattle.world_outcomes.proofs.of_world.outcome_of_world.Goals as goal
+
+pub outcome_of-requires-clause-ended : goal.outcome_of-requires-clause-ended
+outcome_of-requires-clause-ended c =
+    let q = c.requires.over in
+    let s = run_under c.args.setting.now in
+    let k = left_by s c.args.setting.now.faultless q.0 q.1 c.in-Some.end.now (c.in-Some.ensures s q.0 q.2) in
+    (local_of k.entry, subst (IsEndOfMain s (local_of k.entry)) (sym c.in_ok-end-in-Some.ensures) k.end)
 
 pub returns-in-None : goal.returns-in-None
 returns-in-None c = λ w h is over.
     let s = run_under c.args.setting.now in
-    none_left s c.args.setting.now.faultless w h over (c.end_of.ensures s w is)
+    none_left s c.args.setting.now.faultless w h over (subst (IsEndAt s w 0) (ap option_copied c.in-None.is) (c.end_of.ensures s w is))
+
+pub returns-in_ok-outcome-in-Some : goal.returns-in_ok-outcome-in-Some
+returns-in_ok-outcome-in-Some c = λ w h is over.
+    let s = run_under c.args.setting.now in
+    let k = left_by s c.args.setting.now.faultless w h c.in-Some.end.now (c.in-Some.ensures s w is) in
+    ap (outcome s) k.is
+    ∙ c.in_ok-outcome-in-Some.ensures.world k.entries k.path k.entry k.there
+    (subst (IsEndOfMain s (local_of k.entry)) (sym c.in_ok-end-in-Some.ensures) k.end)
+    (c.births.ensures s k.entries (subst (IsWorld s c.args.world.now) k.is is))
