@@ -16,10 +16,7 @@ new-requires-clause-inputs g c = c.note_inputs.ensures
 pub outcome_of_run-requires : goal.outcome_of_run-requires
 outcome_of_run-requires g c = λ k. (
   (refl, tt),
-  (
-    c.in_ok-setting.ensures.setting,
-    (c.args.fuel, is_kept (run_under c.in_ok-setting.setting) c.args.fuel _ c.in-Ok.left.run c.requires.fuel c.in-Ok.ensures.run c.in-Ok.ensures.state),
-  ),
+  (c.args.fuel, is_kept (run_under c.in_ok-setting.setting) c.args.fuel _ c.in-Ok.left.run c.requires.fuel c.in-Ok.ensures.run c.in-Ok.ensures.state),
 )
 
 pub returns-clause-outcome : goal.returns-clause-outcome
