@@ -1,0 +1,11 @@
+use Rattle.std.proofs.Common.{refl}
+use Rattle.code_reads.proofs.Apart.{apart}
+use Rattle.code_reads.proofs.worked_reads.Goals as goal
+
+pub returns : goal.returns
+returns c = record {
+  alone = refl;
+  once = refl;
+  range = (refl, refl);
+  inputs = ((refl, tt), λ h. apart h.0);
+}
