@@ -1,0 +1,6 @@
+pub mod Leaving
+pub mod Reading
+pub mod Adopting
+pub mod Entries
+pub mod Recorded
+pub mod Standing

@@ -1,0 +1,6 @@
+use Rattle.code_memos.proofs.Adopting.{valid_is_the_leg}
+use Rattle.code_memos.proofs.Leaving.{valid_is_the_end}
+use Rattle.code_memos.proofs.valid_laws.Goals as goal
+
+pub returns : goal.returns
+returns c = record { end = valid_is_the_end; leg = valid_is_the_leg }

@@ -1,0 +1,45 @@
+//! What is kept of the leaf revisions of a run, and for which revisions of another run it is valid.
+//! Each law is an empty function.
+#![tactic(auto)]
+
+ghost use Rattle.code_memos.specs.Freshness.{FreshLaw};
+ghost use Rattle.code_memos.specs.Laws.{EndsAreRenamed, LegsAreRenamed, ValidIsTheEnd};
+ghost use Rattle.code_memos.specs.Memo.{OneEntry, OneMemo};
+ghost use Rattle.code_memos.specs.Recording.{CountedIsReused, RecordedIsMemo, ReusedIsOne};
+ghost use Rattle.code_memos.specs.Worlds.{ValidIsTheLeg};
+
+/// What a leg comes to, what it reads, and what a revision leaves that it ends, are the same
+/// whatever a handle is.
+pub fn handle_laws<H, K>()
+    ensures legs { LegsAreRenamed H K }
+    ensures ends { EndsAreRenamed H K }
+{}
+
+/// Where a kept entry is valid for a fresh revision of another run of the code, that revision's leg
+/// ends it with what the entry has: by instructions, and in a world by number.
+pub fn valid_laws()
+    ensures end { ValidIsTheEnd }
+    ensures leg { ValidIsTheLeg }
+{}
+
+/// The entry of a revision, and so the memo, does not depend on the schedule.
+pub fn memo_laws()
+    ensures entry { OneEntry }
+    ensures memo { OneMemo }
+{}
+
+/// At the end of a complete run: entries of which each is one of the run, and that have one for
+/// each revision that has listed no fork and no join, are the memo; and revisions that have a valid
+/// entry, with none left out that has listed nothing, are as many as are reused, which is one
+/// number.
+pub fn record_laws()
+    ensures memo { RecordedIsMemo }
+    ensures reused { CountedIsReused }
+    ensures one { ReusedIsOne }
+{}
+
+/// A running revision that has listed no fork and no join, and has no word on its stack, stands
+/// before its first instruction.
+pub fn fresh_law()
+    ensures { FreshLaw }
+{}
