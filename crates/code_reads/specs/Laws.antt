@@ -3,8 +3,9 @@ use Rattle.std.specs.Prelude.{◌≡◌, ℕ, ℤ, List}
 use Rattle.rev_code.specs.Words.{Word}
 use Rattle.rev_code.specs.State.{Setting, State}
 use Rattle.rev_code.specs.Step.{step, reach}
+use Rattle.reached_worlds.specs.Reached.{snapshots}
 use Rattle.code_reads.specs.Reads.{step_reads, reach_reads}
-use Rattle.code_reads.specs.Moved.{snapshots, moved, moved_comes, AllAgree}
+use Rattle.code_reads.specs.Moved.{moved, moved_comes, AllAgree}
 
 -- the same code and funs, with other inputs and another share
 abbrev pub with_inputs : {H : Type 0} → Setting H → List ℤ → (share : ℕ) → Setting H

@@ -1,5 +1,4 @@
 -- The same state over another snapshot: what it has written stays, and all else.
---   snapshots  the words of a snapshot
 --   moved      these words in place of the snapshot's
 --   Agrees     a snapshot and an input have what was read
 use Rattle.std.specs.Prelude.{◌≡◌, ℤ, List, [], ◌∷◌, length, Some, slice_get}
@@ -7,10 +6,6 @@ use Rattle.rev_code.specs.Words.{Word}
 use Rattle.rev_code.specs.State.{Location, State}
 use Rattle.rev_code.specs.Step.{Comes, goes, traps, forks, joins, ends, stuck}
 use Rattle.code_reads.specs.Reads.{Read, location, input, count}
-
-abbrev pub snapshots : {H : Type 0} → List (Location H) → List (Word H)
-snapshots [] = []
-snapshots (l ∷ ls) = l.snapshot ∷ snapshots ls
 
 -- these words, location by location, in place of the snapshot's
 abbrev pub over : {H : Type 0} → List (Word H) → List (Location H) → List (Location H)

@@ -16,7 +16,7 @@ use Rattle.revision_births.proofs.Witness.{with_birth, Both, W, plain_entry, pla
 
 -- ---- one more step
 
-runs_then : (M : Machine) (rs : List Path) (g h i : Global M.Local) (r : Path) → Runs M g rs h → step M h r ≡ Some i → Runs M g (rs ++ r ∷ []) i
+pub runs_then : (M : Machine) (rs : List Path) (g h i : Global M.Local) (r : Path) → Runs M g rs h → step M h r ≡ Some i → Runs M g (rs ++ r ∷ []) i
 runs_then M [] g h i r runs s = (i, ap (λ m. step M m r) runs ∙ s, refl)
 runs_then M (q ∷ rs) g h i r runs s = (runs.0, runs.1, runs_then M rs runs.0 h i r runs.2 s)
 

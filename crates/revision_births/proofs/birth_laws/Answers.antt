@@ -1,5 +1,6 @@
 use Rattle.revision_births.proofs.Births.{one_birth, born_stand}
 use Rattle.revision_births.proofs.Leaves.{leaves_end}
+use Rattle.revision_births.proofs.News.{new_is_born}
 use Rattle.revision_births.proofs.birth_laws.Goals as goal
 
 pub returns : goal.returns
@@ -7,4 +8,5 @@ returns g c = record {
   one = λ s main. let l = g.R.LawfulMachine.lawful s in one_birth l.machine main l.counts;
   stand = λ s main. let l = g.R.LawfulMachine.lawful s in born_stand l.machine main l.counts;
   leaves = λ s main. let l = g.R.LawfulMachine.lawful s in leaves_end l.machine main l.counts;
+  new = λ s main. new_is_born (g.R.LawfulMachine.lawful s).machine main;
 }

@@ -1,0 +1,26 @@
+use Rattle.std.proofs.Common.{◌≡◌, ℕ, length, take}
+use Rattle.rev_code.specs.State.{State}
+use Rattle.version_map.specs.Deltas.{at}
+use Rattle.version_map.specs.Overlay.{under}
+use Rattle.block_run.specs.Standing.{Mode, Here, weight}
+use Rattle.noting_run.specs.Runs.{AheadNoting}
+use Rattle.noting_run.proofs.block.run_block_noting.Given as goal
+
+-- each state for which the machine stood at first has steps to one for which it stands now
+abbrev pub invariant-loop-last : goal.invariant-loop-last
+invariant-loop-last g l = record {
+  instrs : l.instrs ≡ l.b.instrs;
+  registers : l.registers ≡ l.initial.registers;
+  words : length l.words ≡ length l.initial.words;
+  ahead : (m : Mode) (c : State ℕ) → Here l.code l.inputs m l.b c l.initial.words l.initial.registers
+      (under l.initial.memory.delta (g.P.Snapshot.base l.initial.memory.snapshot)) (at l.initial.memory.first.roots)
+      → AheadNoting l.code l.inputs m l.b c l.words l.r (under l.memory.delta (g.P.Snapshot.base l.memory.snapshot)) (at l.memory.first.roots) l.initial.noted l.noted;
+  block : l.r.block ≡ l.initial.registers.block;
+  base : l.r.base ≡ l.initial.registers.base;
+  below : take l.initial.registers.base l.words ≡ take l.initial.registers.base l.initial.words;
+  size : g.P.Snapshot.size l.memory.snapshot ≡ g.P.Snapshot.size l.initial.memory.snapshot;
+  group : g.P.Snapshot.group l.memory.snapshot ≡ g.P.Snapshot.group l.initial.memory.snapshot;
+}
+
+abbrev pub decreases-loop-last : goal.decreases-loop-last
+decreases-loop-last g l = weight l.b.instrs l.r.at l.r.fuel

@@ -1,0 +1,14 @@
+use Rattle.std.proofs.Common.{◌∷◌, ◌∙◌, sym, ap, subst}
+use Rattle.version_map.specs.Deltas.{at}
+use Rattle.rev_code.specs.Variables.{array}
+use Rattle.noting_run.specs.Marks.{HasMarked, cell_marks}
+use Rattle.noting_run.proofs.marking.note_element.Goals as goal
+
+pub returns : goal.returns
+returns g c =
+    let v = c.requires.variable in
+    let stack = c.top.ensures in
+    subst (HasMarked c.args.noted.now c.note_cell.new.noted)
+    (sym (ap (λ o. cell_marks (at c.args.memory.now.first.roots) o (c.top.result ∷ stack.0)) v.is
+    ) ∙ sym (ap (cell_marks (at c.args.memory.now.first.roots) (array c.args.code.now.vars c.args.v)) stack.1))
+    (c.note_cell.ensures v.place v.first v.cells)
