@@ -4,3 +4,4 @@ pub mod Adopting
 pub mod Entries
 pub mod Recorded
 pub mod Standing
+pub mod Numbers

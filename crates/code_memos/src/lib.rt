@@ -2,7 +2,7 @@
 //! Each law is an empty function.
 #![tactic(auto)]
 
-ghost use Rattle.code_memos.specs.Freshness.{FreshLaw};
+ghost use Rattle.code_memos.specs.Freshness.{UnlistedBegins, UnlistedByNumber};
 ghost use Rattle.code_memos.specs.Laws.{EndsAreRenamed, LegsAreRenamed, ValidIsTheEnd};
 ghost use Rattle.code_memos.specs.Memo.{OneEntry, OneMemo};
 ghost use Rattle.code_memos.specs.Recording.{CountedIsReused, RecordedIsMemo, ReusedIsOne};
@@ -38,8 +38,9 @@ pub fn record_laws()
     ensures one { ReusedIsOne }
 {}
 
-/// A running revision that has listed no fork and no join, and has no word on its stack, stands
-/// before its first instruction.
-pub fn fresh_law()
-    ensures { FreshLaw }
+/// A running revision that has listed no fork and no join stands before its first instruction, in
+/// the state with which it began: by paths, and in a world by number.
+pub fn fresh_laws()
+    ensures paths { UnlistedBegins }
+    ensures numbers { UnlistedByNumber }
 {}
