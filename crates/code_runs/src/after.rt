@@ -2,7 +2,6 @@
 
 ghost use Rattle.std.specs.Prelude.{ℕ, IfOk};
 ghost use Rattle.code_outcomes.specs.Outcomes.{HasOutcome};
-ghost use Rattle.leg_run.specs.Setting.{IsSetting};
 ghost use Rattle.rev_vm.specs.Starts.{run_under};
 ghost use Rattle.code_runs.specs.Completed.{IsAfter};
 
@@ -19,7 +18,6 @@ pub fn outcome_after(
     setting: &CodeSetting,
     world: World,
 ) -> Result<Outcome, AllocError>
-    requires setting { IsSetting setting.now }
     requires over { (fuel : ℕ) × IsAfter (run_under setting.now) fuel world }
     ensures { IfOk result (λ o. (fuel : ℕ) → IsAfter (run_under setting.now) fuel world
         → HasOutcome (run_under setting.now) fuel o) }

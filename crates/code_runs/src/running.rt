@@ -5,7 +5,6 @@ ghost use Rattle.rev_num.specs.Limits.{most_fuel};
 ghost use Rattle.block_merges.specs.Merging.{AreMergesOf};
 ghost use Rattle.block_run.specs.Area.{count};
 ghost use Rattle.code_outcomes.specs.Outcomes.{HasOutcome};
-ghost use Rattle.leg_run.specs.Setting.{IsSetting};
 ghost use Rattle.rev_vm.specs.Starts.{run_under};
 ghost use Rattle.world_runs.specs.Replay.{IsIllegal};
 ghost use Rattle.code_runs.specs.Completed.{IsUnderway};
@@ -22,15 +21,13 @@ use std::alloc::{AllocError, Global};
 use version_map::MergeBy;
 use world_runs::{ReplayFault, finish, replay};
 
-/// The outcome of the code, from its world after a legal schedule: each further leg is that of the
-/// least revision that has one, until none has.
+/// The outcome of the code, from its world after a legal schedule, which is run to its end.
 fn complete<M: MergeBy>(
     alloc: Global,
     setting: &CodeSetting,
     merges: &mut M,
     world: World,
 ) -> Result<Outcome, AllocError>
-    requires setting { IsSetting setting.now }
     requires underway { (fuel : ℕ) × IsUnderway (run_under setting.now) fuel world }
     requires size { M.size merges.old ≡ count setting.now.code.vars }
     requires merges { AreMergesOf (run_under setting.now) (M.merges merges.old) }
@@ -43,8 +40,8 @@ fn complete<M: MergeBy>(
 }
 
 /// The outcome of verified code with these inputs, share and fuel, of which there are at most
-/// 4,000,000,000 units. It runs on one thread: each leg is that of the least revision that has one,
-/// until none has. Want of memory is the one error.
+/// 4,000,000,000 units. It runs on one thread; no complete schedule has another outcome. Want of
+/// memory is the one error.
 pub fn run_code(
     alloc: Global,
     code: Verified,
@@ -58,15 +55,14 @@ pub fn run_code(
 {
     note_inputs(&inputs);
     let setting = CodeSetting::new(alloc, code.into_code(), inputs, share)?;
-    let mut merges = BlockMerges::of(alloc, &setting.code)?;
+    let mut merges = BlockMerges::of(alloc, setting.code())?;
     let start = World::begin(alloc, &setting, fuel)?;
     let outcome = complete(alloc, &setting, &mut merges, start)?;
     Ok(outcome)
 }
 
-/// The same of a run that begins with the legs of this schedule, one for each entry, and goes on
-/// with those of the least revisions. It is refused at the first entry that has no leg. The other
-/// fault is want of memory.
+/// The same of a run that begins with the legs of this schedule, one for each entry. It is refused
+/// at the first entry that has no leg. The other fault is want of memory.
 pub fn replay_code(
     alloc: Global,
     code: Verified,
@@ -85,7 +81,7 @@ pub fn replay_code(
 {
     note_inputs(&inputs);
     let setting = CodeSetting::new(alloc, code.into_code(), inputs, share)?;
-    let mut merges = BlockMerges::of(alloc, &setting.code)?;
+    let mut merges = BlockMerges::of(alloc, setting.code())?;
     let world = replay(alloc, &setting, &mut merges, fuel, schedule)?;
     let outcome = complete(alloc, &setting, &mut merges, world)?;
     Ok(outcome)

@@ -15,11 +15,15 @@ use Rattle.code_machine.proofs.Outcomes.{ended}
 use Rattle.code_outcomes.specs.Outcomes.{IsCompleteRun}
 use Rattle.code_outcomes.proofs.Outcomes.{by_main}
 use Rattle.code_runs.proofs.Least.{is_after}
-use Rattle.reached_worlds.specs.Reached.{most_fuel}
+use Rattle.reached_worlds.specs.Reached.{IsReached, most_fuel}
 use Rattle.world_notes.specs.Runs.{HasFinishedNoting}
 use Rattle.code_world.specs.declared.ending.MainEnd.{MainEnd}
 use Rattle.code_world.specs.declared.world.World as rust
-use Rattle.code_world.specs.Endings.{HasLeft}
+use Rattle.code_world.specs.declared.world.World.TheVariants as world
+use Rattle.code_world.specs.declared.table.Table.{Table}
+use Rattle.code_world.specs.Endings.{HasLeft, HasNoLeg}
+use Rattle.code_world.specs.Tables.{IsTable, IsWorld}
+use Rattle.code_world.proofs.Worlds.{world_live, world_twice}
 use Rattle.generated_blocks.proofs.Accepted.{code_accepted}
 use Rattle.join_agreement.specs.Related.{run_of}
 use Rattle.trace_making.specs.Traced as program
@@ -96,6 +100,37 @@ module _ (g : CodeRun) (ok : IsVerified g) (fuel : ℕ) where
 
       pub some_traced : (t : Trace) → IsListing g w t.parts → HasTrace g fuel (Some t)
       some_traced t listing = traced_by a.after.schedule (Listing w) complete_here (Some t) listing
+
+-- ---- a world without a leg
+
+module _ (g : CodeRun) (ok : IsVerified g) (v : rust.World) (t : Table) (live : v ≡ world.Live t) (w : World (Local ℕ)) (h : IsReached g w) (is : IsWorld g v w) (over : HasNoLeg g w)
+    (ns : List Noted) (noted : NotesOf g w ns) where
+  pub there : (x : Entries (Local ℕ)) × (w ≡ Listing x) × IsTable g t x
+  there = world_live g v w t live is
+
+  complete : IsCompleteRun g h.fuel h.schedule (Listing there.0)
+  complete = subst (IsCompleteRun g h.fuel h.schedule) there.1 (record { block = h.number; main = h.main; legal = h.replays; over = over })
+
+  pub stands_in : IsWorld g v (Listing there.0)
+  stands_in = subst (λ z. IsWorld g v z) there.1 is
+
+  pub noted_in : AreNoted g there.0 ns
+  noted_in = subst (λ z. NotesOf g z ns) there.1 noted
+
+  pub over_in : AreOver there.0
+  over_in = all_over g ok h.fuel h.schedule there.0 complete
+
+  pub distinct_in : IsDistinct (paths_of there.0)
+  distinct_in = own_paths g ok h.fuel h.schedule there.0 complete
+
+  pub ended_in : HaveEnded ns
+  ended_in = notes_ended g ok h.fuel there.0 ns noted_in over_in
+
+  pub trace_in : (trace : Trace) → IsListing g there.0 trace.parts → IsTraceIn g w (Some trace)
+  trace_in trace listing = subst (λ z. IsTraceIn g z (Some trace)) (sym there.1) listing
+
+pub none_in : (g : CodeRun) (v : rust.World) (w : World (Local ℕ)) → v ≡ world.Twice → IsWorld g v w → IsTraceIn g w None
+none_in g v w e is = subst (λ z. IsTraceIn g z None) (sym (world_twice g v w e is)) tt
 
 -- ---- programs
 

@@ -62,8 +62,8 @@ fn parts_of(
         → AreNoted (run_under setting.now) w notes.items → AreOver w
         → IsPermutation (world_parts (run_under setting.now) w) v.items) }
 {
-    let places = places_of(alloc, setting.code.vars.as_slice())?;
-    let kinds = kinds_of(alloc, setting.code.vars.as_slice())?;
+    let places = places_of(alloc, setting.code().vars.as_slice())?;
+    let kinds = kinds_of(alloc, setting.code().vars.as_slice())?;
     let mut parts = Vec::with_capacity(alloc, notes.len())?;
     let mut rest = notes;
     while let Some(noted) = rest.pop() {

@@ -3,7 +3,6 @@
 ghost use Rattle.std.specs.Prelude.{◌≤◌, ℕ, IfOk};
 ghost use Rattle.rev_num.specs.Limits.{most_fuel};
 ghost use Rattle.code_outcomes.specs.Outcomes.{HasOutcome};
-ghost use Rattle.leg_run.specs.Setting.{IsSetting};
 ghost use Rattle.rev_vm.specs.Starts.{run_under};
 ghost use Rattle.code_traces.specs.Traced.{HasTrace, IsNotedAfter};
 
@@ -35,7 +34,6 @@ fn traced_after(
     world: World,
     notes: Vec<Noted>,
 ) -> Result<TracedRun, AllocError>
-    requires setting { IsSetting setting.now }
     requires over { (fuel : ℕ) × IsNotedAfter (run_under setting.now) fuel world notes.items }
     ensures outcome { IfOk result (λ t. (fuel : ℕ)
         → IsNotedAfter (run_under setting.now) fuel world notes.items
@@ -62,8 +60,8 @@ fn traced_after(
 }
 
 /// The outcome and the trace of verified code with these inputs, share and fuel, of which there are
-/// at most 4,000,000,000 units, both from one run. It runs on one thread: each leg is that of the
-/// least revision that has one, until none has. Want of memory is the one error.
+/// at most 4,000,000,000 units. It runs on one thread; no complete schedule has another outcome or
+/// another trace. Want of memory is the one error.
 pub fn trace_code(
     alloc: Global,
     code: Verified,
@@ -79,7 +77,7 @@ pub fn trace_code(
 {
     note_inputs(&inputs);
     let setting = CodeSetting::new(alloc, code.into_code(), inputs, share)?;
-    let mut merges = BlockMerges::of(alloc, &setting.code)?;
+    let mut merges = BlockMerges::of(alloc, setting.code())?;
     let mut notes = first_notes(alloc)?;
     let start = World::begin(alloc, &setting, fuel)?;
     let end = finish_noting(alloc, &setting, &mut merges, start, &mut notes)?;

@@ -1,6 +1,7 @@
 -- What `main` left, where it is over.
 use Rattle.std.proofs.Common.{◌≡◌, ◌∙◌, ℕ, List, [], length, Option, Some, None, refl, sym, ap, subst, inl, inr}
 use Rattle.rev_num.specs.Path.{Path}
+use Rattle.revision_machine.specs.Laws.{local_of}
 use Rattle.revision_machine.specs.Machine.{Entry, Plain, Joined}
 use Rattle.revision_machine.specs.Numbered.{Entries, World, Listing, at_number, paths_of}
 use Rattle.revision_machine.proofs.Numbers.{length-paths}
@@ -14,14 +15,14 @@ use Rattle.code_world.specs.declared.table.Birth.{Birth}
 use Rattle.code_world.specs.declared.table.Table.{Table}
 use Rattle.code_world.specs.declared.world.World as rust
 use Rattle.code_world.specs.declared.world.World.TheVariants as world
-use Rattle.code_world.specs.Endings.{HasLeft, IsEndAt, MainIsOver, left_in}
+use Rattle.code_world.specs.Endings.{HasLeft, IsEndAt, MainIsOver, Names, left_in}
 use Rattle.code_world.specs.Tables.{AreNamed, IsTable, IsWorld}
-use Rattle.code_world.proofs.Finding.{running_at, standing_at, ended_at, joined_at}
+use Rattle.code_world.proofs.Finding.{running_at, standing_at, ended_at, joined_at, never_taken}
 use Rattle.code_world.proofs.Rows.{births_many, none_some, slot_none, some_same}
 use Rattle.code_world.proofs.Worlds.{world_live, world_twice}
 
 -- one at work is not over
-at_work_still : (l : Local ℕ) → IsOver l → l.phase ≡ running → ⊥
+pub at_work_still : (l : Local ℕ) → IsOver l → l.phase ≡ running → ⊥
 at_work_still l (inl e) r = let z : running ≡ done = sym r ∙ e in cc
 at_work_still l (inr (t, e)) r = let z : running ≡ trapped t = sym r ∙ e in cc
 
@@ -45,11 +46,12 @@ module _ (g : CodeRun) (t : Table) (w : Entries (Local ℕ)) (is : IsTable g t w
       by (Some (slot.Standing a)) e =
           let x = standing_at g t.slots.items w is.slots 0 a e in
           absurd (at_work_still l over (ap (λ (k : Local ℕ). k.phase) (sym (plain_same (at_number w 0) [] x.path l (at_work x.state) at x.there))))
-      by (Some slot.Joined) e =
-          let x = joined_at g t.slots.items w is.slots 0 e in
+      by (Some (slot.Joined v)) e =
+          let x = joined_at g t.slots.items w is.slots 0 v e in
           let z : ◌≡◌ {A = Path × Entry (Local ℕ)} ([], Plain l) (x.path, Joined x.local) = some_same (sym at ∙ x.there) in
           let y : Plain l ≡ Joined x.local = ap (λ (i : Path × Entry (Local ℕ)). i.1) z in
           absurd cc
+      by (Some slot.Taken) e = absurd (never_taken g t.slots.items w is.slots 0 e)
 
   pub left : (m : MainEnd) → at_number t.slots.items 0 ≡ Some (slot.Ended m.end) → m.births ≡ t.births → HasLeft g (Listing w) (Some m)
   left m e same =
@@ -63,6 +65,9 @@ module _ (g : CodeRun) (t : Table) (w : Entries (Local ℕ)) (is : IsTable g t w
           all = length-paths w ∙ sym (births_many t.births.items w is.forks) ∙ ap (λ (b : List Birth). length b) (sym bs);
         },
       )
+
+pub names : (g : CodeRun) (t : Table) (w : Entries (Local ℕ)) → IsTable g t w → Names t.births.items (paths_of w)
+names g t w is = record { named = is.named; all = length-paths w ∙ sym (births_many t.births.items w is.forks) }
 
 module _ (g : CodeRun) (v : rust.World) (w : World (Local ℕ)) (is : IsWorld g v w) (over : MainIsOver w) where
   pub main_ended : (t : Table) → v ≡ world.Live t → (e : EndValue) × (at_number t.slots.items 0 ≡ Some (slot.Ended e))
@@ -84,19 +89,16 @@ module _ (g : CodeRun) (v : rust.World) (w : World (Local ℕ)) (is : IsWorld g 
 
 module _ (g : CodeRun) (t : Table) (w : Entries (Local ℕ)) (is : IsTable g t w) (n : ℕ) where
   end_at : (o : Option Slot) → at_number t.slots.items n ≡ o → IsEndAt g (Listing w) n (left_in o)
-  end_at None e = λ r l there. none_some (sym (slot_none g t.slots.items w is.slots n e) ∙ there)
-  end_at (Some (slot.Ended v)) e = let x = ended_at g t.slots.items w is.slots n v e in (x.path, x.local, x.there, x.end)
-  end_at (Some (slot.Running r)) e = λ q l there.
+  end_at None e = λ r f there. none_some (sym (slot_none g t.slots.items w is.slots n e) ∙ there)
+  end_at (Some (slot.Ended v)) e = let x = ended_at g t.slots.items w is.slots n v e in (x.path, Plain x.local, x.there, x.end)
+  end_at (Some (slot.Joined v)) e = let x = joined_at g t.slots.items w is.slots n v e in (x.path, Joined x.local, x.there, x.end)
+  end_at (Some (slot.Running r)) e = λ q f there.
       let x = running_at g t.slots.items w is.slots n r e in
-      ap (λ (k : Local ℕ). k.phase) (plain_same (at_number w n) x.path q (at_work x.state) l x.there there)
-  end_at (Some (slot.Standing a)) e = λ q l there.
+      ap (λ (y : Path × Entry (Local ℕ)). (local_of y.1).phase) (some_same (sym there ∙ x.there))
+  end_at (Some (slot.Standing a)) e = λ q f there.
       let x = standing_at g t.slots.items w is.slots n a e in
-      ap (λ (k : Local ℕ). k.phase) (plain_same (at_number w n) x.path q (at_work x.state) l x.there there)
-  end_at (Some slot.Joined) e = λ q l there.
-      let x = joined_at g t.slots.items w is.slots n e in
-      let z : ◌≡◌ {A = Path × Entry (Local ℕ)} (q, Plain l) (x.path, Joined x.local) = some_same (sym there ∙ x.there) in
-      let y : Plain l ≡ Joined x.local = ap (λ (i : Path × Entry (Local ℕ)). i.1) z in
-      absurd cc
+      ap (λ (y : Path × Entry (Local ℕ)). (local_of y.1).phase) (some_same (sym there ∙ x.there))
+  end_at (Some slot.Taken) e = absurd (never_taken g t.slots.items w is.slots n e)
 
 module _ (g : CodeRun) (v : rust.World) (w : World (Local ℕ)) (is : IsWorld g v w) (n : ℕ) where
   pub left_live : (t : Table) → v ≡ world.Live t → (o : Option EndValue) → o ≡ left_in (at_number t.slots.items n) → IsEndAt g w n o

@@ -1,5 +1,5 @@
 -- What a table has of a revision says what the world has of it.
-use Rattle.std.proofs.Common.{◌≡◌, ◌≢◌, inl, inr, ◌∙◌, ℕ, ◌≤◌, Bool, List, Option, Some, None, refl, sym, ap, arith}
+use Rattle.std.proofs.Common.{◌≡◌, ◌≢◌, ◌⊎◌, inl, inr, ◌∙◌, ℕ, ◌≤◌, Bool, List, Option, Some, None, refl, sym, ap, arith}
 use Rattle.rev_num.specs.Path.{Path}
 use Rattle.rev_code.specs.State.{State}
 use Rattle.rev_code.specs.Step.{joins}
@@ -27,40 +27,45 @@ use Rattle.revision_machine.proofs.Lists.{at_below}
 
 -- ---- stages
 
-pub stage_none : (o : Option Slot) → IsStage o stage.NoSuch → o ≡ None
-stage_none None e = refl
+pub stage_none : (o : Option Slot) → IsStage o stage.NoSuch → (o ≡ None) ⊎ (o ≡ Some slot.Taken)
+stage_none None e = inl refl
+stage_none (Some slot.Taken) e = inr refl
 stage_none (Some (slot.Running r)) e = absurd (let z : stage.NoSuch ≡ stage.Running = e in cc)
 stage_none (Some (slot.Standing a)) e = absurd (let z : stage.NoSuch ≡ stage.Standing a.on = e in cc)
 stage_none (Some (slot.Ended v)) e = absurd (let z : stage.NoSuch ≡ stage.Ended = e in cc)
-stage_none (Some slot.Joined) e = absurd (let z : stage.NoSuch ≡ stage.Joined = e in cc)
+stage_none (Some (slot.Joined v)) e = absurd (let z : stage.NoSuch ≡ stage.Joined = e in cc)
 
 pub stage_running : (o : Option Slot) → IsStage o stage.Running → (r : WholeRunner) × (o ≡ Some (slot.Running r))
 stage_running None e = absurd (let z : stage.Running ≡ stage.NoSuch = e in cc)
 stage_running (Some (slot.Running r)) e = (r, refl)
 stage_running (Some (slot.Standing a)) e = absurd (let z : stage.Running ≡ stage.Standing a.on = e in cc)
 stage_running (Some (slot.Ended v)) e = absurd (let z : stage.Running ≡ stage.Ended = e in cc)
-stage_running (Some slot.Joined) e = absurd (let z : stage.Running ≡ stage.Joined = e in cc)
+stage_running (Some (slot.Joined v)) e = absurd (let z : stage.Running ≡ stage.Joined = e in cc)
+stage_running (Some slot.Taken) e = absurd (let z : stage.Running ≡ stage.NoSuch = e in cc)
 
 pub stage_standing : (o : Option Slot) (on : ℕ) → IsStage o (stage.Standing on) → (a : WholeJoin) × (o ≡ Some (slot.Standing a)) × (a.on ≡ on)
 stage_standing None on e = absurd (let z : stage.Standing on ≡ stage.NoSuch = e in cc)
 stage_standing (Some (slot.Running r)) on e = absurd (let z : stage.Standing on ≡ stage.Running = e in cc)
 stage_standing (Some (slot.Standing a)) on e = (a, refl, (let z : stage.Standing on ≡ stage.Standing a.on = e in let y : on ≡ a.on = cc in sym y))
 stage_standing (Some (slot.Ended v)) on e = absurd (let z : stage.Standing on ≡ stage.Ended = e in cc)
-stage_standing (Some slot.Joined) on e = absurd (let z : stage.Standing on ≡ stage.Joined = e in cc)
+stage_standing (Some (slot.Joined v)) on e = absurd (let z : stage.Standing on ≡ stage.Joined = e in cc)
+stage_standing (Some slot.Taken) on e = absurd (let z : stage.Standing on ≡ stage.NoSuch = e in cc)
 
 pub stage_ended : (o : Option Slot) → IsStage o stage.Ended → (v : EndValue) × (o ≡ Some (slot.Ended v))
 stage_ended None e = absurd (let z : stage.Ended ≡ stage.NoSuch = e in cc)
 stage_ended (Some (slot.Running r)) e = absurd (let z : stage.Ended ≡ stage.Running = e in cc)
 stage_ended (Some (slot.Standing a)) e = absurd (let z : stage.Ended ≡ stage.Standing a.on = e in cc)
 stage_ended (Some (slot.Ended v)) e = (v, refl)
-stage_ended (Some slot.Joined) e = absurd (let z : stage.Ended ≡ stage.Joined = e in cc)
+stage_ended (Some (slot.Joined v)) e = absurd (let z : stage.Ended ≡ stage.Joined = e in cc)
+stage_ended (Some slot.Taken) e = absurd (let z : stage.Ended ≡ stage.NoSuch = e in cc)
 
-pub stage_joined : (o : Option Slot) → IsStage o stage.Joined → o ≡ Some slot.Joined
+pub stage_joined : (o : Option Slot) → IsStage o stage.Joined → (v : EndValue) × (o ≡ Some (slot.Joined v))
 stage_joined None e = absurd (let z : stage.Joined ≡ stage.NoSuch = e in cc)
 stage_joined (Some (slot.Running r)) e = absurd (let z : stage.Joined ≡ stage.Running = e in cc)
 stage_joined (Some (slot.Standing a)) e = absurd (let z : stage.Joined ≡ stage.Standing a.on = e in cc)
 stage_joined (Some (slot.Ended v)) e = absurd (let z : stage.Joined ≡ stage.Ended = e in cc)
-stage_joined (Some slot.Joined) e = refl
+stage_joined (Some (slot.Joined v)) e = (v, refl)
+stage_joined (Some slot.Taken) e = absurd (let z : stage.Joined ≡ stage.NoSuch = e in cc)
 
 -- ---- entries
 
@@ -106,18 +111,33 @@ module _ (g : CodeRun) (ss : List Slot) (w : Entries (Local ℕ)) (h : AreSlots 
       by p (Plain l) there end = record { path = p; local = l; there = there; end = end }
       by p (Joined l) there i = absurd i
 
-  pub record JoinedThere : Type 0 where
+  pub record JoinedThere (v : EndValue) : Type 0 where
     pub path : Path
     pub local : Local ℕ
     pub there : at_number w n ≡ Some (path, Joined local)
-    pub stops : (numbered g).next local ≡ Stops
+    pub end : IsEnd g (end_of local) v
 
-  pub joined_at : at_number ss n ≡ Some slot.Joined → JoinedThere
-  joined_at e = let x = slot_at g ss w h n slot.Joined e in by x.0 x.1 x.2 x.3
+  pub joined_at : (v : EndValue) → at_number ss n ≡ Some (slot.Joined v) → JoinedThere v
+  joined_at v e = let x = slot_at g ss w h n (slot.Joined v) e in by x.0 x.1 x.2 x.3
     where
-      by : (p : Path) (f : Entry (Local ℕ)) → at_number w n ≡ Some (p, f) → IsEntry g slot.Joined f → JoinedThere
+      by : (p : Path) (f : Entry (Local ℕ)) → at_number w n ≡ Some (p, f) → IsEntry g (slot.Joined v) f → JoinedThere v
       by p (Plain l) there i = absurd i
-      by p (Joined l) there stops = record { path = p; local = l; there = there; stops = stops }
+      by p (Joined l) there end = record { path = p; local = l; there = there; end = end }
+
+  -- a table of a world has each of its revisions
+  pub never_taken : at_number ss n ≡ Some slot.Taken → ⊥
+  never_taken e = let x = slot_at g ss w h n slot.Taken e in by x.1 x.3
+    where
+      by : (f : Entry (Local ℕ)) → IsEntry g slot.Taken f → ⊥
+      by (Plain l) i = i
+      by (Joined l) i = i
+
+  pub vacant : IsStage (at_number ss n) stage.NoSuch → at_number ss n ≡ None
+  vacant e = by (stage_none (at_number ss n) e)
+    where
+      by : (at_number ss n ≡ None) ⊎ (at_number ss n ≡ Some slot.Taken) → at_number ss n ≡ None
+      by (inl z) = z
+      by (inr z) = absurd (never_taken z)
 
 -- ---- next events
 

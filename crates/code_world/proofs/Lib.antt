@@ -6,3 +6,5 @@ pub mod Worlds
 pub mod Beginning
 pub mod Ended
 pub mod Listed
+pub mod Touching
+pub mod Saying

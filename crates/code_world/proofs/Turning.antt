@@ -99,13 +99,13 @@ module _ (g : CodeRun) (ok : IsVerified g) (t : Table) (w : Entries (Local ℕ))
           let k = h.counted in omega (arith, a, c, d, e, k)
 
   -- a joiner behind its join, and the revision that it joined
-  pub took_leaves : (m : ℕ) (q : Path) (lq : Local ℕ) → n ≢ m → (numbered g).next l ≡ Wants m → at_number w m ≡ Some (q, Plain lq) → (numbered g).next lq ≡ Stops → (s : Slot) → IsSlot g s (join g l lq)
-      → (t' : Table) → t'.slots.items ≡ put_number (put_number (put_number t.slots.items n slot.Joined) m slot.Joined) n s → t'.births ≡ t.births
+  pub took_leaves : (m : ℕ) (q : Path) (lq : Local ℕ) → n ≢ m → (numbered g).next l ≡ Wants m → at_number w m ≡ Some (q, Plain lq) → (v : EndValue) → IsEnd g (end_of lq) v → (s : Slot) → IsSlot g s (join g l lq)
+      → (t' : Table) → t'.slots.items ≡ put_number (put_number (put_number t.slots.items m (slot.Joined v)) n slot.Taken) n s → t'.births ≡ t.births
       → Leaves g w n t' (put_number (put_number w n (p, Plain (join g l lq))) m (q, Joined lq))
-  took_leaves m q lq apart wants at stops s is t' slots births = record {
-    leg = ap (leg_at (numbered g) w n) there ∙ ap (leg_of (numbered g) w n p l) wants ∙ ap (join_number (numbered g) w n p l m) at ∙ ap (join_stopped (numbered g) w n p l m q lq) stops;
+  took_leaves m q lq apart wants at v end s is t' slots births = record {
+    leg = ap (leg_at (numbered g) w n) there ∙ ap (leg_of (numbered g) w n p l) wants ∙ ap (join_number (numbered g) w n p l m) at ∙ ap (join_stopped (numbered g) w n p l m q lq) (end_stops g lq v end);
     table = record {
-      slots = subst (λ ss. AreSlots g ss after) (sym (slots ∙ order)) (slots_put g (put_number t.slots.items n s) between (slots_put g t.slots.items w h.slots n s p (Plain (join g l lq)) is) m slot.Joined q (Joined lq) stops);
+      slots = subst (λ ss. AreSlots g ss after) (sym (slots ∙ order)) (slots_put g (put_number t.slots.items n s) between (slots_put g t.slots.items w h.slots n s p (Plain (join g l lq)) is) m (slot.Joined v) q (Joined lq) end);
       forks = subst (λ bs. AreForks bs after) (sym items) (forks_kept t.births.items between (forks_kept t.births.items w h.forks n p p (Plain l) (Plain (join g l lq)) there (join_keeps_forks g l lq)) m q q (Plain lq) (Joined lq) other refl);
       named = subst (λ bs. AreNamed bs (paths_of after)) (sym items) (subst (AreNamed t.births.items) (sym (paths_put between m q (Plain lq) (Joined lq) other ∙ paths_put w n p (Plain l) (Plain (join g l lq)) there)) h.named);
       counted = subst (λ bs. forks_of bs + 1 ≡ length bs) (sym items) h.counted;
@@ -124,8 +124,8 @@ module _ (g : CodeRun) (ok : IsVerified g) (t : Table) (w : Entries (Local ℕ))
       other : at_number (put_number w n (p, Plain (join g l lq))) m ≡ Some (q, Plain lq)
       other = put_other w n m (p, Plain (join g l lq)) (λ e. apart (sym e)) ∙ at
 
-      order : put_number (put_number (put_number t.slots.items n slot.Joined) m slot.Joined) n s ≡ put_number (put_number t.slots.items n s) m slot.Joined
-      order = put_both (put_number t.slots.items n slot.Joined) m n slot.Joined s (λ e. apart (sym e)) ∙ ap (λ ss. put_number ss m slot.Joined) (put_twice t.slots.items n slot.Joined s)
+      order : put_number (put_number (put_number t.slots.items m (slot.Joined v)) n slot.Taken) n s ≡ put_number (put_number t.slots.items n s) m (slot.Joined v)
+      order = put_twice (put_number t.slots.items m (slot.Joined v)) n slot.Taken s ∙ put_both t.slots.items m n (slot.Joined v) s (λ e. apart (sym e))
 
 -- ---- joins
 
@@ -184,10 +184,10 @@ module _ (g : CodeRun) (t : Table) (w : Entries (Local ℕ)) (h : IsGood g t w) 
     abbrev after : Entries (Local ℕ)
     after = put_number (put_number w n (joiner.path, Plain (join g (at_work joiner.state) joinee.local))) a.on (joinee.path, Joined joinee.local)
 
-    leaves : (s : Slot) → IsSlot g s (meets g a joiner.at (end_of joinee.local)) → (t' : Table) → t'.slots.items ≡ put_number (put_number (put_number t.slots.items n slot.Joined) a.on slot.Joined) n s → t'.births ≡ t.births → Leaves g w n t' after
+    leaves : (s : Slot) → IsSlot g s (meets g a joiner.at (end_of joinee.local)) → (t' : Table) → t'.slots.items ≡ put_number (put_number (put_number t.slots.items a.on (slot.Joined v)) n slot.Taken) n s → t'.births ≡ t.births → Leaves g w n t' after
     leaves s is t' slots births =
         took_leaves g h.verified t w h.table n joiner.path (at_work joiner.state) joiner.there a.on joinee.path joinee.local apart
-        (stands_wants g joiner.state joiner.at a.is_try a.on joiner.comes) joinee.there (end_stops g joinee.local v joinee.end) s (subst (IsSlot g s) (sym join_is) is) t' slots births
+        (stands_wants g joiner.state joiner.at a.is_try a.on joiner.comes) joinee.there v joinee.end s (subst (IsSlot g s) (sym join_is) is) t' slots births
 
     joins_it : Joins (numbered g) w n a.on
     joins_it = (joiner.path, at_work joiner.state, joiner.there, stands_wants g joiner.state joiner.at a.is_try a.on joiner.comes)
@@ -202,7 +202,7 @@ module _ (g : CodeRun) (t : Table) (w : Entries (Local ℕ)) (h : IsGood g t w) 
         put_length (put_number w n (joiner.path, Plain (join g (at_work joiner.state) joinee.local))) a.on (joinee.path, Joined joinee.local)
         ∙ put_length w n (joiner.path, Plain (join g (at_work joiner.state) joinee.local))
 
-    pub settled : (s : Slot) → HasMet g s (meets g a joiner.at (end_of joinee.local)) → (t' : Table) → t'.slots.items ≡ put_number (put_number (put_number t.slots.items n slot.Joined) a.on slot.Joined) n s → t'.births ≡ t.births
+    pub settled : (s : Slot) → HasMet g s (meets g a joiner.at (end_of joinee.local)) → (t' : Table) → t'.slots.items ≡ put_number (put_number (put_number t.slots.items a.on (slot.Joined v)) n slot.Taken) n s → t'.births ≡ t.births
         → Answers g w n (behind s a.on) t'
     settled (slot.Running r) is t' slots births =
         (after, leaves (slot.Running r) is t' slots births, joins_it, (joiner.path, join g (at_work joiner.state) joinee.local, after_at, ap (λ k. k.phase) (join_is ∙ is.1)), after_length)
@@ -210,7 +210,8 @@ module _ (g : CodeRun) (t : Table) (w : Entries (Local ℕ)) (h : IsGood g t w) 
         let o = over_trapped g (meets g a joiner.at (end_of joinee.local)) v' is (never_done g joiner.at a.is_try a.on (end_of joinee.local) (end_of joinee.local).phase) in
         (after, leaves (slot.Ended v') is t' slots births, o.0, (joiner.path, join g (at_work joiner.state) joinee.local, after_at, ap (λ k. k.phase) join_is ∙ o.1), after_length)
     settled (slot.Standing b) is t' slots births = absurd is
-    settled slot.Joined is t' slots births = absurd is
+    settled (slot.Joined v') is t' slots births = absurd is
+    settled slot.Taken is t' slots births = absurd is
 
   -- the revision that is joined has not ended
   waiting : (q : Path) (c : State ℕ) → at_number w a.on ≡ Some (q, Plain (at_work c)) → (numbered g).next (at_work c) ≢ Stops → WaitsOn g w n a.on
@@ -235,9 +236,9 @@ module _ (g : CodeRun) (t : Table) (w : Entries (Local ℕ)) (h : IsGood g t w) 
       let k = standing_at g t.slots.items w h.table.slots a.on b e in
       (waiting k.path k.state k.there (works_on g h.verified w h.reached a.on k.path k.state k.there), h.table, (a, at, refl))
 
-  pub joins_twice : at_number t.slots.items a.on ≡ Some slot.Joined → Answers g w n answer.Twice t
-  joins_twice e =
-      let k = joined_at g t.slots.items w h.table.slots a.on e in
+  pub joins_twice : (v : EndValue) → at_number t.slots.items a.on ≡ Some (slot.Joined v) → Answers g w n answer.Twice t
+  joins_twice v e =
+      let k = joined_at g t.slots.items w h.table.slots a.on v e in
       ap (leg_at (numbered g) w n) joiner.there ∙ ap (leg_of (numbered g) w n joiner.path (at_work joiner.state)) (stands_wants g joiner.state joiner.at a.is_try a.on joiner.comes)
       ∙ ap (join_number (numbered g) w n joiner.path (at_work joiner.state) a.on) k.there
 
@@ -246,8 +247,8 @@ module _ (g : CodeRun) (t : Table) (w : Entries (Local ℕ)) (h : IsGood g t w) 
 slots_apart : (ss : List Slot) (n m : ℕ) (a : WholeJoin) (v : EndValue) → at_number ss n ≡ Some (slot.Standing a) → at_number ss m ≡ Some (slot.Ended v) → n ≢ m
 slots_apart ss n m a v at end e = (let z : ◌≡◌ {A = Option Slot} (Some (slot.Standing a)) (Some (slot.Ended v)) = sym at ∙ ap (at_number ss) e ∙ end in let y : slot.Standing a ≡ slot.Ended v = some_same z in cc)
 
-pub ended_still : (t : Table) (n on : ℕ) → Settles t n on → (ss : List Slot) → ss ≡ put_number t.slots.items n slot.Joined → at_number ss on ≡ at_number t.slots.items on
-ended_still t n on q ss e = ap (λ z. at_number z on) e ∙ put_other t.slots.items n on slot.Joined (λ z. slots_apart t.slots.items n on q.0.0 q.1 q.0.1 q.2 (sym z))
+pub joiner_still : (t : Table) (n on : ℕ) → Settles t n on → (v : EndValue) (ss : List Slot) → ss ≡ put_number t.slots.items on (slot.Joined v) → at_number ss n ≡ at_number t.slots.items n
+joiner_still t n on q v ss e = ap (λ z. at_number z n) e ∙ put_other t.slots.items on n (slot.Joined v) (slots_apart t.slots.items n on q.0.0 q.1 q.0.1 q.2)
 
 -- the joiner and the end that were taken
 pub record Taken (t : Table) (n on : ℕ) (a : WholeJoin) (v : EndValue) : Type 0 where
@@ -255,10 +256,13 @@ pub record Taken (t : Table) (n on : ℕ) (a : WholeJoin) (v : EndValue) : Type 
   pub at : at_number t.slots.items n ≡ Some (slot.Standing a)
   pub end : at_number t.slots.items a.on ≡ Some (slot.Ended v)
 
-pub taken : (t : Table) (n on : ℕ) → Settles t n on → (a : WholeJoin) → at_number t.slots.items n ≡ Some (slot.Standing a) → (ss : List Slot) → ss ≡ put_number t.slots.items n slot.Joined
-    → (v : EndValue) → at_number ss on ≡ Some (slot.Ended v) → Taken t n on a v
-taken t n on q a at ss e v end = record { number = is; at = at; end = ap (at_number t.slots.items) is ∙ sym (ended_still t n on q ss e) ∙ end }
+pub taken : (t : Table) (n on : ℕ) → Settles t n on → (v : EndValue) → at_number t.slots.items on ≡ Some (slot.Ended v) → (ss : List Slot) → ss ≡ put_number t.slots.items on (slot.Joined v)
+    → (a : WholeJoin) → at_number ss n ≡ Some (slot.Standing a) → Taken t n on a v
+taken t n on q v end ss e a was = record { number = is; at = at; end = ap (at_number t.slots.items) is ∙ end }
   where
+    at : at_number t.slots.items n ≡ Some (slot.Standing a)
+    at = sym (joiner_still t n on q v ss e) ∙ was
+
     is : a.on ≡ on
     is = (let z : slot.Standing a ≡ slot.Standing q.0.0 = some_same (sym at ∙ q.0.1) in let y : a ≡ q.0.0 = cc in ap (λ k. k.on) y) ∙ q.0.2
 
@@ -275,11 +279,11 @@ module _ (g : CodeRun) (t : Table) (w : Entries (Local ℕ)) (h : IsGood g t w) 
 
   -- the joiner behind its join is put back
   pub settles : (s : Slot) → HasMet g s (meets g a joiner_state joinee_end) → (z : LegAnswer) → z ≡ behind s on → (t' : Table)
-      → t'.slots.items ≡ put_number (put_number (put_number t.slots.items n slot.Joined) on slot.Joined) n s → t'.births ≡ t.births → Answers g w n z t'
+      → t'.slots.items ≡ put_number (put_number (put_number t.slots.items on (slot.Joined v)) n slot.Taken) n s → t'.births ≡ t.births → Answers g w n z t'
   unfolding joiner_state joinee_end
   settles s met z is t' slots births =
       subst (λ y. Answers g w n y t') (ap (behind s) k.number ∙ sym is)
-      (settled g t w h n a k.at v k.end s met t' (slots ∙ ap (λ m. put_number (put_number (put_number t.slots.items n slot.Joined) m slot.Joined) n s) (sym k.number)) births)
+      (settled g t w h n a k.at v k.end s met t' (slots ∙ ap (λ m. put_number (put_number (put_number t.slots.items m (slot.Joined v)) n slot.Taken) n s) (sym k.number)) births)
 
 -- ---- a revision that is put at its join
 
@@ -309,12 +313,12 @@ module _ (g : CodeRun) (t : Table) (w : Entries (Local ℕ)) (h : IsGood g t w) 
         let k = small g h.verified w h.reached in omega (arith, x, y, z, k)
 
     -- behind the instructions of its leg
-    pub at_its_join : (a : WholeJoin) → IsSlot g (slot.Standing a) (at_work runner.state) → (t' : Table) → t'.slots.items ≡ put_number (put_number t.slots.items n slot.Joined) n (slot.Standing a) → t'.births ≡ t.births → IsGood g t' w
+    pub at_its_join : (a : WholeJoin) → IsSlot g (slot.Standing a) (at_work runner.state) → (t' : Table) → t'.slots.items ≡ put_number (put_number t.slots.items n slot.Taken) n (slot.Standing a) → t'.births ≡ t.births → IsGood g t' w
     at_its_join a is t' slots births = record {
       verified = h.verified;
       reached = h.reached;
       table = record {
-        slots = subst (λ ss. AreSlots g ss w) (sym (slots ∙ put_twice t.slots.items n slot.Joined (slot.Standing a)))
+        slots = subst (λ ss. AreSlots g ss w) (sym (slots ∙ put_twice t.slots.items n slot.Taken (slot.Standing a)))
             (subst (AreSlots g (put_number t.slots.items n (slot.Standing a))) (put_same w n (runner.path, Plain (at_work runner.state)) runner.there)
             (slots_put g t.slots.items w h.table.slots n (slot.Standing a) runner.path (Plain (at_work runner.state)) is));
         forks = subst (λ bs. AreForks bs w) (ap (λ b. b.items) (sym births)) h.table.forks;
@@ -323,18 +327,18 @@ module _ (g : CodeRun) (t : Table) (w : Entries (Local ℕ)) (h : IsGood g t w) 
       };
     }
 
-    pub still_standing : (a : WholeJoin) (ss : List Slot) → ss ≡ put_number (put_number t.slots.items n slot.Joined) n (slot.Standing a) → at_number ss n ≡ Some (slot.Standing a)
-    still_standing a ss e = ap (λ z. at_number z n) (e ∙ put_twice t.slots.items n slot.Joined (slot.Standing a)) ∙ put_here t.slots.items n (slot.Running r) (slot.Standing a) at
+    pub still_standing : (a : WholeJoin) (ss : List Slot) → ss ≡ put_number (put_number t.slots.items n slot.Taken) n (slot.Standing a) → at_number ss n ≡ Some (slot.Standing a)
+    still_standing a ss e = ap (λ z. at_number z n) (e ∙ put_twice t.slots.items n slot.Taken (slot.Standing a)) ∙ put_here t.slots.items n (slot.Running r) (slot.Standing a) at
 
     pub forks_off : (child : ℕ) → child ≡ length t.slots.items → (forker kid : WholeRunner) → HasForked g child runner.state forker kid → (t' : Table)
-        → t'.slots.items ≡ put_number (put_number t.slots.items n slot.Joined) n (slot.Running forker) ++ slot.Running kid ∷ [] → (b : Birth) → at_number t.births.items n ≡ Some b → t'.births.items ≡ born t.births.items n b
+        → t'.slots.items ≡ put_number (put_number t.slots.items n slot.Taken) n (slot.Running forker) ++ slot.Running kid ∷ [] → (b : Birth) → at_number t.births.items n ≡ Some b → t'.births.items ≡ born t.births.items n b
         → Answers g w n (answer.Forked child) t'
     forks_off child is forker kid f t' slots b e births =
         let number : child ≡ length w = is ∙ sym world_length in (
           _,
           bears_leaves g h.verified t w h.table n runner.path (at_work runner.state) runner.there f.goes_on f.born f.bears forker kid
               (subst (λ k. IsSlot g (slot.Running forker) (f.goes_on k)) number f.forker_is) f.kid_is b e t'
-              (slots ∙ ap (λ ss. ss ++ slot.Running kid ∷ []) (put_twice t.slots.items n slot.Joined (slot.Running forker))) births,
+              (slots ∙ ap (λ ss. ss ++ slot.Running kid ∷ []) (put_twice t.slots.items n slot.Taken (slot.Running forker))) births,
           (runner.path, at_work runner.state, f.goes_on, f.born, runner.there, f.bears),
           number,
           (
@@ -346,12 +350,12 @@ module _ (g : CodeRun) (t : Table) (w : Entries (Local ℕ)) (h : IsGood g t w) 
           more_length (put_number w n (runner.path, Plain (f.goes_on (length w)))) _ ∙ ap suc (put_length w n (runner.path, Plain (f.goes_on (length w)))),
         )
 
-    ended_in : (v : EndValue) (f : HasEnded g runner.state v) (t' : Table) → t'.slots.items ≡ put_number (put_number t.slots.items n slot.Joined) n (slot.Ended v) → t'.births ≡ t.births
+    ended_in : (v : EndValue) (f : HasEnded g runner.state v) (t' : Table) → t'.slots.items ≡ put_number (put_number t.slots.items n slot.Taken) n (slot.Ended v) → t'.births ≡ t.births
         → Leaves g w n t' (put_number w n (runner.path, Plain f.after))
     ended_in v f t' slots births =
-        goes_leaves g h.verified t w h.table n runner.path (at_work runner.state) runner.there f.after f.goes (slot.Ended v) f.end t' (slots ∙ put_twice t.slots.items n slot.Joined (slot.Ended v)) births
+        goes_leaves g h.verified t w h.table n runner.path (at_work runner.state) runner.there f.after f.goes (slot.Ended v) f.end t' (slots ∙ put_twice t.slots.items n slot.Taken (slot.Ended v)) births
 
-    pub ends_so : (v : EndValue) → HasEnded g runner.state v → (t' : Table) → t'.slots.items ≡ put_number (put_number t.slots.items n slot.Joined) n (slot.Ended v) → t'.births ≡ t.births
+    pub ends_so : (v : EndValue) → HasEnded g runner.state v → (t' : Table) → t'.slots.items ≡ put_number (put_number t.slots.items n slot.Taken) n (slot.Ended v) → t'.births ≡ t.births
         → Answers g w n (ends_with v.finish) t'
     ends_so v f t' slots births = by f.after.phase v.finish refl f.end.phase
       where
@@ -376,7 +380,7 @@ module _ (g : CodeRun) (t : Table) (w : Entries (Local ℕ)) (h : IsGood g t w) 
       let k = ended_at g t.slots.items w h.table.slots n v e in
       ((k.path, Plain k.local, k.there, end_stops g k.local v k.end), h.table)
 
-  pub over_joined : at_number t.slots.items n ≡ Some slot.Joined → Answers g w n answer.Over t
-  over_joined e =
-      let k = joined_at g t.slots.items w h.table.slots n e in
-      ((k.path, Joined k.local, k.there, k.stops), h.table)
+  pub over_joined : (v : EndValue) → at_number t.slots.items n ≡ Some (slot.Joined v) → Answers g w n answer.Over t
+  over_joined v e =
+      let k = joined_at g t.slots.items w h.table.slots n v e in
+      ((k.path, Joined k.local, k.there, end_stops g k.local v k.end), h.table)

@@ -60,4 +60,5 @@ abbrev pub HasMet : CodeRun → Slot → Local ℕ → Type 0
 HasMet g (slot.Running r) l = IsSlot g (slot.Running r) l
 HasMet g (slot.Ended v) l = IsSlot g (slot.Ended v) l
 HasMet g (slot.Standing a) l = ⊥
-HasMet g slot.Joined l = ⊥
+HasMet g (slot.Joined v) l = ⊥
+HasMet g slot.Taken l = ⊥

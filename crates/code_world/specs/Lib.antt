@@ -7,3 +7,5 @@ pub mod Answers
 pub mod Endings
 pub mod Counts
 pub mod Meetings
+pub mod Said
+pub mod Touches

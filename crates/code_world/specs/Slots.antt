@@ -4,7 +4,7 @@
 --   StandsAtFork    one that stands at a Fork, of a child with these arguments
 --   StandsAtJoin    one that stands at its join, in this state
 --   IsSlot          what a world has of an unmarked revision with this local state
---   IsEntry         of a revision with or without the mark: of a marked one it has nothing
+--   IsEntry         of a revision with or without the mark: of a marked one it has what it left
 use Rattle.std.specs.Prelude.{ℕ, ◌≡◌, List, slice_index}
 use Rattle.rev_code.specs.State.{State}
 use Rattle.rev_code.specs.Step.{joins}
@@ -12,10 +12,8 @@ use Rattle.rev_code.specs.Words.{Word}
 use Rattle.version_map.specs.declared.whole.Whole.{Whole}
 use Rattle.version_map.specs.contracts.whole.WholeSnapshot.TheImpl.{ghosts}
 use Rattle.revision_machine.specs.Machine.{Entry, Plain, Joined}
-use Rattle.revision_machine.specs.Numbered.{Stops}
 use Rattle.code_machine.specs.Local.{CodeRun, Local, at_work, end_of}
 use Rattle.code_machine.specs.Leg.{leg}
-use Rattle.code_machine.specs.Machines.{numbered}
 use Rattle.rev_vm.specs.declared.fork.AtFork.{AtFork}
 use Rattle.rev_vm.specs.declared.join.AtJoin.{AtJoin}
 use Rattle.rev_vm.specs.declared.runner.Runner.{Runner}
@@ -61,13 +59,16 @@ IsSlot g (slot.Standing a) l =
     (c : State ℕ) × (l ≡ at_work c) × (c' : State ℕ) × (leg g c ≡ joins c' a.is_try a.on)
     × StandsAtJoin g a c'
 IsSlot g (slot.Ended v) l = IsEnd g (end_of l) v
-IsSlot g slot.Joined l = ⊥
+IsSlot g (slot.Joined v) l = ⊥
+IsSlot g slot.Taken l = ⊥
 
+-- of a revision that was joined it has what it left
 abbrev pub IsMarked : CodeRun → Slot → Local ℕ → Type 0
-IsMarked g slot.Joined l = (numbered g).next l ≡ Stops
+IsMarked g (slot.Joined v) l = IsEnd g (end_of l) v
 IsMarked g (slot.Running r) l = ⊥
 IsMarked g (slot.Standing a) l = ⊥
 IsMarked g (slot.Ended v) l = ⊥
+IsMarked g slot.Taken l = ⊥
 
 abbrev pub IsEntry : CodeRun → Slot → Entry (Local ℕ) → Type 0
 IsEntry g s (Plain l) = IsSlot g s l

@@ -26,10 +26,11 @@ use Rattle.code_world.specs.Tables.{IsTable}
 
 abbrev pub IsStage : Option Slot → Stage → Type 0
 IsStage None s = s ≡ stage.NoSuch
+IsStage (Some slot.Taken) s = s ≡ stage.NoSuch
 IsStage (Some (slot.Running r)) s = s ≡ stage.Running
 IsStage (Some (slot.Standing a)) s = s ≡ stage.Standing a.on
 IsStage (Some (slot.Ended v)) s = s ≡ stage.Ended
-IsStage (Some slot.Joined) s = s ≡ stage.Joined
+IsStage (Some (slot.Joined v)) s = s ≡ stage.Joined
 
 -- the birth of a revision that has forked once more
 abbrev pub forked_once : Birth → Birth
@@ -59,4 +60,5 @@ abbrev pub behind : Slot → ℕ → LegAnswer
 behind (slot.Running r) on = answer.Joined on
 behind (slot.Standing a) on = answer.Trapped
 behind (slot.Ended v) on = answer.Trapped
-behind slot.Joined on = answer.Trapped
+behind (slot.Joined v) on = answer.Trapped
+behind slot.Taken on = answer.Trapped

@@ -8,7 +8,6 @@ ghost use Rattle.block_run.specs.Area.{count};
 ghost use Rattle.block_merges.specs.Merging.{AreMergesOf};
 ghost use Rattle.code_machine.specs.Local.{CodeRun, End};
 ghost use Rattle.code_machine.specs.Leg.{leg};
-ghost use Rattle.leg_run.specs.Setting.{IsSetting};
 ghost use Rattle.rev_vm.specs.Meaning.{IsEnd};
 ghost use Rattle.rev_vm.specs.Starts.{run_under};
 ghost use Rattle.version_map.specs.declared.end.Finish.TheVariants as finish;
@@ -38,7 +37,6 @@ fn fork(
     at: AtFork<Whole>,
     child: u32,
 ) -> Result<Came, AllocError>
-    requires setting { IsSetting setting.now }
     requires stands { (d : State ℕ) × (args : List (Word ℕ))
         × StandsAtFork (run_under setting.now) at d args }
     ensures { (c d : State ℕ) (args : List (Word ℕ))
@@ -63,7 +61,6 @@ pub fn advance(
     runner: Runner<Whole>,
     child: u32,
 ) -> Result<Came, AllocError>
-    requires setting { IsSetting setting.now }
     requires stands { (c : State ℕ) × Runs (run_under setting.now) runner c }
     ensures { (c : State ℕ) → Runs (run_under setting.now) runner c
         → IfOk result (λ k. HasCome (run_under setting.now) child c k) }

@@ -12,20 +12,21 @@ use crate::world::World;
 use version_map::EndValue;
 
 impl Table {
-    /// What the revision of this number left, where it has ended and was not joined.
+    /// What the revision of this number left, where it has ended.
     fn left_by(&self, number: usize) -> Option<&EndValue>
         ensures { option_copied result ≡ left_in (at_number self.now.slots.items number) }
     {
         match self.slots.get(number) {
             Some(Slot::Ended(end)) => Some(end),
+            Some(Slot::Joined(end)) => Some(end),
             _ => None,
         }
     }
 }
 
 impl World {
-    /// What the revision of this number left, where it has ended and was not joined. In Twice there
-    /// is none.
+    /// What the revision of this number left, where it has ended, whether it was joined or not. In
+    /// Twice there is none.
     pub fn end_of(&self, revision: u32) -> Option<&EndValue>
         ensures { (g : CodeRun) (w : DefinedWorld (Local ℕ)) → IsWorld g self.now w
             → IsEndAt g w revision (option_copied result) }

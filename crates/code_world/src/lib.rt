@@ -3,11 +3,13 @@
 
 mod advance;
 mod answer;
+mod births;
 mod counting;
 mod ending;
 mod left;
 mod lists;
 mod noted;
+mod said;
 mod slot;
 mod starting;
 mod table;
@@ -19,4 +21,4 @@ pub use ending::MainEnd;
 pub use noted::NotedLeg;
 pub use slot::Slot;
 pub use table::{Birth, Table};
-pub use world::{World, leg, leg_noting};
+pub use world::{World, leg, leg_meeting};

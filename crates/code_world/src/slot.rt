@@ -12,8 +12,10 @@ pub enum Slot {
     Standing(AtJoin<Whole>),
     /// It has ended, and this is what it leaves.
     Ended(EndValue),
-    /// It was joined, and its joiner has what it left.
-    Joined,
+    /// It was joined, and this is what it left.
+    Joined(EndValue),
+    /// Taken out for the time of its leg. No table of a world has it.
+    Taken,
 }
 
 impl Slot {
@@ -22,7 +24,7 @@ impl Slot {
         match self {
             Slot::Running(runner) => runner.give_up(),
             Slot::Standing(at) => at.give_up(),
-            Slot::Ended(_) | Slot::Joined => {},
+            Slot::Ended(_) | Slot::Joined(_) | Slot::Taken => {},
         }
     }
 }

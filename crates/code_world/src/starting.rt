@@ -3,9 +3,9 @@
 ghost use Rattle.std.specs.Prelude.{◌≡◌, ◌≤◌, [], ℕ, IfOk, OnOk};
 ghost use Rattle.rev_num.specs.Limits.{most_fuel};
 ghost use Rattle.code_machine.specs.Machines.{IsMain, numbered, start_in};
-ghost use Rattle.leg_run.specs.Setting.{IsSetting};
 ghost use Rattle.revision_machine.specs.Numbered as numbers;
 ghost use Rattle.rev_vm.specs.Starts.{run_under};
+ghost use Rattle.code_world.specs.Said.{main_text};
 ghost use Rattle.code_world.specs.Starts.{IsAlone, IsFirst};
 ghost use Rattle.code_world.specs.Tables.{IsWorld};
 
@@ -23,10 +23,9 @@ fn first_runner(
     setting: &CodeSetting,
     fuel: u64,
 ) -> Result<Runner<Whole>, AllocError>
-    requires { IsSetting setting.now }
     ensures { IfOk result (λ r. IsFirst (run_under setting.now) fuel r) }
 {
-    let words = start_whole(alloc, &setting.code)?;
+    let words = start_whole(alloc, setting.code())?;
     match start_main(alloc, setting, words, fuel) {
         Ok(runner) => Ok(runner),
         Err(snapshot) => {
@@ -79,9 +78,9 @@ impl World {
     /// The world at the start: `main` alone, with this fuel, of which there are at most
     /// 4,000,000,000 units. Want of memory is the one error.
     pub fn begin(alloc: Global, setting: &CodeSetting, fuel: u64) -> Result<World, AllocError>
-        requires setting { IsSetting setting.now }
         requires fuel { fuel ≤ most_fuel }
-        ensures { IfOk result (λ v. (n : ℕ) × (m : IsMain (run_under setting.now) n)
+        ensures silent { IfOk result (λ v. main_text v ≡ []) }
+        ensures begun { IfOk result (λ v. (n : ℕ) × (m : IsMain (run_under setting.now) n)
             × IsWorld (run_under setting.now) v (numbers.begin (numbered (run_under setting.now))
             (start_in (run_under setting.now) n m.body fuel))) }
     {

@@ -1,6 +1,6 @@
 //! The revisions of a world, by number.
 
-ghost use Rattle.std.specs.Prelude.{◌≡◌, ◌<◌, ◌+◌, ◌∷◌, ◌++◌, ◌^◌, [], OnOk, Some, length};
+ghost use Rattle.std.specs.Prelude.{◌≡◌, ◌<◌, ◌+◌, ◌∷◌, ◌++◌, ◌^◌, [], IfOk, OnOk, Some, length};
 ghost use Rattle.revision_machine.specs.Numbered.{at_number, put_number};
 ghost use Rattle.code_world.specs.declared.slot.Slot.TheVariants as slot;
 ghost use Rattle.code_world.specs.Turns.{IsStage, born};
@@ -8,7 +8,7 @@ ghost use Rattle.code_world.specs.Turns.{IsStage, born};
 use crate::lists::swap;
 use crate::slot::Slot;
 use rev_vm::{AtJoin, Runner};
-use std::alloc::AllocError;
+use std::alloc::{AllocError, Global};
 use version_map::{EndValue, Whole};
 
 /// Where a revision comes from: its forker, the place among its forker's forks, counted from 0, and
@@ -42,11 +42,11 @@ impl Table {
         ensures { IsStage (at_number self.now.slots.items number) result }
     {
         match self.slots.get(number) {
-            None => Stage::NoSuch,
+            None | Some(Slot::Taken) => Stage::NoSuch,
             Some(Slot::Running(_)) => Stage::Running,
             Some(Slot::Standing(at)) => Stage::Standing { on: at.on() },
             Some(Slot::Ended(_)) => Stage::Ended,
-            Some(Slot::Joined) => Stage::Joined,
+            Some(Slot::Joined(_)) => Stage::Joined,
         }
     }
 
@@ -64,10 +64,10 @@ impl Table {
     pub(crate) fn take_runner(&mut self, number: usize) -> Runner<Whole>
         requires { (r : _) × (at_number self.old.slots.items number ≡ Some (slot.Running r)) }
         ensures was { at_number self.old.slots.items number ≡ Some (slot.Running result) }
-        ensures now { self.new.slots.items ≡ put_number self.old.slots.items number slot.Joined }
+        ensures now { self.new.slots.items ≡ put_number self.old.slots.items number slot.Taken }
         ensures births { self.new.births ≡ self.old.births }
     {
-        match swap(&mut self.slots, number, Slot::Joined) {
+        match swap(&mut self.slots, number, Slot::Taken) {
             Slot::Running(runner) => runner,
             other => {
                 other.give_up();
@@ -80,10 +80,10 @@ impl Table {
     pub(crate) fn take_joiner(&mut self, number: usize) -> AtJoin<Whole>
         requires { (a : _) × (at_number self.old.slots.items number ≡ Some (slot.Standing a)) }
         ensures was { at_number self.old.slots.items number ≡ Some (slot.Standing result) }
-        ensures now { self.new.slots.items ≡ put_number self.old.slots.items number slot.Joined }
+        ensures now { self.new.slots.items ≡ put_number self.old.slots.items number slot.Taken }
         ensures births { self.new.births ≡ self.old.births }
     {
-        match swap(&mut self.slots, number, Slot::Joined) {
+        match swap(&mut self.slots, number, Slot::Taken) {
             Slot::Standing(at) => at,
             other => {
                 other.give_up();
@@ -92,15 +92,41 @@ impl Table {
         }
     }
 
-    /// What a revision left, which is joined by this.
+    /// What a revision left, which is taken out of the table.
     pub(crate) fn take_end(&mut self, number: usize) -> EndValue
         requires { (v : _) × (at_number self.old.slots.items number ≡ Some (slot.Ended v)) }
         ensures was { at_number self.old.slots.items number ≡ Some (slot.Ended result) }
-        ensures now { self.new.slots.items ≡ put_number self.old.slots.items number slot.Joined }
+        ensures now { self.new.slots.items ≡ put_number self.old.slots.items number slot.Taken }
         ensures births { self.new.births ≡ self.old.births }
     {
-        match swap(&mut self.slots, number, Slot::Joined) {
+        match swap(&mut self.slots, number, Slot::Taken) {
             Slot::Ended(end) => end,
+            other => {
+                other.give_up();
+                unreachable!()
+            },
+        }
+    }
+
+    /// What a revision left, which is joined by this: the table keeps a copy.
+    pub(crate) fn join_end(
+        &mut self,
+        alloc: Global,
+        number: usize,
+    ) -> Result<EndValue, AllocError>
+        requires { (v : _) × (at_number self.old.slots.items number ≡ Some (slot.Ended v)) }
+        ensures was { IfOk result
+            (λ v. at_number self.old.slots.items number ≡ Some (slot.Ended v)) }
+        ensures now { IfOk result (λ v.
+            self.new.slots.items ≡ put_number self.old.slots.items number (slot.Joined v)) }
+        ensures births { self.new.births ≡ self.old.births }
+    {
+        let copy = match self.slots.get(number) {
+            Some(Slot::Ended(end)) => end.copied(alloc)?,
+            _ => unreachable!(),
+        };
+        match swap(&mut self.slots, number, Slot::Joined(copy)) {
+            Slot::Ended(end) => Ok(end),
             other => {
                 other.give_up();
                 unreachable!()

@@ -5,13 +5,13 @@ ghost use Rattle.rev_code.specs.State.{State};
 ghost use Rattle.block_merges.specs.Merging.{AreMergesOf};
 ghost use Rattle.block_run.specs.Area.{count};
 ghost use Rattle.code_machine.specs.Local.{CodeRun, Local};
-ghost use Rattle.leg_run.specs.Setting.{IsSetting};
 ghost use Rattle.revision_machine.specs.Numbered.{Entries, at_number};
 ghost use Rattle.rev_vm.specs.Starts.{run_under};
 ghost use Rattle.code_world.specs.declared.slot.Slot.TheVariants as slot;
 ghost use Rattle.code_world.specs.Slots.{StandsAtJoin, WholeJoin};
 ghost use Rattle.code_world.specs.Answers.{Answers};
 ghost use Rattle.code_world.specs.Meetings.{HasNoted};
+ghost use Rattle.code_world.specs.Touches.{Touches, TouchesJoining};
 ghost use Rattle.code_world.specs.Turns.{IsGood, StandsOn, Settles, behind, ends_with};
 
 use crate::advance::{Came, advance, meet};
@@ -71,11 +71,12 @@ impl Table {
         ensures answer { (g : CodeRun) (w : Entries (Local ℕ)) → IsGood g self.old w
             → AreMergesOf g (M.merges merges.old)
             → IfOk result (λ a. Answers g w number a self.new) }
+        ensures touches { IfOk result (λ a. TouchesJoining self.old number a self.new) }
         ensures size { M.size merges.new ≡ M.size merges.old }
         ensures same { M.merges merges.new ≡ M.merges merges.old }
     {
+        let end = self.join_end(alloc, on as usize)?;
         let at = self.take_joiner(number as usize);
-        let end = self.take_end(on as usize);
         let slot = meet(alloc, at, end, merges)?;
         let answer = answer_behind(&slot, on);
         self.put(number as usize, slot);
@@ -95,6 +96,7 @@ impl Table {
         ensures answer { (g : CodeRun) (w : Entries (Local ℕ)) → IsGood g self.old w
             → AreMergesOf g (M.merges merges.old)
             → IfOk result (λ a. Answers g w number a self.new) }
+        ensures touches { IfOk result (λ a. TouchesJoining self.old number a self.new) }
         ensures size { M.size merges.new ≡ M.size merges.old }
         ensures same { M.merges merges.new ≡ M.merges merges.old }
     {
@@ -115,7 +117,6 @@ impl Table {
         merges: &mut M,
         number: u32,
     ) -> Result<NotedLeg, AllocError>
-        requires setting { IsSetting setting.now }
         requires runs { (w : Entries (Local ℕ)) × IsGood (run_under setting.now) self.old w }
         requires size { M.size merges.old ≡ count setting.now.code.vars }
         requires merges { AreMergesOf (run_under setting.now) (M.merges merges.old) }
@@ -125,6 +126,7 @@ impl Table {
             → IfOk result (λ a. Answers (run_under setting.now) w number a.answer self.new) }
         ensures noted { (w : Entries (Local ℕ)) → IsGood (run_under setting.now) self.old w
             → IfOk result (λ a. HasNoted (run_under setting.now) w number a.answer a.meeting) }
+        ensures touches { IfOk result (λ a. Touches self.old number a.answer self.new) }
         ensures size { M.size merges.new ≡ M.size merges.old }
         ensures same { M.merges merges.new ≡ M.merges merges.old }
     {
@@ -158,7 +160,6 @@ impl Table {
         merges: &mut M,
         number: u32,
     ) -> Result<NotedLeg, AllocError>
-        requires setting { IsSetting setting.now }
         requires good { (w : Entries (Local ℕ)) × IsGood (run_under setting.now) self.old w }
         requires size { M.size merges.old ≡ count setting.now.code.vars }
         requires merges { AreMergesOf (run_under setting.now) (M.merges merges.old) }
@@ -166,6 +167,7 @@ impl Table {
             → IfOk result (λ a. Answers (run_under setting.now) w number a.answer self.new) }
         ensures noted { (w : Entries (Local ℕ)) → IsGood (run_under setting.now) self.old w
             → IfOk result (λ a. HasNoted (run_under setting.now) w number a.answer a.meeting) }
+        ensures touches { IfOk result (λ a. Touches self.old number a.answer self.new) }
         ensures size { M.size merges.new ≡ M.size merges.old }
         ensures same { M.merges merges.new ≡ M.merges merges.old }
     {

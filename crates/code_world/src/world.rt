@@ -4,12 +4,12 @@ ghost use Rattle.std.specs.Prelude.{◌≡◌, ℕ, IfOk};
 ghost use Rattle.block_merges.specs.Merging.{AreMergesOf};
 ghost use Rattle.block_run.specs.Area.{count};
 ghost use Rattle.code_machine.specs.Local.{Local};
-ghost use Rattle.leg_run.specs.Setting.{IsSetting};
 ghost use Rattle.reached_worlds.specs.Reached.{IsReached};
 ghost use Rattle.revision_machine.specs.Numbered.{Entries, Listing, World as DefinedWorld};
 ghost use Rattle.rev_vm.specs.Starts.{run_under};
 ghost use Rattle.code_world.specs.Answers.{LegAnswers, world_after};
 ghost use Rattle.code_world.specs.Meetings.{HasNoted};
+ghost use Rattle.code_world.specs.Touches.{TouchesIn};
 ghost use Rattle.code_world.specs.Tables.{IsWorld};
 
 use crate::answer::LegAnswer;
@@ -58,7 +58,8 @@ fn world_of(table: Table, answer: LegAnswer) -> World
 
 /// The world after the leg of the revision of this number, and how the leg came out. Where there is
 /// none the world is as before, but for a revision that was found to wait, which then stands at its
-/// join. Want of memory is the one error, and the world is lost.
+/// join. A leg leaves each other revision as it was, but for one that it joins, and of that the
+/// world keeps what it left. Want of memory is the one error, and the world is lost.
 pub fn leg<M: MergeBy>(
     alloc: Global,
     setting: &CodeSetting,
@@ -66,7 +67,6 @@ pub fn leg<M: MergeBy>(
     world: World,
     revision: u32,
 ) -> Result<(World, LegAnswer), AllocError>
-    requires setting { IsSetting setting.now }
     requires reached { (w : DefinedWorld (Local ℕ)) × IsReached (run_under setting.now) w
         × IsWorld (run_under setting.now) world w }
     requires size { M.size merges.old ≡ count setting.now.code.vars }
@@ -74,22 +74,22 @@ pub fn leg<M: MergeBy>(
     ensures answer { (w : DefinedWorld (Local ℕ)) → IsReached (run_under setting.now) w
         → IsWorld (run_under setting.now) world w
         → IfOk result (λ r. LegAnswers (run_under setting.now) w revision r.1 r.0) }
+    ensures touches { IfOk result (λ r. TouchesIn world revision r.1 r.0) }
     ensures size { M.size merges.new ≡ M.size merges.old }
     ensures same { M.merges merges.new ≡ M.merges merges.old }
 {
-    let (next, noted) = leg_noting(alloc, setting, merges, world, revision)?;
+    let (next, noted) = leg_meeting(alloc, setting, merges, world, revision)?;
     Ok((next, noted.answer))
 }
 
 /// As `leg`, and the entry that the leg adds to the revision's list of forks and joins.
-pub fn leg_noting<M: MergeBy>(
+pub fn leg_meeting<M: MergeBy>(
     alloc: Global,
     setting: &CodeSetting,
     merges: &mut M,
     world: World,
     revision: u32,
 ) -> Result<(World, NotedLeg), AllocError>
-    requires setting { IsSetting setting.now }
     requires reached { (w : DefinedWorld (Local ℕ)) × IsReached (run_under setting.now) w
         × IsWorld (run_under setting.now) world w }
     requires size { M.size merges.old ≡ count setting.now.code.vars }
@@ -100,6 +100,7 @@ pub fn leg_noting<M: MergeBy>(
     ensures noted { (w : Entries (Local ℕ)) → IsReached (run_under setting.now) (Listing w)
         → IsWorld (run_under setting.now) world (Listing w)
         → IfOk result (λ r. HasNoted (run_under setting.now) w revision r.1.answer r.1.meeting) }
+    ensures touches { IfOk result (λ r. TouchesIn world revision r.1.answer r.0) }
     ensures size { M.size merges.new ≡ M.size merges.old }
     ensures same { M.merges merges.new ≡ M.merges merges.old }
 {

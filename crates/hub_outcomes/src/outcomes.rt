@@ -2,7 +2,6 @@
 
 ghost use Rattle.std.specs.Prelude.{ℕ, IfOk};
 ghost use Rattle.code_outcomes.specs.Outcomes.{HasOutcome};
-ghost use Rattle.leg_run.specs.Setting.{IsSetting};
 ghost use Rattle.rev_vm.specs.Starts.{run_under};
 ghost use Rattle.hub_outcomes.specs.Runs.{IsRunOf};
 
@@ -26,7 +25,6 @@ pub fn outcome_of_run<'a, L: Revision<End = CodeEnd<'a>>>(
     setting: &CodeSetting,
     run: &HubRun<L>,
 ) -> Result<Outcome, AllocError>
-    requires setting { IsSetting setting.now }
     requires run { (fuel : ℕ) × IsRunOf (run_under setting.now) fuel run.now }
     ensures { IfOk result (λ o. (fuel : ℕ) → IsRunOf (run_under setting.now) fuel run.now
         → HasOutcome (run_under setting.now) fuel o) }

@@ -1,5 +1,4 @@
 pub mod Rooms
-pub mod Setting
 pub mod Standing
 pub mod Changes
 pub mod Ends

@@ -2,8 +2,10 @@
 --   IsRoom      so many words serve a block: its locals and its stack at each place, and, where it is a fun or merge,
 --               all that it needs with the funs that it applies
 --   AreRooms    a table of them
+--   are_rooms_prop   in one way at most
 --   room_of     as many words as serve a block of verified code, by the rooms of the blocks before it
-use Rattle.std.specs.Prelude.{ℕ, ◌≡◌, ◌<◌, ◌≤◌, ◌+◌, ◌^◌, max, min, true, if◌then◌else◌, List, [], ◌∷◌, length, Some, slice_get, slice_index_or}
+use Rattle.std.specs.Prelude.{ℕ, ◌≡◌, ◌<◌, ◌≤◌, ◌+◌, ◌^◌, ◌∙◌, ap, max, min, subst, sym, true, if◌then◌else◌, List, [], ◌∷◌, length, Option, Some, None, slice_get, slice_index_or}
+use Rattle.std.specs.Coded.{Coded-set, coded_ℕ, coded_option, le_prop, ×_prop}
 use Rattle.rev_code.specs.declared.code.Code.{Code}
 use Rattle.rev_code.specs.declared.code.CodeBlock.{CodeBlock}
 use Rattle.rev_code.specs.declared.code.Instr.{Instr}
@@ -26,6 +28,40 @@ pub record HasRoomFor (code : Code) (rooms : List ℕ) (n : ℕ) (b : CodeBlock)
 
 abbrev pub AreRooms : Code → (rooms : List ℕ) → Type 0
 AreRooms code rooms = (n : ℕ) (b : CodeBlock) → slice_get code.blocks n ≡ Some b → HasRoomFor code rooms n b
+
+-- ---- a table has them in one way
+
+is_room_prop : (code : Code) (n : ℕ) (b : CodeBlock) (room : ℕ) → IsProp (IsRoom code n b room)
+is_room_prop code n b room = λ x y i. record {
+  deep = λ at w. le_prop (x.deep at w) (y.deep at w) i;
+  need = λ v costs are cost is. le_prop (x.need v costs are cost is) (y.need v costs are cost is) i;
+  few = le_prop x.few y.few i;
+  frame = le_prop x.frame y.frame i;
+}
+
+abbrev Room : Code → (rooms : List ℕ) (n : ℕ) → CodeBlock → ℕ → Type 0
+Room code rooms n b room = (slice_get rooms n ≡ Some room) × IsRoom code n b room
+
+room_prop : (code : Code) (rooms : List ℕ) (n : ℕ) (b : CodeBlock) (room : ℕ) → IsProp (Room code rooms n b room)
+room_prop code rooms n b room =
+    ×_prop (Coded-set (coded_option coded_ℕ) (slice_get rooms n) (Some room)) (is_room_prop code n b room)
+
+with_room : (code : Code) (rooms : List ℕ) (n : ℕ) (b : CodeBlock) (room : ℕ) → Room code rooms n b room → HasRoomFor code rooms n b
+with_room code rooms n b room r = record { room = room; is = r.0; enough = r.1 }
+
+room_or : Option ℕ → ℕ
+room_or None = 0
+room_or (Some room) = room
+
+has_room_prop : (code : Code) (rooms : List ℕ) (n : ℕ) (b : CodeBlock) → IsProp (HasRoomFor code rooms n b)
+has_room_prop code rooms n b = λ x y.
+    let same : x.room ≡ y.room = ap room_or (sym x.is ∙ y.is) in
+    subst (λ room. (r : Room code rooms n b room) → x ≡ with_room code rooms n b room r) same
+    (λ r. ap (with_room code rooms n b x.room) (room_prop code rooms n b x.room (x.is, x.enough) r))
+    (y.is, y.enough)
+
+pub are_rooms_prop : (code : Code) (rooms : List ℕ) → IsProp (AreRooms code rooms)
+are_rooms_prop code rooms = λ f g i n b is. has_room_prop code rooms n b (f n b is) (g n b is) i
 
 -- ---- rooms that serve, where those of the blocks before are in the table
 

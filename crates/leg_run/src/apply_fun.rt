@@ -10,10 +10,9 @@ ghost use Rattle.version_map.specs.Overlay.{under};
 ghost use Rattle.block_run.specs.Area.{count};
 ghost use Rattle.leg_run.specs.Changes.{SameRest};
 ghost use Rattle.leg_run.specs.Ends.{TurnsTo};
-ghost use Rattle.leg_run.specs.Setting.{IsSetting};
 ghost use Rattle.leg_run.specs.Standing.{Stands};
 
-use crate::calls::{ensure, room_of};
+use crate::calls::ensure;
 use crate::revision::{LegEnd, Run};
 use crate::setting::CodeSetting;
 use crate::turn::Turn;
@@ -58,7 +57,6 @@ pub fn apply<P: Snapshot>(
     b: &CodeBlock,
     n: u16,
 ) -> Result<Turn, AllocError>
-    requires setting { IsSetting setting.now }
     requires size { P.size memory.old.snapshot ≡ count setting.now.code.vars }
     requires block { slice_get setting.now.code.blocks run.old.registers.block ≡ Some b.now }
     requires instr { slice_get b.now.instrs run.old.registers.at ≡ Some (i.Apply n) }
@@ -75,7 +73,7 @@ pub fn apply<P: Snapshot>(
 {
     let applied = block_at(&setting.code, n);
     let low = run.registers.top - params_of(applied);
-    ensure(&mut run.words, low + room_of(setting.rooms.as_slice(), n))?;
+    ensure(&mut run.words, low + setting.room(n))?;
     let table = setting.table.as_slice();
     match evaluate(
         &setting.code,

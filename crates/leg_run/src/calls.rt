@@ -8,7 +8,6 @@ ghost use Rattle.rev_code.specs.Step.{params};
 ghost use Rattle.block_run.specs.Area.{low};
 ghost use Rattle.leg_run.specs.Changes.{Entered, SameRest, returned, results};
 ghost use Rattle.leg_run.specs.Ends.{TurnsTo};
-ghost use Rattle.leg_run.specs.Setting.{IsSetting};
 ghost use Rattle.leg_run.specs.Standing.{Stands};
 
 use crate::revision::{LegEnd, Run, Waiting};
@@ -30,14 +29,6 @@ pub fn ensure(words: &mut Vec<u64>, size: usize) -> Result<(), AllocError>
         words.resize(size, 0)?;
     }
     Ok(())
-}
-
-/// How many words the frames of a block need.
-pub fn room_of(rooms: &[u32], n: u16) -> usize
-    requires { n < length rooms.now }
-    ensures { slice_get rooms.now n ≡ Some result }
-{
-    rooms[n as usize] as usize
 }
 
 /// Makes room for a frame of a block, whose arguments are the words from `low` on, and begins it.
@@ -109,7 +100,6 @@ fn enter(
 
 /// Calls a block, or traps where the revision has 1,000 frames already.
 pub fn call(setting: &CodeSetting, run: &mut Run, b: &CodeBlock, n: u16) -> Result<Turn, AllocError>
-    requires setting { IsSetting setting.now }
     requires block { slice_get setting.now.code.blocks run.old.registers.block ≡ Some b.now }
     requires instr { slice_get b.now.instrs run.old.registers.at ≡ Some (i.Call n) }
     requires stands { (seen : ℕ → ℕ) × (root : ℕ → Option ℕ) × (c : State ℕ)
@@ -123,7 +113,7 @@ pub fn call(setting: &CodeSetting, run: &mut Run, b: &CodeBlock, n: u16) -> Resu
         return Ok(Turn::Ends(LegEnd::Trap(Cause::CallDepth)));
     }
     let called = block_at(&setting.code, n);
-    enter(run, b, n, called, room_of(setting.rooms.as_slice(), n))?;
+    enter(run, b, n, called, setting.room(n))?;
     Ok(Turn::Goes)
 }
 
@@ -170,7 +160,6 @@ fn go_back(run: &mut Run, b: &CodeBlock, w: Waiting)
 
 /// Returns to the frame below; in the first frame the revision ends.
 pub fn leave(setting: &CodeSetting, run: &mut Run, b: &CodeBlock) -> Turn
-    requires setting { IsSetting setting.now }
     requires block { slice_get setting.now.code.blocks run.old.registers.block ≡ Some b.now }
     requires instr { slice_get b.now.instrs run.old.registers.at ≡ Some i.Return }
     requires stands { (seen : ℕ → ℕ) × (root : ℕ → Option ℕ) × (c : State ℕ)

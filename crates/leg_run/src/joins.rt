@@ -5,7 +5,6 @@ ghost use Rattle.std.specs.Prelude.{slice_index_or};
 ghost use Rattle.rev_code.specs.Funs.{setting as program};
 ghost use Rattle.rev_code.specs.State.{State};
 ghost use Rattle.leg_run.specs.Ends.{EndsAt, join_instr, join_of};
-ghost use Rattle.leg_run.specs.Setting.{IsSetting};
 ghost use Rattle.leg_run.specs.Standing.{Stands};
 
 use crate::revision::{LegEnd, Run};
@@ -32,7 +31,6 @@ fn join_on_top(words: &[u64], top: usize, is_try: bool) -> LegEnd
 
 /// Joins, or traps where the handle is none.
 pub fn join(setting: &CodeSetting, run: &Run, b: &CodeBlock, is_try: bool) -> LegEnd
-    requires setting { IsSetting setting.now }
     requires block { slice_get setting.now.code.blocks run.now.registers.block ≡ Some b.now }
     requires instr { slice_get b.now.instrs run.now.registers.at ≡ Some (join_instr is_try) }
     requires stands { (seen : ℕ → ℕ) × (root : ℕ → Option ℕ) × (c : State ℕ)

@@ -8,7 +8,6 @@ ghost use Rattle.version_map.specs.Overlay.{under};
 ghost use Rattle.block_run.specs.Area.{count};
 ghost use Rattle.block_run.specs.Standing.{leaves_block};
 ghost use Rattle.leg_run.specs.Ends.{LegEnds, RoundTo, TurnsTo};
-ghost use Rattle.leg_run.specs.Setting.{IsSetting};
 ghost use Rattle.leg_run.specs.Standing.{IsStanding, Stands, state_of};
 
 use crate::apply_fun::apply;
@@ -39,7 +38,6 @@ pub(crate) fn turn_at<P: Snapshot>(
     run: &mut Run,
     b: &CodeBlock,
 ) -> Result<Turn, AllocError>
-    requires setting { IsSetting setting.now }
     requires size { P.size memory.old.snapshot ≡ count setting.now.code.vars }
     requires block { slice_get setting.now.code.blocks run.old.registers.block ≡ Some b.now }
     requires leaves { (x : Instr) × (slice_get b.now.instrs run.old.registers.at ≡ Some x)
@@ -75,7 +73,6 @@ fn go_on<P: Snapshot>(
     memory: &mut Memory<P>,
     run: &mut Run,
 ) -> Result<Turn, AllocError>
-    requires setting { IsSetting setting.now }
     requires size { P.size memory.old.snapshot ≡ count setting.now.code.vars }
     requires stands { (c : State ℕ)
         × Stands setting.now.code setting.now.inputs.items setting.now.share run.old
@@ -112,7 +109,6 @@ pub fn run<P: Snapshot>(
     setting: &CodeSetting,
     revision: &mut Revision<P>,
 ) -> Result<LegEnd, AllocError>
-    requires setting { IsSetting setting.now }
     requires size { P.size revision.old.memory.snapshot ≡ count setting.now.code.vars }
     requires stands { IsStanding setting.now.code setting.now.inputs.items setting.now.share
         revision.old.run (under revision.old.memory.delta (P.base revision.old.memory.snapshot))

@@ -8,7 +8,6 @@ ghost use Rattle.rev_code.specs.declared.code.LayoutItem.{LayoutItem};
 ghost use Rattle.leg_run.specs.Changes.{Printed};
 ghost use Rattle.leg_run.specs.Ends.{GoesOn};
 ghost use Rattle.leg_run.specs.Printed.{bytes_from, gap_at, item_bytes, width_of, widths};
-ghost use Rattle.leg_run.specs.Setting.{IsSetting};
 ghost use Rattle.leg_run.specs.Standing.{Stands};
 
 use crate::revision::Run;
@@ -136,7 +135,6 @@ fn print_items(run: &mut Run, texts: &[Bytes], items: &[LayoutItem]) -> Result<(
 
 /// Prints a line.
 pub fn print(setting: &CodeSetting, run: &mut Run, b: &CodeBlock, n: u32) -> Result<(), AllocError>
-    requires setting { IsSetting setting.now }
     requires block { slice_get setting.now.code.blocks run.old.registers.block ≡ Some b.now }
     requires instr { slice_get b.now.instrs run.old.registers.at ≡ Some (i.Print n) }
     requires stands { (seen : ℕ → ℕ) × (root : ℕ → Option ℕ) × (c : State ℕ)

@@ -29,6 +29,14 @@ fn instr_in(instrs: &[Instr], n: usize) -> Instr
     instrs[n]
 }
 
+/// The room of a block that is in the table.
+pub(crate) fn room_at(rooms: &[u32], n: u16) -> usize
+    requires { n < length rooms.now }
+    ensures { slice_get rooms.now n ≡ Some result }
+{
+    rooms[n as usize] as usize
+}
+
 /// The room of a block, and 0 where it is not in the table.
 fn room_in(rooms: &[u32], n: u16) -> u32
     ensures { result ≡ slice_index_or rooms.now n 0 }

@@ -1,24 +1,31 @@
 //! What a program runs under.
 
-ghost use Rattle.std.specs.Prelude.{◌≡◌, IfOk, None};
+ghost use Rattle.std.specs.Prelude.{◌≡◌, IfOk, None, Some, slice_get};
+ghost use Rattle.rev_code.specs.declared.code.CodeBlock.{CodeBlock};
 ghost use Rattle.code_rules.specs.Verdict.{first_fault};
 ghost use Rattle.plain_words.specs.Agreement.{AreInputs};
-ghost use Rattle.leg_run.specs.Setting.{IsSetting};
+ghost use Rattle.block_run.specs.Area.{table_from};
+ghost use Rattle.leg_run.specs.Rooms.{AreRooms, IsRoom, are_rooms_prop};
 
-use crate::rooms::rooms_of;
+use crate::rooms::{room_at, rooms_of};
 use block_run::{Variable, table_of};
-use rev_code::Code;
+use fun_run::block_at;
+use rev_code::{Code, CodeBlock};
 use std::alloc::{AllocError, Global};
 
-/// Code, with where its shared variables lie and how many words the frames of each block need; the
-/// input numbers; and the most fuel that a child gets.
+/// Code without a fault, with where its shared variables lie and how many words the frames of each
+/// block need; the input numbers; and the most fuel that a child gets.
 #[derive(Drop)]
 pub struct CodeSetting {
-    pub code: Code,
-    pub table: Vec<Variable>,
-    pub rooms: Vec<u32>,
-    pub inputs: Vec<i64>,
-    pub share: u64,
+    pub(crate) code: Code,
+    pub(crate) table: Vec<Variable>,
+    pub(crate) rooms: Vec<u32>,
+    pub(crate) inputs: Vec<i64>,
+    pub(crate) share: u64,
+    pub ghost faultless: { first_fault code ≡ None },
+    pub ghost listed: { table.items ≡ table_from 0 code.vars },
+    pub ghost roomy: { AreRooms code rooms.items } by { are_rooms_prop code rooms.items },
+    pub ghost given: { AreInputs inputs.items },
 }
 
 impl CodeSetting {
@@ -31,7 +38,6 @@ impl CodeSetting {
     ) -> Result<CodeSetting, AllocError>
         requires faultless { first_fault code ≡ None }
         requires inputs { AreInputs inputs.items }
-        ensures setting { IfOk result (λ s. IsSetting s) }
         ensures code { IfOk result (λ s. s.code ≡ code) }
         ensures inputs { IfOk result (λ s. s.inputs.items ≡ inputs.items) }
         ensures share { IfOk result (λ s. s.share ≡ share) }
@@ -45,5 +51,37 @@ impl CodeSetting {
             inputs,
             share,
         })
+    }
+
+    /// The code, in which no rule is broken.
+    pub fn code(&self) -> &Code
+        ensures code { result.now ≡ self.now.code }
+        ensures faultless { first_fault result.now ≡ None }
+    {
+        &self.code
+    }
+
+    /// A block of the code.
+    pub fn block(&self, n: u16) -> &CodeBlock
+        requires { (b : CodeBlock) × (slice_get self.now.code.blocks n ≡ Some b) }
+        ensures { slice_get self.now.code.blocks n ≡ Some result.now }
+    {
+        block_at(&self.code, n)
+    }
+
+    /// How many words the frames of a block of the code need.
+    pub fn room(&self, n: u16) -> usize
+        requires { (b : CodeBlock) × (slice_get self.now.code.blocks n ≡ Some b) }
+        ensures { (b : CodeBlock) → slice_get self.now.code.blocks n ≡ Some b
+            → IsRoom self.now.code n b result }
+    {
+        room_at(self.rooms.as_slice(), n)
+    }
+
+    /// The most fuel that a child gets.
+    pub fn share(&self) -> u64
+        ensures { result ≡ self.now.share }
+    {
+        self.share
     }
 }

@@ -4,7 +4,6 @@ ghost use Rattle.std.specs.Prelude.{◌≡◌, IfOk, IfSome};
 ghost use Rattle.plain_words.specs.Agreement.{AreInputs};
 ghost use Rattle.block_run.specs.Area.{count};
 ghost use Rattle.block_merges.specs.Merging.{AreMergesOf};
-ghost use Rattle.leg_run.specs.Setting.{IsSetting};
 ghost use Rattle.rev_vm.specs.Starts.{run_under};
 
 use crate::driver::run_to_end;
@@ -144,13 +143,12 @@ pub fn left_under<M: MergeBy>(
     merges: &mut M,
     legs: u32,
 ) -> Result<Option<EndValue>, AllocError>
-    requires setting { IsSetting setting.now }
     requires size { M.size merges.old ≡ count setting.now.code.vars }
     requires merges { AreMergesOf (run_under setting.now) (M.merges merges.old) }
     ensures merges_size { M.size merges.new ≡ M.size merges.old }
     ensures merges_same { M.merges merges.new ≡ M.merges merges.old }
 {
-    let snapshot = start_whole(alloc, &setting.code)?;
+    let snapshot = start_whole(alloc, setting.code())?;
     match start_main(alloc, setting, snapshot, 10_000) {
         Ok(runner) => match run_to_end(alloc, setting, merges, runner, legs)? {
             Some((end, ())) => Ok(Some(end)),

@@ -7,7 +7,6 @@ ghost use Rattle.version_map.specs.declared.end.Finish.TheVariants as finish;
 ghost use Rattle.block_run.specs.Area.{count};
 ghost use Rattle.block_merges.specs.Merging.{AreMergesOf};
 ghost use Rattle.code_machine.specs.Local.{End};
-ghost use Rattle.leg_run.specs.Setting.{IsSetting};
 ghost use Rattle.rev_vm.specs.Meaning.{IsEnd};
 ghost use Rattle.rev_vm.specs.Starts.{run_under};
 ghost use Rattle.rev_vm.specs.Values.{StandsFor, StandsAtFork, StandsAtJoin, joiner_fuel};
@@ -43,7 +42,6 @@ fn leaf_end<P: Snapshot>(
 ) -> Result<Option<EndValue>, AllocError>
 where
     P::Spent: Drop,
-    requires setting { IsSetting setting.now }
     requires stands { (c : State ℕ) × StandsFor (run_under setting.now) runner c }
     ensures { IfOk result (λ o. IfSome o (λ v. (j : End ℕ) × IsEnd (run_under setting.now) j v)) }
 {
@@ -77,7 +75,6 @@ fn fork_leaf<P: Snapshot>(
 ) -> Result<Turn<P>, AllocError>
 where
     P::Spent: Drop,
-    requires setting { IsSetting setting.now }
     requires stands { (c : State ℕ) × (args : List (Word ℕ))
         × StandsAtFork (run_under setting.now) at c args }
     ensures { IfOk result (λ t. Goes (run_under setting.now) t) }
@@ -181,7 +178,6 @@ fn go_on<P: Snapshot, M: MergeBy>(
 ) -> Result<Turn<P>, AllocError>
 where
     P::Spent: Drop,
-    requires setting { IsSetting setting.now }
     requires stands { (c : State ℕ) × StandsFor (run_under setting.now) runner c }
     requires left { IfSome left (λ v. (j : End ℕ) × IsEnd (run_under setting.now) j v) }
     requires size { M.size merges.old ≡ count setting.now.code.vars }
@@ -218,7 +214,6 @@ pub fn run_to_end<P: Snapshot, M: MergeBy>(
 ) -> Result<Option<(EndValue, P::Spent)>, AllocError>
 where
     P::Spent: Drop,
-    requires setting { IsSetting setting.now }
     requires stands { (c : State ℕ) × StandsFor (run_under setting.now) runner c }
     requires size { M.size merges.old ≡ count setting.now.code.vars }
     requires merges { AreMergesOf (run_under setting.now) (M.merges merges.old) }

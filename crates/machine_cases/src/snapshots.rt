@@ -2,7 +2,6 @@
 
 ghost use Rattle.std.specs.Prelude.{◌≡◌, [], IfOk};
 ghost use Rattle.version_map.specs.Deltas.{locations};
-ghost use Rattle.leg_run.specs.Setting.{IsSetting};
 
 use crate::codes::block;
 use crate::driver::run_to_end;
@@ -122,11 +121,10 @@ fn fork_and_join(alloc: Global) -> Result<Code, AllocError>
 /// How often the snapshot was asked when code without variables, which ends in three legs, has
 /// ended.
 fn asked_by(alloc: Global, setting: &CodeSetting, parts: Parts) -> Result<Option<u64>, AllocError>
-    requires setting { IsSetting setting.now }
     requires none { setting.now.code.vars ≡ [] }
     requires parts { parts.locations ≡ 0 }
 {
-    let mut merges = BlockMerges::of(alloc, &setting.code)?;
+    let mut merges = BlockMerges::of(alloc, setting.code())?;
     match start_main(alloc, setting, parts, 100) {
         Ok(runner) => match run_to_end(alloc, setting, &mut merges, runner, 3)? {
             Some((_, asked)) => Ok(Some(asked)),

@@ -3,7 +3,6 @@
 ghost use Rattle.std.specs.Prelude.{◌≡◌};
 ghost use Rattle.block_run.specs.Area.{count};
 ghost use Rattle.block_merges.specs.Merging.{AreMergesOf};
-ghost use Rattle.leg_run.specs.Setting.{IsSetting};
 ghost use Rattle.rev_vm.specs.Starts.{run_under};
 
 use crate::codes::{code_of, left_under, setting_of};
@@ -61,7 +60,6 @@ fn comes_to<M: MergeBy>(
     merges: &mut M,
     text: &str,
 ) -> Result<bool, AllocError>
-    requires setting { IsSetting setting.now }
     requires size { M.size merges.old ≡ count setting.now.code.vars }
     requires merges { AreMergesOf (run_under setting.now) (M.merges merges.old) }
     ensures merges_size { M.size merges.new ≡ M.size merges.old }
@@ -79,7 +77,7 @@ pub fn two_runs(alloc: Global) -> Result<(Result<bool, AllocError>, bool), Alloc
     let Some(setting) = setting_of(alloc, code(alloc)?, Vec::new(alloc))? else {
         return Ok((Ok(false), false));
     };
-    let mut merges = BlockMerges::of(alloc, &setting.code)?;
+    let mut merges = BlockMerges::of(alloc, setting.code())?;
     let first = comes_to(alloc, &setting, &mut merges, PRINTED);
     let second = comes_to(alloc, &setting, &mut merges, PRINTED)?;
     Ok((first, second))

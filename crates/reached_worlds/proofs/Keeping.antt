@@ -35,7 +35,7 @@ then_kept a b c h k = let x = h.1 in let y = k.1 in (k.0 ∙ h.0, omega (arith, 
 
 module _ {H : Type 0} (s : Setting H) where
   form_keeps : (c : State H) (o : Comes H) → ComesTo s c o → Keeps c o
-  form_keeps c o (to_next block at locals stack below text) = (refl, omega arith)
+  form_keeps c o (to_next block at locals stack below text grows) = (refl, omega arith)
   form_keeps c o (to_write rest l w) = (written_keeps c.locations l w, omega arith)
   form_keeps c o (to_payment line fuel e) = (refl, omega (arith, e))
   form_keeps c o (to_trap line e) = (refl, omega arith)

@@ -33,7 +33,7 @@ Meets s c stuck = Unit {0}
 
 module _ {H : Type 0} (s : Setting H) (c : State H) where
   form_meets : (o : Comes H) → ComesTo s c o → Meets s c o
-  form_meets o (to_next block at locals stack below text) = tt
+  form_meets o (to_next block at locals stack below text grows) = tt
   form_meets o (to_write rest l w) = tt
   form_meets o (to_payment line fuel e) = tt
   form_meets o (to_trap line e) = tt

@@ -11,15 +11,13 @@ ghost use Rattle.rev_code.specs.Events as events;
 ghost use Rattle.version_map.specs.declared.snapshot.How.TheVariants as how;
 ghost use Rattle.version_map.specs.Deltas.{IsEmpty};
 ghost use Rattle.code_machine.specs.Local.{CodeRun};
-ghost use Rattle.leg_run.specs.Setting.{IsSetting};
 ghost use Rattle.rev_vm.specs.Meaning.{IsAt, IsAtFork};
 ghost use Rattle.rev_vm.specs.Starts.{IsBorn, IsForker, IsNamed, IsWaiting, run_under};
 
 use crate::end::{Broken, break_off, in_box};
 use crate::frame::first_frame;
 use crate::runner::Runner;
-use crate::starting::room_at;
-use fun_run::{block_at, params_of};
+use fun_run::params_of;
 use leg_run::{CodeSetting, Meeting, Revision, Run};
 use rev_code::CodeBlock;
 use std::alloc::{AllocError, Global};
@@ -125,14 +123,13 @@ fn child_frame(
     b: &CodeBlock,
     run: &Run,
 ) -> Result<Run, AllocError>
-    requires setting { IsSetting setting.now }
     requires block { slice_get setting.now.code.blocks n ≡ Some b.now }
     requires enough { length (params b.now) ≤ run.now.registers.top }
     requires within { run.now.registers.top ≤ length run.now.words.items }
     ensures { IfOk result (λ r. IsBorn setting.now n b.now run.now r) }
 {
-    let room = room_at(setting.rooms.as_slice(), n);
-    let part = part_of(setting.share, run.registers.fuel);
+    let room = setting.room(n);
+    let part = part_of(setting.share(), run.registers.fuel);
     let args = words_on_top(run, params_of(b));
     let child = first_frame(alloc, b, n, room, args, part)?;
     Ok(child)
@@ -166,7 +163,6 @@ fn fork_off<P: Snapshot>(
     block: u16,
     revision: &mut Revision<P>,
 ) -> Result<(Revision<P>, How), AllocError>
-    requires setting { IsSetting setting.now }
     requires at { (c : State _) × (args : List (Word _)) × IsAtFork (run_under setting.now)
         revision.old.run revision.old.memory.delta (P.base revision.old.memory.snapshot)
         revision.old.memory.first.roots block c args }
@@ -192,9 +188,9 @@ fn fork_off<P: Snapshot>(
     ensures child_group { IfOk result
         (λ r. P.group r.0.memory.snapshot ≡ P.group revision.old.memory.snapshot) }
 {
-    let b = block_at(&setting.code, block);
+    let b = setting.block(block);
     let run = child_frame(alloc, setting, block, b, &revision.run)?;
-    let part = part_of(setting.share, revision.run.registers.fuel);
+    let part = part_of(setting.share(), revision.run.registers.fuel);
     leave_fork(&mut revision.run, params_of(b), part)?;
     let child = revision.memory.fork(alloc)?;
     Ok((
@@ -214,7 +210,6 @@ impl<P: Snapshot> AtFork<P> {
         alloc: Global,
         setting: &CodeSetting,
     ) -> Result<(Parent<P>, Runner<P>, How), BrokenFork<P>>
-        requires setting { IsSetting setting.now }
         requires at { (c : State _) × (args : List (Word _)) × IsAtFork (run_under setting.now)
             self.revision.value.run self.revision.value.memory.delta
             (P.base self.revision.value.memory.snapshot)

@@ -11,7 +11,6 @@ ghost use Rattle.version_map.specs.Overlay.{under};
 ghost use Rattle.block_run.specs.Remembering.{Kept, written_below};
 ghost use Rattle.code_machine.specs.Leg.{leg};
 ghost use Rattle.code_machine.specs.Local.{done, end_of, has_ended};
-ghost use Rattle.leg_run.specs.Setting.{IsSetting};
 ghost use Rattle.rev_vm.specs.declared.leg.Event.TheVariants as event;
 ghost use Rattle.rev_vm.specs.Legs.{IsNoted, trap_of};
 ghost use Rattle.rev_vm.specs.Meaning.{IsAt, IsAtFork, IsAtJoin, IsEnd, IsReady};
@@ -148,7 +147,6 @@ pub fn run_leg<P: Snapshot>(
     runner: Runner<P>,
     setting: &CodeSetting,
 ) -> Result<Event<P>, Broken<P>>
-    requires setting { IsSetting setting.now }
     requires stands { (c : State ℕ) × IsAt (run_under setting.now) runner.revision.value.run
         runner.revision.value.memory.delta (P.base runner.revision.value.memory.snapshot)
         runner.revision.value.memory.first.roots c }

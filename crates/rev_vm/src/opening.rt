@@ -10,7 +10,6 @@ ghost use Rattle.code_rules.specs.Tables.{is_main};
 ghost use Rattle.code_rules.specs.Verdict.{first_fault};
 ghost use Rattle.block_run.specs.Area.{count};
 ghost use Rattle.code_machine.specs.Machines.{IsMain};
-ghost use Rattle.leg_run.specs.Setting.{IsSetting};
 ghost use Rattle.rev_vm.specs.Meaning.{IsAt};
 ghost use Rattle.rev_vm.specs.Opening.{AreShort, StartsWith, words_at_start};
 ghost use Rattle.rev_vm.specs.Starts.{run_under};
@@ -74,7 +73,6 @@ pub fn start_main<P: Snapshot>(
     snapshot: P,
     fuel: u64,
 ) -> Result<Runner<P>, P>
-    requires setting { IsSetting setting.now }
     requires size { P.size snapshot ≡ count setting.now.code.vars }
     requires base { StartsWith setting.now.code.vars (P.base snapshot) }
     ensures state { (n : ℕ) (m : IsMain (run_under setting.now) n)
@@ -89,6 +87,6 @@ pub fn start_main<P: Snapshot>(
     ensures group { IfOk result (λ r. P.group r.revision.value.memory.snapshot ≡ P.group snapshot) }
     ensures err { IfErr result (λ s. s ≡ snapshot) }
 {
-    let main = main_of(&setting.code);
+    let main = main_of(setting.code());
     Runner::start(alloc, setting, main, &[], snapshot, fuel)
 }

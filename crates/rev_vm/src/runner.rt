@@ -7,7 +7,6 @@ ghost use Rattle.rev_code.specs.State.{Location, State};
 ghost use Rattle.rev_code.specs.Words.{Word};
 ghost use Rattle.block_run.specs.Area.{count};
 ghost use Rattle.code_machine.specs.Local.{CodeRun};
-ghost use Rattle.leg_run.specs.Setting.{IsSetting};
 ghost use Rattle.rev_vm.specs.Meaning.{IsAt};
 ghost use Rattle.rev_vm.specs.Starts.{IsBase, IsCalled, run_under};
 
@@ -48,7 +47,6 @@ impl<P: Snapshot> Runner<P> {
         snapshot: P,
         fuel: u64,
     ) -> Result<Runner<P>, P>
-        requires setting { IsSetting setting.now }
         requires size { P.size snapshot ≡ count setting.now.code.vars }
         requires called { (b : CodeBlock) × (xs : List (Word _))
             × IsCalled (run_under setting.now) block b xs args.now }

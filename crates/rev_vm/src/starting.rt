@@ -5,12 +5,10 @@ ghost use Rattle.rev_code.specs.declared.code.CodeBlock.{CodeBlock};
 ghost use Rattle.rev_code.specs.Step.{params};
 ghost use Rattle.code_soundness.specs.Whole.{notes_of, IsAccepted};
 ghost use Rattle.block_run.specs.Area.{count};
-ghost use Rattle.leg_run.specs.Setting.{IsSetting};
 ghost use Rattle.version_map.specs.Deltas.{locations, IsEmpty};
 ghost use Rattle.rev_vm.specs.Starts.{Begins};
 
 use crate::frame::first_frame;
-use fun_run::block_at;
 use leg_run::{CodeSetting, Run};
 use rev_code::Code;
 use std::alloc::{AllocError, Global};
@@ -37,7 +35,6 @@ pub fn begin_with(
     args: &[u64],
     fuel: u64,
 ) -> Result<(Run, Delta, First), AllocError>
-    requires setting { IsSetting setting.now }
     requires block { (b : CodeBlock) × (slice_get setting.now.code.blocks block ≡ Some b)
         × (length args.now ≡ length (params b)) }
     ensures run { IfOk result (λ r. Begins setting.now block args.now fuel r.0) }
@@ -45,17 +42,9 @@ pub fn begin_with(
     ensures first { IfOk result
         (λ r. (locations r.2.roots ≡ count setting.now.code.vars) × IsEmpty r.2.roots) }
 {
-    let b = block_at(&setting.code, block);
-    let room = room_at(setting.rooms.as_slice(), block);
+    let b = setting.block(block);
+    let room = setting.room(block);
     let run = first_frame(alloc, b, block, room, args, fuel)?;
-    let count = location_count(&setting.code);
+    let count = location_count(setting.code());
     Ok((run, Delta::new(alloc, count)?, First::new(alloc, count)?))
-}
-
-/// How many words the frames of a block need.
-pub(crate) fn room_at(rooms: &[u32], n: u16) -> usize
-    requires { n < length rooms.now }
-    ensures { slice_get rooms.now n ≡ Some result }
-{
-    rooms[n as usize] as usize
 }

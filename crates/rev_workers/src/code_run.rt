@@ -1,7 +1,6 @@
 //! A run of verified code by threads, over the holds of a store.
 ghost use Rattle.std.specs.Prelude.{◌≡◌, ◌<◌, ◌^◌, length, All, IfErr, IfOk, vec_len};
 ghost use Rattle.block_run.specs.Area.{count};
-ghost use Rattle.leg_run.specs.Setting.{IsSetting};
 ghost use Rattle.rev_vm.specs.Opening.{StartsWith};
 ghost use Rattle.rev_vm.specs.Starts.{run_under};
 ghost use Rattle.segment_store.specs.Group.{hold_group, spent_group};
@@ -40,7 +39,6 @@ pub fn run_code<'a, 's, G: Gate + Sync, R: Threads + Wait + Sync>(
     hands: Vec<StoreHand<'a, 's>>,
     gate: &G,
 ) -> Result<Finished<StoreRevisions<'a, 's>>, NotRun<'a, 's>>
-    requires setting { IsSetting setting.now }
     requires size { vec_len snapshot.store.now.initial ≡ count setting.now.code.vars }
     requires base { StartsWith setting.now.code.vars (base snapshot.store.now snapshot.hold) }
     requires some { (0 < length hands.items) × (length hands.items < 2 ^ 32) }

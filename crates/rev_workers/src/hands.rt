@@ -1,6 +1,5 @@
 //! The hands of threads that run code over a store.
 ghost use Rattle.std.specs.Prelude.{◌≡◌, ◌+◌, ◌≤◌, [], length, All, IfOk, vec_capacity};
-ghost use Rattle.leg_run.specs.Setting.{IsSetting};
 ghost use Rattle.segment_store.specs.Names.{IsOf, IsSameHold, IsSeatOf, gathered};
 ghost use Rattle.rev_workers.specs.Hands.{IsHandFor, IsHandAt, AreMergesFor, kept_by};
 
@@ -25,13 +24,12 @@ fn merges_for<'a>(
     setting: &'a CodeSetting,
     workers: u32,
 ) -> Result<Vec<BlockMerges<'a>>, AllocError>
-    requires { IsSetting setting.now }
     ensures each { IfOk result (λ ms. All (AreMergesFor setting.entry.now) ms.items) }
     ensures many { IfOk result (λ ms. length ms.items ≡ workers) }
 {
     let mut list = Vec::new(alloc);
     for _ in 0..workers {
-        list.push(BlockMerges::of(alloc, &setting.code)?)?;
+        list.push(BlockMerges::of(alloc, setting.code())?)?;
     }
     Ok(list)
 }
@@ -46,7 +44,6 @@ fn give_hands<'a, 's>(
     merges: Vec<BlockMerges<'a>>,
     hands: &mut Vec<StoreHand<'a, 's>>,
 )
-    requires setting { IsSetting setting.now }
     requires own { IsOf store.now hold.old }
     requires merges { All (AreMergesFor setting.now) merges.items }
     requires room { (hands.old.items ≡ []) × (length merges.items ≤ vec_capacity hands.old) }
@@ -72,7 +69,6 @@ pub(crate) fn hands_for<'a, 's>(
     hold: &mut Hold,
     workers: u32,
 ) -> Result<Vec<StoreHand<'a, 's>>, AllocError>
-    requires setting { IsSetting setting.now }
     requires own { IsOf store.now hold.old }
     ensures own { IsOf store.entry.now hold.new × IsSameHold hold.old hold.new }
     ensures each { IfOk result (λ hs. All (IsHandFor setting.entry.now fuel store.entry.now)

@@ -1,6 +1,5 @@
 //! A run of verified code by threads, from its store's opening to its close.
 ghost use Rattle.std.specs.Prelude.{◌≡◌, ◌≢◌, ◌<◌, All, IfErr, IfOk, IfSome};
-ghost use Rattle.leg_run.specs.Setting.{IsSetting};
 ghost use Rattle.rev_vm.specs.Starts.{run_under};
 ghost use Rattle.segment_store.specs.Group.{closed_group};
 ghost use Rattle.segment_store.specs.Names.{IsSeatOf};
@@ -59,10 +58,9 @@ fn open_store(
     setting: &CodeSetting,
     segments: u32,
 ) -> Result<(Store, Hold), AllocError>
-    requires { IsSetting setting.now }
     ensures { IfOk result (λ r. IsOpened setting.now.code.vars r.0 r.1) }
 {
-    let words = start_words(alloc, &setting.code)?;
+    let words = start_words(alloc, setting.code())?;
     Store::open(alloc, segments, words)
 }
 
@@ -109,7 +107,6 @@ fn run_over<'a, 's, G: Gate + Sync, R: Threads + Wait + Sync>(
     workers: u32,
     gate: &G,
 ) -> Left<'a>
-    requires setting { IsSetting setting.now }
     requires opened { IsOpened setting.now.code.vars store.now hold }
     requires some { 0 < workers }
     ensures own { IsSeatOf store.entry.now result.all.seat }
@@ -158,7 +155,6 @@ pub fn run_threads<'a, G: Gate + Sync, R: Threads + Wait + Sync>(
     segments: u32,
     gate: &G,
 ) -> Result<Ran<'a>, NotRan>
-    requires setting { IsSetting setting.now }
     requires some { 0 < workers }
     ensures schedule { IfOk result (λ r. IsOfCode (run_under setting.entry.now) fuel
         (run_state r.run) (run_schedule r.run)) }

@@ -13,7 +13,6 @@ pub struct CodeFork<'a, P: Snapshot> {
 }
 
 impl<'a, P: Snapshot> Model for CodeFork<'a, P> {
-    ghost use Rattle.leg_run.specs.Setting.{IsSetting};
     ghost use Rattle.rev_vm.specs.Starts.{run_under};
     ghost use Rattle.rev_vm.specs.Values.{StandsAtFork, fork_state, fork_group};
     ghost use Rattle.run_revision.specs.Forking.{ForkValue, arguments_at};
@@ -28,8 +27,7 @@ impl<'a, P: Snapshot> Model for CodeFork<'a, P> {
       group = fork_group f.at;
     } };
 
-    ghost invariant = { λ f. IsSetting f.setting.now
-        × StandsAtFork (run_under f.setting.now) f.at (fork_state (run_under f.setting.now) f.at)
+    ghost invariant = { λ f. StandsAtFork (run_under f.setting.now) f.at (fork_state (run_under f.setting.now) f.at)
         (arguments_at (run_under f.setting.now) (fork_state (run_under f.setting.now) f.at)) };
 }
 
@@ -42,7 +40,6 @@ pub struct CodeParent<'a, P: Snapshot> {
 
 impl<'a, P: Snapshot> Model for CodeParent<'a, P> {
     ghost use Rattle.std.specs.Prelude.{List, ℕ};
-    ghost use Rattle.leg_run.specs.Setting.{IsSetting};
     ghost use Rattle.rev_code.specs.State.{State};
     ghost use Rattle.rev_code.specs.Words.{Word};
     ghost use Rattle.rev_vm.specs.Starts.{run_under};
@@ -60,7 +57,6 @@ impl<'a, P: Snapshot> Model for CodeParent<'a, P> {
       group = parent_group p.parent;
     } };
 
-    ghost invariant = { λ p. IsSetting p.setting.now
-        × ((c : State ℕ) × (args : List (Word ℕ))
+    ghost invariant = { λ p. ((c : State ℕ) × (args : List (Word ℕ))
         × Awaits (run_under p.setting.now) p.parent c args) };
 }

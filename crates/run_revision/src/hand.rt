@@ -2,7 +2,6 @@
 ghost use Rattle.std.specs.Prelude.{◌≡◌, ◌+◌, ℕ, List};
 ghost use Rattle.block_merges.specs.Merging.{AreMergesOf};
 ghost use Rattle.block_run.specs.Area.{count};
-ghost use Rattle.leg_run.specs.Setting.{IsSetting};
 ghost use Rattle.rev_vm.specs.Starts.{run_under};
 
 use leg_run::CodeSetting;
@@ -48,7 +47,6 @@ impl<'a, P: Snapshot, M: MergeBy, K: Keeper<P>> Model for CodeHand<'a, P, M, K> 
     ghost use Rattle.std.specs.Prelude.{◌≡◌};
     ghost use Rattle.block_merges.specs.Merging.{AreMergesOf};
     ghost use Rattle.block_run.specs.Area.{count};
-    ghost use Rattle.leg_run.specs.Setting.{IsSetting};
     ghost use Rattle.rev_vm.specs.Starts.{run_under};
     ghost use Rattle.run_revision.specs.Hands.{HandValue};
 
@@ -61,8 +59,7 @@ impl<'a, P: Snapshot, M: MergeBy, K: Keeper<P>> Model for CodeHand<'a, P, M, K> 
       kept = K.kept h.keeper;
     } };
 
-    ghost invariant = { λ h. IsSetting h.setting.now
-        × (M.size h.merges ≡ count h.setting.now.code.vars)
+    ghost invariant = { λ h. (M.size h.merges ≡ count h.setting.now.code.vars)
         × AreMergesOf (run_under h.setting.now) (M.merges h.merges) };
 }
 
@@ -75,7 +72,6 @@ impl<'a, P: Snapshot, M: MergeBy, K: Keeper<P>> CodeHand<'a, P, M, K> {
         merges: M,
         keeper: K,
     ) -> CodeHand<'a, P, M, K>
-        requires setting { IsSetting setting.now }
         requires size { M.size merges ≡ count setting.now.code.vars }
         requires merges { AreMergesOf (run_under setting.now) (M.merges merges) }
         ensures run { result.run ≡ run_under setting.entry.now }

@@ -16,7 +16,6 @@ pub struct CodeJoiner<'a, P: Snapshot> {
 
 impl<'a, P: Snapshot> Model for CodeJoiner<'a, P> {
     ghost use Rattle.code_hub.specs.Values.{JoinerValue};
-    ghost use Rattle.leg_run.specs.Setting.{IsSetting};
     ghost use Rattle.rev_vm.specs.Starts.{run_under};
     ghost use Rattle.rev_vm.specs.Values.{StandsAtJoin, joiner_state, joiner_group};
 
@@ -30,8 +29,7 @@ impl<'a, P: Snapshot> Model for CodeJoiner<'a, P> {
       group = joiner_group a.at;
     } };
 
-    ghost invariant = { λ a. IsSetting a.setting.now
-        × StandsAtJoin (run_under a.setting.now) a.at
+    ghost invariant = { λ a. StandsAtJoin (run_under a.setting.now) a.at
         (joiner_state (run_under a.setting.now) a.at) };
 }
 

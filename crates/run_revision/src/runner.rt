@@ -2,7 +2,6 @@
 ghost use Rattle.std.specs.Prelude.{◌≡◌, IfErr, IfOk};
 ghost use Rattle.block_run.specs.Area.{count};
 ghost use Rattle.code_hub.specs.Laws.{IsStart};
-ghost use Rattle.leg_run.specs.Setting.{IsSetting};
 ghost use Rattle.rev_vm.specs.Opening.{StartsWith};
 ghost use Rattle.rev_vm.specs.Starts.{run_under};
 
@@ -23,7 +22,6 @@ impl<'a, P: Snapshot> Model for CodeRunner<'a, P> {
     ghost use Rattle.code_hub.specs.CodeState.{state_of};
     ghost use Rattle.code_hub.specs.Values.{RunnerValue};
     ghost use Rattle.code_machine.specs.Local.{at_work};
-    ghost use Rattle.leg_run.specs.Setting.{IsSetting};
     ghost use Rattle.rev_vm.specs.Starts.{run_under};
     ghost use Rattle.rev_vm.specs.Values.{StandsFor, runner_state, runner_group};
 
@@ -35,8 +33,7 @@ impl<'a, P: Snapshot> Model for CodeRunner<'a, P> {
       group = runner_group r.runner;
     } };
 
-    ghost invariant = { λ r. IsSetting r.setting.now
-        × StandsFor (run_under r.setting.now) r.runner
+    ghost invariant = { λ r. StandsFor (run_under r.setting.now) r.runner
         (runner_state (run_under r.setting.now) r.runner) };
 }
 
@@ -49,7 +46,6 @@ impl<'a, P: Snapshot> CodeRunner<'a, P> {
         snapshot: P,
         fuel: u64,
     ) -> Result<CodeRunner<'a, P>, P>
-        requires setting { IsSetting setting.now }
         requires size { P.size snapshot ≡ count setting.now.code.vars }
         requires base { StartsWith setting.now.code.vars (P.base snapshot) }
         ensures start { IfOk result (λ r. IsStart (run_under setting.entry.now) fuel r.state) }

@@ -1,5 +1,5 @@
 -- Each step has a form, by the cases of the instructions; and what so holds of steps holds where they lead.
-use Rattle.std.proofs.Common.{◌≡◌, ℕ, zero, suc, Bool, true, false, cond, not, ℤ, List, [], ◌∷◌, ◌++◌, drop, length, Option, Some, None, Result, Ok, Err, refl}
+use Rattle.std.proofs.Common.{◌≡◌, ℕ, zero, suc, Bool, true, false, cond, not, ℤ, List, [], ◌∷◌, ◌++◌, drop, length, Option, Some, None, Result, Ok, Err, refl, sym, append-nil}
 use Rattle.std.specs.Prelude.{slice_get, slice_set, nat_lt, int_lt, int_le}
 use Rattle.rev_num.specs.declared.value.ValueKind.{ValueKind}
 use Rattle.rev_num.specs.declared.value.NumFault.{NumFault}
@@ -17,14 +17,17 @@ use Rattle.rev_code.specs.Variables.{Place, scalar, array, cell_at}
 use Rattle.rev_code.specs.Printing.{line_of, printed_kinds}
 use Rattle.rev_code.specs.Step as r
 use Rattle.rev_code.specs.Step.{Comes, goes, traps, forks, joins, ends, stuck, act, act_at, act_in, step, only, is_fun, is_procedure, onward, reach}
-use Rattle.step_forms.specs.Forms.{ComesTo, to_next, to_write, to_payment, to_trap, to_fork, to_join, to_end, to_nothing}
+use Rattle.step_forms.specs.Forms.{Grows, ComesTo, to_next, to_write, to_payment, to_trap, to_fork, to_join, to_end, to_nothing}
 
 module _ {H : Type 0} (s : Setting H) (c : State H) where
   abbrev Up : Comes H → Type 0
   Up o = ComesTo s c o
 
+  still : Grows c.text c.text
+  still = ([], sym (append-nil c.text))
+
   on : (ws : List (Word H)) → Up (r.on c ws)
-  on ws = to_next c.block (suc c.at) c.locals ws c.below c.text
+  on ws = to_next c.block (suc c.at) c.locals ws c.below c.text still
 
   fails : (e : Cause) → Up (traps c e)
   fails e = to_trap c.line e
@@ -65,7 +68,7 @@ module _ {H : Type 0} (s : Setting H) (c : State H) where
   e_local : (n : ℕ) (o : Option ValueKind) (ws : List (Word H)) → Up (r.into_local c n o ws)
   e_local n (Some k) (w ∷ rest) =
       e_if (same_kind k (kind_of w)) (goes (record c { at = suc c.at; stack = rest; locals = slice_set c.locals n w })) stuck
-      (to_next c.block (suc c.at) (slice_set c.locals n w) rest c.below c.text) to_nothing
+      (to_next c.block (suc c.at) (slice_set c.locals n w) rest c.below c.text still) to_nothing
   e_local n (Some k) [] = to_nothing
   e_local n None ws = to_nothing
 
@@ -113,7 +116,7 @@ module _ {H : Type 0} (s : Setting H) (c : State H) where
   e_from_input inputs _ = to_nothing
 
   jumps : (to : ℕ) (ws : List (Word H)) → Up (goes (record c { at = to; stack = ws }))
-  jumps to ws = to_next c.block to c.locals ws c.below c.text
+  jumps to ws = to_next c.block to c.locals ws c.below c.text still
 
   e_jump_if : (d : Bool) (to : ℕ) (ws : List (Word H)) → Up (r.jump_if d to c ws)
   e_jump_if true to (bool b ∷ rest) = jumps (cond b to (suc c.at)) rest
@@ -145,7 +148,7 @@ module _ {H : Type 0} (s : Setting H) (c : State H) where
   enters : (n : ℕ) (b : CodeBlock) (args : List (Word H)) → Up (goes (r.enter c n b args))
   enters n b args =
       to_next n 0 (r.first_locals b args) (drop (length args) c.stack)
-      (record { block = c.block; at = suc c.at; locals = c.locals } ∷ c.below) c.text
+      (record { block = c.block; at = suc c.at; locals = c.locals } ∷ c.below) c.text still
 
   e_call_with : (n : ℕ) (b : CodeBlock) (o : Option (List (Word H))) → Up (r.call_with c n b o)
   e_call_with n b None = to_nothing
@@ -174,7 +177,7 @@ module _ {H : Type 0} (s : Setting H) (c : State H) where
 
   e_leave : (fs : List (Frame H)) (w : Option (Word H)) → Up (r.leave c fs w)
   e_leave [] w = to_end w
-  e_leave (x ∷ fs) w = to_next x.block x.at x.locals c.stack fs c.text
+  e_leave (x ∷ fs) w = to_next x.block x.at x.locals c.stack fs c.text still
 
   e_return : (o : Option ValueKind) (ws : List (Word H)) → Up (r.return c o ws)
   e_return None ws = e_leave c.below None
@@ -185,7 +188,7 @@ module _ {H : Type 0} (s : Setting H) (c : State H) where
   e_print_with : (texts : List (List ℕ)) (items : List LayoutItem) (o : Option (List (Word H))) → Up (r.print_with texts c items o)
   e_print_with texts items None = to_nothing
   e_print_with texts items (Some ws) =
-      to_next c.block (suc c.at) c.locals (drop (length ws) c.stack) c.below (c.text ++ line_of texts items ws)
+      to_next c.block (suc c.at) c.locals (drop (length ws) c.stack) c.below (c.text ++ line_of texts items ws) (line_of texts items ws, refl)
 
   e_print : (texts : List (List ℕ)) (o : Option (List LayoutItem)) → Up (r.print texts c o)
   e_print texts None = to_nothing

@@ -1,7 +1,8 @@
 //! What a revision reads under its own delta.
-ghost use Rattle.std.specs.Prelude.{◌≡◌, ◌≢◌, ℕ, ◌<◌, List, IfOk, IfErr};
+ghost use Rattle.std.specs.Prelude.{◌≡◌, ◌≢◌, ℕ, ◌<◌, ◌≤◌, List, IfOk, IfErr};
 ghost use Rattle.version_map.specs.Deltas.{locations, IsEmpty};
 ghost use Rattle.version_map.specs.Overlay.{under, Agree};
+ghost use Rattle.version_map.specs.declared.snapshot.How.{How};
 ghost use Rattle.version_map.specs.declared.snapshot.Collapsed.{Collapsed};
 ghost use Rattle.version_map.specs.declared.snapshot.Collapsed.TheVariants as collapsed;
 
@@ -51,6 +52,9 @@ pub trait Snapshot: Sized {
     // snapshot tells it.
     ghost answered: { Self → Collapsed → Type 0 };
 
+    // Which answers a fork may give.
+    ghost hows: { How → Type 0 };
+
     // The group of the snapshot that was given back.
     ghost spent_group: { Self.Spent → List ℕ };
 
@@ -65,7 +69,7 @@ pub trait Snapshot: Sized {
         ensures base { Agree (size self.old) (base self.new) (base self.old) };
 
     /// A child, whose base is this base under the delta. The base under the delta stays what it is.
-    /// Where memory is wanting, the base and the delta stay too.
+    /// Where memory is wanting, the base, its depth and the delta stay too.
     fn fork(&mut self, alloc: Global, delta: &mut Delta) -> Result<(Self, How), AllocError>
         requires { locations delta.old ≡ size self.old }
         ensures size { size self.new ≡ size self.old }
@@ -77,13 +81,16 @@ pub trait Snapshot: Sized {
         ensures child_group { IfOk result (λ r. group r.0 ≡ group self.old) }
         ensures parent { Agree (size self.old) (under delta.new (base self.new))
             (under delta.old (base self.old)) }
+        ensures how { IfOk result (λ r. hows r.1) }
         ensures shared { IfOk result (λ r. r.1 ≡ Shared → IsEmpty delta.new) }
         ensures copied { IfOk result (λ r. r.1 ≡ Copied → delta.new ≡ delta.old) }
         ensures failed { IfErr result (λ _. delta.new ≡ delta.old) }
-        ensures kept { IfErr result (λ _. Agree (size self.old) (base self.new) (base self.old)) };
+        ensures kept { IfErr result (λ _. Agree (size self.old) (base self.new) (base self.old)) }
+        ensures deep { IfErr result (λ _. depth self.new ≡ depth self.old) };
 
     /// Takes the newest part of the base into the delta, where no other refers to it. The base
-    /// under the delta stays what it is.
+    /// under the delta stays what it is. Kept has a count above 1, and Base comes exactly where
+    /// there is no part; both leave the delta, the base and its depth.
     fn collapse(&mut self, into: &mut Delta) -> Collapsed
         requires { locations into.old ≡ size self.old }
         ensures size { size self.new ≡ size self.old }
@@ -92,7 +99,14 @@ pub trait Snapshot: Sized {
         ensures base { Agree (size self.old) (under into.new (base self.new))
             (under into.old (base self.old)) }
         ensures answered { answered self.new result }
-        ensures took { result ≡ collapsed.Took → depth self.new < depth self.old };
+        ensures took { result ≡ collapsed.Took → depth self.new < depth self.old }
+        ensures kept { (n : ℕ) → result ≡ collapsed.Kept n → (1 < n) × (into.new ≡ into.old)
+            × (depth self.new ≡ depth self.old)
+            × Agree (size self.old) (base self.new) (base self.old) }
+        ensures bottom { result ≡ collapsed.Base → (depth self.old ≡ 0)
+            × (depth self.new ≡ depth self.old) × (into.new ≡ into.old)
+            × Agree (size self.old) (base self.new) (base self.old) }
+        ensures exact { depth self.old ≡ 0 → result ≡ collapsed.Base };
 
     /// Gives the snapshot back.
     fn release(self) -> Self::Spent
@@ -104,6 +118,10 @@ pub fn collapse_all<P: Snapshot>(snapshot: &mut P, into: &mut Delta) -> Collapse
     requires { locations into.old ≡ P.size snapshot.old }
     ensures last { result ≢ collapsed.Took }
     ensures answered { P.answered snapshot.new result }
+    ensures kept { (n : ℕ) → result ≡ collapsed.Kept n → 1 < n }
+    ensures bottom { result ≡ collapsed.Base → P.depth snapshot.new ≡ 0 }
+    ensures depth { P.depth snapshot.new ≤ P.depth snapshot.old }
+    ensures same { P.depth snapshot.new ≡ P.depth snapshot.old → into.new ≡ into.old }
     ensures size { P.size snapshot.new ≡ P.size snapshot.old }
     ensures group { P.group snapshot.new ≡ P.group snapshot.old }
     ensures locations { locations into.new ≡ locations into.old }

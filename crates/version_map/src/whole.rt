@@ -30,6 +30,7 @@ impl Whole {
 impl Snapshot for Whole {
     ghost use Rattle.std.specs.Prelude.{vec_len, slice_index};
     ghost use Rattle.version_map.specs.declared.snapshot.Collapsed.TheVariants as collapsed;
+    ghost use Rattle.version_map.specs.declared.snapshot.How.TheVariants.{Copied};
 
     type Spent = ();
 
@@ -42,6 +43,9 @@ impl Snapshot for Whole {
     ghost group = { λ _. [] };
 
     ghost answered = { λ _ c. c ≡ collapsed.Base };
+
+    // Copied alone.
+    ghost hows = { λ h. h ≡ Copied };
 
     ghost spent_group = { λ _. [] };
 

@@ -21,7 +21,7 @@ module _ {H : Type 0} (s : Setting H) where
   Keeps c o = list_behind c o ≡ c.listed
 
   form_keeps : (c : State H) (o : Comes H) → ComesTo s c o → Keeps c o
-  form_keeps c o (to_next block at locals stack below text) = refl
+  form_keeps c o (to_next block at locals stack below text grows) = refl
   form_keeps c o (to_write rest l w) = refl
   form_keeps c o (to_payment line fuel e) = refl
   form_keeps c o (to_trap line e) = refl

@@ -59,6 +59,12 @@ module _ (g : CodeRun) (ok : IsVerified g) where
           noted_there.count,
         )
 
+    pub notes_many : (a : LegAnswer) (v' : rust.World) → LegAnswers g w n a v' → (x : Entries (Local ℕ)) × LegAnswers g (Listing x) n a v' × (length old ≡ length x)
+    notes_many a v' l =
+        let x = world_live g v w t e is in
+        let noted_there : NotesOf g (Listing x.0) old = subst (λ z. NotesOf g z old) x.1 noted in
+        (x.0, subst (λ z. LegAnswers g z n a v') x.1 l, noted_there.count)
+
     pub noted_live : (new : List Noted) (a : LegAnswer) (m : Option Meeting) (v' : rust.World) → LegAnswers g w n a v'
         → ((x : Entries (Local ℕ)) → IsReached g (Listing x) → IsWorld g v (Listing x) → told.HasNoted g x n a m) → HasNoted v' n a m old new → (k : Made) → k ≡ made_of v' a → MadeNotes g w n k new
     noted_live new a m v' l of changed k from =

@@ -175,12 +175,12 @@ module _ (g : CodeRun) (ok : IsVerified g) (w u : Entries (Local ℕ)) (h : IsRe
     where
       ended : (q : Path) (e : Entry (Local ℕ)) (x : Noted) → at_number u n ≡ Some (q, e) → (o : Option EndValue) → IsEndAt g (Listing u) n o → x.end ≡ o → IsOver (local_of e) → (y : EndValue) × (x.end ≡ Some y) × IsEnd g (end_of (local_of e)) y
       ended q e x there (Some y) (s, k, at, end) is over =
-          let it : e ≡ Plain k = entry_same (at_number u n) s q (Plain k) e at there in
+          let it : e ≡ k = entry_same (at_number u n) s q k e at there in
           (y, is, subst (λ (z : Entry (Local ℕ)). IsEnd g (end_of (local_of z)) y) (sym it) end)
       ended q e x there None none is over =
           let now = own_after w u n path of.1 of.2 (of.1.state.listed ++ listed_by (length w) (leg g of.1.state)) went_so in
           let it : e ≡ Plain now.0 = entry_same (at_number u n) path q (Plain now.0) e now.1 there in
-          absurd (not_over (local_of e) (ap (λ (z : Entry (Local ℕ)). (local_of z).phase) it ∙ none path now.0 now.1) over)
+          absurd (not_over (local_of e) (ap (λ (z : Entry (Local ℕ)). (local_of z).phase) it ∙ none path (Plain now.0) now.1) over)
 
       pick : (k : ℕ) (q : Path) (e : Entry (Local ℕ)) (x : Noted) → at_number u k ≡ Some (q, e) → at_number new k ≡ Some x → (k ≡ n) ⊎ (k ≢ n) → IsNoted g (local_of e) x
       pick k q e x there here (inl same) =

@@ -3,7 +3,9 @@
 
 mod noted;
 mod notes;
+mod replaying;
 mod running;
 
 pub use noted::Noted;
+pub use replaying::replay_noting;
 pub use running::{finish_noting, first_notes};

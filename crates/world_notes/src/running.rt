@@ -7,7 +7,6 @@ ghost use Rattle.code_machine.specs.Local.{CodeRun, Local};
 ghost use Rattle.code_world.specs.declared.world.World as rust;
 ghost use Rattle.code_machine.specs.Machines.{IsMain, numbered, start_in};
 ghost use Rattle.code_world.specs.Tables.{IsWorld};
-ghost use Rattle.leg_run.specs.Setting.{IsSetting};
 ghost use Rattle.reached_worlds.specs.Reached.{IsReached};
 ghost use Rattle.revision_machine.specs.Numbered.{Entries, World as DefinedWorld, begin};
 ghost use Rattle.rev_vm.specs.Starts.{run_under};
@@ -18,7 +17,7 @@ ghost use Rattle.world_notes.specs.Runs.{HasFinishedNoting, HasLeastNoting, HasT
 
 use crate::noted::Noted;
 use crate::notes::note_leg;
-use code_world::{NotedLeg, World, leg_noting};
+use code_world::{NotedLeg, World, leg_meeting};
 use leg_run::CodeSetting;
 use ready_queue::ReadyQueue;
 use std::alloc::{AllocError, Global};
@@ -60,7 +59,6 @@ fn try_leg<M: MergeBy>(
     notes: &mut Vec<Noted>,
     number: u32,
 ) -> Result<Made, AllocError>
-    requires setting { IsSetting setting.now }
     requires reached { (w : DefinedWorld (Local ℕ)) × IsReached (run_under setting.now) w
         × IsWorld (run_under setting.now) world w
         × CoversWorldBut (run_under setting.now) w queue.old number
@@ -80,7 +78,7 @@ fn try_leg<M: MergeBy>(
         World::Twice => return Ok(Made::None(World::Twice)),
         World::Live(table) => table,
     };
-    let (next, leg) = leg_noting(alloc, setting, merges, World::Live(table), number)?;
+    let (next, leg) = leg_meeting(alloc, setting, merges, World::Live(table), number)?;
     match note_both(alloc, queue, notes, &next, number, leg) {
         Ok(()) => Ok(sort_out(next, leg.answer)),
         Err(error) => {
@@ -99,7 +97,6 @@ fn make_least<M: MergeBy>(
     queue: &mut ReadyQueue,
     notes: &mut Vec<Noted>,
 ) -> Result<Made, AllocError>
-    requires setting { IsSetting setting.now }
     requires reached { (w : DefinedWorld (Local ℕ)) × IsReached (run_under setting.now) w
         × IsWorld (run_under setting.now) world w
         × CoversWorld (run_under setting.now) w queue.old
@@ -134,7 +131,6 @@ pub fn finish_noting<M: MergeBy>(
     mut world: World,
     notes: &mut Vec<Noted>,
 ) -> Result<World, AllocError>
-    requires setting { IsSetting setting.now }
     requires reached { (w : DefinedWorld (Local ℕ)) × IsReached (run_under setting.now) w
         × IsWorld (run_under setting.now) world w
         × NotesOf (run_under setting.now) w notes.old.items }

@@ -3,3 +3,4 @@ pub mod Overlays
 pub mod Starting
 pub mod Shows
 pub mod Ending
+pub mod Left

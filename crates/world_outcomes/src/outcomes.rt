@@ -7,7 +7,6 @@ ghost use Rattle.revision_machine.specs.Machine.{Entry};
 ghost use Rattle.revision_machine.specs.Numbered.{Entries, Listing, at_number, paths_of};
 ghost use Rattle.code_machine.specs.Local.{Local};
 ghost use Rattle.code_machine.specs.Outcome as machine;
-ghost use Rattle.leg_run.specs.Setting.{IsSetting};
 ghost use Rattle.rev_vm.specs.Opening.{words_at_start};
 ghost use Rattle.rev_vm.specs.Starts.{run_under};
 ghost use Rattle.code_world.specs.Endings.{Names};
@@ -79,7 +78,6 @@ pub fn outcome_of(
     births: &[Birth],
     end: EndValue,
 ) -> Result<Outcome, AllocError>
-    requires setting { IsSetting setting.now }
     requires named { (paths : List DefinedPath) × Names births.now paths }
     requires ended { (l : Local ℕ) × IsEndOfMain (run_under setting.now) l end }
     ensures main { IfOk result (λ o. (l : Local ℕ) (paths : List DefinedPath)
@@ -97,10 +95,10 @@ pub fn outcome_of(
         fuel: _,
         finish,
     } = end;
-    let words = view_words(alloc, &setting.code, written.as_slice())?;
+    let words = view_words(alloc, setting.code(), written.as_slice())?;
     let shown = shown_values(
         alloc,
-        setting.code.vars.as_slice(),
+        setting.code().vars.as_slice(),
         births,
         words.as_slice(),
     )?;

@@ -5,7 +5,6 @@ ghost use Rattle.block_merges.specs.Merging.{AreMergesOf};
 ghost use Rattle.block_run.specs.Area.{count};
 ghost use Rattle.code_machine.specs.Local.{Local};
 ghost use Rattle.code_world.specs.Tables.{IsWorld};
-ghost use Rattle.leg_run.specs.Setting.{IsSetting};
 ghost use Rattle.reached_worlds.specs.Reached.{IsReached};
 ghost use Rattle.ready_queue.specs.Queue.{HasReady};
 ghost use Rattle.revision_machine.specs.Numbered.{World as DefinedWorld};
@@ -31,7 +30,6 @@ fn try_leg<M: MergeBy>(
     queue: &mut ReadyQueue,
     number: u32,
 ) -> Result<Made, AllocError>
-    requires setting { IsSetting setting.now }
     requires reached { (w : DefinedWorld (Local ℕ)) × IsReached (run_under setting.now) w
         × IsWorld (run_under setting.now) world w
         × CoversWorldBut (run_under setting.now) w queue.old number }
@@ -66,7 +64,6 @@ fn make_least<M: MergeBy>(
     mut world: World,
     queue: &mut ReadyQueue,
 ) -> Result<Made, AllocError>
-    requires setting { IsSetting setting.now }
     requires reached { (w : DefinedWorld (Local ℕ)) × IsReached (run_under setting.now) w
         × IsWorld (run_under setting.now) world w
         × CoversWorld (run_under setting.now) w queue.old }
@@ -110,7 +107,6 @@ pub fn finish<M: MergeBy>(
     merges: &mut M,
     mut world: World,
 ) -> Result<World, AllocError>
-    requires setting { IsSetting setting.now }
     requires reached { (w : DefinedWorld (Local ℕ)) × IsReached (run_under setting.now) w
         × IsWorld (run_under setting.now) world w }
     requires size { M.size merges.old ≡ count setting.now.code.vars }

@@ -5,7 +5,6 @@ ghost use Rattle.block_merges.specs.Merging.{AreMergesOf};
 ghost use Rattle.block_run.specs.Area.{count};
 ghost use Rattle.code_machine.specs.Local.{Local};
 ghost use Rattle.code_world.specs.Tables.{IsWorld};
-ghost use Rattle.leg_run.specs.Setting.{IsSetting};
 ghost use Rattle.reached_worlds.specs.Reached.{IsReached};
 ghost use Rattle.revision_machine.specs.Numbered.{World as DefinedWorld};
 ghost use Rattle.rev_vm.specs.Starts.{run_under};
@@ -44,7 +43,6 @@ pub fn make<M: MergeBy>(
     world: World,
     revision: u32,
 ) -> Result<Made, AllocError>
-    requires setting { IsSetting setting.now }
     requires reached { (w : DefinedWorld (Local ℕ)) × IsReached (run_under setting.now) w
         × IsWorld (run_under setting.now) world w }
     requires size { M.size merges.old ≡ count setting.now.code.vars }

@@ -6,7 +6,6 @@ ghost use Rattle.block_merges.specs.Merging.{AreMergesOf};
 ghost use Rattle.block_run.specs.Area.{count};
 ghost use Rattle.code_machine.specs.Local.{Local};
 ghost use Rattle.code_world.specs.Tables.{IsWorld};
-ghost use Rattle.leg_run.specs.Setting.{IsSetting};
 ghost use Rattle.reached_worlds.specs.Reached.{IsReached};
 ghost use Rattle.revision_machine.specs.Numbered.{World as DefinedWorld};
 ghost use Rattle.rev_vm.specs.Starts.{run_under};
@@ -46,7 +45,6 @@ pub fn replay<M: MergeBy>(
     fuel: u64,
     schedule: &[u32],
 ) -> Result<World, ReplayFault>
-    requires setting { IsSetting setting.now }
     requires fuel { fuel ≤ most_fuel }
     requires size { M.size merges.old ≡ count setting.now.code.vars }
     requires merges { AreMergesOf (run_under setting.now) (M.merges merges.old) }

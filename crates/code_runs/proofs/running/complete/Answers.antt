@@ -2,9 +2,6 @@ use Rattle.rev_vm.specs.Starts.{run_under}
 use Rattle.code_runs.proofs.Underway.{is_after, reached}
 use Rattle.code_runs.proofs.running.complete.Goals as goal
 
-pub finish-requires-clause-setting : goal.finish-requires-clause-setting
-finish-requires-clause-setting g c = c.requires.setting
-
 pub finish-requires-clause-reached : goal.finish-requires-clause-reached
 finish-requires-clause-reached g c =
     let s = run_under c.args.setting.now in
@@ -16,9 +13,6 @@ finish-requires-clause-size g c = c.requires.size
 
 pub finish-requires-clause-merges : goal.finish-requires-clause-merges
 finish-requires-clause-merges g c = c.requires.merges
-
-pub outcome_after-requires-clause-setting : goal.outcome_after-requires-clause-setting
-outcome_after-requires-clause-setting g c = c.requires.setting
 
 pub outcome_after-requires-clause-over : goal.outcome_after-requires-clause-over
 outcome_after-requires-clause-over g c =

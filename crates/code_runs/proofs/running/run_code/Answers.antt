@@ -10,7 +10,7 @@ new-requires-clause-inputs c = c.note_inputs.ensures
 
 pub complete-requires-clause-underway : goal.complete-requires-clause-underway
 complete-requires-clause-underway c =
-    let b = c.in_ok-start.ensures in
+    let b = c.in_ok-start.ensures.begun in
     (c.args.fuel, begun (run_under c.in_ok-setting.setting) c.args.fuel b.0 b.1 c.requires c.in_ok-start.start b.2)
 
 pub complete-requires-clause-merges : goal.complete-requires-clause-merges
@@ -18,7 +18,7 @@ complete-requires-clause-merges c = c.in_ok-merges.ensures.merges (run_under c.i
 
 pub returns : goal.returns
 returns c =
-    let b = c.in_ok-start.ensures in
+    let b = c.in_ok-start.ensures.begun in
     let s = c.in_ok-setting.ensures in
     let own = c.in_ok-setting.setting in
     of_run (λ (g : CodeRun). HasOutcome g c.args.fuel c.in_ok-outcome.outcome)

@@ -15,7 +15,7 @@ new-requires-clause-inputs c = c.note_inputs.ensures
 pub finish_noting-requires-clause-reached : goal.finish_noting-requires-clause-reached
 finish_noting-requires-clause-reached c =
     let g = run_under c.in_ok-setting.setting in
-    let b = c.in_ok-start.ensures in
+    let b = c.in_ok-start.ensures.begun in
     (begin (numbered g) (start_in g b.0 b.1.body c.args.fuel), start_reached g b.0 b.1 c.args.fuel c.requires, b.2, c.in_ok-notes.ensures g c.args.fuel b.0 b.1)
 
 pub finish_noting-requires-clause-merges : goal.finish_noting-requires-clause-merges
@@ -24,7 +24,7 @@ finish_noting-requires-clause-merges c = c.in_ok-merges.ensures.merges (run_unde
 pub traced_after-requires-clause-over : goal.traced_after-requires-clause-over
 traced_after-requires-clause-over c =
     let g = run_under c.in_ok-setting.setting in
-    let b = c.in_ok-start.ensures in
+    let b = c.in_ok-start.ensures.begun in
     let main = start_in g b.0 b.1.body c.args.fuel in
     let f = c.in_ok-end.ensures.finished (begin (numbered g) main) (start_reached g b.0 b.1 c.args.fuel c.requires) b.2 (c.in_ok-notes.ensures g c.args.fuel b.0 b.1) in
     (c.args.fuel, noted_after g c.args.fuel b.0 b.1 c.requires c.in_ok-end.end c.finish_noting.new.notes.items f)
@@ -32,7 +32,7 @@ traced_after-requires-clause-over c =
 pub returns-clause-outcome : goal.returns-clause-outcome
 returns-clause-outcome c =
     let g = run_under c.in_ok-setting.setting in
-    let b = c.in_ok-start.ensures in
+    let b = c.in_ok-start.ensures.begun in
     let main = start_in g b.0 b.1.body c.args.fuel in
     let f = c.in_ok-end.ensures.finished (begin (numbered g) main) (start_reached g b.0 b.1 c.args.fuel c.requires) b.2 (c.in_ok-notes.ensures g c.args.fuel b.0 b.1) in
     let a = noted_after g c.args.fuel b.0 b.1 c.requires c.in_ok-end.end c.finish_noting.new.notes.items f in
@@ -44,7 +44,7 @@ returns-clause-outcome c =
 pub returns-clause-trace : goal.returns-clause-trace
 returns-clause-trace c =
     let g = run_under c.in_ok-setting.setting in
-    let b = c.in_ok-start.ensures in
+    let b = c.in_ok-start.ensures.begun in
     let main = start_in g b.0 b.1.body c.args.fuel in
     let f = c.in_ok-end.ensures.finished (begin (numbered g) main) (start_reached g b.0 b.1 c.args.fuel c.requires) b.2 (c.in_ok-notes.ensures g c.args.fuel b.0 b.1) in
     let a = noted_after g c.args.fuel b.0 b.1 c.requires c.in_ok-end.end c.finish_noting.new.notes.items f in

@@ -12,13 +12,13 @@ pub into_main-requires : goal.into_main-requires
 into_main-requires c =
     let a = c.requires.over in
     let g = run_under c.args.setting.now in
-    (g, a.1.after.world, a.1.after.stands, over g c.requires.setting.faultless a.0 c.args.world a.1.after)
+    (g, a.1.after.world, a.1.after.stands, over g c.args.setting.now.faultless a.0 c.args.world a.1.after)
 
 pub trace_of-requires-clause-names : goal.trace_of-requires-clause-names
 trace_of-requires-clause-names c =
     let a = c.requires.over in
     let g = run_under c.args.setting.now in
-    let ok = c.requires.setting.faultless in
+    let ok = c.args.setting.now.faultless in
     let left = c.into_main.ensures g a.1.after.world a.1.after.stands (over g ok a.0 c.args.world a.1.after) in
     let k = left_by g ok a.0 c.args.world a.1.after c.into_main.result left c.in-Some.field-0 c.in-Some.is in
     (paths_of k.0, subst (λ (bs : List Birth). Names bs (paths_of k.0)) (sym c.as_slice-births.ensures.value) k.2.names)
@@ -27,19 +27,16 @@ pub trace_of-requires-clause-ended : goal.trace_of-requires-clause-ended
 trace_of-requires-clause-ended c =
     let a = c.requires.over in
     let g = run_under c.args.setting.now in
-    let ok = c.requires.setting.faultless in
+    let ok = c.args.setting.now.faultless in
     let left = c.into_main.ensures g a.1.after.world a.1.after.stands (over g ok a.0 c.args.world a.1.after) in
     let k = left_by g ok a.0 c.args.world a.1.after c.into_main.result left c.in-Some.field-0 c.in-Some.is in
     ended_here g ok a.0 c.args.world c.args.notes.items a.1 k.0 k.1
-
-pub outcome_of-requires-clause-setting : goal.outcome_of-requires-clause-setting
-outcome_of-requires-clause-setting c = c.requires.setting
 
 pub outcome_of-requires-clause-named : goal.outcome_of-requires-clause-named
 outcome_of-requires-clause-named c =
     let a = c.requires.over in
     let g = run_under c.args.setting.now in
-    let ok = c.requires.setting.faultless in
+    let ok = c.args.setting.now.faultless in
     let left = c.into_main.ensures g a.1.after.world a.1.after.stands (over g ok a.0 c.args.world a.1.after) in
     let k = left_by g ok a.0 c.args.world a.1.after c.into_main.result left c.in-Some.field-0 c.in-Some.is in
     (paths_of k.0, subst (λ (bs : List Birth). Names bs (paths_of k.0)) (sym c.as_slice-births.ensures.value) k.2.names)
@@ -48,7 +45,7 @@ pub outcome_of-requires-clause-ended : goal.outcome_of-requires-clause-ended
 outcome_of-requires-clause-ended c =
     let a = c.requires.over in
     let g = run_under c.args.setting.now in
-    let ok = c.requires.setting.faultless in
+    let ok = c.args.setting.now.faultless in
     let left = c.into_main.ensures g a.1.after.world a.1.after.stands (over g ok a.0 c.args.world a.1.after) in
     let k = left_by g ok a.0 c.args.world a.1.after c.into_main.result left c.in-Some.field-0 c.in-Some.is in
     (k.2.local, k.2.end)
@@ -56,19 +53,19 @@ outcome_of-requires-clause-ended c =
 pub returns-in-None-clause-outcome : goal.returns-in-None-clause-outcome
 returns-in-None-clause-outcome c = λ fuel a.
     let g = run_under c.args.setting.now in
-    let ok = c.requires.setting.faultless in
+    let ok = c.args.setting.now.faultless in
     twice g ok fuel c.args.world a.after c.into_main.result (c.into_main.ensures g a.after.world a.after.stands (over g ok fuel c.args.world a.after)) c.in-None.is
 
 pub returns-in-None-clause-trace : goal.returns-in-None-clause-trace
 returns-in-None-clause-trace c = λ fuel a.
     let g = run_under c.args.setting.now in
-    let ok = c.requires.setting.faultless in
+    let ok = c.args.setting.now.faultless in
     none_traced g ok fuel c.args.world c.args.notes.items a c.into_main.result (c.into_main.ensures g a.after.world a.after.stands (over g ok fuel c.args.world a.after)) c.in-None.is
 
 pub returns-in_ok-outcome-in-Some-clause-outcome : goal.returns-in_ok-outcome-in-Some-clause-outcome
 returns-in_ok-outcome-in-Some-clause-outcome c = λ fuel a.
     let g = run_under c.args.setting.now in
-    let ok = c.requires.setting.faultless in
+    let ok = c.args.setting.now.faultless in
     let left = c.into_main.ensures g a.after.world a.after.stands (over g ok fuel c.args.world a.after) in
     main_shows g ok fuel c.args.world a.after c.into_main.result left c.in-Some.field-0 c.in-Some.is c.in_ok-outcome-in-Some.outcome
     (λ w k. c.in_ok-outcome-in-Some.ensures.world w _ (Plain k.local) k.there k.end (subst (λ (bs : List Birth). Names bs (paths_of w)) (sym c.as_slice-births.ensures.value) k.names))
@@ -76,7 +73,7 @@ returns-in_ok-outcome-in-Some-clause-outcome c = λ fuel a.
 pub returns-in_ok-outcome-in-Some-clause-trace : goal.returns-in_ok-outcome-in-Some-clause-trace
 returns-in_ok-outcome-in-Some-clause-trace c = λ fuel a.
     let g = run_under c.args.setting.now in
-    let ok = c.requires.setting.faultless in
+    let ok = c.args.setting.now.faultless in
     let ns = c.args.notes.items in
     let left = c.into_main.ensures g a.after.world a.after.stands (over g ok fuel c.args.world a.after) in
     let k = left_by g ok fuel c.args.world a.after c.into_main.result left c.in-Some.field-0 c.in-Some.is in

@@ -6,14 +6,8 @@ use Rattle.rev_vm.specs.Starts.{run_under}
 use Rattle.code_world.proofs.Coming.{has_ended_done, has_ended_trapped}
 use Rattle.code_world.proofs.advance.advance.Goals as goal
 
-pub run_leg-requires-clause-setting : goal.run_leg-requires-clause-setting
-run_leg-requires-clause-setting c = c.requires.setting
-
 pub run_leg-requires-clause-stands : goal.run_leg-requires-clause-stands
 run_leg-requires-clause-stands c = c.requires.stands
-
-pub fork-requires-clause-setting : goal.fork-requires-clause-setting
-fork-requires-clause-setting c = c.requires.setting
 
 pub fork-requires-clause-stands : goal.fork-requires-clause-stands
 fork-requires-clause-stands c =

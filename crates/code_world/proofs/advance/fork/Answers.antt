@@ -2,9 +2,6 @@ use Rattle.rev_vm.specs.Starts.{run_under}
 use Rattle.code_world.proofs.Coming.{has_forked}
 use Rattle.code_world.proofs.advance.fork.Goals as goal
 
-pub fork-requires-clause-setting : goal.fork-requires-clause-setting
-fork-requires-clause-setting c = c.requires.setting
-
 pub fork-requires-clause-at : goal.fork-requires-clause-at
 fork-requires-clause-at c = c.requires.stands
 

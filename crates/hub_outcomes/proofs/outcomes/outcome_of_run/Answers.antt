@@ -60,7 +60,7 @@ returns-in-Twice g c = λ fuel is.
 pub returns-in_ok-outcome-in-All : goal.returns-in_ok-outcome-in-All
 returns-in_ok-outcome-in-All g c = λ fuel is.
     let l = left_of (run_under c.args.setting.now) fuel c.args.run.now is (sym c.state.ensures ∙ c.in-All.is) in
-    shown (run_under c.args.setting.now) fuel (run_schedule c.args.run.now) (run_forkers c.args.run.now) (run_ends c.args.run.now) l c.requires.setting.faultless c.in_ok-outcome-in-All.outcome
+    shown (run_under c.args.setting.now) fuel (run_schedule c.args.run.now) (run_forkers c.args.run.now) (run_ends c.args.run.now) l c.args.setting.now.faultless c.in_ok-outcome-in-All.outcome
     (c.in_ok-outcome-in-All.ensures.world l.world _ (Plain l.local) l.there
     (end_of_main (run_under c.args.setting.now) fuel (run_schedule c.args.run.now) (run_forkers c.args.run.now) (run_ends c.args.run.now) l
     c.main_end-left.result.now c.in_ok-end-in-All.end (ap (λ es. at_number es 0) (sym c.ends.ensures) ∙ c.main_end-left.ensures)

@@ -10,57 +10,47 @@ use Rattle.leg_run.proofs.calls.call.Goals as goal
 pub returns-then-len-ge-MOST_FRAMES : goal.returns-then-len-ge-MOST_FRAMES
 returns-then-len-ge-MOST_FRAMES c = λ seen root s st.
     let k = c.args.run.now.below.ok.0 in let e = c.len.ensures in let d = c.if-len-ge-MOST_FRAMES.true in
-    let y = called_block c.args.setting.now.code c.requires.setting.faultless c.args.setting.now.inputs.items c.args.setting.now.share c.args.run.now seen root s st c.args.b.now c.requires.block c.args.n c.requires.instr in
-    (too_deep c.args.setting.now.code c.requires.setting.faultless c.args.setting.now.inputs.items c.args.setting.now.share c.args.run.now seen root s st c.args.b.now c.requires.block c.args.n c.requires.instr y.0 y.1 (omega (arith, k, e, d)), leaves_it c.args.setting.now.code c.requires.setting.faultless c.args.setting.now.inputs.items c.args.setting.now.share c.args.run.now seen root s st c.args.b.now c.requires.block)
+    let y = called_block c.args.setting.now.code c.args.setting.now.faultless c.args.setting.now.inputs.items c.args.setting.now.share c.args.run.now seen root s st c.args.b.now c.requires.block c.args.n c.requires.instr in
+    (too_deep c.args.setting.now.code c.args.setting.now.faultless c.args.setting.now.inputs.items c.args.setting.now.share c.args.run.now seen root s st c.args.b.now c.requires.block c.args.n c.requires.instr y.0 y.1 (omega (arith, k, e, d)), leaves_it c.args.setting.now.code c.args.setting.now.faultless c.args.setting.now.inputs.items c.args.setting.now.share c.args.run.now seen root s st c.args.b.now c.requires.block)
 
 pub block_at-called-requires : goal.block_at-called-requires
 block_at-called-requires c =
     let q = c.requires.stands in
-    let y = called_block c.args.setting.now.code c.requires.setting.faultless c.args.setting.now.inputs.items c.args.setting.now.share c.args.run.now q.0 q.1 q.2 q.3 c.args.b.now c.requires.block c.args.n c.requires.instr in
+    let y = called_block c.args.setting.now.code c.args.setting.now.faultless c.args.setting.now.inputs.items c.args.setting.now.share c.args.run.now q.0 q.1 q.2 q.3 c.args.b.now c.requires.block c.args.n c.requires.instr in
     (y.0, y.1)
-
-pub room_of-requires : goal.room_of-requires
-room_of-requires c =
-    let h = c.requires.setting.rooms c.args.n c.block_at-called.result.now c.block_at-called.ensures in
-    let e = ap length c.as_slice.ensures.value in
-    let w = some_within c.args.setting.now.rooms.items c.args.n h.room h.is in
-    omega (arith, w, e)
 
 pub enter-requires-clause-place : goal.enter-requires-clause-place
 enter-requires-clause-place c =
-    let a = block_short c.args.setting.now.code (accepted c.args.setting.now.code c.requires.setting.faultless c.args.setting.now.inputs.items c.args.setting.now.share c.args.run.now c.requires.stands.0 c.requires.stands.1 c.requires.stands.2 c.requires.stands.3 c.args.b.now c.requires.block) c.args.run.now.registers.block c.args.b.now c.requires.block in
+    let a = block_short c.args.setting.now.code (accepted c.args.setting.now.code c.args.setting.now.faultless c.args.setting.now.inputs.items c.args.setting.now.share c.args.run.now c.requires.stands.0 c.requires.stands.1 c.requires.stands.2 c.requires.stands.3 c.args.b.now c.requires.block) c.args.run.now.registers.block c.args.b.now c.requires.block in
     let w = some_within c.args.b.now.instrs c.args.run.now.registers.at _ c.requires.instr in
     omega (arith, a, w)
 
 pub enter-requires-clause-args : goal.enter-requires-clause-args
 enter-requires-clause-args c =
     let q = c.requires.stands in
-    let y = calls c.args.setting.now.code c.requires.setting.faultless c.args.setting.now.inputs.items c.args.setting.now.share c.args.run.now q.0 q.1 q.2 q.3 c.args.b.now c.requires.block c.args.n c.requires.instr c.block_at-called.result.now c.block_at-called.ensures in
+    let y = calls c.args.setting.now.code c.args.setting.now.faultless c.args.setting.now.inputs.items c.args.setting.now.share c.args.run.now q.0 q.1 q.2 q.3 c.args.b.now c.requires.block c.args.n c.requires.instr c.block_at-called.result.now c.block_at-called.ensures in
     let m = y.many in
-    let h = height c.args.setting.now.code c.requires.setting.faultless c.args.setting.now.inputs.items c.args.setting.now.share c.args.run.now q.0 q.1 q.2 q.3 c.args.b.now c.requires.block in
-    let u = top_inside c.args.setting.now.code c.requires.setting.faultless c.args.setting.now.inputs.items c.args.setting.now.share c.args.run.now q.0 q.1 q.2 q.3 c.args.b.now c.requires.block in
-    let t = (here c.args.setting.now.code c.requires.setting.faultless c.args.setting.now.inputs.items c.args.setting.now.share c.args.run.now q.0 q.1 q.2 q.3 c.args.b.now c.requires.block).top in
+    let h = height c.args.setting.now.code c.args.setting.now.faultless c.args.setting.now.inputs.items c.args.setting.now.share c.args.run.now q.0 q.1 q.2 q.3 c.args.b.now c.requires.block in
+    let u = top_inside c.args.setting.now.code c.args.setting.now.faultless c.args.setting.now.inputs.items c.args.setting.now.share c.args.run.now q.0 q.1 q.2 q.3 c.args.b.now c.requires.block in
+    let t = (here c.args.setting.now.code c.args.setting.now.faultless c.args.setting.now.inputs.items c.args.setting.now.share c.args.run.now q.0 q.1 q.2 q.3 c.args.b.now c.requires.block).top in
     omega (arith, m, h, u, t)
 
 pub enter-requires-clause-room : goal.enter-requires-clause-room
 enter-requires-clause-room c =
-    let h = c.requires.setting.rooms c.args.n c.block_at-called.result.now c.block_at-called.ensures in
-    let e : h.room ≡ c.room_of.result = some_eq (sym h.is ∙ ap (λ xs. slice_get xs c.args.n) (sym c.as_slice.ensures.value) ∙ c.room_of.ensures) in
-    let f = h.enough.few in
-    omega (arith, e, f)
+    let h = c.room.ensures c.block_at-called.result.now c.block_at-called.ensures in
+    let f = h.few in
+    omega (arith, f)
 
 pub enter-requires-clause-frame : goal.enter-requires-clause-frame
 enter-requires-clause-frame c =
-    let h = c.requires.setting.rooms c.args.n c.block_at-called.result.now c.block_at-called.ensures in
-    let e : h.room ≡ c.room_of.result = some_eq (sym h.is ∙ ap (λ xs. slice_get xs c.args.n) (sym c.as_slice.ensures.value) ∙ c.room_of.ensures) in
-    let f = h.enough.frame in
-    omega (arith, e, f)
+    let h = c.room.ensures c.block_at-called.result.now c.block_at-called.ensures in
+    let f = h.frame in
+    omega (arith, f)
 
 pub returns : goal.returns
 returns c = λ seen root s st.
     let k = c.args.run.now.below.ok.0 in let l = c.len.ensures in let d = c.if-len-ge-MOST_FRAMES.false in
-    let h = c.requires.setting.rooms c.args.n c.block_at-called.result.now c.block_at-called.ensures in
-    let e : h.room ≡ c.room_of.result = some_eq (sym h.is ∙ ap (λ xs. slice_get xs c.args.n) (sym c.as_slice.ensures.value) ∙ c.room_of.ensures) in
-    enters c.args.setting.now.code c.requires.setting.faultless c.args.setting.now.inputs.items c.args.setting.now.share c.args.run.now seen root s st c.args.b.now c.requires.block c.args.n c.requires.instr
-    c.block_at-called.result.now c.block_at-called.ensures c.enter.new.run c.room_of.result c.in_ok-enter.ensures
-    (subst (IsRoom c.args.setting.now.code c.args.n c.block_at-called.result.now) e h.enough) (omega (arith, k, l, d))
+    let h = c.room.ensures c.block_at-called.result.now c.block_at-called.ensures in
+    enters c.args.setting.now.code c.args.setting.now.faultless c.args.setting.now.inputs.items c.args.setting.now.share c.args.run.now seen root s st c.args.b.now c.requires.block c.args.n c.requires.instr
+    c.block_at-called.result.now c.block_at-called.ensures c.enter.new.run c.room.result c.in_ok-enter.ensures
+    h (omega (arith, k, l, d))

@@ -12,23 +12,23 @@ use Rattle.rev_vm.proofs.opening.start_main.Goals as goal
 pub start-requires-clause-called : goal.start-requires-clause-called
 start-requires-clause-called g c =
     let q = c.main_of-main.ensures.is in
-    (q.0, [], main_called (run_under c.args.setting.now) c.requires.setting.faultless c.main_of-main.result q.0 q.1 q.2)
+    (q.0, [], main_called (run_under c.args.setting.now) c.args.setting.now.faultless c.main_of-main.result q.0 q.1 q.2)
 
 pub returns-clause-state : goal.returns-clause-state
 returns-clause-state g c = λ n m.
     let e = c.main_of-main.ensures.one n m.body m.is m.class in
     let there = ap (slice_get c.args.setting.now.code.blocks) (sym e) ∙ m.is in
-    let base = starts_based (run_under c.args.setting.now) c.requires.setting.faultless (g.P.Snapshot.base c.args.snapshot) c.requires.base in
+    let base = starts_based (run_under c.args.setting.now) c.args.setting.now.faultless (g.P.Snapshot.base c.args.snapshot) c.requires.base in
     subst (λ k. IfOk c.start.result (λ r. IsAt (run_under c.args.setting.now) r.revision.value.run r.revision.value.memory.delta
     (g.P.Snapshot.base r.revision.value.memory.snapshot) r.revision.value.memory.first.roots
     (events.start k m.body [] (start_locations c.args.setting.now.code.vars) c.args.fuel))) (sym e)
     (c.start.ensures.state m.body [] (start_locations c.args.setting.now.code.vars)
-    (main_called (run_under c.args.setting.now) c.requires.setting.faultless c.main_of-main.result m.body there m.class) base)
+    (main_called (run_under c.args.setting.now) c.args.setting.now.faultless c.main_of-main.result m.body there m.class) base)
 
 pub returns-clause-stands : goal.returns-clause-stands
 returns-clause-stands g c =
     let q = c.main_of-main.ensures.is in
-    let base = starts_based (run_under c.args.setting.now) c.requires.setting.faultless (g.P.Snapshot.base c.args.snapshot) c.requires.base in
+    let base = starts_based (run_under c.args.setting.now) c.args.setting.now.faultless (g.P.Snapshot.base c.args.snapshot) c.requires.base in
     IfOk-weaker c.start.result
     (λ r. IsAt (run_under c.args.setting.now) r.revision.value.run r.revision.value.memory.delta
     (g.P.Snapshot.base r.revision.value.memory.snapshot) r.revision.value.memory.first.roots
@@ -37,4 +37,4 @@ returns-clause-stands g c =
     (g.P.Snapshot.base r.revision.value.memory.snapshot) r.revision.value.memory.first.roots s)
     (λ r h. (events.start c.main_of-main.result q.0 [] (start_locations c.args.setting.now.code.vars) c.args.fuel, h))
     (c.start.ensures.state q.0 [] (start_locations c.args.setting.now.code.vars)
-    (main_called (run_under c.args.setting.now) c.requires.setting.faultless c.main_of-main.result q.0 q.1 q.2) base)
+    (main_called (run_under c.args.setting.now) c.args.setting.now.faultless c.main_of-main.result q.0 q.1 q.2) base)

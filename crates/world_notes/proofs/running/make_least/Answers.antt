@@ -10,7 +10,7 @@ pub try_leg-requires-clause-reached : goal.try_leg-requires-clause-reached
 try_leg-requires-clause-reached g c =
     let q = c.requires.reached in
     let i = c.loop-number.invariant.reached q.0 q.1 q.2 q.3 q.4 in
-    (q.0, q.1, i.0, take_out (run_under c.args.setting.now) c.requires.setting.faultless q.0 q.1 c.loop-number.queue c.take.new.self c.in-Some.number i.1 c.in-Some.ensures.kept c.in-Some.ensures.waiters, i.2)
+    (q.0, q.1, i.0, take_out (run_under c.args.setting.now) c.args.setting.now.faultless q.0 q.1 c.loop-number.queue c.take.new.self c.in-Some.number i.1 c.in-Some.ensures.kept c.in-Some.ensures.waiters, i.2)
 
 pub try_leg-requires-clause-merges : goal.try_leg-requires-clause-merges
 try_leg-requires-clause-merges g c = merges_still (run_under c.args.setting.now) _ _ c.loop-number.invariant.same c.requires.merges
@@ -19,16 +19,16 @@ pub returns-in-Leg-clause-least : goal.returns-in-Leg-clause-least
 returns-in-Leg-clause-least g c = λ w h is covers noted.
     let s = run_under c.args.setting.now in
     let i = c.loop-number.invariant.reached w h is covers noted in
-    let b = take_out s c.requires.setting.faultless w h c.loop-number.queue c.take.new.self c.in-Some.number i.1 c.in-Some.ensures.kept c.in-Some.ensures.waiters in
+    let b = take_out s c.args.setting.now.faultless w h c.loop-number.queue c.take.new.self c.in-Some.number i.1 c.in-Some.ensures.kept c.in-Some.ensures.waiters in
     let k = rw c.in-Leg.is at (c.in_ok-next.ensures.tried w h i.0 b i.2) in
     let few : c.in-Some.number < 2 ^ 32 = search rules in
-    ((c.in-Some.number, k.0.0, k.0.1, least_in s c.requires.setting.faultless w h c.loop-number.queue c.in-Some.number i.1 c.in-Some.ensures.least few, k.0.2, k.0.3, k.0.4), k.1 k.0.0 k.0.1)
+    ((c.in-Some.number, k.0.0, k.0.1, least_in s c.args.setting.now.faultless w h c.loop-number.queue c.in-Some.number i.1 c.in-Some.ensures.least few, k.0.2, k.0.3, k.0.4), k.1 k.0.0 k.0.1)
 
 pub loop-number-smaller : goal.loop-number-smaller
 loop-number-smaller g c =
     let q = c.requires.reached in
     let i = c.loop-number.invariant.reached q.0 q.1 q.2 q.3 q.4 in
-    let b = take_out (run_under c.args.setting.now) c.requires.setting.faultless q.0 q.1 c.loop-number.queue c.take.new.self c.in-Some.number i.1 c.in-Some.ensures.kept c.in-Some.ensures.waiters in
+    let b = take_out (run_under c.args.setting.now) c.args.setting.now.faultless q.0 q.1 c.loop-number.queue c.take.new.self c.in-Some.number i.1 c.in-Some.ensures.kept c.in-Some.ensures.waiters in
     let k = rw c.in-None.is at (c.in_ok-next.ensures.tried q.0 q.1 i.0 b i.2) in
     let e : entered c.try_leg.new.queue ≡ entered c.take.new.self = ap (λ r. heap_len r.above) k.0.3 in
     let f = c.in-Some.ensures.fewer in
@@ -38,7 +38,7 @@ pub loop-number-preserved : goal.loop-number-preserved
 loop-number-preserved g c = record {
   reached = λ w h is covers noted.
       let i = c.loop-number.invariant.reached w h is covers noted in
-      let b = take_out (run_under c.args.setting.now) c.requires.setting.faultless w h c.loop-number.queue c.take.new.self c.in-Some.number i.1 c.in-Some.ensures.kept c.in-Some.ensures.waiters in
+      let b = take_out (run_under c.args.setting.now) c.args.setting.now.faultless w h c.loop-number.queue c.take.new.self c.in-Some.number i.1 c.in-Some.ensures.kept c.in-Some.ensures.waiters in
       let k = rw c.in-None.is at (c.in_ok-next.ensures.tried w h i.0 b i.2) in
       (k.0.1, k.0.2, k.1);
   size = c.in_ok-next.ensures.size ∙ c.loop-number.invariant.size;
@@ -49,4 +49,4 @@ pub returns-clause-least : goal.returns-clause-least
 returns-clause-least g c = λ w h is covers noted.
     let i = c.loop-number.invariant.reached w h is covers noted in
     let none : (m : ℕ) → HasReady c.loop-number.queue m → ⊥ = c.in_default.ensures.none in
-    ((none_in (run_under c.args.setting.now) c.requires.setting.faultless w h c.loop-number.queue i.1 none, i.0), i.2)
+    ((none_in (run_under c.args.setting.now) c.args.setting.now.faultless w h c.loop-number.queue i.1 none, i.0), i.2)

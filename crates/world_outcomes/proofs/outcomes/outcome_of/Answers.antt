@@ -27,7 +27,7 @@ shown_values-requires-clause-all c =
 
 pub returns-in-Done-clause-main : goal.returns-in-Done-clause-main
 returns-in-Done-clause-main c = λ l paths ended names.
-    done_outcome (run_under c.args.setting.now) c.requires.setting.faultless (path_in paths) l c.args.end c.from_vec-values.result ended c.in-Done.is
+    done_outcome (run_under c.args.setting.now) c.args.setting.now.faultless (path_in paths) l c.args.end c.from_vec-values.result ended c.in-Done.is
     (c.from_vec-values.ensures ∙ c.in_ok-shown.ensures paths names
     ∙ shown_as (path_in paths) c.as_slice-2.result.now c.args.setting.now.code.vars c.as_slice-3.result.now c.in_ok-words.words.items c.as_slice.result.now c.args.end.written
     c.as_slice-2.ensures c.as_slice-3.ensures.value c.in_ok-words.ensures c.as_slice.ensures)
@@ -38,7 +38,7 @@ returns-in-Done-clause-world c = λ w r e at ended names.
 
 pub returns-clause-main : goal.returns-clause-main
 returns-clause-main c = λ l paths ended names.
-    trapped_outcome (run_under c.args.setting.now) c.requires.setting.faultless (path_in paths) l c.args.end c.from_vec-values.result c.in-Trapped.trap c.in_ok-trap-in-Trapped.trap ended c.in-Trapped.is
+    trapped_outcome (run_under c.args.setting.now) c.args.setting.now.faultless (path_in paths) l c.args.end c.from_vec-values.result c.in-Trapped.trap c.in_ok-trap-in-Trapped.trap ended c.in-Trapped.is
     (c.from_vec-values.ensures ∙ c.in_ok-shown.ensures paths names
     ∙ shown_as (path_in paths) c.as_slice-2.result.now c.args.setting.now.code.vars c.as_slice-3.result.now c.in_ok-words.words.items c.as_slice.result.now c.args.end.written
     c.as_slice-2.ensures c.as_slice-3.ensures.value c.in_ok-words.ensures c.as_slice.ensures)

@@ -7,7 +7,7 @@ use Rattle.world_runs.proofs.ending.finish.Goals as goal
 pub all_ready-requires : goal.all_ready-requires
 all_ready-requires g c =
     let q = c.requires.reached in
-    let fits = count_fits (run_under c.args.setting.now) c.requires.setting.faultless c.args.world q.0 q.1 q.2 in
+    let fits = count_fits (run_under c.args.setting.now) c.args.setting.now.faultless c.args.world q.0 q.1 q.2 in
     let is = c.count.ensures in
     omega (arith, fits, is)
 
@@ -50,6 +50,6 @@ pub unreachable-requires : goal.unreachable-requires
 unreachable-requires g c =
     let q = c.requires.reached in
     let i = c.loop.invariant.came q.0 q.1 q.2 in
-    let few = came_few (run_under c.args.setting.now) c.requires.setting.faultless q.0 q.1 c.loop.counter c.loop.world c.loop.queue i in
+    let few = came_few (run_under c.args.setting.now) c.args.setting.now.faultless q.0 q.1 c.loop.counter c.loop.world c.loop.queue i in
     let end = c.loop-test.false in
     omega (arith, few, end)

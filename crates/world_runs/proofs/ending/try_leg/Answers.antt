@@ -4,9 +4,6 @@ use Rattle.rev_vm.specs.Starts.{run_under}
 use Rattle.world_runs.proofs.Leading.{tried_live, tried_twice, known_live}
 use Rattle.world_runs.proofs.ending.try_leg.Goals as goal
 
-pub leg-requires-clause-setting : goal.leg-requires-clause-setting
-leg-requires-clause-setting g c = c.requires.setting
-
 pub leg-requires-clause-reached : goal.leg-requires-clause-reached
 leg-requires-clause-reached g c =
     let q = c.requires.reached in
@@ -22,7 +19,7 @@ pub note-requires : goal.note-requires
 note-requires g c =
     let q = c.requires.reached in
     let s = run_under c.args.setting.now in
-    known_live s c.requires.setting.faultless c.args.world q.0 c.in-Live.table c.in-Live.is q.1 q.2 c.args.number c.args.queue.now q.3 c.in_ok-next.answer c.in_ok-next.next
+    known_live s c.args.setting.now.faultless c.args.world q.0 c.in-Live.table c.in-Live.is q.1 q.2 c.args.number c.args.queue.now q.3 c.in_ok-next.answer c.in_ok-next.next
     (c.in_ok-next.ensures.answer q.0 q.1 (subst (λ v. IsWorld s v q.0) c.in-Live.is q.2))
 
 pub returns-in-Twice-clause-tried : goal.returns-in-Twice-clause-tried
@@ -31,6 +28,6 @@ returns-in-Twice-clause-tried g c = λ w reached is but. tried_twice (run_under 
 pub returns-in-Ok-clause-tried : goal.returns-in-Ok-clause-tried
 returns-in-Ok-clause-tried g c = λ w reached is but.
     let s = run_under c.args.setting.now in
-    tried_live s c.requires.setting.faultless c.args.world w c.in-Live.table c.in-Live.is reached is c.args.number c.args.queue.now but c.in_ok-next.answer c.in_ok-next.next
+    tried_live s c.args.setting.now.faultless c.args.world w c.in-Live.table c.in-Live.is reached is c.args.number c.args.queue.now but c.in_ok-next.answer c.in_ok-next.next
     (c.in_ok-next.ensures.answer w reached (subst (λ v. IsWorld s v w) c.in-Live.is is))
     c.note.new.queue c.in-Ok.ensures.noted c.in-Ok.ensures.still c.sort_out.result c.sort_out.ensures

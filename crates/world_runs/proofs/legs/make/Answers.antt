@@ -4,9 +4,6 @@ use Rattle.rev_vm.specs.Starts.{run_under}
 use Rattle.world_runs.proofs.Making.{made_live, made_twice}
 use Rattle.world_runs.proofs.legs.make.Goals as goal
 
-pub leg-requires-clause-setting : goal.leg-requires-clause-setting
-leg-requires-clause-setting g c = c.requires.setting
-
 pub leg-requires-clause-reached : goal.leg-requires-clause-reached
 leg-requires-clause-reached g c =
     let q = c.requires.reached in

@@ -5,24 +5,18 @@ use Rattle.reached_worlds.proofs.Reaching.{start_reached}
 use Rattle.world_runs.proofs.Making.{replay_begins, replay_goes, replay_ends, merges_still}
 use Rattle.world_runs.proofs.replaying.replay.Goals as goal
 
-pub begin-requires-clause-setting : goal.begin-requires-clause-setting
-begin-requires-clause-setting g c = c.requires.setting
-
 pub begin-requires-clause-fuel : goal.begin-requires-clause-fuel
 begin-requires-clause-fuel g c = c.requires.fuel
 
 pub loop-at-init : goal.loop-at-init
 loop-at-init g c =
-    let b = c.in-Ok.ensures in
+    let b = c.in-Ok.ensures.begun in
     let s = run_under c.args.setting.now in
     record {
       reached = (_, replay_begins s c.args.fuel b.0 b.1 [] refl, start_reached s b.0 b.1 c.args.fuel c.requires.fuel, b.2);
       size = refl;
       same = refl;
     }
-
-pub make-requires-clause-setting : goal.make-requires-clause-setting
-make-requires-clause-setting g c = c.requires.setting
 
 pub make-requires-clause-reached : goal.make-requires-clause-reached
 make-requires-clause-reached g c = let i = c.loop-at.invariant.reached in (i.0, i.2, i.3)

@@ -5,13 +5,11 @@ use Rattle.rev_vm.specs.Starts.{run_under}
 use Rattle.code_world.specs.declared.answer.LegAnswer.TheVariants as answer
 use Rattle.code_world.specs.Answers.{Answers}
 use Rattle.code_world.specs.Meetings.{join_meeting}
-use Rattle.code_world.proofs.Finding.{stage_none, stage_running, stage_standing, stage_ended, stage_joined}
+use Rattle.code_world.proofs.Finding.{vacant, stage_running, stage_standing, stage_ended, stage_joined}
 use Rattle.code_world.proofs.Listed.{noted_so, join_noted, joins_noted}
 use Rattle.code_world.proofs.Turning.{joiner, no_such, over_ended, over_joined}
 use Rattle.code_world.proofs.table.Table.leg.Goals as goal
-
-pub run-requires-clause-setting : goal.run-requires-clause-setting
-run-requires-clause-setting g c = c.requires.setting
+use Rattle.code_world.proofs.Touching.{same, touches_so, joining_touches}
 
 pub run-requires-clause-runs : goal.run-requires-clause-runs
 run-requires-clause-runs g c = c.requires.good
@@ -38,7 +36,7 @@ pub returns-in-NoSuch-clause-answer : goal.returns-in-NoSuch-clause-answer
 returns-in-NoSuch-clause-answer g c = λ w good.
     let s = run_under c.args.setting.now in
     subst (λ z. Answers s w c.args.number z c.args.self.now) (sym c.noted_end.ensures.answer)
-    (no_such s c.args.self.now w good c.args.number (stage_none (at_number c.args.self.now.slots.items c.args.number) c.in-NoSuch.ensures))
+    (no_such s c.args.self.now w good c.args.number (vacant s c.args.self.now.slots.items w good.table.slots c.args.number c.in-NoSuch.ensures))
 
 pub returns-in-NoSuch-clause-noted : goal.returns-in-NoSuch-clause-noted
 returns-in-NoSuch-clause-noted g c = λ w good.
@@ -80,9 +78,29 @@ returns-in-Ended-clause-noted g c = λ w good.
 pub returns-in-Joined-clause-answer : goal.returns-in-Joined-clause-answer
 returns-in-Joined-clause-answer g c = λ w good.
     let s = run_under c.args.setting.now in
+    let e = stage_joined (at_number c.args.self.now.slots.items c.args.number) c.in-Joined.ensures in
     subst (λ z. Answers s w c.args.number z c.args.self.now) (sym c.noted_end-in-Joined.ensures.answer)
-    (over_joined s c.args.self.now w good c.args.number (stage_joined (at_number c.args.self.now.slots.items c.args.number) c.in-Joined.ensures))
+    (over_joined s c.args.self.now w good c.args.number e.0 e.1)
 
 pub returns-in-Joined-clause-noted : goal.returns-in-Joined-clause-noted
 returns-in-Joined-clause-noted g c = λ w good.
     noted_so (run_under c.args.setting.now) w c.args.number answer.Over c.noted_end-in-Joined.result.answer None c.noted_end-in-Joined.result.meeting c.noted_end-in-Joined.ensures.answer c.noted_end-in-Joined.ensures.meeting refl
+
+pub returns-in-NoSuch-clause-touches : goal.returns-in-NoSuch-clause-touches
+returns-in-NoSuch-clause-touches g c =
+    touches_so c.args.self.now c.args.self.now c.args.number answer.NoSuch c.noted_end.result.answer c.noted_end.ensures.answer (same c.args.self.now)
+
+pub returns-in-Running-clause-touches : goal.returns-in-Running-clause-touches
+returns-in-Running-clause-touches g c = c.run.ensures.touches
+
+pub returns-in_ok-answer-in-Standing-clause-touches : goal.returns-in_ok-answer-in-Standing-clause-touches
+returns-in_ok-answer-in-Standing-clause-touches g c =
+    joining_touches c.args.self.now c.join.new.self c.args.number c.in_ok-answer-in-Standing.answer c.noted_join.result.answer c.noted_join.ensures.answer c.in_ok-answer-in-Standing.ensures.touches
+
+pub returns-in-Ended-clause-touches : goal.returns-in-Ended-clause-touches
+returns-in-Ended-clause-touches g c =
+    touches_so c.args.self.now c.args.self.now c.args.number answer.Over c.noted_end-in-Ended.result.answer c.noted_end-in-Ended.ensures.answer (same c.args.self.now)
+
+pub returns-in-Joined-clause-touches : goal.returns-in-Joined-clause-touches
+returns-in-Joined-clause-touches g c =
+    touches_so c.args.self.now c.args.self.now c.args.number answer.Over c.noted_end-in-Joined.result.answer c.noted_end-in-Joined.ensures.answer (same c.args.self.now)

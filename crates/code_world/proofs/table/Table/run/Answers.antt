@@ -13,6 +13,7 @@ use Rattle.code_world.proofs.Listed.{noted_so, fork_noted, join_noted, end_noted
 use Rattle.code_world.proofs.Turning.{many_slots, births_below, few_forks, at_its_join, still_standing, forks_off, ends_so, runner, world_length}
 use Rattle.code_world.proofs.table.Table.run.Goals as goal
 use Rattle.revision_machine.proofs.Lists.{put_length, at_below}
+use Rattle.code_world.proofs.Touching.{ends_touch, fork_stays, joining_touches, others_put, put_stays, then_joining, touches_so}
 
 pub overflow_cast-child : goal.overflow_cast-child
 overflow_cast-child g c =
@@ -22,9 +23,6 @@ overflow_cast-child g c =
 pub take_runner-runner-requires : goal.take_runner-runner-requires
 take_runner-runner-requires g c = c.requires.running
 
-pub advance-requires-clause-setting : goal.advance-requires-clause-setting
-advance-requires-clause-setting g c = c.requires.setting
-
 pub advance-requires-clause-stands : goal.advance-requires-clause-stands
 advance-requires-clause-stands g c =
     let k = runner (run_under c.args.setting.now) c.args.self.now c.requires.runs.0 c.requires.runs.1 c.args.number c.take_runner-runner.result c.take_runner-runner.ensures.was in
@@ -33,7 +31,7 @@ advance-requires-clause-stands g c =
 pub bear-requires-clause-slots : goal.bear-requires-clause-slots
 bear-requires-clause-slots g c =
     let a = at_below c.args.self.now.slots.items c.args.number (slot.Running c.take_runner-runner.result) c.take_runner-runner.ensures.was in
-    let x = ap length c.take_runner-runner.ensures.now ∙ put_length c.args.self.now.slots.items c.args.number slot.Joined in
+    let x = ap length c.take_runner-runner.ensures.now ∙ put_length c.args.self.now.slots.items c.args.number slot.Taken in
     omega (arith, a, x)
 
 pub bear-requires-clause-births : goal.bear-requires-clause-births
@@ -50,13 +48,13 @@ bear-requires-clause-few g c = λ b e.
 pub put-requires : goal.put-requires
 put-requires g c =
     let a = at_below c.args.self.now.slots.items c.args.number (slot.Running c.take_runner-runner.result) c.take_runner-runner.ensures.was in
-    let x = ap length c.take_runner-runner.ensures.now ∙ put_length c.args.self.now.slots.items c.args.number slot.Joined in
+    let x = ap length c.take_runner-runner.ensures.now ∙ put_length c.args.self.now.slots.items c.args.number slot.Taken in
     omega (arith, a, x)
 
 pub put-requires-in-Ended : goal.put-requires-in-Ended
 put-requires-in-Ended g c =
     let a = at_below c.args.self.now.slots.items c.args.number (slot.Running c.take_runner-runner.result) c.take_runner-runner.ensures.was in
-    let x = ap length c.take_runner-runner.ensures.now ∙ put_length c.args.self.now.slots.items c.args.number slot.Joined in
+    let x = ap length c.take_runner-runner.ensures.now ∙ put_length c.args.self.now.slots.items c.args.number slot.Taken in
     omega (arith, a, x)
 
 pub join-requires : goal.join-requires
@@ -134,3 +132,26 @@ returns-in-Ended-clause-noted g c = λ w good.
     noted_so s w c.args.number (ends_with c.in-Ended.end.finish) c.noted_end.result.answer None c.noted_end.result.meeting
     (c.noted_end.ensures.answer ∙ c.answer_of-answer.ensures) c.noted_end.ensures.meeting
     (ends_noted s w c.args.number c.in-Ended.end.finish (end_noted s w c.args.number k.path k.state k.there come.after come.goes))
+
+pub returns-in_ok-bear-in-Forked-clause-touches : goal.returns-in_ok-bear-in-Forked-clause-touches
+returns-in_ok-bear-in-Forked-clause-touches g c =
+    touches_so c.args.self.now c.bear.new.self c.args.number (answer.Forked _) c.noted_fork.result.answer c.noted_fork.ensures.answer
+    (fork_stays c.args.self.now.slots.items c.bear.new.self.slots.items c.args.number slot.Taken (slot.Running c.in-Forked.forker) (slot.Running c.in-Forked.kid)
+    (c.in_ok-bear-in-Forked.ensures.slots ∙ ap (λ ss. put_number ss c.args.number (slot.Running c.in-Forked.forker) ++ slot.Running c.in-Forked.kid ∷ []) c.take_runner-runner.ensures.now))
+
+pub returns-in_ok-answer-in-Standing-clause-touches : goal.returns-in_ok-answer-in-Standing-clause-touches
+returns-in_ok-answer-in-Standing-clause-touches g c =
+    joining_touches c.args.self.now c.join.new.self c.args.number c.in_ok-answer-in-Standing.answer c.noted_join.result.answer c.noted_join.ensures.answer
+    (then_joining c.args.self.now c.put.new.self c.join.new.self c.args.number c.in_ok-answer-in-Standing.answer (
+      put_stays c.args.self.now.slots.items c.put.new.self.slots.items c.args.number slot.Taken (slot.Standing c.in-Standing.at)
+          (c.put.ensures.now ∙ ap (λ ss. put_number ss c.args.number (slot.Standing c.in-Standing.at)) c.take_runner-runner.ensures.now),
+      ap (λ b. b.items) (c.put.ensures.births ∙ c.take_runner-runner.ensures.births),
+    ) c.in_ok-answer-in-Standing.ensures.touches)
+
+pub returns-in-Ended-clause-touches : goal.returns-in-Ended-clause-touches
+returns-in-Ended-clause-touches g c =
+    touches_so c.args.self.now c.put-in-Ended.new.self c.args.number (ends_with c.in-Ended.end.finish) c.noted_end.result.answer
+    (c.noted_end.ensures.answer ∙ c.answer_of-answer.ensures)
+    (ends_touch c.args.self.now c.put-in-Ended.new.self c.args.number c.in-Ended.end.finish
+    (others_put c.args.self.now.slots.items c.put-in-Ended.new.self.slots.items c.args.number slot.Taken (slot.Ended c.in-Ended.end)
+    (c.put-in-Ended.ensures.now ∙ ap (λ ss. put_number ss c.args.number (slot.Ended c.in-Ended.end)) c.take_runner-runner.ensures.now)))

@@ -1,11 +1,13 @@
 use Rattle.rev_vm.specs.Starts.{run_under}
 use Rattle.code_world.proofs.Beginning.{alone}
+use Rattle.code_world.proofs.Saying.{first_silent}
 use Rattle.code_world.proofs.world.World.begin.Goals as goal
 
-pub first_runner-requires : goal.first_runner-requires
-first_runner-requires c = c.requires.setting
+pub returns-clause-silent : goal.returns-clause-silent
+returns-clause-silent c =
+    first_silent (run_under c.args.setting.now) c.args.fuel c.in_ok-runner.runner c.in_ok-runner.ensures c.in_ok-alone.field-0 c.in_ok-alone.ensures
 
-pub returns : goal.returns
-returns c =
+pub returns-clause-begun : goal.returns-clause-begun
+returns-clause-begun c =
     let f = c.in_ok-runner.ensures in
     (f.number, f.main, alone (run_under c.args.setting.now) c.args.fuel c.in_ok-runner.runner f c.in_ok-alone.field-0 c.in_ok-alone.ensures)

@@ -21,8 +21,8 @@ returns-in-Ok-clause-state g c = λ b xs ls k base.
     let vars = c.args.setting.now.code.vars in
     let many = locations_many vars ls base.kinds in
     let stands : IsAt (run_under c.args.setting.now) c.in-Ok.parts.0 c.in-Ok.parts.1 (g.P.Snapshot.base c.args.snapshot) c.in-Ok.parts.2.roots (events.start c.args.block b xs ls c.args.fuel) = record {
-      verified = c.requires.setting.faultless;
-      stands = start_stands c.args.setting.now c.requires.setting.faultless c.args.block c.args.args.now c.args.fuel c.in-Ok.parts.0 c.in-Ok.ensures.run b xs ls k base.kinds
+      verified = c.args.setting.now.faultless;
+      stands = start_stands c.args.setting.now c.args.setting.now.faultless c.args.block c.args.args.now c.args.fuel c.in-Ok.parts.0 c.in-Ok.ensures.run b xs ls k base.kinds
           (under c.in-Ok.parts.1 (g.P.Snapshot.base c.args.snapshot)) (at c.in-Ok.parts.2.roots)
           (unwritten (count vars) c.in-Ok.parts.1 c.in-Ok.parts.2.roots (g.P.Snapshot.base c.args.snapshot) ls many c.in-Ok.ensures.delta.0 c.in-Ok.ensures.delta.1 c.in-Ok.ensures.first.0 c.in-Ok.ensures.first.1 base.seen);
       size = c.in-Ok.ensures.delta.0;

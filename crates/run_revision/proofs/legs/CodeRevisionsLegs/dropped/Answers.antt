@@ -13,7 +13,7 @@ use Rattle.run_revision.proofs.legs.CodeRevisionsLegs.dropped.Goals as goal
 pub invariant_of-result : goal.invariant_of-result
 invariant_of-result g c =
     let own = run_under c.at.inside.setting.now in
-    (c.at.invariant.0, at_own own _ _ _ _ _ (c.dropped.ensures.state own (joiner_state own c.at.inside.at) c.at.invariant.1))
+    at_own own _ _ _ _ _ (c.dropped.ensures.state own (joiner_state own c.at.inside.at) c.at.invariant)
 
 pub returns-clause-state : goal.returns-clause-state
 returns-clause-state g c e trap =
@@ -21,6 +21,6 @@ returns-clause-state g c e trap =
     let s = joiner_state own c.at.inside.at in
     let r = c.dropped.result.revision.value in
     let try : c.at.inside.at.is_try ≡ true = ap (λ a. a.try) c.at.view_is ∙ c.requires in
-    let one = one_state own r.run r.memory.delta (g.P.Snapshot.base r.memory.snapshot) r.memory.first.roots (past_join s true false c.at.inside.at.on) (c.dropped.ensures.state own s c.at.invariant.1) in
+    let one = one_state own r.run r.memory.delta (g.P.Snapshot.base r.memory.snapshot) r.memory.first.roots (past_join s true false c.at.inside.at.on) (c.dropped.ensures.state own s c.at.invariant) in
     ap (λ z. state_of own (at_work z)) (sym one)
     ∙ (sym (ap (state_of own) (dropped_is own s c.at.inside.at.is_try c.at.inside.at.on e.left e.left.phase try trap)) ∙ ap (λ a. joined a e) c.at.view_is)

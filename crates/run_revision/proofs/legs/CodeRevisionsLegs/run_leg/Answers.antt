@@ -11,28 +11,28 @@ use Rattle.run_revision.proofs.legs.CodeRevisionsLegs.run_leg.Goals as goal
 
 pub invariant_of-result : goal.invariant_of-result
 invariant_of-result g c =
-    let e = rw c.in-Ok-Fork.field-0-is at (c.in-Ok-Fork.ensures.event (runner_state (run_under c.runner.inside.setting.now) c.runner.inside.runner) c.runner.invariant.1) in
-    (c.runner.invariant.0, fork_own (run_under c.runner.inside.setting.now) _ _ _ _ c.in-Ok-Fork.at.block e.0 e.1 e.3)
+    let e = rw c.in-Ok-Fork.field-0-is at (c.in-Ok-Fork.ensures.event (runner_state (run_under c.runner.inside.setting.now) c.runner.inside.runner) c.runner.invariant) in
+    fork_own (run_under c.runner.inside.setting.now) _ _ _ _ c.in-Ok-Fork.at.block e.0 e.1 e.3
 
 pub invariant_of-result-in-Ok-Join : goal.invariant_of-result-in-Ok-Join
 invariant_of-result-in-Ok-Join g c =
-    let e = rw c.in-Ok-Join.field-0-is at (c.in-Ok-Join.ensures.event (runner_state (run_under c.runner.inside.setting.now) c.runner.inside.runner) c.runner.invariant.1) in
-    (c.runner.invariant.0, join_own (run_under c.runner.inside.setting.now) _ _ _ _ _ _ _ e.0 e.2)
+    let e = rw c.in-Ok-Join.field-0-is at (c.in-Ok-Join.ensures.event (runner_state (run_under c.runner.inside.setting.now) c.runner.inside.runner) c.runner.invariant) in
+    join_own (run_under c.runner.inside.setting.now) _ _ _ _ _ _ _ e.0 e.2
 
 pub leave-requires-clause-end : goal.leave-requires-clause-end
 leave-requires-clause-end g c =
-    let e = rw c.in-Ok-End.field-0-is at (c.in-Ok-End.ensures.event (runner_state (run_under c.runner.inside.setting.now) c.runner.inside.runner) c.runner.invariant.1) in
+    let e = rw c.in-Ok-End.field-0-is at (c.in-Ok-End.ensures.event (runner_state (run_under c.runner.inside.setting.now) c.runner.inside.runner) c.runner.invariant) in
     end_own (run_under c.runner.inside.setting.now) _ c.in-Ok-End.stopped.end e.3
 
 pub leave-requires-in-Ok-Trap-clause-end : goal.leave-requires-in-Ok-Trap-clause-end
 leave-requires-in-Ok-Trap-clause-end g c =
-    let e = rw c.in-Ok-Trap.field-0-is at (c.in-Ok-Trap.ensures.event (runner_state (run_under c.runner.inside.setting.now) c.runner.inside.runner) c.runner.invariant.1) in
+    let e = rw c.in-Ok-Trap.field-0-is at (c.in-Ok-Trap.ensures.event (runner_state (run_under c.runner.inside.setting.now) c.runner.inside.runner) c.runner.invariant) in
     end_own (run_under c.runner.inside.setting.now) _ c.in-Ok-Trap.stopped.end e.3
 
 pub returns-in-Ok-Fork-clause-event : goal.returns-in-Ok-Fork-clause-event
 returns-in-Ok-Fork-clause-event g c =
     let own = run_under c.runner.inside.setting.now in
-    let e = rw c.in-Ok-Fork.field-0-is at (c.in-Ok-Fork.ensures.event (runner_state own c.runner.inside.runner) c.runner.invariant.1) in
+    let e = rw c.in-Ok-Fork.field-0-is at (c.in-Ok-Fork.ensures.event (runner_state own c.runner.inside.runner) c.runner.invariant) in
     let r = c.in-Ok-Fork.at.revision.value in
     let base = g.P.Snapshot.base r.memory.snapshot in
     let s = safe own r.run r.memory.delta base r.memory.first.roots c.in-Ok-Fork.at.block e.0 e.1 e.3 in
@@ -46,7 +46,7 @@ returns-in-Ok-Fork-clause-event g c =
 pub returns-in-Ok-Join-clause-event : goal.returns-in-Ok-Join-clause-event
 returns-in-Ok-Join-clause-event g c =
     let own = run_under c.runner.inside.setting.now in
-    let e = rw c.in-Ok-Join.field-0-is at (c.in-Ok-Join.ensures.event (runner_state own c.runner.inside.runner) c.runner.invariant.1) in
+    let e = rw c.in-Ok-Join.field-0-is at (c.in-Ok-Join.ensures.event (runner_state own c.runner.inside.runner) c.runner.invariant) in
     let at = c.in-Ok-Join.at in
     let a : JoinerValue = record { run = own; state = joiner_state own c.in-Ok-Join.at; try = at.is_try; on = at.on; group = joiner_group c.in-Ok-Join.at } in
     joins_here own (runner_state own c.runner.inside.runner) e.0 a c.args.runner.state (ap (λ x. x.state) c.runner.view_is) refl
@@ -55,11 +55,11 @@ returns-in-Ok-Join-clause-event g c =
 pub returns-in_ok-leave-in-Ok-End-clause-event : goal.returns-in_ok-leave-in-Ok-End-clause-event
 returns-in_ok-leave-in-Ok-End-clause-event g c =
     let own = run_under c.runner.inside.setting.now in
-    let e = rw c.in-Ok-End.field-0-is at (c.in-Ok-End.ensures.event (runner_state own c.runner.inside.runner) c.runner.invariant.1) in
+    let e = rw c.in-Ok-End.field-0-is at (c.in-Ok-End.ensures.event (runner_state own c.runner.inside.runner) c.runner.invariant) in
     ends_here forker child own (runner_state own c.runner.inside.runner) e.0 e.1 c.in-Ok-End.stopped.end c.args.runner.state c.in_ok-leave-in-Ok-End.field-0 (ap (λ x. x.state) c.runner.view_is) e.2 e.3 (rw c.in-Ok-End.field-0-is at c.in-Ok-End.ensures.own) c.in_ok-leave-in-Ok-End.ensures.run c.in_ok-leave-in-Ok-End.ensures.left
 
 pub returns-in_ok-leave-in-Ok-Trap-clause-event : goal.returns-in_ok-leave-in-Ok-Trap-clause-event
 returns-in_ok-leave-in-Ok-Trap-clause-event g c =
     let own = run_under c.runner.inside.setting.now in
-    let e = rw c.in-Ok-Trap.field-0-is at (c.in-Ok-Trap.ensures.event (runner_state own c.runner.inside.runner) c.runner.invariant.1) in
+    let e = rw c.in-Ok-Trap.field-0-is at (c.in-Ok-Trap.ensures.event (runner_state own c.runner.inside.runner) c.runner.invariant) in
     traps_here forker child own (runner_state own c.runner.inside.runner) e.0 e.1 c.in-Ok-Trap.stopped.end c.args.runner.state c.in_ok-leave-in-Ok-Trap.field-0 (ap (λ x. x.state) c.runner.view_is) e.2 e.3 (rw c.in-Ok-Trap.field-0-is at c.in-Ok-Trap.ensures.own) c.in_ok-leave-in-Ok-Trap.ensures.run c.in_ok-leave-in-Ok-Trap.ensures.left

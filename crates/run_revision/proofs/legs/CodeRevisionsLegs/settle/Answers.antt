@@ -40,15 +40,15 @@ settle-requires g c =
     let alike = same_end own its mine s c.at.inside.at.is_try c.at.inside.at.on (joiner_group c.at.inside.at) c.end.inside.value.value c.args.hand.now q.0 q.1 (c.at.view_is ∙ q.2.0) (c.end.view_is ∙ q.2.1) (ap (λ z. z.run) c.hand.view_is) q.4 in
     let at = c.at.inside.at in
     let has : IsClaimed own at.revision.value.run at.revision.value.memory.delta (g.P.Snapshot.base at.revision.value.memory.snapshot) at.revision.value.memory.first.roots at.written at.is_try at.on c.end.inside.value.value s j = record {
-      joiner = c.at.invariant.1;
+      joiner = c.at.invariant;
       joinee = subst (λ z. IsEnd z (end_for z c.end.inside.value.value) c.end.inside.value.value) alike c.end.invariant;
       done = is_done own its mine s c.at.inside.at.is_try c.at.inside.at.on (joiner_group c.at.inside.at) c.end.inside.value.value c.args.hand.now q.0 q.1 (c.at.view_is ∙ q.2.0) (c.end.view_is ∙ q.2.1) (ap (λ z. z.run) c.hand.view_is) q.4 q.3;
     } in
     let given : IsClaimed own c.claim.result.at.revision.value.run c.claim.result.at.revision.value.memory.delta (g.P.Snapshot.base c.claim.result.at.revision.value.memory.snapshot) c.claim.result.at.revision.value.memory.first.roots c.claim.result.at.written c.claim.result.at.is_try c.claim.result.at.on c.claim.result.end s j =
     subst (λ v. IsClaimed own c.claim.result.at.revision.value.run c.claim.result.at.revision.value.memory.delta (g.P.Snapshot.base c.claim.result.at.revision.value.memory.snapshot) c.claim.result.at.revision.value.memory.first.roots c.claim.result.at.written c.claim.result.at.is_try c.claim.result.at.on v s j) (sym (c.claim.ensures.end ∙ c.into_inner-left.ensures))
     (subst (λ k. IsClaimed own k.revision.value.run k.revision.value.memory.delta (g.P.Snapshot.base k.revision.value.memory.snapshot) k.revision.value.memory.first.roots k.written k.is_try k.on c.end.inside.value.value s j) (sym c.claim.ensures.at) has) in
-    let merges : AreMergesOf own (g.M.MergeBy.merges c.hand.inside.merges) = subst (λ z. AreMergesOf z (g.M.MergeBy.merges c.hand.inside.merges)) (sym same) c.hand.invariant.2 in
-    (own, s, j, given, c.hand.invariant.1 ∙ ap (λ z. count z.code.vars) (sym same))
+    let merges : AreMergesOf own (g.M.MergeBy.merges c.hand.inside.merges) = subst (λ z. AreMergesOf z (g.M.MergeBy.merges c.hand.inside.merges)) (sym same) c.hand.invariant.1 in
+    (own, s, j, given, c.hand.invariant.0 ∙ ap (λ z. count z.code.vars) (sym same))
 
 pub invariant_of-result : goal.invariant_of-result
 invariant_of-result g c =
@@ -62,36 +62,33 @@ invariant_of-result g c =
     let alike = same_end own its mine s c.at.inside.at.is_try c.at.inside.at.on (joiner_group c.at.inside.at) c.end.inside.value.value c.args.hand.now q.0 q.1 (c.at.view_is ∙ q.2.0) (c.end.view_is ∙ q.2.1) (ap (λ z. z.run) c.hand.view_is) q.4 in
     let at = c.at.inside.at in
     let has : IsClaimed own at.revision.value.run at.revision.value.memory.delta (g.P.Snapshot.base at.revision.value.memory.snapshot) at.revision.value.memory.first.roots at.written at.is_try at.on c.end.inside.value.value s j = record {
-      joiner = c.at.invariant.1;
+      joiner = c.at.invariant;
       joinee = subst (λ z. IsEnd z (end_for z c.end.inside.value.value) c.end.inside.value.value) alike c.end.invariant;
       done = is_done own its mine s c.at.inside.at.is_try c.at.inside.at.on (joiner_group c.at.inside.at) c.end.inside.value.value c.args.hand.now q.0 q.1 (c.at.view_is ∙ q.2.0) (c.end.view_is ∙ q.2.1) (ap (λ z. z.run) c.hand.view_is) q.4 q.3;
     } in
     let given : IsClaimed own c.claim.result.at.revision.value.run c.claim.result.at.revision.value.memory.delta (g.P.Snapshot.base c.claim.result.at.revision.value.memory.snapshot) c.claim.result.at.revision.value.memory.first.roots c.claim.result.at.written c.claim.result.at.is_try c.claim.result.at.on c.claim.result.end s j =
     subst (λ v. IsClaimed own c.claim.result.at.revision.value.run c.claim.result.at.revision.value.memory.delta (g.P.Snapshot.base c.claim.result.at.revision.value.memory.snapshot) c.claim.result.at.revision.value.memory.first.roots c.claim.result.at.written c.claim.result.at.is_try c.claim.result.at.on v s j) (sym (c.claim.ensures.end ∙ c.into_inner-left.ensures))
     (subst (λ k. IsClaimed own k.revision.value.run k.revision.value.memory.delta (g.P.Snapshot.base k.revision.value.memory.snapshot) k.revision.value.memory.first.roots k.written k.is_try k.on c.end.inside.value.value s j) (sym c.claim.ensures.at) has) in
-    let merges : AreMergesOf own (g.M.MergeBy.merges c.hand.inside.merges) = subst (λ z. AreMergesOf z (g.M.MergeBy.merges c.hand.inside.merges)) (sym same) c.hand.invariant.2 in
+    let merges : AreMergesOf own (g.M.MergeBy.merges c.hand.inside.merges) = subst (λ z. AreMergesOf z (g.M.MergeBy.merges c.hand.inside.merges)) (sym same) c.hand.invariant.1 in
     let r = rw c.in-Ok-Run.field-0-is at (c.in-Ok-Run.ensures.settled own s j given merges) in
-    (c.at.invariant.0, at_own own _ _ _ _ _ r.2)
+    at_own own _ _ _ _ _ r.2
 
 pub invariant_of-hand : goal.invariant_of-hand
 invariant_of-hand g c = (
-  c.hand.invariant.0,
-  c.settle.ensures.merges_size ∙ c.hand.invariant.1,
-  subst (λ f. AreMergesOf (run_under c.hand.inside.setting.now) f) (sym c.settle.ensures.merges_same) c.hand.invariant.2,
+  c.settle.ensures.merges_size ∙ c.hand.invariant.0,
+  subst (λ f. AreMergesOf (run_under c.hand.inside.setting.now) f) (sym c.settle.ensures.merges_same) c.hand.invariant.1,
 )
 
 pub invariant_of-hand-in-Ok-Trap : goal.invariant_of-hand-in-Ok-Trap
 invariant_of-hand-in-Ok-Trap g c = (
-  c.hand.invariant.0,
-  c.settle.ensures.merges_size ∙ c.hand.invariant.1,
-  subst (λ f. AreMergesOf (run_under c.hand.inside.setting.now) f) (sym c.settle.ensures.merges_same) c.hand.invariant.2,
+  c.settle.ensures.merges_size ∙ c.hand.invariant.0,
+  subst (λ f. AreMergesOf (run_under c.hand.inside.setting.now) f) (sym c.settle.ensures.merges_same) c.hand.invariant.1,
 )
 
 pub invariant_of-hand-in-Err : goal.invariant_of-hand-in-Err
 invariant_of-hand-in-Err g c = (
-  c.hand.invariant.0,
-  c.settle.ensures.merges_size ∙ c.hand.invariant.1,
-  subst (λ f. AreMergesOf (run_under c.hand.inside.setting.now) f) (sym c.settle.ensures.merges_same) c.hand.invariant.2,
+  c.settle.ensures.merges_size ∙ c.hand.invariant.0,
+  subst (λ f. AreMergesOf (run_under c.hand.inside.setting.now) f) (sym c.settle.ensures.merges_same) c.hand.invariant.1,
 )
 
 pub leave-requires-clause-end : goal.leave-requires-clause-end
@@ -106,14 +103,14 @@ leave-requires-clause-end g c =
     let alike = same_end own its mine s c.at.inside.at.is_try c.at.inside.at.on (joiner_group c.at.inside.at) c.end.inside.value.value c.args.hand.now q.0 q.1 (c.at.view_is ∙ q.2.0) (c.end.view_is ∙ q.2.1) (ap (λ z. z.run) c.hand.view_is) q.4 in
     let at = c.at.inside.at in
     let has : IsClaimed own at.revision.value.run at.revision.value.memory.delta (g.P.Snapshot.base at.revision.value.memory.snapshot) at.revision.value.memory.first.roots at.written at.is_try at.on c.end.inside.value.value s j = record {
-      joiner = c.at.invariant.1;
+      joiner = c.at.invariant;
       joinee = subst (λ z. IsEnd z (end_for z c.end.inside.value.value) c.end.inside.value.value) alike c.end.invariant;
       done = is_done own its mine s c.at.inside.at.is_try c.at.inside.at.on (joiner_group c.at.inside.at) c.end.inside.value.value c.args.hand.now q.0 q.1 (c.at.view_is ∙ q.2.0) (c.end.view_is ∙ q.2.1) (ap (λ z. z.run) c.hand.view_is) q.4 q.3;
     } in
     let given : IsClaimed own c.claim.result.at.revision.value.run c.claim.result.at.revision.value.memory.delta (g.P.Snapshot.base c.claim.result.at.revision.value.memory.snapshot) c.claim.result.at.revision.value.memory.first.roots c.claim.result.at.written c.claim.result.at.is_try c.claim.result.at.on c.claim.result.end s j =
     subst (λ v. IsClaimed own c.claim.result.at.revision.value.run c.claim.result.at.revision.value.memory.delta (g.P.Snapshot.base c.claim.result.at.revision.value.memory.snapshot) c.claim.result.at.revision.value.memory.first.roots c.claim.result.at.written c.claim.result.at.is_try c.claim.result.at.on v s j) (sym (c.claim.ensures.end ∙ c.into_inner-left.ensures))
     (subst (λ k. IsClaimed own k.revision.value.run k.revision.value.memory.delta (g.P.Snapshot.base k.revision.value.memory.snapshot) k.revision.value.memory.first.roots k.written k.is_try k.on c.end.inside.value.value s j) (sym c.claim.ensures.at) has) in
-    let merges : AreMergesOf own (g.M.MergeBy.merges c.hand.inside.merges) = subst (λ z. AreMergesOf z (g.M.MergeBy.merges c.hand.inside.merges)) (sym same) c.hand.invariant.2 in
+    let merges : AreMergesOf own (g.M.MergeBy.merges c.hand.inside.merges) = subst (λ z. AreMergesOf z (g.M.MergeBy.merges c.hand.inside.merges)) (sym same) c.hand.invariant.1 in
     end_own own _ c.in-Ok-Trap.stopped.end (rw c.in-Ok-Trap.field-0-is at (c.in-Ok-Trap.ensures.settled own s j given merges))
 
 pub returns-in-Ok-Run-clause-state : goal.returns-in-Ok-Run-clause-state
@@ -127,14 +124,14 @@ returns-in-Ok-Run-clause-state g c a e is none met =
     let alike = same_end own its mine s c.at.inside.at.is_try c.at.inside.at.on (joiner_group c.at.inside.at) c.end.inside.value.value c.args.hand.now a e (c.at.view_is ∙ is.0) (c.end.view_is ∙ is.1) (ap (λ z. z.run) c.hand.view_is) met in
     let at = c.at.inside.at in
     let has : IsClaimed own at.revision.value.run at.revision.value.memory.delta (g.P.Snapshot.base at.revision.value.memory.snapshot) at.revision.value.memory.first.roots at.written at.is_try at.on c.end.inside.value.value s j = record {
-      joiner = c.at.invariant.1;
+      joiner = c.at.invariant;
       joinee = subst (λ z. IsEnd z (end_for z c.end.inside.value.value) c.end.inside.value.value) alike c.end.invariant;
       done = is_done own its mine s c.at.inside.at.is_try c.at.inside.at.on (joiner_group c.at.inside.at) c.end.inside.value.value c.args.hand.now a e (c.at.view_is ∙ is.0) (c.end.view_is ∙ is.1) (ap (λ z. z.run) c.hand.view_is) met none;
     } in
     let given : IsClaimed own c.claim.result.at.revision.value.run c.claim.result.at.revision.value.memory.delta (g.P.Snapshot.base c.claim.result.at.revision.value.memory.snapshot) c.claim.result.at.revision.value.memory.first.roots c.claim.result.at.written c.claim.result.at.is_try c.claim.result.at.on c.claim.result.end s j =
     subst (λ v. IsClaimed own c.claim.result.at.revision.value.run c.claim.result.at.revision.value.memory.delta (g.P.Snapshot.base c.claim.result.at.revision.value.memory.snapshot) c.claim.result.at.revision.value.memory.first.roots c.claim.result.at.written c.claim.result.at.is_try c.claim.result.at.on v s j) (sym (c.claim.ensures.end ∙ c.into_inner-left.ensures))
     (subst (λ k. IsClaimed own k.revision.value.run k.revision.value.memory.delta (g.P.Snapshot.base k.revision.value.memory.snapshot) k.revision.value.memory.first.roots k.written k.is_try k.on c.end.inside.value.value s j) (sym c.claim.ensures.at) has) in
-    let merges : AreMergesOf own (g.M.MergeBy.merges c.hand.inside.merges) = subst (λ z. AreMergesOf z (g.M.MergeBy.merges c.hand.inside.merges)) (sym same) c.hand.invariant.2 in
+    let merges : AreMergesOf own (g.M.MergeBy.merges c.hand.inside.merges) = subst (λ z. AreMergesOf z (g.M.MergeBy.merges c.hand.inside.merges)) (sym same) c.hand.invariant.1 in
     let r = rw c.in-Ok-Run.field-0-is at (c.in-Ok-Run.ensures.settled own s j given merges) in
     let run = c.in-Ok-Run.runner.revision.value in
     let one = one_state own run.run run.memory.delta (g.P.Snapshot.base run.memory.snapshot) run.memory.first.roots r.0 r.2 in
@@ -154,14 +151,14 @@ returns-in_ok-leave-in-Ok-Trap-clause-state g c a e is none met =
     let alike = same_end own its mine s c.at.inside.at.is_try c.at.inside.at.on (joiner_group c.at.inside.at) c.end.inside.value.value c.args.hand.now a e (c.at.view_is ∙ is.0) (c.end.view_is ∙ is.1) (ap (λ z. z.run) c.hand.view_is) met in
     let at = c.at.inside.at in
     let has : IsClaimed own at.revision.value.run at.revision.value.memory.delta (g.P.Snapshot.base at.revision.value.memory.snapshot) at.revision.value.memory.first.roots at.written at.is_try at.on c.end.inside.value.value s j = record {
-      joiner = c.at.invariant.1;
+      joiner = c.at.invariant;
       joinee = subst (λ z. IsEnd z (end_for z c.end.inside.value.value) c.end.inside.value.value) alike c.end.invariant;
       done = is_done own its mine s c.at.inside.at.is_try c.at.inside.at.on (joiner_group c.at.inside.at) c.end.inside.value.value c.args.hand.now a e (c.at.view_is ∙ is.0) (c.end.view_is ∙ is.1) (ap (λ z. z.run) c.hand.view_is) met none;
     } in
     let given : IsClaimed own c.claim.result.at.revision.value.run c.claim.result.at.revision.value.memory.delta (g.P.Snapshot.base c.claim.result.at.revision.value.memory.snapshot) c.claim.result.at.revision.value.memory.first.roots c.claim.result.at.written c.claim.result.at.is_try c.claim.result.at.on c.claim.result.end s j =
     subst (λ v. IsClaimed own c.claim.result.at.revision.value.run c.claim.result.at.revision.value.memory.delta (g.P.Snapshot.base c.claim.result.at.revision.value.memory.snapshot) c.claim.result.at.revision.value.memory.first.roots c.claim.result.at.written c.claim.result.at.is_try c.claim.result.at.on v s j) (sym (c.claim.ensures.end ∙ c.into_inner-left.ensures))
     (subst (λ k. IsClaimed own k.revision.value.run k.revision.value.memory.delta (g.P.Snapshot.base k.revision.value.memory.snapshot) k.revision.value.memory.first.roots k.written k.is_try k.on c.end.inside.value.value s j) (sym c.claim.ensures.at) has) in
-    let merges : AreMergesOf own (g.M.MergeBy.merges c.hand.inside.merges) = subst (λ z. AreMergesOf z (g.M.MergeBy.merges c.hand.inside.merges)) (sym same) c.hand.invariant.2 in
+    let merges : AreMergesOf own (g.M.MergeBy.merges c.hand.inside.merges) = subst (λ z. AreMergesOf z (g.M.MergeBy.merges c.hand.inside.merges)) (sym same) c.hand.invariant.1 in
     let end = rw c.in-Ok-Trap.field-0-is at (c.in-Ok-Trap.ensures.settled own s j given merges) in
     let l = join_in own s c.claim.result.at.is_try c.claim.result.at.on j j.phase in
     let there : joined a e ≡ state_of own l = joined_is own its mine s c.at.inside.at.is_try c.at.inside.at.on (joiner_group c.at.inside.at) c.end.inside.value.value c.args.hand.now a e (c.at.view_is ∙ is.0) (c.end.view_is ∙ is.1) (ap (λ z. z.run) c.hand.view_is) met ∙ ap (λ k. state_of own (join_in own s k.is_try k.on j j.phase)) (sym c.claim.ensures.at) in

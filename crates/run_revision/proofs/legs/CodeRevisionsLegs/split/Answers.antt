@@ -14,14 +14,14 @@ pub invariant_of-result : goal.invariant_of-result
 invariant_of-result g c =
     let own = run_under c.at.inside.setting.now in
     let s = fork_state own c.at.inside.at in
-    (c.at.invariant.0, (s, arguments_at own s, c.in-Ok.ensures.parent s (arguments_at own s) c.at.invariant.1))
+    (s, arguments_at own s, c.in-Ok.ensures.parent s (arguments_at own s) c.at.invariant)
 
 pub invariant_of-result-in-Ok : goal.invariant_of-result-in-Ok
 invariant_of-result-in-Ok g c =
     let own = run_under c.at.inside.setting.now in
     let s = fork_state own c.at.inside.at in
-    let e = c.in-Ok.ensures.child s (arguments_at own s) c.at.invariant.1 in
-    (c.at.invariant.0, at_own own _ _ _ _ _ e.2)
+    let e = c.in-Ok.ensures.child s (arguments_at own s) c.at.invariant in
+    at_own own _ _ _ _ _ e.2
 
 pub returns-in-Ok-clause-parent : goal.returns-in-Ok-clause-parent
 returns-in-Ok-clause-parent g c n =
@@ -29,7 +29,7 @@ returns-in-Ok-clause-parent g c n =
     let s = fork_state own c.at.inside.at in
     let given = arguments_at own s in
     let r = c.in-Ok.parent.revision.value in
-    let one : events.parent own.share s given 0 ≡ state_at own r.run r.memory.delta (g.P.Snapshot.base r.memory.snapshot) r.memory.first.roots = one_state own r.run r.memory.delta (g.P.Snapshot.base r.memory.snapshot) r.memory.first.roots (events.parent own.share s given 0) (c.in-Ok.ensures.parent s given c.at.invariant.1) in
+    let one : events.parent own.share s given 0 ≡ state_at own r.run r.memory.delta (g.P.Snapshot.base r.memory.snapshot) r.memory.first.roots = one_state own r.run r.memory.delta (g.P.Snapshot.base r.memory.snapshot) r.memory.first.roots (events.parent own.share s given 0) (c.in-Ok.ensures.parent s given c.at.invariant) in
     ap (λ z. state_of own (at_work (renamed z n))) (sym one)
     ∙ (ap (λ z. state_of own (at_work z)) (renamed_parent own.share s given n) ∙ ap (λ f. forker f n) c.at.view_is)
 
@@ -38,7 +38,7 @@ returns-in-Ok-clause-child g c =
     let own = run_under c.at.inside.setting.now in
     let s = fork_state own c.at.inside.at in
     let given = arguments_at own s in
-    let e = c.in-Ok.ensures.child s given c.at.invariant.1 in
+    let e = c.in-Ok.ensures.child s given c.at.invariant in
     let r = c.in-Ok.runner.revision.value in
     let v : ForkValue = record { run = own; state = s; block = c.at.inside.at.block; args = given; group = fork_group c.at.inside.at } in
     let one : events.child own.share s c.at.inside.at.block e.0 given ≡ runner_state own c.in-Ok.runner = one_state own r.run r.memory.delta (g.P.Snapshot.base r.memory.snapshot) r.memory.first.roots (events.child own.share s c.at.inside.at.block e.0 given) e.2 in

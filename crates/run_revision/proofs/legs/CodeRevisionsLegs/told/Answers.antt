@@ -13,13 +13,13 @@ use Rattle.run_revision.proofs.legs.CodeRevisionsLegs.told.Goals as goal
 pub invariant_of-result : goal.invariant_of-result
 invariant_of-result g c =
     let own = run_under c.parent.inside.setting.now in
-    let w = c.parent.invariant.1 in
-    (c.parent.invariant.0, at_own own _ _ _ _ _ (c.told.ensures.state own w.0 w.1 w.2))
+    let w = c.parent.invariant in
+    at_own own _ _ _ _ _ (c.told.ensures.state own w.0 w.1 w.2)
 
 pub returns-clause-state : goal.returns-clause-state
 returns-clause-state g c =
     let own = run_under c.parent.inside.setting.now in
-    let w = c.parent.invariant.1 in
+    let w = c.parent.invariant in
     let r = c.told.result.revision.value in
     let p = c.parent.inside.parent.revision.value in
     let after : events.parent own.share w.0 w.1 c.args.number ≡ runner_state own c.told.result = one_state own r.run r.memory.delta (g.P.Snapshot.base r.memory.snapshot) r.memory.first.roots (events.parent own.share w.0 w.1 c.args.number) (c.told.ensures.state own w.0 w.1 w.2) in

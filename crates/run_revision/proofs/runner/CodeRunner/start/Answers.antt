@@ -12,18 +12,18 @@ use Rattle.run_revision.proofs.runner.CodeRunner.start.Goals as goal
 
 pub invariant_of-result : goal.invariant_of-result
 invariant_of-result g c =
-    let s = c.in-Ok.ensures.stands in (c.requires.setting, at_own (run_under c.args.setting.now) _ _ _ _ s.0 s.1)
+    let s = c.in-Ok.ensures.stands in at_own (run_under c.args.setting.now) _ _ _ _ s.0 s.1
 
 pub returns-in-Ok-clause-start : goal.returns-in-Ok-clause-start
 returns-in-Ok-clause-start g c =
     let own = run_under c.args.setting.now in
-    let there = main_there c.args.setting.now.code c.requires.setting.faultless in
+    let there = main_there c.args.setting.now.code c.args.setting.now.faultless in
     let m : IsMain own (length c.args.setting.now.code.blocks - 1) = record { body = there.0; is = there.1; class = there.2 } in
     let r = c.in-Ok.runner.revision.value in
     let first = events.start (length c.args.setting.now.code.blocks - 1) there.0 [] (start_locations c.args.setting.now.code.vars) c.args.fuel in
     let one = one_state own r.run r.memory.delta (g.P.Snapshot.base r.memory.snapshot) r.memory.first.roots first (c.in-Ok.ensures.state (length c.args.setting.now.code.blocks - 1) m) in
     record {
-      verified = c.requires.setting.faultless;
+      verified = c.args.setting.now.faultless;
       block = length c.args.setting.now.code.blocks - 1;
       main = m;
       is = ap (λ z. state_of own (at_work z)) (sym one);

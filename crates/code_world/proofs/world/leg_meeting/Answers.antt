@@ -5,7 +5,8 @@ use Rattle.code_world.specs.declared.world.World.TheVariants as world
 use Rattle.code_world.specs.Answers.{LegAnswers}
 use Rattle.code_world.proofs.Listed.{noted_so}
 use Rattle.code_world.proofs.Worlds.{good_listing, good_table, answers_in, twice_in}
-use Rattle.code_world.proofs.world.leg_noting.Goals as goal
+use Rattle.code_world.proofs.world.leg_meeting.Goals as goal
+use Rattle.code_world.proofs.Touching.{touches_in, touches_twice}
 
 pub returns-in-Twice-clause-answer : goal.returns-in-Twice-clause-answer
 returns-in-Twice-clause-answer g c = λ w reached is.
@@ -16,13 +17,10 @@ pub returns-in-Twice-clause-noted : goal.returns-in-Twice-clause-noted
 returns-in-Twice-clause-noted g c = λ w reached is.
     noted_so (run_under c.args.setting.now) w c.args.revision answer.Twice c.noted_end.result.answer None c.noted_end.result.meeting c.noted_end.ensures.answer c.noted_end.ensures.meeting refl
 
-pub leg-requires-clause-setting : goal.leg-requires-clause-setting
-leg-requires-clause-setting g c = c.requires.setting
-
 pub leg-requires-clause-good : goal.leg-requires-clause-good
 leg-requires-clause-good g c =
     let q = c.requires.reached in
-    good_table (run_under c.args.setting.now) c.requires.setting.faultless c.args.world q.0 c.in-Live.table c.in-Live.is q.1 q.2
+    good_table (run_under c.args.setting.now) c.args.setting.now.faultless c.args.world q.0 c.in-Live.table c.in-Live.is q.1 q.2
 
 pub leg-requires-clause-size : goal.leg-requires-clause-size
 leg-requires-clause-size g c = c.requires.size
@@ -32,8 +30,15 @@ leg-requires-clause-merges g c = c.requires.merges
 
 pub returns-in-Ok-clause-answer : goal.returns-in-Ok-clause-answer
 returns-in-Ok-clause-answer g c = λ w reached is.
-    answers_in (run_under c.args.setting.now) c.requires.setting.faultless c.args.world w c.in-Live.table c.in-Live.is reached is c.args.revision c.in-Ok.noted.answer c.leg.new.self c.in-Ok.ensures.answer c.world_of.result c.world_of.ensures
+    answers_in (run_under c.args.setting.now) c.args.setting.now.faultless c.args.world w c.in-Live.table c.in-Live.is reached is c.args.revision c.in-Ok.noted.answer c.leg.new.self c.in-Ok.ensures.answer c.world_of.result c.world_of.ensures
 
 pub returns-in-Ok-clause-noted : goal.returns-in-Ok-clause-noted
 returns-in-Ok-clause-noted g c = λ w reached is.
-    c.in-Ok.ensures.noted w (good_listing (run_under c.args.setting.now) c.requires.setting.faultless c.args.world w c.in-Live.table c.in-Live.is reached is)
+    c.in-Ok.ensures.noted w (good_listing (run_under c.args.setting.now) c.args.setting.now.faultless c.args.world w c.in-Live.table c.in-Live.is reached is)
+
+pub returns-in-Twice-clause-touches : goal.returns-in-Twice-clause-touches
+returns-in-Twice-clause-touches g c = touches_twice c.args.world world.Twice c.args.revision c.noted_end.result.answer c.in-Twice.is
+
+pub returns-in-Ok-clause-touches : goal.returns-in-Ok-clause-touches
+returns-in-Ok-clause-touches g c =
+    touches_in c.args.world c.world_of.result c.in-Live.table c.leg.new.self c.args.revision c.in-Ok.noted.answer c.in-Live.is c.world_of.ensures c.in-Ok.ensures.touches

@@ -1,0 +1,18 @@
+-- Programs whose code never joins a revision twice.
+--   CodeOfNever   where no run of the program reaches Twice, no legal schedule of its code does
+--   AffineCode    so it is where the program keeps the affine rule
+use Rattle.std.specs.Prelude.{ℕ}
+use Rattle.revision_calculus.specs.Program.{Setting}
+use Rattle.revision_calculus.specs.Kinded.{IsAccepted}
+use Rattle.rev_affine.specs.Affine.{IsAffine}
+use Rattle.rev_affine.specs.Laws.{NeverTwice}
+use Rattle.join_agreement.specs.Related.{run_of}
+use Rattle.main_texts.specs.Texts.{NeverJoinsTwice}
+
+abbrev pub CodeOfNever : Type 0
+CodeOfNever =
+    (s : Setting) → IsAccepted s.program → (fuel : ℕ) → NeverTwice s fuel → NeverJoinsTwice (run_of s) fuel
+
+abbrev pub AffineCode : Type 0
+AffineCode =
+    (s : Setting) → IsAccepted s.program → IsAffine s.program → (fuel : ℕ) → NeverJoinsTwice (run_of s) fuel

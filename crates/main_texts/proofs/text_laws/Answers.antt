@@ -1,0 +1,11 @@
+use Rattle.main_texts.proofs.Growing.{legs_say}
+use Rattle.main_texts.proofs.Ending.{first_parts, over_is_all, twice_is_told}
+use Rattle.main_texts.proofs.text_laws.Goals as goal
+
+pub returns : goal.returns
+returns c = record {
+  legs = legs_say;
+  parts = first_parts;
+  all = over_is_all;
+  twice = twice_is_told;
+}

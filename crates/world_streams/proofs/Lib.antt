@@ -1,0 +1,5 @@
+pub mod Pieces
+pub mod Gaining
+pub mod Legs
+pub mod Coming
+pub mod Ending

@@ -1,0 +1,9 @@
+use Rattle.world_streams.proofs.Pieces.{rose_behind, some_behind, some_longer}
+use Rattle.world_streams.proofs.pieces.piece_laws.Goals as goal
+
+pub returns : goal.returns
+returns c = record {
+  longer = some_longer;
+  behind = some_behind;
+  rises = rose_behind;
+}

@@ -1,0 +1,4 @@
+pub mod Pieces
+pub mod Legs
+pub mod Runs
+pub mod Streamed

@@ -1,0 +1,45 @@
+-- Runs whose text goes to a sink, leg by leg.
+--   NeverTwiceFrom   no schedule leads from this world to Twice
+--   PutsOn           a sink took a first part of what `main` gains on the way to some world
+--   PutsAll          it took all of that
+--   StreamsTo        what a sink took on the way to this world, or why it took no more
+use Rattle.std.specs.Prelude.{ℕ, ◌≡◌, ◌≢◌, ◌++◌, List, Result, Ok, Err}
+use Rattle.rev_io.specs.Stream.{Stream, Rose, Took, TookSome}
+use Rattle.revision_machine.specs.Numbered.{World, Both, Replays}
+use Rattle.code_machine.specs.Local.{CodeRun, Local}
+use Rattle.code_machine.specs.Machines.{numbered}
+use Rattle.code_world.specs.Tables.{IsWorld}
+use Rattle.code_world.specs.declared.world.World as rust
+use Rattle.world_runs.specs.declared.legs.Made.{Made}
+use Rattle.world_runs.specs.declared.legs.Made.TheVariants as made
+use Rattle.world_streams.specs.Legs.{Gains}
+use Rattle.world_streams.specs.declared.fault.StreamFault.{StreamFault}
+use Rattle.world_streams.specs.declared.fault.StreamFault.TheVariants as fault
+
+abbrev pub NeverTwiceFrom : CodeRun → World (Local ℕ) → Type 0
+NeverTwiceFrom g w = (ns : List ℕ) (u : World (Local ℕ)) → Replays (numbered g) w ns u → u ≢ Both
+
+pub record PutsOn (g : CodeRun) (w : World (Local ℕ)) (v : rust.World) (old new : Stream) : Type 0 where
+  pub schedule : List ℕ
+  pub end : World (Local ℕ)
+  pub replays : Replays (numbered g) w schedule end
+  pub after : rust.World
+  pub stands : IsWorld g after end
+  pub gain : List ℕ
+  pub gains : Gains v gain after
+  pub part : TookSome old gain new
+
+-- it took all that `main` gains
+pub record PutsAll (v v' : rust.World) (old new : Stream) : Type 0 where
+  pub gain : List ℕ
+  pub gains : Gains v gain v'
+  pub took : Took old gain new
+
+abbrev pub world_of : Made → rust.World
+world_of (made.Leg v) = v
+world_of (made.None v) = v
+
+abbrev pub StreamsTo : {A : Type 0} → (A → rust.World) → CodeRun → World (Local ℕ) → rust.World → Stream → Stream → Result A StreamFault → Type 0
+StreamsTo world g w v old new (Ok x) = PutsAll v (world x) old new
+StreamsTo world g w v old new (Err fault.Sink) = Rose old new × PutsOn g w v old new
+StreamsTo world g w v old new (Err fault.OutOfMemory) = (new.faults ≡ old.faults) × PutsOn g w v old new
