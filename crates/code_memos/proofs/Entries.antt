@@ -25,7 +25,7 @@ and_rest true b h = h
 and_rest false b h = absurd (let z : false ≡ true = h in cc)
 
 module _ {H : Type 0} where
-  fits_length : (kinds : List ValueKind) (ws : List (Word H)) → fits kinds ws ≡ true → length ws ≡ length kinds
+  pub fits_length : (kinds : List ValueKind) (ws : List (Word H)) → fits kinds ws ≡ true → length ws ≡ length kinds
   fits_length [] [] h = refl
   fits_length [] (w ∷ ws) h = absurd (let z : false ≡ true = h in cc)
   fits_length (k ∷ kinds) [] h = absurd (let z : false ≡ true = h in cc)
@@ -36,7 +36,7 @@ module _ {H : Type 0} where
   take_first (x ∷ xs) ys = ap (λ z. x ∷ z) (take_first xs ys)
 
   -- the arguments are the first locals
-  args_are : (code : Code) (f : Fresh H) (c : State H) (a : IsFresh code f c) → take (length (params a.body)) c.locals ≡ f.args
+  pub args_are : (code : Code) (f : Fresh H) (c : State H) (a : IsFresh code f c) → take (length (params a.body)) c.locals ≡ f.args
   args_are code f c a =
       ap (λ z. take (length (params a.body)) z.locals) a.state
       ∙ ap (λ n. take n (f.args ++ map zero_word (drop (length f.args) a.body.locals))) (sym (fits_length (params a.body) f.args a.fits))

@@ -7,7 +7,6 @@ ghost use Rattle.version_map.specs.Overlay.{under};
 ghost use Rattle.block_run.specs.Area.{count};
 ghost use Rattle.leg_run.specs.Ends.{LegEnds};
 ghost use Rattle.leg_run.specs.Noting.{HasNotedLeg, RoundNoting};
-ghost use Rattle.leg_run.specs.Setting.{IsSetting};
 ghost use Rattle.leg_run.specs.Standing.{IsStanding, Stands, state_of};
 
 use crate::legs::turn_at;
@@ -28,7 +27,6 @@ fn go_on_noting<P: Snapshot>(
     run: &mut Run,
     noted: &mut Noted,
 ) -> Result<Turn, AllocError>
-    requires setting { IsSetting setting.now }
     requires size { P.size memory.old.snapshot ≡ count setting.now.code.vars }
     requires stands { (c : State ℕ)
         × Stands setting.now.code setting.now.inputs.items setting.now.share run.old
@@ -70,7 +68,6 @@ pub fn run_noting<P: Snapshot>(
     revision: &mut Revision<P>,
     noted: &mut Noted,
 ) -> Result<LegEnd, AllocError>
-    requires setting { IsSetting setting.now }
     requires size { P.size revision.old.memory.snapshot ≡ count setting.now.code.vars }
     requires stands { IsStanding setting.now.code setting.now.inputs.items setting.now.share
         revision.old.run (under revision.old.memory.delta (P.base revision.old.memory.snapshot))

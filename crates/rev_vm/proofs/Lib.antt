@@ -11,3 +11,5 @@ pub mod Legs
 pub mod Values
 pub mod Mains
 pub mod Boxes
+pub mod Reading
+pub mod Beginnings

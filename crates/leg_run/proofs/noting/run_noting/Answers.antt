@@ -21,7 +21,7 @@ pub loop-end-preserved : goal.loop-end-preserved
 loop-end-preserved g c =
     let a = c.loop-end.invariant.ahead in
     record {
-      ahead = round_on_noting c.args.setting.now.code c.requires.setting.faultless c.args.setting.now.inputs.items c.args.setting.now.share (state_of c.args.setting.now.code c.args.revision.now.run (under c.args.revision.now.memory.delta (g.P.Snapshot.base c.args.revision.now.memory.snapshot)) (at c.args.revision.now.memory.first.roots)) c.loop-end.revision.run c.go_on_noting.new.run (under c.loop-end.revision.memory.delta (g.P.Snapshot.base c.loop-end.revision.memory.snapshot)) (under c.go_on_noting.new.memory.delta (g.P.Snapshot.base c.go_on_noting.new.memory.snapshot)) (at c.loop-end.revision.memory.first.roots) (at c.go_on_noting.new.memory.first.roots) c.args.noted.now c.loop-end.noted c.go_on_noting.new.noted a (subst (λ t. RoundNoting c.args.setting.now.code c.args.setting.now.inputs.items c.args.setting.now.share a.0 t c.go_on_noting.new.run (under c.go_on_noting.new.memory.delta (g.P.Snapshot.base c.go_on_noting.new.memory.snapshot)) (at c.go_on_noting.new.memory.first.roots) c.loop-end.noted c.go_on_noting.new.noted) c.in-Goes.is (c.in_ok-go_on_noting.ensures.rounds a.0 a.2));
+      ahead = round_on_noting c.args.setting.now.code c.args.setting.now.faultless c.args.setting.now.inputs.items c.args.setting.now.share (state_of c.args.setting.now.code c.args.revision.now.run (under c.args.revision.now.memory.delta (g.P.Snapshot.base c.args.revision.now.memory.snapshot)) (at c.args.revision.now.memory.first.roots)) c.loop-end.revision.run c.go_on_noting.new.run (under c.loop-end.revision.memory.delta (g.P.Snapshot.base c.loop-end.revision.memory.snapshot)) (under c.go_on_noting.new.memory.delta (g.P.Snapshot.base c.go_on_noting.new.memory.snapshot)) (at c.loop-end.revision.memory.first.roots) (at c.go_on_noting.new.memory.first.roots) c.args.noted.now c.loop-end.noted c.go_on_noting.new.noted a (subst (λ t. RoundNoting c.args.setting.now.code c.args.setting.now.inputs.items c.args.setting.now.share a.0 t c.go_on_noting.new.run (under c.go_on_noting.new.memory.delta (g.P.Snapshot.base c.go_on_noting.new.memory.snapshot)) (at c.go_on_noting.new.memory.first.roots) c.loop-end.noted c.go_on_noting.new.noted) c.in-Goes.is (c.in_ok-go_on_noting.ensures.rounds a.0 a.2));
       size = c.in_ok-go_on_noting.ensures.size ∙ c.loop-end.invariant.size;
       group = c.in_ok-go_on_noting.ensures.group ∙ c.loop-end.invariant.group;
     }
@@ -29,8 +29,8 @@ loop-end-preserved g c =
 pub loop-end-smaller : goal.loop-end-smaller
 loop-end-smaller g c =
     let a = c.loop-end.invariant.ahead in
-    round_less c.args.setting.now.code c.requires.setting.faultless c.args.setting.now.inputs.items c.args.setting.now.share c.loop-end.revision.run c.go_on_noting.new.run (under c.loop-end.revision.memory.delta (g.P.Snapshot.base c.loop-end.revision.memory.snapshot)) (under c.go_on_noting.new.memory.delta (g.P.Snapshot.base c.go_on_noting.new.memory.snapshot)) (at c.loop-end.revision.memory.first.roots) (at c.go_on_noting.new.memory.first.roots) a.0 a.2
-    (plain_round c.args.setting.now.code c.requires.setting.faultless c.args.setting.now.inputs.items c.args.setting.now.share a.0 turn.Goes c.go_on_noting.new.run (under c.go_on_noting.new.memory.delta (g.P.Snapshot.base c.go_on_noting.new.memory.snapshot)) (at c.go_on_noting.new.memory.first.roots) c.loop-end.noted c.go_on_noting.new.noted (subst (λ t. RoundNoting c.args.setting.now.code c.args.setting.now.inputs.items c.args.setting.now.share a.0 t c.go_on_noting.new.run (under c.go_on_noting.new.memory.delta (g.P.Snapshot.base c.go_on_noting.new.memory.snapshot)) (at c.go_on_noting.new.memory.first.roots) c.loop-end.noted c.go_on_noting.new.noted) c.in-Goes.is (c.in_ok-go_on_noting.ensures.rounds a.0 a.2)))
+    round_less c.args.setting.now.code c.args.setting.now.faultless c.args.setting.now.inputs.items c.args.setting.now.share c.loop-end.revision.run c.go_on_noting.new.run (under c.loop-end.revision.memory.delta (g.P.Snapshot.base c.loop-end.revision.memory.snapshot)) (under c.go_on_noting.new.memory.delta (g.P.Snapshot.base c.go_on_noting.new.memory.snapshot)) (at c.loop-end.revision.memory.first.roots) (at c.go_on_noting.new.memory.first.roots) a.0 a.2
+    (plain_round c.args.setting.now.code c.args.setting.now.faultless c.args.setting.now.inputs.items c.args.setting.now.share a.0 turn.Goes c.go_on_noting.new.run (under c.go_on_noting.new.memory.delta (g.P.Snapshot.base c.go_on_noting.new.memory.snapshot)) (at c.go_on_noting.new.memory.first.roots) c.loop-end.noted c.go_on_noting.new.noted (subst (λ t. RoundNoting c.args.setting.now.code c.args.setting.now.inputs.items c.args.setting.now.share a.0 t c.go_on_noting.new.run (under c.go_on_noting.new.memory.delta (g.P.Snapshot.base c.go_on_noting.new.memory.snapshot)) (at c.go_on_noting.new.memory.first.roots) c.loop-end.noted c.go_on_noting.new.noted) c.in-Goes.is (c.in_ok-go_on_noting.ensures.rounds a.0 a.2)))
 
 pub go_on_noting-requires-clause-stands : goal.go_on_noting-requires-clause-stands
 go_on_noting-requires-clause-stands g c = let a = c.loop-end.invariant.ahead in (a.0, a.2)
@@ -44,10 +44,10 @@ go_on_noting-requires-clause-positions g c = c.loop-end.invariant.ahead.3.positi
 pub returns-in-Ends-clause-leg : goal.returns-in-Ends-clause-leg
 returns-in-Ends-clause-leg g c =
     let a = c.loop-end.invariant.ahead in
-    ends_leg c.args.setting.now.code c.requires.setting.faultless c.args.setting.now.inputs.items c.args.setting.now.share c.go_on_noting.new.run (under c.go_on_noting.new.memory.delta (g.P.Snapshot.base c.go_on_noting.new.memory.snapshot)) (at c.go_on_noting.new.memory.first.roots) (state_of c.args.setting.now.code c.args.revision.now.run (under c.args.revision.now.memory.delta (g.P.Snapshot.base c.args.revision.now.memory.snapshot)) (at c.args.revision.now.memory.first.roots)) a.0 a.1 c.in-Ends.end
-    (plain_round c.args.setting.now.code c.requires.setting.faultless c.args.setting.now.inputs.items c.args.setting.now.share a.0 (turn.Ends c.in-Ends.end) c.go_on_noting.new.run (under c.go_on_noting.new.memory.delta (g.P.Snapshot.base c.go_on_noting.new.memory.snapshot)) (at c.go_on_noting.new.memory.first.roots) c.loop-end.noted c.go_on_noting.new.noted (subst (λ t. RoundNoting c.args.setting.now.code c.args.setting.now.inputs.items c.args.setting.now.share a.0 t c.go_on_noting.new.run (under c.go_on_noting.new.memory.delta (g.P.Snapshot.base c.go_on_noting.new.memory.snapshot)) (at c.go_on_noting.new.memory.first.roots) c.loop-end.noted c.go_on_noting.new.noted) c.in-Ends.is (c.in_ok-go_on_noting.ensures.rounds a.0 a.2)))
+    ends_leg c.args.setting.now.code c.args.setting.now.faultless c.args.setting.now.inputs.items c.args.setting.now.share c.go_on_noting.new.run (under c.go_on_noting.new.memory.delta (g.P.Snapshot.base c.go_on_noting.new.memory.snapshot)) (at c.go_on_noting.new.memory.first.roots) (state_of c.args.setting.now.code c.args.revision.now.run (under c.args.revision.now.memory.delta (g.P.Snapshot.base c.args.revision.now.memory.snapshot)) (at c.args.revision.now.memory.first.roots)) a.0 a.1 c.in-Ends.end
+    (plain_round c.args.setting.now.code c.args.setting.now.faultless c.args.setting.now.inputs.items c.args.setting.now.share a.0 (turn.Ends c.in-Ends.end) c.go_on_noting.new.run (under c.go_on_noting.new.memory.delta (g.P.Snapshot.base c.go_on_noting.new.memory.snapshot)) (at c.go_on_noting.new.memory.first.roots) c.loop-end.noted c.go_on_noting.new.noted (subst (λ t. RoundNoting c.args.setting.now.code c.args.setting.now.inputs.items c.args.setting.now.share a.0 t c.go_on_noting.new.run (under c.go_on_noting.new.memory.delta (g.P.Snapshot.base c.go_on_noting.new.memory.snapshot)) (at c.go_on_noting.new.memory.first.roots) c.loop-end.noted c.go_on_noting.new.noted) c.in-Ends.is (c.in_ok-go_on_noting.ensures.rounds a.0 a.2)))
 
 pub returns-in-Ends-clause-noted : goal.returns-in-Ends-clause-noted
 returns-in-Ends-clause-noted g c =
     let a = c.loop-end.invariant.ahead in
-    leg_noted c.args.setting.now.code c.requires.setting.faultless c.args.setting.now.inputs.items c.args.setting.now.share (state_of c.args.setting.now.code c.args.revision.now.run (under c.args.revision.now.memory.delta (g.P.Snapshot.base c.args.revision.now.memory.snapshot)) (at c.args.revision.now.memory.first.roots)) c.loop-end.revision.run c.go_on_noting.new.run (under c.loop-end.revision.memory.delta (g.P.Snapshot.base c.loop-end.revision.memory.snapshot)) (under c.go_on_noting.new.memory.delta (g.P.Snapshot.base c.go_on_noting.new.memory.snapshot)) (at c.loop-end.revision.memory.first.roots) (at c.go_on_noting.new.memory.first.roots) c.args.noted.now c.loop-end.noted c.go_on_noting.new.noted a c.in-Ends.end (subst (λ t. RoundNoting c.args.setting.now.code c.args.setting.now.inputs.items c.args.setting.now.share a.0 t c.go_on_noting.new.run (under c.go_on_noting.new.memory.delta (g.P.Snapshot.base c.go_on_noting.new.memory.snapshot)) (at c.go_on_noting.new.memory.first.roots) c.loop-end.noted c.go_on_noting.new.noted) c.in-Ends.is (c.in_ok-go_on_noting.ensures.rounds a.0 a.2))
+    leg_noted c.args.setting.now.code c.args.setting.now.faultless c.args.setting.now.inputs.items c.args.setting.now.share (state_of c.args.setting.now.code c.args.revision.now.run (under c.args.revision.now.memory.delta (g.P.Snapshot.base c.args.revision.now.memory.snapshot)) (at c.args.revision.now.memory.first.roots)) c.loop-end.revision.run c.go_on_noting.new.run (under c.loop-end.revision.memory.delta (g.P.Snapshot.base c.loop-end.revision.memory.snapshot)) (under c.go_on_noting.new.memory.delta (g.P.Snapshot.base c.go_on_noting.new.memory.snapshot)) (at c.loop-end.revision.memory.first.roots) (at c.go_on_noting.new.memory.first.roots) c.args.noted.now c.loop-end.noted c.go_on_noting.new.noted a c.in-Ends.end (subst (λ t. RoundNoting c.args.setting.now.code c.args.setting.now.inputs.items c.args.setting.now.share a.0 t c.go_on_noting.new.run (under c.go_on_noting.new.memory.delta (g.P.Snapshot.base c.go_on_noting.new.memory.snapshot)) (at c.go_on_noting.new.memory.first.roots) c.loop-end.noted c.go_on_noting.new.noted) c.in-Ends.is (c.in_ok-go_on_noting.ensures.rounds a.0 a.2))

@@ -1,0 +1,75 @@
+//! Revisions before their first instruction, and with what they began.
+
+ghost use Rattle.std.specs.Prelude.{◌≡◌, ◌↔◌, ◌≤◌, ◌+◌, ℕ, true, [], length, take, drop};
+ghost use Rattle.rev_code.specs.State.{State};
+ghost use Rattle.plain_words.specs.Agreement.{AreWords};
+ghost use Rattle.code_machine.specs.Local.{CodeRun};
+ghost use Rattle.code_memos.specs.Leaf.{Fresh, IsFresh};
+ghost use Rattle.rev_vm.specs.Meaning.{IsAt};
+ghost use Rattle.rev_vm.specs.Starts.{run_under};
+
+use crate::runner::Runner;
+use fun_run::params_of;
+use leg_run::{CodeSetting, Run};
+use version_map::{Delta, Snapshot};
+
+/// As many words as this from the first of the locals on.
+fn first_words(run: &Run, count: usize) -> &[u64]
+    requires { run.now.registers.base + count ≤ length run.now.words.items }
+    ensures { result.now ≡ take count (drop run.now.registers.base run.now.words.items) }
+{
+    let base = run.registers.base;
+    &run.words.as_slice()[base..base + count]
+}
+
+impl<P: Snapshot> Runner<P> {
+    /// Whether it has listed no fork and no join. In a world that a schedule reaches it stands
+    /// before its first instruction then.
+    pub fn is_fresh(&self) -> bool
+        ensures { (g : CodeRun) (c : State ℕ) → IsAt g self.now.revision.value.run
+            self.now.revision.value.memory.delta (P.base self.now.revision.value.memory.snapshot)
+            self.now.revision.value.memory.first.roots c → (result ≡ true) ↔ (c.listed ≡ []) }
+    {
+        self.revision.run.meetings.is_empty()
+    }
+
+    /// The block that it runs: at first the one with which it was started.
+    pub fn block(&self) -> u16
+        ensures { (g : CodeRun) (c : State ℕ) → IsAt g self.now.revision.value.run
+            self.now.revision.value.memory.delta (P.base self.now.revision.value.memory.snapshot)
+            self.now.revision.value.memory.first.roots c → result ≡ c.block }
+    {
+        self.revision.run.registers.block
+    }
+
+    /// The arguments with which it was started, where it stands before its first instruction.
+    pub fn args(&self, setting: &CodeSetting) -> &[u64]
+        requires fresh { (c : State ℕ) × (f : Fresh ℕ) × IsAt (run_under setting.now)
+            self.now.revision.value.run self.now.revision.value.memory.delta
+            (P.base self.now.revision.value.memory.snapshot)
+            self.now.revision.value.memory.first.roots c × IsFresh setting.now.code f c }
+        ensures args { (c : State ℕ) (f : Fresh ℕ) → IsAt (run_under setting.now)
+            self.now.revision.value.run self.now.revision.value.memory.delta
+            (P.base self.now.revision.value.memory.snapshot)
+            self.now.revision.value.memory.first.roots c → IsFresh setting.now.code f c
+            → AreWords f.args result.now }
+    {
+        let run = &self.revision.run;
+        let block = setting.block(run.registers.block);
+        first_words(run, params_of(block))
+    }
+
+    /// Its snapshot.
+    pub fn snapshot(&self) -> &P
+        ensures { result.now ≡ self.now.revision.value.memory.snapshot }
+    {
+        &self.revision.memory.snapshot
+    }
+
+    /// What lies over its snapshot.
+    pub fn delta(&self) -> &Delta
+        ensures { result.now ≡ self.now.revision.value.memory.delta }
+    {
+        &self.revision.memory.delta
+    }
+}
