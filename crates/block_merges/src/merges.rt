@@ -76,11 +76,19 @@ impl<'a> BlockMerges<'a> {
 }
 
 impl<'a> MergeBy for BlockMerges<'a> {
+    ghost use Rattle.std.specs.Prelude.{false};
     ghost use Rattle.block_merges.specs.Merging.{word_merges};
 
     ghost size = { λ b. count b.code.now.vars };
 
     ghost merges = { λ b. word_merges b.code.now };
+
+    // Merge blocks merge one location at a time.
+    ghost row = { λ _ _. false };
+
+    fn row_at(&self, _first: u32) -> bool {
+        false
+    }
 
     fn merge(&mut self, location: u32, main: u64, join: u64, root: u64) -> Result<u64, NumFault> {
         match self.blocks[location as usize] {

@@ -91,6 +91,7 @@ impl<P: Snapshot> Memory<P> {
         ensures unwritten { IfOk result (λ r. IsEmpty r.0.first.roots) }
         ensures child_size { IfOk result (λ r. P.size r.0.snapshot ≡ P.size self.old.snapshot) }
         ensures child_group { IfOk result (λ r. P.group r.0.snapshot ≡ P.group self.old.snapshot) }
+        ensures how { IfOk result (λ r. P.hows r.1) }
         ensures shared { IfOk result (λ r. r.1 ≡ how.Shared → IsEmpty self.new.delta) }
         ensures copied { IfOk result (λ r. r.1 ≡ how.Copied → self.new.delta ≡ self.old.delta) }
         ensures kept { Kept (P.size self.old.snapshot)

@@ -3,6 +3,7 @@
 --   gives         the kinds that it leaves in their place
 --   shape_after   the shape of the stack behind it
 --   kind_or_int   the kind that is found, or that of ints
+--   kind_or_any   the kind that is found, or that of any word
 use Rattle.std.specs.Prelude.{Bool, true, false, ◌&&◌, List, [], ◌∷◌, ◌++◌, length, drop, reverse, Option, Some, None, slice_get}
 use Rattle.rev_num.specs.declared.value.ValueKind.{ValueKind}
 use Rattle.rev_num.specs.declared.value.ValueKind.TheVariants as k
@@ -32,7 +33,8 @@ begins [] shape = true
 begins (x ∷ xs) [] = false
 begins (x ∷ xs) (y ∷ ys) = same_kind x y && begins xs ys
 
--- ---- what operands name; where they name nothing, which is a fault of its own, an int or nothing stands for it
+-- ---- what operands name; where they name nothing, an int or nothing stands for it: that is a fault which comes before
+-- those of kinds, but for a local (kind_or_any)
 
 abbrev pub kind_or_int : Option ValueKind → ValueKind
 kind_or_int None = k.Int
@@ -72,6 +74,11 @@ abbrev pub any_kind : Shape → ValueKind
 any_kind [] = k.Int
 any_kind (x ∷ shape) = x
 
+-- StoreLocal takes a word of its local's kind, and any word where there is no such local: then the local is the fault
+abbrev pub kind_or_any : Option ValueKind → Shape → ValueKind
+kind_or_any None shape = any_kind shape
+kind_or_any (Some x) shape = x
+
 -- ---- the table
 
 abbrev pub takes : Code → CodeBlock → Shape → Instr → List ValueKind
@@ -79,7 +86,7 @@ takes code b shape (i.PushInt n) = []
 takes code b shape (i.PushBool v) = []
 takes code b shape i.PushNone = []
 takes code b shape (i.LoadLocal n) = []
-takes code b shape (i.StoreLocal n) = kind_or_int (slice_get b.locals n) ∷ []
+takes code b shape (i.StoreLocal n) = kind_or_any (slice_get b.locals n) shape ∷ []
 takes code b shape (i.LoadShared v) = []
 takes code b shape (i.StoreShared v) = var_kind (slice_get code.vars v) ∷ []
 takes code b shape (i.LoadCell v) = k.Int ∷ []

@@ -15,7 +15,7 @@ use Rattle.rev_code.specs.State.{Setting, State, written_at}
 use Rattle.rev_code.specs.Variables.{scalar, array}
 use Rattle.rev_code.specs.Step as r
 use Rattle.rev_code.specs.Step.{act, is_fun}
-use Rattle.code_rules.specs.Shapes.{begins, kind_or_int, var_kind}
+use Rattle.code_rules.specs.Shapes.{begins, kind_or_int, kind_or_any, var_kind}
 use Rattle.code_rules.specs.Pass.{Note, falls, has_class, is_value_class}
 use Rattle.code_rules.specs.Tables.{is_var, blocks_well, lines_well}
 use Rattle.code_soundness.specs.Typed.{kinds_of, location_kinds}
@@ -70,7 +70,7 @@ module _ {H : Type 0} (s : Setting H) (notes : ℕ → ℕ → Note) (ok : IsAcc
   store_local n a =
       let x = local_there n ((ok.certified c.block b a.is).each c.at (i.StoreLocal n) a.here).local in
       subst (λ o. Well s notes c b (r.into_local c n o c.stack)) (sym x.1)
-      (case.local_case s notes c b n x.0 c.stack (subst (λ o. begins (kind_or_int o ∷ []) (kinds_of c.stack) ≡ true) x.1 (found (i.StoreLocal n) a))
+      (case.local_case s notes c b n x.0 c.stack (subst (λ o. begins (kind_or_any o (kinds_of c.stack) ∷ []) (kinds_of c.stack) ≡ true) x.1 (found (i.StoreLocal n) a))
       (λ w rest e h. place.onto s notes ok c b (i.StoreLocal n) a refl (slice_set c.locals n w) rest c.locations c.fuel c.forks c.listed c.text c.line
       (kinds_set c.locals n w b.locals a.locals (x.1 ∙ ap Some (sym e))) h (λ p. (a.program p).locations)))
 

@@ -206,6 +206,16 @@ fn compared(top: Option<ValueKind>) -> ValueKind
     }
 }
 
+/// The kind that StoreLocal takes: any, where there is no such local.
+fn kind_or_any(kinds: &[ValueKind], n: usize, top: Option<ValueKind>) -> ValueKind
+    ensures { result ≡ shape.kind_or_any (slice_get kinds.now n) (shape.one_or_none top) }
+{
+    match kinds.get(n) {
+        None => any_kind(top),
+        Some(kind) => *kind,
+    }
+}
+
 /// The kind that Pop takes.
 fn any_kind(top: Option<ValueKind>) -> ValueKind
     ensures { result ≡ shape.any_kind (shape.one_or_none top) }
@@ -231,7 +241,7 @@ pub(crate) fn takes(
     let vars = code.vars.as_slice();
     let blocks = code.blocks.as_slice();
     match x {
-        Instr::StoreLocal(n) => one(alloc, local_kind(block.locals.as_slice(), n as usize)),
+        Instr::StoreLocal(n) => one(alloc, kind_or_any(block.locals.as_slice(), n as usize, top)),
         Instr::StoreShared(v) => one(alloc, var_kind(vars, v as usize)),
         Instr::LoadCell(_) | Instr::CheckCell(_) | Instr::LoadInput | Instr::Neg => one(
             alloc,

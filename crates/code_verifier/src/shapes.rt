@@ -10,8 +10,8 @@ use std::alloc::{AllocError, Global};
 use std::marker::Model;
 
 /// All shapes that were met, by number; 0 is the empty one. A shape and the shape with one kind
-/// more share what is below, so each costs the same memory however deep it is, and two shapes are
-/// equal exactly where their numbers are.
+/// more share what is below: each has one node. Two shapes are equal exactly where their numbers
+/// are.
 #[derive(Drop)]
 pub(crate) struct Shapes {
     nodes: Vec<Node>,

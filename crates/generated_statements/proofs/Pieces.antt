@@ -135,7 +135,7 @@ module _ (code : Code) (at_block : ℕ) (bl : CodeBlock) (n : Numbers) (c : Name
   into_local at j t below empty is here note next =
       let less = slice_get_within bl.locals j t is in
       let lo : nat_lt j (length bl.locals) ≡ true = grind (arith, nat_tests, less) in
-      takes_one at t below below (i.StoreLocal j) empty here note refl refl refl (ap not lo) (ap (λ o. sh.kind_or_int o ∷ []) is) refl refl empty next
+      takes_one at t below below (i.StoreLocal j) empty here note refl refl refl (ap not lo) (ap (λ o. sh.kind_or_any o (t ∷ below.shape) ∷ []) is) refl refl empty next
 
   into_shared : (at : ℕ) (x : Name) (h : Holder) (t : ValueKind) (l : Locals) (scope : Scope) → NamesMean code bl n c l scope → (below : Note) → below.shape ≡ [] → c.shared x ≡ Some h → h.array ≡ false → h.kind ≡ t → slice_get bl.instrs at ≡ Some (i.StoreShared (n.var x)) → noted ns at ≡ push t below → Next (suc at) → Kept at (i.StoreShared (n.var x))
   into_shared at x h t l scope m below empty is scalar kind here note next =

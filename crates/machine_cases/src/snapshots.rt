@@ -14,9 +14,9 @@ use rev_vm::start_main;
 use std::alloc::{AllocError, Global};
 use version_map::{Collapsed, Delta, How, Snapshot, collapse_all};
 
-/// A snapshot whose locations are all 0, and which forks where it has none. It has parts to take,
-/// counts how often it was asked, and knows what its last call other than `read` answered, where
-/// that was a collapse.
+/// A snapshot whose locations are all 0, and which forks where it has none. It has parts to take
+/// over one that is kept, counts how often it was asked, and knows what its last call other than
+/// `read` answered, where that was a collapse.
 #[derive(Drop)]
 struct Parts {
     locations: u32,
@@ -26,7 +26,8 @@ struct Parts {
 }
 
 impl Snapshot for Parts {
-    ghost use Rattle.std.specs.Prelude.{[], ◌≡◌, Some};
+    ghost use Rattle.std.specs.Prelude.{[], ◌≡◌, ◌+◌, Some};
+    ghost use Rattle.version_map.specs.declared.snapshot.How.TheVariants.{Copied};
 
     type Spent = u64;
 
@@ -34,11 +35,13 @@ impl Snapshot for Parts {
 
     ghost base = { λ _ l. 0 };
 
-    ghost depth = { λ p. p.left };
+    ghost depth = { λ p. p.left + 1 };
 
     ghost group = { λ _. [] };
 
     ghost answered = { λ p c. p.last ≡ Some c };
+
+    ghost hows = { λ h. h ≡ Copied };
 
     ghost spent_group = { λ _. [] };
 

@@ -181,6 +181,7 @@ fn fork_off<P: Snapshot>(
         × IsAt (run_under setting.now) r.0.run r.0.memory.delta (P.base r.0.memory.snapshot)
         r.0.memory.first.roots (events.child setting.now.share c block b args)) }
     ensures waits { IfOk result (λ _. IsWaiting revision.new.run) }
+    ensures how { IfOk result (λ r. P.hows r.1) }
     ensures shared { IfOk result (λ r. r.1 ≡ how.Shared → IsEmpty revision.new.memory.delta) }
     ensures copied { IfOk result (λ r. r.1 ≡ how.Copied
         → revision.new.memory.delta ≡ revision.old.memory.delta) }
@@ -232,6 +233,7 @@ impl<P: Snapshot> AtFork<P> {
             r.1.revision.value.memory.delta (P.base r.1.revision.value.memory.snapshot)
             r.1.revision.value.memory.first.roots (events.child setting.now.share c self.block b
             args)) }
+        ensures how { IfOk result (λ r. P.hows r.2) }
         ensures shared { IfOk result (λ r. r.2 ≡ how.Shared
             → IsEmpty r.0.revision.value.memory.delta) }
         ensures copied { IfOk result (λ r. r.2 ≡ how.Copied

@@ -1,5 +1,4 @@
 -- Composing entry by entry.
---   before             a composition behind new words that are known
 --   before_one_more    one word more is known
 --   before_all         all words are known
 --   before_fault       a later entry faults
@@ -11,10 +10,7 @@ use Rattle.std.proofs.lemmas.List.{drop_more, drop_all, take_all, take_more_set}
 use Rattle.rev_num.specs.declared.value.NumFault.{NumFault}
 use Rattle.version_map.specs.declared.end.Written.{Written}
 use Rattle.version_map.specs.Composing.{Merges, Composition, before_later, and_later, composed, entries}
-
-abbrev pub before : {W : Type 0} → List W → Composition W → Composition W
-before [] c = c
-before (x ∷ xs) c = before_later x (before xs c)
+use Rattle.version_map.specs.Parts.{before}
 
 pub before_one_more : {W : Type 0} (xs : List W) (x : W) (c : Composition W) → before xs (before_later x c) ≡ before (xs ++ x ∷ []) c
 before_one_more [] x c = refl

@@ -1,2 +1,5 @@
 pub mod Bits
 pub mod Composing
+pub mod Faulting
+pub mod RowSteps
+pub mod RowParts

@@ -7,7 +7,9 @@
 --                     faults, with the fault
 --   entries           written locations as entries
 --   IsComposed        the answer of `compose`
-use Rattle.std.specs.Prelude.{◌≡◌, ℕ, List, [], ◌∷◌, map, Result, Ok, Err}
+--   FaultsAt          the merge of a written location faults so, of the joiner's word there and the joinee's words
+--   TrapsAtLeast      a trap at the least location whose merge faults, and none where no merge does
+use Rattle.std.specs.Prelude.{◌≡◌, ◌≤◌, ℕ, List, [], ◌∷◌, map, Result, Ok, Err, Some, slice_get}
 use Rattle.rev_num.specs.declared.value.NumFault.{NumFault}
 use Rattle.version_map.specs.declared.end.Written.{Written}
 use Rattle.version_map.specs.declared.joining.MergeTrap.{MergeTrap}
@@ -51,3 +53,21 @@ entries ws = map entry ws
 abbrev pub IsComposed : Composition ℕ → Result (Unit {0}) MergeTrap → (values : List ℕ) → Type 0
 IsComposed c (Ok done) values = c ≡ Ok values
 IsComposed c (Err t) values = c ≡ Err (t.location, t.fault)
+
+-- ---- which merge faults
+
+pub record FaultsAt (merge : Merges ℕ) (mains : List ℕ) (ws : List Written) (location : ℕ) (f : NumFault)
+    : Type 0 where
+  pub at : ℕ
+  pub main : ℕ
+  pub entry : Written
+  pub main_is : slice_get mains at ≡ Some main
+  pub is : slice_get ws at ≡ Some entry
+  pub location_is : entry.location ≡ location
+  pub faults : merge entry.location main entry.value entry.root ≡ Err f
+
+abbrev pub TrapsAtLeast : Merges ℕ → (mains : List ℕ) → List Written → Result (Unit {0}) MergeTrap → Type 0
+TrapsAtLeast merge mains ws (Ok done) = (l : ℕ) (f : NumFault) → FaultsAt merge mains ws l f → ⊥
+TrapsAtLeast merge mains ws (Err t) =
+    FaultsAt merge mains ws t.location t.fault
+    × ((l : ℕ) (f : NumFault) → FaultsAt merge mains ws l f → t.location ≤ l)

@@ -2,5 +2,9 @@ pub mod Masks
 pub mod Deltas
 pub mod Overlay
 pub mod Endings
+pub mod Ascending
 pub mod Composing
+pub mod Eights
+pub mod Following
+pub mod Parts
 pub mod Collapsing

@@ -1,6 +1,7 @@
 //! What a revision leaves when it has ended.
 
 ghost use Rattle.std.specs.Prelude.{◌≡◌, IfOk};
+ghost use Rattle.version_map.specs.Ascending.{IsAscending};
 ghost use Rattle.version_map.specs.Endings.{of_join};
 
 use rev_num::{Bytes, Cause, Items};
@@ -40,14 +41,15 @@ pub enum Finish {
     Trapped(CodeTrap),
 }
 
-/// What a revision leaves to the one that joins it: what it wrote, in ascending order of location,
-/// its text, the fuel that it did not use, and how it ended.
+/// What a revision leaves to the one that joins it: what it wrote, each location once and in
+/// ascending order, its text, the fuel that it did not use, and how it ended.
 #[derive(PartialEq, Eq, Debug, Drop)]
 pub struct EndValue {
     pub written: Items<Written>,
     pub text: Bytes,
     pub fuel: u64,
     pub finish: Finish,
+    pub ghost ascending: { IsAscending written },
 }
 
 impl EndValue {

@@ -1,10 +1,14 @@
 //! What a joiner takes over of a revision that is done.
 
-ghost use Rattle.std.specs.Prelude.{◌≡◌, ◌<◌, ℕ, All, length};
+ghost use Rattle.std.specs.Prelude.{◌≡◌, ◌<◌, ◌≤◌, ◌+◌, ◌^◌, ℕ, Bool, All, IfSome, length};
 ghost use Rattle.rev_num.specs.declared.value.NumFault.{NumFault};
-ghost use Rattle.version_map.specs.Composing.{Merges, composed, entries, IsComposed};
+ghost use Rattle.version_map.specs.Composing.{Merges, TrapsAtLeast, composed, entries};
+ghost use Rattle.version_map.specs.Composing.{IsComposed};
+ghost use Rattle.version_map.specs.Eights.{merged_eight};
+ghost use Rattle.version_map.specs.Parts.{IsPart};
 
-use crate::end::EndValue;
+use crate::eights::{eight_roots, eight_values, eight_words, follow, put_eight};
+use crate::end::{EndValue, Written};
 use rev_num::NumFault;
 
 /// The merges of all locations: that of a versioned location gives the joined word, that of a
@@ -16,15 +20,52 @@ pub trait MergeBy {
     // The merge of each.
     ghost merges: { Self → Merges ℕ };
 
+    // Whether the eight locations from this one on are merged at once.
+    ghost row: { Self → ℕ → Bool };
+
     /// The merge of the joiner's, the joinee's and the root's word.
     fn merge(&mut self, location: u32, main: u64, join: u64, root: u64) -> Result<u64, NumFault>
         requires { location < size self.old }
         ensures value { result ≡ merges self.old location main join root }
         ensures size { size self.new ≡ size self.old }
-        ensures merges { merges self.new ≡ merges self.old };
+        ensures merges { merges self.new ≡ merges self.old }
+        ensures row { row self.new ≡ row self.old };
+
+    /// Whether the eight locations from this one on are merged at once.
+    fn row_at(&self, first: u32) -> bool
+        ensures { result ≡ row self.now first };
+
+    /// The merges of eight locations, `first` and the next seven: none where they are not merged
+    /// at once, and where one of the eight merges faults.
+    fn merge_eight(
+        &mut self,
+        first: u32,
+        main: [u64; 8],
+        join: [u64; 8],
+        root: [u64; 8],
+    ) -> Option<[u64; 8]>
+        requires within { first + 8 ≤ size self.old }
+        requires short { first + 8 ≤ 2 ^ 32 }
+        ensures value { result ≡ merged_eight (row self.old first) (merges self.old) first main join root }
+        ensures size { size self.new ≡ size self.old }
+        ensures merges { merges self.new ≡ merges self.old }
+        ensures row { row self.new ≡ row self.old }
+    {
+        if !self.row_at(first) {
+            return None;
+        }
+        let mut values = [0u64; 8];
+        for k in 0..8usize {
+            match self.merge(first + k as u32, main[k], join[k], root[k]) {
+                Ok(value) => values[k] = value,
+                Err(_) => return None,
+            }
+        }
+        Some(values)
+    }
 }
 
-/// The first location whose merge faults, and how.
+/// The least location whose merge faults, and how.
 #[derive(Clone, Copy, PartialEq, Eq, Debug)]
 pub struct MergeTrap {
     pub location: u32,
@@ -32,8 +73,11 @@ pub struct MergeTrap {
 }
 
 /// Puts the joiner's new words at the locations that the joinee wrote into `values`, in the order
-/// of `end.written`. `mains` are the joiner's words there before. After a fault nothing is said of
-/// `values`.
+/// of `end.written`. `mains` are the joiner's words there before. The error is the least location
+/// whose merge faults, after which nothing is said of `values`.
+///
+/// Eight written locations that follow each other and are merged at once go by eight; an eight
+/// with a fault goes one by one, so that its first fault is told.
 pub fn compose<M: MergeBy>(
     mains: &[u64],
     end: &EndValue,
@@ -45,21 +89,57 @@ pub fn compose<M: MergeBy>(
     requires within { All (λ w. w.location < M.size merges.old) end.now.written }
     ensures composed { IsComposed
         (composed (M.merges merges.old) mains.now (entries end.now.written)) result values.new }
+    ensures least { TrapsAtLeast (M.merges merges.old) mains.now end.now.written result }
     ensures size { M.size merges.new ≡ M.size merges.old }
     ensures merges { M.merges merges.new ≡ M.merges merges.old }
 {
     let written = end.written.as_slice();
-    for at in 0..written.len() {
-        let w = written[at];
-        match merges.merge(w.location, mains[at], w.value, w.root) {
-            Ok(value) => values[at] = value,
-            Err(fault) => {
-                return Err(MergeTrap {
-                    location: w.location,
-                    fault,
-                })
+    let mut at = 0;
+    while at < written.len() {
+        if let Some(eight) = merge_row(mains, written, at, merges) {
+            put_eight(values, at, eight);
+            at += 8;
+        } else {
+            let w = written[at];
+            match merges.merge(w.location, mains[at], w.value, w.root) {
+                Ok(value) => values[at] = value,
+                Err(fault) => {
+                    return Err(MergeTrap {
+                        location: w.location,
+                        fault,
+                    })
+                }
             }
+            at += 1;
         }
     }
     Ok(())
+}
+
+/// The new words of eight locations from this place on, where they follow each other, are merged
+/// at once, and none of their merges faults.
+fn merge_row<M: MergeBy>(
+    mains: &[u64],
+    written: &[Written],
+    at: usize,
+    merges: &mut M,
+) -> Option<[u64; 8]>
+    requires mains { length mains.now ≡ length written.now }
+    requires within { All (λ w. w.location < M.size merges.old) written.now }
+    ensures row { IfSome result (λ eight. (at + 8 ≤ length written.now)
+        × IsPart (M.merges merges.old) mains.now written.now at 8 eight) }
+    ensures size { M.size merges.new ≡ M.size merges.old }
+    ensures merges { M.merges merges.new ≡ M.merges merges.old }
+{
+    if written.len() < 8 || at > written.len() - 8 {
+        return None;
+    }
+    let first = written[at].location;
+    if !merges.row_at(first) || !follow(written, at, first) {
+        return None;
+    }
+    let main = eight_words(mains, at);
+    let join = eight_values(written, at);
+    let root = eight_roots(written, at);
+    merges.merge_eight(first, main, join, root)
 }

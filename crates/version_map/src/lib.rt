@@ -3,6 +3,7 @@
 #![tactic(auto)]
 
 mod delta;
+mod eights;
 mod end;
 mod first;
 mod joining;

@@ -66,3 +66,6 @@ returns-clause-shared g c = c.in_ok-child.ensures.shared
 
 pub returns-clause-copied : goal.returns-clause-copied
 returns-clause-copied g c = c.in_ok-child.ensures.copied
+
+pub returns-clause-how : goal.returns-clause-how
+returns-clause-how g c = c.in_ok-child.ensures.how

@@ -18,4 +18,3 @@ returns-clause-run c = record {
   enough = c.room-room.ensures c.block-b.result.now c.block-b.ensures;
   first = c.in_ok-run.ensures;
 }
-

@@ -1,0 +1,6 @@
+use Rattle.std.proofs.Common.{drop}
+use Rattle.version_map.specs.Following.{Follow}
+use Rattle.version_map.proofs.eights.follow.Given as goal
+
+abbrev pub invariant-loop-k : goal.invariant-loop-k
+invariant-loop-k l = Follow (drop l.at l.written) l.first l.k

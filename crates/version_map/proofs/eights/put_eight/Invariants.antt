@@ -1,0 +1,6 @@
+use Rattle.std.proofs.Common.{◌≡◌, ◌+◌, ◌++◌, length, take}
+use Rattle.version_map.proofs.eights.put_eight.Given as goal
+
+abbrev pub invariant-loop-k : goal.invariant-loop-k
+invariant-loop-k l = (length l.values ≡ length l.initial.values)
+    × (take (l.at + l.k) l.values ≡ take l.at l.initial.values ++ take l.k l.eight)

@@ -1,0 +1,16 @@
+-- A part of a composition.
+--   before   a composition behind new words that are known
+--   IsPart   from this place on, these are the new words of the next n entries
+use Rattle.std.specs.Prelude.{◌≡◌, ℕ, ◌+◌, List, [], ◌∷◌, length, drop}
+use Rattle.version_map.specs.declared.end.Written.{Written}
+use Rattle.version_map.specs.Composing.{Merges, Composition, before_later, composed, entries}
+
+abbrev pub before : {W : Type 0} → List W → Composition W → Composition W
+before [] c = c
+before (x ∷ xs) c = before_later x (before xs c)
+
+abbrev pub IsPart : Merges ℕ → (mains : List ℕ) → List Written → (at n : ℕ) → (values : List ℕ) → Type 0
+IsPart m mains ws at n values =
+    (length values ≡ n)
+    × (composed m (drop at mains) (entries (drop at ws))
+    ≡ before values (composed m (drop (at + n) mains) (entries (drop (at + n) ws))))
