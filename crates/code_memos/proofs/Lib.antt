@@ -5,3 +5,4 @@ pub mod Entries
 pub mod Recorded
 pub mod Standing
 pub mod Numbers
+pub mod ByNumber

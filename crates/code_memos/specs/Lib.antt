@@ -5,3 +5,4 @@ pub mod Worlds
 pub mod Memo
 pub mod Recording
 pub mod Freshness
+pub mod ByNumber

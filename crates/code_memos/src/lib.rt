@@ -2,6 +2,8 @@
 //! Each law is an empty function.
 #![tactic(auto)]
 
+ghost use Rattle.code_memos.specs.ByNumber.{AdoptByNumber, CountedByNumber};
+ghost use Rattle.code_memos.specs.ByNumber.{LeafHasEntry, RecordedByNumber};
 ghost use Rattle.code_memos.specs.Freshness.{UnlistedBegins, UnlistedByNumber};
 ghost use Rattle.code_memos.specs.Laws.{EndsAreRenamed, LegsAreRenamed, ValidIsTheEnd};
 ghost use Rattle.code_memos.specs.Memo.{OneEntry, OneMemo};
@@ -43,4 +45,15 @@ pub fn record_laws()
 pub fn fresh_laws()
     ensures paths { UnlistedBegins }
     ensures numbers { UnlistedByNumber }
+{}
+
+/// What a run by number tells: a revision that has listed nothing and that its leg ends has an
+/// entry; entries of a complete schedule are the memo, and revisions with a valid entry those that
+/// are reused, where no revision is left out that has listed nothing; and one with a valid entry has
+/// a leg, which ends it with what the entry has.
+pub fn number_laws()
+    ensures leaf { LeafHasEntry }
+    ensures recorded { RecordedByNumber }
+    ensures counted { CountedByNumber }
+    ensures adopt { AdoptByNumber }
 {}
