@@ -34,7 +34,7 @@ module _ {H : Type 0} where
   written_many (l ∷ ls) (suc n) w = ap suc (written_many ls n w)
 
   form_many : (s : Setting H) (c : State H) (o : Comes H) → ComesTo s c o → HasMany c o
-  form_many s c o (to_next block at locals stack below text) = refl
+  form_many s c o (to_next block at locals stack below text more) = refl
   form_many s c o (to_write rest l w) = written_many c.locations l w
   form_many s c o (to_payment line fuel e) = refl
   form_many s c o (to_trap line e) = refl

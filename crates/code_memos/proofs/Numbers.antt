@@ -1,7 +1,14 @@
 -- An unlisted revision of a world by number.
-use Rattle.std.proofs.Common.{◌≡◌, ◌∙◌, ℕ, List, [], ◌∷◌, map, Option, Some, None, refl, sym, ap, subst}
+use Rattle.std.proofs.Common.{◌≡◌, ◌∙◌, ℕ, true, List, [], ◌∷◌, map, Option, Some, None, refl, sym, ap, subst}
+use Rattle.std.specs.Prelude.{◌&&◌}
 use Rattle.rev_num.specs.Path.{Path}
-use Rattle.rev_code.specs.State.{Listed}
+use Rattle.rev_num.specs.declared.value.ValueKind.{ValueKind}
+use Rattle.rev_num.specs.Value.{same_kind}
+use Rattle.rev_code.specs.declared.code.Code.{Code}
+use Rattle.rev_code.specs.Events.{start as begun}
+use Rattle.rev_code.specs.Step.{params}
+use Rattle.rev_code.specs.Words.{Word, int, bool, rev, fits, kind_of}
+use Rattle.rev_code.specs.State.{Listed, State}
 use Rattle.revision_machine.specs.Machine.{Entry, Plain, Joined, Global, Twice, Live, Revisions, start, Runs}
 use Rattle.revision_machine.specs.Laws.{IsDistinct}
 use Rattle.revision_machine.specs.Numbered.{Entries, Listing, at_number, number_of, paths_of, globe_of, machine_by, begin, Replays}
@@ -12,10 +19,12 @@ use Rattle.revision_machine.proofs.Schedules.{schedule_agrees}
 use Rattle.revision_births.specs.Births.{Born}
 use Rattle.code_machine.specs.Local.{CodeRun, IsVerified, Phase, running, done, trapped, Local, at_work}
 use Rattle.code_machine.specs.Machines.{machine, numbered, IsMain, start_in}
-use Rattle.code_machine.specs.Renamed.{renamed_one, renamed_phase, IsNumbered}
+use Rattle.code_machine.specs.Renamed.{renamed_one, renamed_as, renamed_location, renamed_phase, renamed_word, IsNumbered}
 use Rattle.code_machine.proofs.Meeting.{named_counts}
+use Rattle.code_machine.proofs.Renaming.{first_locals_same}
 use Rattle.code_machine.proofs.Numbering.{simulates, first_numbered}
 use Rattle.code_memos.specs.Freshness.{IsUnlisted, FreshByNumber, UnlistedByNumber}
+use Rattle.code_memos.specs.Leaf.{Fresh, IsFresh, unwritten}
 use Rattle.code_memos.specs.Memo.{first}
 use Rattle.code_memos.proofs.Standing.{unlisted_begins}
 
@@ -32,6 +41,40 @@ module _ {H K : Type 0} (f : H → K) where
     where
       not_trapped : (t : Rattle.code_machine.specs.Local.Trap H) (p : Phase K) → renamed_phase f (trapped t) ≡ p → p ≡ running → ⊥
       not_trapped t p e h = let z : trapped (record { cause = t.cause; line = t.line; origin = Rattle.code_machine.specs.Renamed.renamed_handle f t.origin }) ≡ running = e ∙ h in cc
+
+-- ---- fresh states
+
+module _ {H K : Type 0} (f : H → K) where
+  abbrev pub named_fresh : Fresh H → Fresh K
+  named_fresh x = record { block = x.block; args = map (renamed_word f) x.args; snapshot = map (renamed_word f) x.snapshot; fuel = x.fuel }
+
+  unwritten_named : (xs : List (Word H)) → map (renamed_location f) (unwritten xs) ≡ unwritten (map (renamed_word f) xs)
+  unwritten_named [] = refl
+  unwritten_named (x ∷ xs) = ap (λ z. record { snapshot = renamed_word f x; written = None } ∷ z) (unwritten_named xs)
+
+  word_kind : (w : Word H) → kind_of (renamed_word f w) ≡ kind_of w
+  word_kind (int n) = refl
+  word_kind (bool b) = refl
+  word_kind (rev h) = refl
+
+  fits_named : (kinds : List ValueKind) (ws : List (Word H)) → fits kinds ws ≡ true → fits kinds (map (renamed_word f) ws) ≡ true
+  fits_named kinds ws h = same kinds ws ∙ h
+    where
+      same : (kinds : List ValueKind) (ws : List (Word H)) → fits kinds (map (renamed_word f) ws) ≡ fits kinds ws
+      same [] [] = refl
+      same [] (w ∷ ws) = refl
+      same (x ∷ kinds) [] = refl
+      same (x ∷ kinds) (w ∷ ws) = let a = word_kind w in let b = same kinds ws in λ j. same_kind x (a j) && b j
+
+  -- a fresh state is fresh with other handles
+  pub fresh_named : (code : Code) (x : Fresh H) (c : State H) → IsFresh code x c → IsFresh code (named_fresh x) (renamed_as f c.forks c)
+  fresh_named code x c a = record {
+    body = a.body;
+    is = a.is;
+    fits = fits_named (params a.body) x.args a.fits;
+    state = ap (λ (z : State H). renamed_as f z.forks z) a.state
+        ∙ (let l = sym (first_locals_same f a.body x.args) in let s = unwritten_named x.snapshot in λ j. record (begun x.block a.body (map (renamed_word f) x.args) (s j) x.fuel) { locals = l j });
+  }
 
 module _ (g : CodeRun) (ok : IsVerified g) (n : ℕ) (m : IsMain g n) (fuel : ℕ) where
   -- the state by paths that a world agrees with
@@ -84,10 +127,14 @@ module _ (g : CodeRun) (ok : IsVerified g) (n : ℕ) (m : IsMain g n) (fuel : �
         let unlisted : x.local.state.listed ≡ [] = none_named number x.local.state.listed (sym (ap (λ l. l.state.listed) x.named.is) ∙ u.1) in
         let same : x.local ≡ at_work x.local.state = ap (λ p. record { state = x.local.state; phase = p }) runs in
         let begins = unlisted_begins g ok n m fuel s.revs (record { by = s.by; runs = s.runs }) r (Plain x.local) x.there (runs, unlisted) in
+        let f = begins.begins in
+        let named = fresh_named number g.code f x.local.state begins.fresh in
         record {
           state = x.local.state;
           numbered = subst (λ l. IsNumbered (paths_of w) r l b) same x.named;
           begins = record { born = subst (Born (machine g) (first g n m fuel) r) same begins.born; begins = begins.begins; fresh = begins.fresh };
+          here = named_fresh number f;
+          fresh_here = subst (IsFresh g.code (named_fresh number f)) (sym (ap (λ (l : Local ℕ). l.state) x.named.is)) named;
         }
 
 pub unlisted_by_number : UnlistedByNumber

@@ -31,7 +31,7 @@ module _ {H : Type 0} where
   Lists c stuck = Unit {0}
 
   form_lists : (s : Setting H) (c : State H) (o : Comes H) → ComesTo s c o → Lists c o
-  form_lists s c o (to_next block at locals stack below text) = refl
+  form_lists s c o (to_next block at locals stack below text more) = refl
   form_lists s c o (to_write rest l w) = refl
   form_lists s c o (to_payment line fuel e) = refl
   form_lists s c o (to_trap line e) = refl

@@ -54,7 +54,7 @@ module _ (g : CodeRun) {H : Type 0} where
   Has c _ = Unit {0}
 
   of_form : (c : State H) (o : Comes H) → ComesTo (under g) c o → Has c o
-  of_form c o (to_next block at locals stack below text) = tt
+  of_form c o (to_next block at locals stack below text more) = tt
   of_form c o (to_write rest l w) = tt
   of_form c o (to_payment line fuel e) = tt
   of_form c o (to_trap line e) = tt

@@ -40,6 +40,9 @@ pub record FreshByNumber (g : CodeRun) (number : ℕ) (main : IsMain g number) (
   pub state : State Path
   pub numbered : IsNumbered t r (at_work state) b
   pub begins : BeginsHere g number main fuel r (at_work state)
+  -- by number
+  pub here : Fresh ℕ
+  pub fresh_here : IsFresh g.code here b.state
 
 abbrev pub UnlistedByNumber : Type 0
 UnlistedByNumber =

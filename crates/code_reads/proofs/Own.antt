@@ -91,7 +91,7 @@ module _ {H : Type 0} where
     IfGoes c _ = Unit {0}
 
     form_keeps : (c : State H) (o : Comes H) → ComesTo s c o → IfGoes c o
-    form_keeps c o (to_next block at locals stack below text) = refl
+    form_keeps c o (to_next block at locals stack below text more) = refl
     form_keeps c o (to_write rest l w) = snapshots_stay c.locations l w
     form_keeps c o (to_payment line fuel e) = refl
     form_keeps c o (to_trap line e) = tt

@@ -1,0 +1,128 @@
+//! Revisions before their first instruction, and with what they begin.
+
+ghost use Rattle.std.specs.Prelude.{◌≡◌, ◌<◌, ℕ, IfOk, length, slice_index};
+ghost use Rattle.rev_code.specs.State.{State};
+ghost use Rattle.code_machine.specs.Local.{Local};
+ghost use Rattle.code_memos.specs.Leaf.{Fresh as DefinedFresh, IsFresh};
+ghost use Rattle.reached_worlds.specs.Reached.{IsReached};
+ghost use Rattle.revision_machine.specs.Numbered.{Entries, World as DefinedWorld};
+ghost use Rattle.rev_vm.specs.Starts.{run_under};
+ghost use Rattle.version_map.specs.Deltas.{locations};
+ghost use Rattle.version_map.specs.Overlay.{under};
+ghost use Rattle.code_world.specs.Beginnings.{FreshAt, FreshIn, IsBegun};
+ghost use Rattle.code_world.specs.Slots.{Runs, words};
+ghost use Rattle.code_world.specs.Tables.{IsWorld};
+ghost use Rattle.code_world.specs.Turns.{IsGood};
+
+use crate::slot::Slot;
+use crate::table::Table;
+use crate::world::World;
+use leg_run::CodeSetting;
+use rev_vm::Runner;
+use std::alloc::{AllocError, Global};
+use version_map::{Delta, Whole};
+
+/// With what a revision begins. A word of a handle is 0 or the revision's number and 1.
+#[derive(Drop)]
+pub struct Fresh {
+    pub block: u16,
+    pub args: Vec<u64>,
+    /// The word of each location.
+    pub base: Vec<u64>,
+    pub fuel: u64,
+}
+
+/// The word that lies over a base at a location, or else the base's.
+fn word_at(delta: &Delta, base: &[u64], location: u32) -> u64
+    requires within { location < locations delta.now }
+    requires base { locations delta.now ≡ length base.now }
+    ensures { result ≡ under delta.now (slice_index base.now) location }
+{
+    match delta.get(location) {
+        Some(word) => word,
+        None => base[location as usize],
+    }
+}
+
+/// The words that a revision sees, location by location.
+fn words_seen(alloc: Global, delta: &Delta, base: &[u64]) -> Result<Vec<u64>, AllocError>
+    requires { locations delta.now ≡ length base.now }
+    ensures many { IfOk result (λ ws. length ws.items ≡ locations delta.now) }
+    ensures words { IfOk result (λ ws. (l : ℕ) → l < locations delta.now
+        → slice_index ws.items l ≡ under delta.now (slice_index base.now) l) }
+{
+    let mut words = Vec::new(alloc);
+    for location in 0..delta.locations() {
+        words.push(word_at(delta, base, location))?;
+    }
+    Ok(words)
+}
+
+/// With what a revision began that stands before its first instruction.
+fn begun(
+    alloc: Global,
+    setting: &CodeSetting,
+    runner: &Runner<Whole>,
+) -> Result<Fresh, AllocError>
+    requires fresh { (c : State ℕ) × (f : DefinedFresh ℕ) × Runs (run_under setting.now) runner.now c
+        × IsFresh setting.now.code f c }
+    ensures begun { (c : State ℕ) (f : DefinedFresh ℕ) → Runs (run_under setting.now) runner.now c
+        → IsFresh setting.now.code f c → IfOk result (λ x. IsBegun f x) }
+{
+    let args = Vec::from_slice(alloc, runner.args(setting))?;
+    let base = words_seen(alloc, runner.delta(), runner.snapshot().words())?;
+    Ok(Fresh {
+        block: runner.block(),
+        args,
+        base,
+        fuel: runner.fuel(),
+    })
+}
+
+impl Table {
+    /// With what the revision of this number begins, if it is a running one before its first
+    /// instruction.
+    fn fresh(
+        &self,
+        alloc: Global,
+        setting: &CodeSetting,
+        number: usize,
+    ) -> Result<Option<Fresh>, AllocError>
+        requires good { (w : Entries (Local ℕ)) × IsGood (run_under setting.now) self.now w }
+        ensures fresh { (w : Entries (Local ℕ)) → IsGood (run_under setting.now) self.now w
+            → IfOk result (λ o. FreshIn (run_under setting.now) self.now w number o) }
+    {
+        match self.slots.get(number) {
+            Some(Slot::Running(runner)) => {
+                if runner.is_fresh() {
+                    let fresh = begun(alloc, setting, runner)?;
+                    Ok(Some(fresh))
+                } else {
+                    Ok(None)
+                }
+            },
+            _ => Ok(None),
+        }
+    }
+}
+
+/// With what the revision of this number begins, where it has made no instruction: not where it has
+/// ended, was joined, stands at a join or is none of the world, and not in Twice. Want of memory is
+/// the one error.
+pub fn fresh(
+    alloc: Global,
+    setting: &CodeSetting,
+    world: &World,
+    revision: u32,
+) -> Result<Option<Fresh>, AllocError>
+    requires reached { (w : DefinedWorld (Local ℕ)) × IsReached (run_under setting.now) w
+        × IsWorld (run_under setting.now) world.now w }
+    ensures fresh { (w : DefinedWorld (Local ℕ)) → IsReached (run_under setting.now) w
+        → IsWorld (run_under setting.now) world.now w
+        → IfOk result (λ o. FreshAt (run_under setting.now) world.now w revision o) }
+{
+    match world {
+        World::Live(table) => table.fresh(alloc, setting, revision as usize),
+        World::Twice => Ok(None),
+    }
+}
