@@ -8,3 +8,5 @@ pub mod Ended
 pub mod Listed
 pub mod Touching
 pub mod Saying
+pub mod Adopting
+pub mod Begun

@@ -1,6 +1,6 @@
 //! Revisions before their first instruction, and with what they begin.
 
-ghost use Rattle.std.specs.Prelude.{◌≡◌, ◌<◌, ℕ, IfOk, length, slice_index};
+ghost use Rattle.std.specs.Prelude.{◌≡◌, ℕ, IfOk, length, slice_index};
 ghost use Rattle.rev_code.specs.State.{State};
 ghost use Rattle.code_machine.specs.Local.{Local};
 ghost use Rattle.code_memos.specs.Leaf.{Fresh as DefinedFresh, IsFresh};
@@ -8,9 +8,9 @@ ghost use Rattle.reached_worlds.specs.Reached.{IsReached};
 ghost use Rattle.revision_machine.specs.Numbered.{Entries, World as DefinedWorld};
 ghost use Rattle.rev_vm.specs.Starts.{run_under};
 ghost use Rattle.version_map.specs.Deltas.{locations};
-ghost use Rattle.version_map.specs.Overlay.{under};
+ghost use Rattle.version_map.specs.Overlay.{under, Agree};
 ghost use Rattle.code_world.specs.Beginnings.{FreshAt, FreshIn, IsBegun};
-ghost use Rattle.code_world.specs.Slots.{Runs, words};
+ghost use Rattle.code_world.specs.Slots.{Runs};
 ghost use Rattle.code_world.specs.Tables.{IsWorld};
 ghost use Rattle.code_world.specs.Turns.{IsGood};
 
@@ -32,28 +32,20 @@ pub struct Fresh {
     pub fuel: u64,
 }
 
-/// The word that lies over a base at a location, or else the base's.
-fn word_at(delta: &Delta, base: &[u64], location: u32) -> u64
-    requires within { location < locations delta.now }
-    requires base { locations delta.now ≡ length base.now }
-    ensures { result ≡ under delta.now (slice_index base.now) location }
-{
-    match delta.get(location) {
-        Some(word) => word,
-        None => base[location as usize],
-    }
-}
-
 /// The words that a revision sees, location by location.
 fn words_seen(alloc: Global, delta: &Delta, base: &[u64]) -> Result<Vec<u64>, AllocError>
     requires { locations delta.now ≡ length base.now }
     ensures many { IfOk result (λ ws. length ws.items ≡ locations delta.now) }
-    ensures words { IfOk result (λ ws. (l : ℕ) → l < locations delta.now
-        → slice_index ws.items l ≡ under delta.now (slice_index base.now) l) }
+    ensures words { IfOk result (λ ws. Agree (locations delta.now) (slice_index ws.items)
+        (under delta.now (slice_index base.now))) }
 {
     let mut words = Vec::new(alloc);
     for location in 0..delta.locations() {
-        words.push(word_at(delta, base, location))?;
+        let word = match delta.get(location) {
+            Some(word) => word,
+            None => base[location as usize],
+        };
+        words.push(word)?;
     }
     Ok(words)
 }

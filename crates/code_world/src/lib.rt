@@ -1,11 +1,13 @@
 //! A world of revisions that run code, on one thread, in any schedule.
 #![tactic(auto)]
 
+mod adopting;
 mod advance;
 mod answer;
 mod births;
 mod counting;
 mod ending;
+mod fresh;
 mod left;
 mod lists;
 mod noted;
@@ -16,8 +18,10 @@ mod table;
 mod turn;
 mod world;
 
+pub use adopting::adopt;
 pub use answer::LegAnswer;
 pub use ending::MainEnd;
+pub use fresh::{Fresh, fresh};
 pub use noted::NotedLeg;
 pub use slot::Slot;
 pub use table::{Birth, Table};

@@ -24,7 +24,7 @@ use std::alloc::{AllocError, Global};
 use version_map::{Finish, MergeBy};
 
 /// The answer of a leg that ends so.
-fn answer_of(finish: Finish) -> LegAnswer
+pub(crate) fn answer_of(finish: Finish) -> LegAnswer
     ensures { result ≡ ends_with finish }
 {
     match finish {

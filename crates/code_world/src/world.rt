@@ -38,7 +38,7 @@ impl World {
 }
 
 /// The world of this table after a leg that came out so.
-fn world_of(table: Table, answer: LegAnswer) -> World
+pub(crate) fn world_of(table: Table, answer: LegAnswer) -> World
     ensures { result ≡ world_after table answer }
 {
     match answer {

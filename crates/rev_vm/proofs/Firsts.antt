@@ -114,7 +114,7 @@ pub kinds_many : (vs : List CodeVar) → length (location_kinds vs) ≡ count vs
 kinds_many [] = refl
 kinds_many (v ∷ vs) = cells_many v.cells v.kind (location_kinds vs) ∙ (let r = kinds_many vs in omega (arith, r))
 
-same_many : (kinds : List ValueKind) (ls : List (Location ℕ)) → AreLocations kinds ls → length ls ≡ length kinds
+pub same_many : (kinds : List ValueKind) (ls : List (Location ℕ)) → AreLocations kinds ls → length ls ≡ length kinds
 same_many [] [] h = refl
 same_many (x ∷ kinds) (l ∷ ls) h = ap suc (same_many kinds ls h.1)
 same_many [] (l ∷ ls) h = absurd h

@@ -1,0 +1,107 @@
+-- A running revision that has listed nothing, and with what it began.
+use Rattle.std.proofs.Common.{◌≡◌, ◌≢◌, ◌∙◌, ℕ, zero, suc, ◌<◌, List, [], ◌∷◌, length, Option, Some, None, refl, sym, ap, subst, arith}
+use Rattle.std.specs.Prelude.{slice_get, slice_index}
+use Rattle.rev_num.specs.Path.{Path}
+use Rattle.rev_num.proofs.Options.{none_some}
+use Rattle.rev_code.specs.Words.{Word}
+use Rattle.rev_code.specs.State.{Location, State}
+use Rattle.code_soundness.specs.Typed.{location_kinds}
+use Rattle.plain_words.specs.Agreement.{IsWord, AreWords}
+use Rattle.block_run.specs.Standing.{IsSeen}
+use Rattle.version_map.specs.Deltas.{at, locations}
+use Rattle.version_map.specs.Overlay.{under, Agree}
+use Rattle.revision_machine.specs.Machine.{Plain}
+use Rattle.revision_machine.specs.Numbered.{Entries, Listing, at_number, paths_of}
+use Rattle.code_machine.specs.Local.{CodeRun, IsVerified, Local, at_work}
+use Rattle.code_memos.specs.Freshness.{FreshByNumber}
+use Rattle.code_memos.specs.Leaf.{Fresh, IsFresh, unwritten}
+use Rattle.code_memos.proofs.Numbers.{unlisted_by_number}
+use Rattle.reached_worlds.specs.Reached.{IsReached}
+use Rattle.rev_vm.proofs.Firsts.{kinds_many, same_many}
+use Rattle.code_world.specs.declared.fresh.Fresh as rust
+use Rattle.code_world.specs.declared.slot.Slot.{Slot}
+use Rattle.code_world.specs.declared.slot.Slot.TheVariants as slot
+use Rattle.code_world.specs.declared.table.Table.{Table}
+use Rattle.code_world.specs.Beginnings.{FreshIn, IsBegun}
+use Rattle.code_world.specs.Slots.{WholeRunner, WholeJoin, IsSlot, Runs, words}
+use Rattle.code_world.specs.Turns.{IsGood}
+use Rattle.code_world.proofs.Adopting.{slot_of}
+use Rattle.code_world.proofs.Ended.{plain_same}
+use Rattle.code_world.proofs.Turning.{runner}
+
+-- ---- words
+
+words_by_place : (xs : List (Word ℕ)) (ws : List ℕ) → length ws ≡ length xs → ((l : ℕ) (x : Word ℕ) → slice_get xs l ≡ Some x → IsWord x (slice_index ws l)) → AreWords xs ws
+words_by_place [] [] e h = tt
+words_by_place [] (w ∷ ws) e h = absurd (omega (arith, e))
+words_by_place (x ∷ xs) [] e h = absurd (omega (arith, e))
+words_by_place (x ∷ xs) (w ∷ ws) e h = (h 0 x refl, words_by_place xs ws (omega (arith, e)) (λ l y there. h (suc l) y there))
+
+unwritten_at : (xs : List (Word ℕ)) (l : ℕ) (x : Word ℕ) → slice_get xs l ≡ Some x → slice_get (unwritten xs) l ≡ Some (record { snapshot = x; written = None })
+unwritten_at [] l x e = none_some e
+unwritten_at (y ∷ xs) zero x e = ap (λ z. Some (record { snapshot = z; written = None })) (let z : Some y ≡ Some x = e in cc)
+unwritten_at (y ∷ xs) (suc l) x e = unwritten_at xs l x e
+
+unwritten_length : (xs : List (Word ℕ)) → length (unwritten xs) ≡ length xs
+unwritten_length [] = refl
+unwritten_length (x ∷ xs) = ap suc (unwritten_length xs)
+
+in_length : {A : Type 0} (xs : List A) (l : ℕ) (x : A) → slice_get xs l ≡ Some x → l < length xs
+in_length [] l x e = none_some e
+in_length (y ∷ xs) zero x e = omega arith
+in_length (y ∷ xs) (suc l) x e = let h = in_length xs l x e in omega (arith, h)
+
+-- a location that is not written is seen as its snapshot's word
+seen_word : (x : Word ℕ) (w : ℕ) (root : Option ℕ) → IsSeen (record { snapshot = x; written = None }) w root → IsWord x w
+seen_word x w None h = h.1
+seen_word x w (Some r) h = none_some h.1
+
+-- ---- fresh runners
+
+module _ (g : CodeRun) (r : WholeRunner) (c : State ℕ) (runs : Runs g r c) (f : Fresh ℕ) (fresh : IsFresh g.code f c) where
+  abbrev memory_locations : ℕ
+  memory_locations = locations r.revision.value.memory.delta
+
+  many : length f.snapshot ≡ memory_locations
+  many =
+      sym (unwritten_length f.snapshot) ∙ ap length (sym (ap (λ (z : State ℕ). z.locations) fresh.state))
+      ∙ same_many (location_kinds g.code.vars) c.locations runs.stands.here.good.locations ∙ kinds_many g.code.vars ∙ sym runs.size
+
+  pub seen_base : (ws : List ℕ) → length ws ≡ memory_locations → Agree memory_locations (slice_index ws) (under r.revision.value.memory.delta (words r.revision.value.memory.snapshot)) → AreWords f.snapshot ws
+  seen_base ws long agree =
+      words_by_place f.snapshot ws (long ∙ sym many) (λ l x there.
+      let small : l < memory_locations = (let a = in_length f.snapshot l x there in let b = many in omega (arith, a, b)) in
+      let located : slice_get c.locations l ≡ Some (record { snapshot = x; written = None }) = ap (λ (z : State ℕ). slice_get z.locations l) fresh.state ∙ unwritten_at f.snapshot l x there in
+      subst (IsWord x) (sym (agree l small)) (seen_word x _ _ (runs.stands.here.locations l _ located)))
+
+-- ---- revisions of a table
+
+module _ (g : CodeRun) (t : Table) (w : Entries (Local ℕ)) (h : IsGood g t w) (n : ℕ) (r : WholeRunner) (at : at_number t.slots.items n ≡ Some (slot.Running r)) where
+  pub unlisted_fresh : (runner g t w h n r at).state.listed ≡ [] → (f : Fresh ℕ) × IsFresh g.code f (runner g t w h n r at).state
+  unlisted_fresh none =
+      let k = runner g t w h n r at in
+      let e = h.reached in
+      let x = unlisted_by_number g h.verified e.number e.main e.fuel e.schedule w e.replays n k.path (at_work k.state) k.there (refl, none) in
+      (x.here, x.fresh_here)
+
+  pub fresh_in : (f : Fresh ℕ) → IsFresh g.code f (runner g t w h n r at).state → (x : rust.Fresh) → IsBegun f x → FreshIn g t w n (Some x)
+  fresh_in f fresh x begun = let k = runner g t w h n r at in (k.path, k.state, f, k.there, fresh, begun)
+
+  -- one that has listed something is not fresh
+  pub listed_not : ((runner g t w h n r at).state.listed ≢ []) → FreshIn g t w n None
+  listed_not some p c f there fresh =
+      let k = runner g t w h n r at in
+      let same : at_work c ≡ at_work k.state = plain_same (at_number w n) k.path p (at_work k.state) (at_work c) k.there there in
+      absurd (some (sym (ap (λ (l : Local ℕ). l.state.listed) same) ∙ ap (λ (z : State ℕ). z.listed) fresh.state))
+
+-- one that is not running is not fresh, or stands at a join
+pub other_not : (g : CodeRun) (t : Table) (w : Entries (Local ℕ)) → IsGood g t w → (n : ℕ) → ((r : WholeRunner) → at_number t.slots.items n ≢ Some (slot.Running r)) → FreshIn g t w n None
+other_not g t w h n other p c f there fresh =
+    let x = slot_of g t.slots.items w h.table.slots n p (at_work c) there in by x.slot x.there x.is
+  where
+    by : (s : Slot) → at_number t.slots.items n ≡ Some s → IsSlot g s (at_work c) → (a : WholeJoin) × (at_number t.slots.items n ≡ Some (slot.Standing a))
+    by (slot.Running r) e is = absurd (other r e)
+    by (slot.Standing a) e is = (a, e)
+    by (slot.Ended v) e is = absurd is.phase
+    by (slot.Joined v) e is = absurd is
+    by slot.Taken e is = absurd is
