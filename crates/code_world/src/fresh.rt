@@ -61,13 +61,18 @@ fn begun(
     ensures begun { (c : State ℕ) (f : DefinedFresh ℕ) → Runs (run_under setting.now) runner.now c
         → IsFresh setting.now.code f c → IfOk result (λ x. IsBegun f x) }
 {
-    let args = Vec::from_slice(alloc, runner.args(setting))?;
-    let base = words_seen(alloc, runner.delta(), runner.snapshot().words())?;
+    let given = runner.args(setting);
+    let args = Vec::from_slice(alloc, given)?;
+    let delta = runner.delta();
+    let snapshot = runner.snapshot();
+    let base = words_seen(alloc, delta, snapshot.words())?;
+    let block = runner.block();
+    let fuel = runner.fuel();
     Ok(Fresh {
-        block: runner.block(),
+        block,
         args,
         base,
-        fuel: runner.fuel(),
+        fuel,
     })
 }
 

@@ -1,7 +1,7 @@
 -- A revision before its first instruction.
-use Rattle.std.proofs.Common.{◌≡◌, ◌∙◌, ℕ, ◌+◌, ◌-◌, ◌≤◌, ◌↔◌, Bool, true, List, [], ◌∷◌, length, map, take, drop, min, Option, Some, refl, sym, ap, subst, arith}
+use Rattle.std.proofs.Common.{◌≡◌, ◌∙◌, ℕ, ◌+◌, ◌-◌, ◌≤◌, List, length, map, take, drop, min, Option, Some, refl, sym, ap, subst, arith}
 use Rattle.std.specs.Prelude.{slice_get, slice_range}
-use Rattle.std.proofs.lemmas.List.{take-take, length-take}
+use Rattle.std.proofs.lemmas.List.{length-map, length-take, take-take}
 use Rattle.rev_num.proofs.Options.{some_eq}
 use Rattle.rev_code.specs.declared.code.CodeBlock.{CodeBlock}
 use Rattle.rev_code.specs.State.{Listed, State}
@@ -20,10 +20,9 @@ use Rattle.leg_run.specs.Standing.{listed_as}
 use Rattle.leg_run.proofs.Frames.{top_inside}
 use Rattle.rev_vm.specs.Meaning.{IsAt}
 
--- a list of meetings is empty where that of the state is
-pub none_listed : (xs : List (Listed ℕ)) (ms : List Meeting) → xs ≡ map listed_as ms → (ms ≡ []) ↔ (xs ≡ [])
-none_listed xs [] e = (λ h. e, λ h. refl)
-none_listed xs (m ∷ ms) e = (λ h. absurd (let z : m ∷ ms ≡ [] = h in cc), λ h. absurd (let z : listed_as m ∷ map listed_as ms ≡ [] = sym e ∙ h in cc))
+-- as many meetings as the list of the state has entries
+pub listed_many : (xs : List (Listed ℕ)) (ms : List Meeting) → xs ≡ map listed_as ms → length ms ≡ length xs
+listed_many xs ms e = sym (length-map ms listed_as) ∙ ap length (sym e)
 
 pub range_here : (xs : List ℕ) (b k : ℕ) → slice_range xs b (b + k) ≡ take k (drop b xs)
 range_here xs b k = let e : b + k - b ≡ k = omega arith in ap (λ m. take m (drop b xs)) e
@@ -57,3 +56,6 @@ module _ (g : CodeRun) (run : Run) (delta : Delta) (base : ℕ → ℕ) (first :
       let args : take (length (params b)) c.locals ≡ f.args = ap (λ (x : CodeBlock). take (length (params x)) c.locals) (sym body) ∙ args_are g.code f c k in
       subst (λ xs. AreWords xs (take (length (params b)) (drop run.registers.base run.words.items))) args
       (subst (AreWords (take (length (params b)) c.locals)) (take-take (length (params b)) (length s.body.locals) (drop run.registers.base run.words.items) few) words)
+
+pub inside_of : (base size : ℕ) (b b' : CodeBlock) (count : ℕ) → b ≡ b' → count ≡ length (params b') → base + length (params b) ≤ size → base + count ≤ size
+inside_of base size b b' count same is h = let e = ap (λ (x : CodeBlock). length (params x)) same in omega (arith, e, is, h)

@@ -1,6 +1,9 @@
 //! Revisions before their first instruction, and with what they began.
 
-ghost use Rattle.std.specs.Prelude.{◌≡◌, ◌↔◌, ◌≤◌, ◌+◌, ℕ, true, [], length, take, drop};
+ghost use Rattle.std.specs.Prelude.{◌≡◌, ◌≤◌, ◌+◌, ◌==◌, ℕ, Some, length, take, drop};
+ghost use Rattle.std.specs.Prelude.{slice_get};
+ghost use Rattle.rev_code.specs.declared.code.CodeBlock.{CodeBlock};
+ghost use Rattle.rev_code.specs.Step.{params};
 ghost use Rattle.rev_code.specs.State.{State};
 ghost use Rattle.plain_words.specs.Agreement.{AreWords};
 ghost use Rattle.code_machine.specs.Local.{CodeRun};
@@ -22,15 +25,31 @@ fn first_words(run: &Run, count: usize) -> &[u64]
     &run.words.as_slice()[base..base + count]
 }
 
+/// As many words as the block of a revision has parameters, from the first of its locals on.
+fn first_args<'a>(setting: &CodeSetting, run: &'a Run) -> &'a [u64]
+    requires block { (b : CodeBlock)
+        × (slice_get setting.now.code.blocks run.now.registers.block ≡ Some b) }
+    requires inside { (b : CodeBlock)
+        → slice_get setting.now.code.blocks run.now.registers.block ≡ Some b
+        → run.now.registers.base + length (params b) ≤ length run.now.words.items }
+    ensures { (b : CodeBlock)
+        → slice_get setting.now.code.blocks run.now.registers.block ≡ Some b
+        → result.now ≡ take (length (params b)) (drop run.now.registers.base run.now.words.items) }
+{
+    let block = setting.block(run.registers.block);
+    first_words(run, params_of(block))
+}
+
 impl<P: Snapshot> Runner<P> {
     /// Whether it has listed no fork and no join. In a world that a schedule reaches it stands
     /// before its first instruction then.
     pub fn is_fresh(&self) -> bool
         ensures { (g : CodeRun) (c : State ℕ) → IsAt g self.now.revision.value.run
             self.now.revision.value.memory.delta (P.base self.now.revision.value.memory.snapshot)
-            self.now.revision.value.memory.first.roots c → (result ≡ true) ↔ (c.listed ≡ []) }
+            self.now.revision.value.memory.first.roots c
+            → result ≡ (length c.listed == 0) }
     {
-        self.revision.run.meetings.is_empty()
+        self.revision.run.meetings.as_slice().is_empty()
     }
 
     /// The block that it runs: at first the one with which it was started.
@@ -54,9 +73,7 @@ impl<P: Snapshot> Runner<P> {
             self.now.revision.value.memory.first.roots c → IsFresh setting.now.code f c
             → AreWords f.args result.now }
     {
-        let run = &self.revision.run;
-        let block = setting.block(run.registers.block);
-        first_words(run, params_of(block))
+        first_args(setting, &self.revision.run)
     }
 
     /// Its snapshot.
