@@ -42,7 +42,7 @@ module _ {H : Type 0} where
       ∙ ap (λ n. take n (f.args ++ map zero_word (drop (length f.args) a.body.locals))) (sym (fits_length (params a.body) f.args a.fits))
       ∙ take_first f.args (map zero_word (drop (length f.args) a.body.locals))
 
-  one_args : (code : Code) (f f' : Fresh H) (c : State H) → IsFresh code f c → IsFresh code f' c → f.args ≡ f'.args
+  pub one_args : (code : Code) (f f' : Fresh H) (c : State H) → IsFresh code f c → IsFresh code f' c → f.args ≡ f'.args
   one_args code f f' c a a' =
       let block : f.block ≡ f'.block = sym (ap (λ z. z.block) a.state) ∙ ap (λ z. z.block) a'.state in
       let body = one_body (slice_get code.blocks f.block) a.body a'.body a.is (ap (slice_get code.blocks) block ∙ a'.is) in
