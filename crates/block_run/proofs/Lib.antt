@@ -5,3 +5,4 @@ pub mod Going
 pub mod Onward
 pub mod Turning
 pub mod Tables
+pub mod Ascending

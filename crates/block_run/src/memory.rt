@@ -3,6 +3,7 @@
 ghost use Rattle.std.specs.Prelude.{◌≡◌, ◌<◌, ◌++◌, IfOk, Option, option_to_list};
 ghost use Rattle.version_map.specs.declared.snapshot.Collapsed.{Collapsed};
 ghost use Rattle.version_map.specs.declared.snapshot.How.TheVariants as how;
+ghost use Rattle.version_map.specs.Ascending.{IsAscending};
 ghost use Rattle.version_map.specs.Deltas.{at, locations, IsEmpty};
 ghost use Rattle.version_map.specs.Overlay.{under, Agree};
 ghost use Rattle.block_run.specs.Remembering.{written_below, written_there, Kept};
@@ -148,6 +149,7 @@ impl<P: Snapshot> Memory<P> {
         ensures written { IfOk result (λ ws. ws.items ≡ written_below
             (under self.old.delta (P.base self.old.snapshot))
             (at self.old.first.roots) (P.size self.old.snapshot)) }
+        ensures order { IfOk result (λ ws. IsAscending ws.items) }
         ensures kept { Kept (P.size self.old.snapshot)
             (under self.old.delta (P.base self.old.snapshot))
             (under self.new.delta (P.base self.new.snapshot))

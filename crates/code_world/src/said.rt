@@ -17,7 +17,8 @@ impl Table {
             → result.now ≡ slot_text (at_number self.now.slots.items 0) }
     {
         match self.slots.get(0) {
-            None | Some(Slot::Taken) => &[],
+            None => &[],
+            Some(Slot::Taken) => &[],
             Some(Slot::Running(runner)) => runner.text(),
             Some(Slot::Standing(at)) => at.text(),
             Some(Slot::Ended(end)) => end.text.as_slice(),

@@ -42,7 +42,8 @@ impl Table {
         ensures { IsStage (at_number self.now.slots.items number) result }
     {
         match self.slots.get(number) {
-            None | Some(Slot::Taken) => Stage::NoSuch,
+            None => Stage::NoSuch,
+            Some(Slot::Taken) => Stage::NoSuch,
             Some(Slot::Running(_)) => Stage::Running,
             Some(Slot::Standing(at)) => Stage::Standing { on: at.on() },
             Some(Slot::Ended(_)) => Stage::Ended,
@@ -108,12 +109,20 @@ impl Table {
         }
     }
 
+    /// What a revision left, once more.
+    fn copied_end(&self, alloc: Global, number: usize) -> Result<EndValue, AllocError>
+        requires { (v : _) × (at_number self.now.slots.items number ≡ Some (slot.Ended v)) }
+        ensures { IfOk result
+            (λ v. at_number self.now.slots.items number ≡ Some (slot.Ended v)) }
+    {
+        match self.slots.get(number) {
+            Some(Slot::Ended(end)) => end.copied(alloc),
+            _ => unreachable!(),
+        }
+    }
+
     /// What a revision left, which is joined by this: the table keeps a copy.
-    pub(crate) fn join_end(
-        &mut self,
-        alloc: Global,
-        number: usize,
-    ) -> Result<EndValue, AllocError>
+    pub(crate) fn join_end(&mut self, alloc: Global, number: usize) -> Result<EndValue, AllocError>
         requires { (v : _) × (at_number self.old.slots.items number ≡ Some (slot.Ended v)) }
         ensures was { IfOk result
             (λ v. at_number self.old.slots.items number ≡ Some (slot.Ended v)) }
@@ -121,10 +130,7 @@ impl Table {
             self.new.slots.items ≡ put_number self.old.slots.items number (slot.Joined v)) }
         ensures births { self.new.births ≡ self.old.births }
     {
-        let copy = match self.slots.get(number) {
-            Some(Slot::Ended(end)) => end.copied(alloc)?,
-            _ => unreachable!(),
-        };
+        let copy = self.copied_end(alloc, number)?;
         match swap(&mut self.slots, number, Slot::Joined(copy)) {
             Slot::Ended(end) => Ok(end),
             other => {

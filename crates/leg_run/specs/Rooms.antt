@@ -49,7 +49,7 @@ room_prop code rooms n b room =
 with_room : (code : Code) (rooms : List ℕ) (n : ℕ) (b : CodeBlock) (room : ℕ) → Room code rooms n b room → HasRoomFor code rooms n b
 with_room code rooms n b room r = record { room = room; is = r.0; enough = r.1 }
 
-room_or : Option ℕ → ℕ
+abbrev room_or : Option ℕ → ℕ
 room_or None = 0
 room_or (Some room) = room
 

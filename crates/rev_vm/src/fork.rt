@@ -11,7 +11,7 @@ ghost use Rattle.rev_code.specs.Events as events;
 ghost use Rattle.version_map.specs.declared.snapshot.How.TheVariants as how;
 ghost use Rattle.version_map.specs.Deltas.{IsEmpty};
 ghost use Rattle.code_machine.specs.Local.{CodeRun};
-ghost use Rattle.rev_vm.specs.Meaning.{IsAt, IsAtFork};
+ghost use Rattle.rev_vm.specs.Revisions.{ForksAs, StandsAs};
 ghost use Rattle.rev_vm.specs.Starts.{IsBorn, IsForker, IsNamed, IsWaiting, run_under};
 
 use crate::end::{Broken, break_off, in_box};
@@ -59,17 +59,14 @@ pub struct Parent<P: Snapshot> {
 }
 
 impl<P: Snapshot> Parent<P> {
+    ghost use Rattle.rev_vm.specs.Values.{Awaits, StandsFor, parent_group, runner_group};
+
     /// The forker, which holds its child's number.
     pub fn told(self, number: u32) -> Runner<P>
         ensures state { (g : CodeRun) (c : State _) (args : List (Word _))
-            → IsAt g self.revision.value.run self.revision.value.memory.delta
-            (P.base self.revision.value.memory.snapshot)
-            self.revision.value.memory.first.roots (events.parent g.share c args 0)
-            → IsAt g result.revision.value.run result.revision.value.memory.delta
-            (P.base result.revision.value.memory.snapshot) result.revision.value.memory.first.roots
-            (events.parent g.share c args number) }
-        ensures group { P.group result.revision.value.memory.snapshot
-            ≡ P.group self.revision.value.memory.snapshot }
+            → Awaits g self c args
+            → StandsFor g result (events.parent g.share c args number) }
+        ensures group { runner_group result ≡ parent_group self }
     {
         let Parent { mut revision } = self;
         name_child(&mut revision.run, number);
@@ -78,7 +75,7 @@ impl<P: Snapshot> Parent<P> {
 
     /// Its snapshot, given back.
     pub fn give_up(self) -> P::Spent
-        ensures { P.spent_group result ≡ P.group self.revision.value.memory.snapshot }
+        ensures { P.spent_group result ≡ parent_group self }
     {
         let Parent { revision } = self;
         break_off(revision).give_up()
@@ -163,23 +160,15 @@ fn fork_off<P: Snapshot>(
     block: u16,
     revision: &mut Revision<P>,
 ) -> Result<(Revision<P>, How), AllocError>
-    requires at { (c : State _) × (args : List (Word _)) × IsAtFork (run_under setting.now)
-        revision.old.run revision.old.memory.delta (P.base revision.old.memory.snapshot)
-        revision.old.memory.first.roots block c args }
+    requires at { (c : State _) × (args : List (Word _))
+        × ForksAs (run_under setting.now) revision.old block c args }
     ensures parent { IfOk result (λ _. (c : State _) (args : List (Word _))
-        → IsAtFork (run_under setting.now)
-        revision.old.run revision.old.memory.delta (P.base revision.old.memory.snapshot)
-        revision.old.memory.first.roots block c args
-        → IsAt (run_under setting.now) revision.new.run
-        revision.new.memory.delta (P.base revision.new.memory.snapshot)
-        revision.new.memory.first.roots (events.parent setting.now.share c args 0)) }
+        → ForksAs (run_under setting.now) revision.old block c args
+        → StandsAs (run_under setting.now) revision.new (events.parent setting.now.share c args 0)) }
     ensures child { IfOk result (λ r. (c : State _) (args : List (Word _))
-        → IsAtFork (run_under setting.now)
-        revision.old.run revision.old.memory.delta (P.base revision.old.memory.snapshot)
-        revision.old.memory.first.roots block c args
+        → ForksAs (run_under setting.now) revision.old block c args
         → (b : CodeBlock) × (slice_get setting.now.code.blocks block ≡ Some b)
-        × IsAt (run_under setting.now) r.0.run r.0.memory.delta (P.base r.0.memory.snapshot)
-        r.0.memory.first.roots (events.child setting.now.share c block b args)) }
+        × StandsAs (run_under setting.now) r.0 (events.child setting.now.share c block b args)) }
     ensures waits { IfOk result (λ _. IsWaiting revision.new.run) }
     ensures how { IfOk result (λ r. P.hows r.1) }
     ensures shared { IfOk result (λ r. r.1 ≡ how.Shared → IsEmpty revision.new.memory.delta) }
@@ -204,6 +193,9 @@ fn fork_off<P: Snapshot>(
 }
 
 impl<P: Snapshot> AtFork<P> {
+    ghost use Rattle.rev_vm.specs.Values.{Awaits, StandsAtFork, StandsFor};
+    ghost use Rattle.rev_vm.specs.Values.{fork_group, parent_group, runner_group};
+
     /// The forker behind its Fork, its child, and how the child has its words, as the snapshot
     /// answered.
     pub fn fork(
@@ -211,39 +203,25 @@ impl<P: Snapshot> AtFork<P> {
         alloc: Global,
         setting: &CodeSetting,
     ) -> Result<(Parent<P>, Runner<P>, How), BrokenFork<P>>
-        requires at { (c : State _) × (args : List (Word _)) × IsAtFork (run_under setting.now)
-            self.revision.value.run self.revision.value.memory.delta
-            (P.base self.revision.value.memory.snapshot)
-            self.revision.value.memory.first.roots self.block c args }
+        requires at { (c : State _) × (args : List (Word _))
+            × StandsAtFork (run_under setting.now) self c args }
         ensures parent { IfOk result (λ r. (c : State _) (args : List (Word _))
-            → IsAtFork (run_under setting.now)
-            self.revision.value.run self.revision.value.memory.delta
-            (P.base self.revision.value.memory.snapshot)
-            self.revision.value.memory.first.roots self.block c args
-            → IsAt (run_under setting.now) r.0.revision.value.run
-            r.0.revision.value.memory.delta (P.base r.0.revision.value.memory.snapshot)
-            r.0.revision.value.memory.first.roots (events.parent setting.now.share c args 0)) }
+            → StandsAtFork (run_under setting.now) self c args
+            → Awaits (run_under setting.now) r.0 c args) }
         ensures child { IfOk result (λ r. (c : State _) (args : List (Word _))
-            → IsAtFork (run_under setting.now)
-            self.revision.value.run self.revision.value.memory.delta
-            (P.base self.revision.value.memory.snapshot)
-            self.revision.value.memory.first.roots self.block c args
+            → StandsAtFork (run_under setting.now) self c args
             → (b : CodeBlock) × (slice_get setting.now.code.blocks self.block ≡ Some b)
-            × IsAt (run_under setting.now) r.1.revision.value.run
-            r.1.revision.value.memory.delta (P.base r.1.revision.value.memory.snapshot)
-            r.1.revision.value.memory.first.roots (events.child setting.now.share c self.block b
+            × StandsFor (run_under setting.now) r.1 (events.child setting.now.share c self.block b
             args)) }
         ensures how { IfOk result (λ r. P.hows r.2) }
         ensures shared { IfOk result (λ r. r.2 ≡ how.Shared
             → IsEmpty r.0.revision.value.memory.delta) }
         ensures copied { IfOk result (λ r. r.2 ≡ how.Copied
             → r.0.revision.value.memory.delta ≡ self.revision.value.memory.delta) }
-        ensures group { IfOk result (λ r. P.group r.0.revision.value.memory.snapshot
-            ≡ P.group self.revision.value.memory.snapshot) }
-        ensures child_group { IfOk result (λ r. P.group r.1.revision.value.memory.snapshot
-            ≡ P.group self.revision.value.memory.snapshot) }
+        ensures group { IfOk result (λ r. parent_group r.0 ≡ fork_group self) }
+        ensures child_group { IfOk result (λ r. runner_group r.1 ≡ fork_group self) }
         ensures broken { IfErr result
-            (λ b. P.group b.forker.snapshot ≡ P.group self.revision.value.memory.snapshot) }
+            (λ b. P.group b.forker.snapshot ≡ fork_group self) }
     {
         let AtFork {
             mut revision,
@@ -266,18 +244,15 @@ impl<P: Snapshot> AtFork<P> {
 
     /// The line charged last.
     pub fn line(&self) -> u32
-        ensures { (g : CodeRun) (c : State _) (args : List (Word _)) → IsAtFork g
-            self.now.revision.value.run self.now.revision.value.memory.delta
-            (P.base self.now.revision.value.memory.snapshot)
-            self.now.revision.value.memory.first.roots
-            self.now.block c args → result ≡ c.line }
+        ensures { (g : CodeRun) (c : State _) (args : List (Word _))
+            → StandsAtFork g self.now c args → result ≡ c.line }
     {
         self.revision.run.registers.line
     }
 
     /// Its snapshot, given back.
     pub fn give_up(self) -> P::Spent
-        ensures { P.spent_group result ≡ P.group self.revision.value.memory.snapshot }
+        ensures { P.spent_group result ≡ fork_group self }
     {
         let AtFork { revision, block } = self;
         break_off(revision).give_up()

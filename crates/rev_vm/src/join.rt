@@ -1,11 +1,14 @@
 //! Revisions at a join.
 
-ghost use Rattle.std.specs.Prelude.{◌≡◌, ◌<◌, ◌+◌, ◌^◌, true, false};
+ghost use Rattle.std.specs.Prelude.{◌≡◌, ◌<◌, ◌+◌, ◌^◌, ℕ, true, false};
 ghost use Rattle.rev_code.specs.State.{State};
 ghost use Rattle.rev_code.specs.Events.{past_join};
-ghost use Rattle.code_machine.specs.Local.{CodeRun, Trap, end_of};
+ghost use Rattle.code_machine.specs.Local.{CodeRun, End, Trap, end_of};
 ghost use Rattle.code_machine.specs.Joining.{inherit, origin_of};
-ghost use Rattle.rev_vm.specs.Meaning.{IsAt, IsAtJoin, IsEnd, IsReady, IsTold, IsTrap};
+ghost use Rattle.version_map.specs.declared.end.Finish.TheVariants as finish;
+ghost use Rattle.version_map.specs.Ascending.{IsAscending};
+ghost use Rattle.rev_vm.specs.Meaning.{IsEnd, IsReady, IsTold, IsTrap};
+ghost use Rattle.rev_vm.specs.Revisions.{ClaimsAs};
 ghost use Rattle.rev_vm.specs.States.{is_by_join};
 
 use crate::end::{Stopped, break_off, stop};
@@ -22,16 +25,24 @@ pub struct AtJoin<P: Snapshot> {
     pub(crate) on: u32,
     pub(crate) written: Items<Written>,
     ghost ready: { IsReady revision.value.run },
+    ghost ascending: { IsAscending written },
 }
 
-/// A joiner, and the end of the revision that it joins.
+/// A joiner, and the end of the revision that it joins, which is done. In a run of code in which
+/// the joiner stands at its join, that end is of a revision of the same code: each location is one
+/// of the code, and each word is of its location's kind.
 pub struct Claimed<P: Snapshot> {
     pub(crate) at: AtJoin<P>,
     pub(crate) end: EndValue,
     ghost fuel: { at.revision.value.run.registers.fuel + end.fuel < 2 ^ 64 },
+    ghost done: { end.finish ≡ finish.Done },
+    ghost of: { ∥ (g : CodeRun) × (c : State ℕ) × (j : End ℕ)
+        × ClaimsAs g at.revision.value at.written at.is_try at.on end c j ∥₁ },
 }
 
 impl<P: Snapshot> AtJoin<P> {
+    ghost use Rattle.rev_vm.specs.Values.{StandsAtJoin, StandsFor, joiner_group, runner_group};
+
     /// The number of the revision that is joined.
     pub fn on(&self) -> u32
         ensures { result ≡ self.now.on }
@@ -48,10 +59,7 @@ impl<P: Snapshot> AtJoin<P> {
 
     /// The line charged last.
     pub fn line(&self) -> u32
-        ensures { (g : CodeRun) (c : State _) → IsAtJoin g self.now.revision.value.run
-            self.now.revision.value.memory.delta (P.base self.now.revision.value.memory.snapshot)
-            self.now.revision.value.memory.first.roots self.now.written self.now.is_try self.now.on
-            c
+        ensures { (g : CodeRun) (c : State _) → StandsAtJoin g self.now c
             → result ≡ c.line }
     {
         self.revision.run.registers.line
@@ -60,10 +68,7 @@ impl<P: Snapshot> AtJoin<P> {
     /// The fuel that is left.
     pub fn fuel(&self) -> u64
         ensures rest { result ≡ self.now.revision.value.run.registers.fuel }
-        ensures state { (g : CodeRun) (c : State _) → IsAtJoin g self.now.revision.value.run
-            self.now.revision.value.memory.delta (P.base self.now.revision.value.memory.snapshot)
-            self.now.revision.value.memory.first.roots self.now.written self.now.is_try self.now.on
-            c
+        ensures state { (g : CodeRun) (c : State _) → StandsAtJoin g self.now c
             → result ≡ c.fuel }
     {
         self.revision.run.registers.fuel
@@ -71,19 +76,19 @@ impl<P: Snapshot> AtJoin<P> {
 
     /// What the revision has printed so far.
     pub fn text(&self) -> &[u8]
-        ensures { (g : CodeRun) (c : State _) → IsAtJoin g self.now.revision.value.run
-            self.now.revision.value.memory.delta (P.base self.now.revision.value.memory.snapshot)
-            self.now.revision.value.memory.first.roots self.now.written self.now.is_try self.now.on
-            c
+        ensures { (g : CodeRun) (c : State _) → StandsAtJoin g self.now c
             → result.now ≡ c.text }
     {
         self.revision.run.text.as_slice()
     }
 
-    /// The joiner with the end of the revision that it joins, which is done. The fuel of both
-    /// together must have 64 bits.
+    /// The joiner with the end of the revision that it joins, which is done, in a run of code of
+    /// which both are. The fuel of both together must have 64 bits.
     pub fn claim(self, end: EndValue) -> Claimed<P>
-        requires { self.revision.value.run.registers.fuel + end.fuel < 2 ^ 64 }
+        requires fuel { self.revision.value.run.registers.fuel + end.fuel < 2 ^ 64 }
+        requires done { end.finish ≡ finish.Done }
+        requires of { (g : CodeRun) × (c : State ℕ) × (j : End ℕ)
+            × StandsAtJoin g self c × IsEnd g j end }
         ensures at { result.at ≡ self }
         ensures end { result.end ≡ end }
     {
@@ -94,13 +99,11 @@ impl<P: Snapshot> AtJoin<P> {
     /// and tells which revision trapped first.
     pub fn trapped(self, trap: CodeTrap) -> Stopped<P>
         requires { self.is_try ≡ false }
-        ensures end { (g : CodeRun) (c : State _) (t : Trap _) → IsAtJoin g self.revision.value.run
-            self.revision.value.memory.delta (P.base self.revision.value.memory.snapshot)
-            self.revision.value.memory.first.roots self.written self.is_try self.on c
+        ensures end { (g : CodeRun) (c : State _) (t : Trap _) → StandsAtJoin g self c
             → IsTrap t trap
             → IsEnd g (end_of (inherit c false self.on t)) result.end }
         ensures by_join { is_by_join result.end.finish ≡ true }
-        ensures group { P.group result.snapshot ≡ P.group self.revision.value.memory.snapshot }
+        ensures group { P.group result.snapshot ≡ joiner_group self }
     {
         let first = first_of(self.on, trap.origin);
         let AtJoin {
@@ -121,14 +124,9 @@ impl<P: Snapshot> AtJoin<P> {
     /// and the joiner is told so.
     pub fn dropped(self) -> Runner<P>
         requires { self.is_try ≡ true }
-        ensures state { (g : CodeRun) (c : State _) → IsAtJoin g self.revision.value.run
-            self.revision.value.memory.delta (P.base self.revision.value.memory.snapshot)
-            self.revision.value.memory.first.roots self.written self.is_try self.on c
-            → IsAt g result.revision.value.run result.revision.value.memory.delta
-            (P.base result.revision.value.memory.snapshot) result.revision.value.memory.first.roots
-            (past_join c true false self.on) }
-        ensures group { P.group result.revision.value.memory.snapshot
-            ≡ P.group self.revision.value.memory.snapshot }
+        ensures state { (g : CodeRun) (c : State _) → StandsAtJoin g self c
+            → StandsFor g result (past_join c true false self.on) }
+        ensures group { runner_group result ≡ joiner_group self }
     {
         let AtJoin {
             mut revision,
@@ -142,7 +140,7 @@ impl<P: Snapshot> AtJoin<P> {
 
     /// Its snapshot, given back.
     pub fn give_up(self) -> P::Spent
-        ensures { P.spent_group result ≡ P.group self.revision.value.memory.snapshot }
+        ensures { P.spent_group result ≡ joiner_group self }
     {
         let AtJoin {
             revision,

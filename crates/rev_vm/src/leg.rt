@@ -6,6 +6,7 @@ ghost use Rattle.rev_code.specs.State.{State};
 ghost use Rattle.rev_code.specs.Step.{ends, forks, joins, traps};
 ghost use Rattle.rev_code.specs.Words.{Word};
 ghost use Rattle.version_map.specs.declared.end.Finish.TheVariants as finish;
+ghost use Rattle.version_map.specs.Ascending.{IsAscending};
 ghost use Rattle.version_map.specs.Deltas.{at};
 ghost use Rattle.version_map.specs.Overlay.{under};
 ghost use Rattle.block_run.specs.Remembering.{Kept, written_below};
@@ -13,9 +14,11 @@ ghost use Rattle.code_machine.specs.Leg.{leg};
 ghost use Rattle.code_machine.specs.Local.{done, end_of, has_ended};
 ghost use Rattle.rev_vm.specs.declared.leg.Event.TheVariants as event;
 ghost use Rattle.rev_vm.specs.Legs.{IsNoted, trap_of};
-ghost use Rattle.rev_vm.specs.Meaning.{IsAt, IsAtFork, IsAtJoin, IsEnd, IsReady};
+ghost use Rattle.rev_vm.specs.Meaning.{IsEnd, IsReady};
 ghost use Rattle.rev_vm.specs.Starts.{run_under};
 ghost use Rattle.rev_vm.specs.States.{is_by_join};
+ghost use Rattle.rev_vm.specs.Values.{StandsAtFork, StandsAtJoin, StandsFor};
+ghost use Rattle.rev_vm.specs.Values.{fork_group, joiner_group, runner_group};
 
 use crate::end::{Broken, Stopped, break_off, stop};
 use crate::fork::AtFork;
@@ -55,6 +58,7 @@ fn come_to_join<P: Snapshot>(
     ensures written { IfOk result (λ ws. ws ≡ written_below
         (under revision.old.memory.delta (P.base revision.old.memory.snapshot))
         (at revision.old.memory.first.roots) (P.size revision.old.memory.snapshot)) }
+    ensures order { IfOk result (λ ws. IsAscending ws) }
     ensures kept { Kept (P.size revision.old.memory.snapshot)
         (under revision.old.memory.delta (P.base revision.old.memory.snapshot))
         (under revision.new.memory.delta (P.base revision.new.memory.snapshot))
@@ -147,23 +151,15 @@ pub fn run_leg<P: Snapshot>(
     runner: Runner<P>,
     setting: &CodeSetting,
 ) -> Result<Event<P>, Broken<P>>
-    requires stands { (c : State ℕ) × IsAt (run_under setting.now) runner.revision.value.run
-        runner.revision.value.memory.delta (P.base runner.revision.value.memory.snapshot)
-        runner.revision.value.memory.first.roots c }
-    ensures event { (c : State ℕ) → IsAt (run_under setting.now) runner.revision.value.run
-        runner.revision.value.memory.delta (P.base runner.revision.value.memory.snapshot)
-        runner.revision.value.memory.first.roots c
+    requires stands { (c : State ℕ) × StandsFor (run_under setting.now) runner c }
+    ensures event { (c : State ℕ) → StandsFor (run_under setting.now) runner c
         → IfOk result (λ e. elim e [
           | event.Fork a ↦ (d : State ℕ) × (args : List (Word ℕ))
               × (leg (run_under setting.now) c ≡ forks d a.block args)
-              × IsAtFork (run_under setting.now) a.revision.value.run a.revision.value.memory.delta
-              (P.base a.revision.value.memory.snapshot) a.revision.value.memory.first.roots a.block
-              d args
+              × StandsAtFork (run_under setting.now) a d args
           | event.Join a ↦ (d : State ℕ)
               × (leg (run_under setting.now) c ≡ joins d a.is_try a.on)
-              × IsAtJoin (run_under setting.now) a.revision.value.run a.revision.value.memory.delta
-              (P.base a.revision.value.memory.snapshot) a.revision.value.memory.first.roots
-              a.written a.is_try a.on d
+              × StandsAtJoin (run_under setting.now) a d
           | event.End s ↦ (d : State ℕ) × (w : Option (Word ℕ))
               × (leg (run_under setting.now) c ≡ ends d w)
               × IsEnd (run_under setting.now) (end_of (has_ended d done)) s.end
@@ -172,12 +168,10 @@ pub fn run_leg<P: Snapshot>(
               × IsEnd (run_under setting.now) (end_of (has_ended d (trap_of d e))) s.end
         ]) }
     ensures group { IfOk result (λ e. elim e [
-      | event.Fork a ↦ P.group a.revision.value.memory.snapshot
-          ≡ P.group runner.revision.value.memory.snapshot
-      | event.Join a ↦ P.group a.revision.value.memory.snapshot
-          ≡ P.group runner.revision.value.memory.snapshot
-      | event.End s ↦ P.group s.snapshot ≡ P.group runner.revision.value.memory.snapshot
-      | event.Trap s ↦ P.group s.snapshot ≡ P.group runner.revision.value.memory.snapshot
+      | event.Fork a ↦ fork_group a ≡ runner_group runner
+      | event.Join a ↦ joiner_group a ≡ runner_group runner
+      | event.End s ↦ P.group s.snapshot ≡ runner_group runner
+      | event.Trap s ↦ P.group s.snapshot ≡ runner_group runner
     ]) }
     ensures own { IfOk result (λ e. elim e [
       | event.Fork a ↦ Unit {0}
@@ -186,7 +180,7 @@ pub fn run_leg<P: Snapshot>(
       | event.Trap s ↦ is_by_join s.end.finish ≡ false
     ]) }
     ensures broken { IfErr result
-        (λ b. P.group b.snapshot ≡ P.group runner.revision.value.memory.snapshot) }
+        (λ b. P.group b.snapshot ≡ runner_group runner) }
 {
     let Runner { mut revision } = runner;
     match run(setting, &mut *revision) {

@@ -10,9 +10,9 @@ ghost use Rattle.code_rules.specs.Tables.{is_main};
 ghost use Rattle.code_rules.specs.Verdict.{first_fault};
 ghost use Rattle.block_run.specs.Area.{count};
 ghost use Rattle.code_machine.specs.Machines.{IsMain};
-ghost use Rattle.rev_vm.specs.Meaning.{IsAt};
 ghost use Rattle.rev_vm.specs.Opening.{AreShort, StartsWith, words_at_start};
 ghost use Rattle.rev_vm.specs.Starts.{run_under};
+ghost use Rattle.rev_vm.specs.Values.{StandsFor, runner_group};
 
 use crate::runner::Runner;
 use leg_run::CodeSetting;
@@ -76,15 +76,10 @@ pub fn start_main<P: Snapshot>(
     requires size { P.size snapshot ≡ count setting.now.code.vars }
     requires base { StartsWith setting.now.code.vars (P.base snapshot) }
     ensures state { (n : ℕ) (m : IsMain (run_under setting.now) n)
-        → IfOk result (λ r. IsAt (run_under setting.now) r.revision.value.run
-        r.revision.value.memory.delta (P.base r.revision.value.memory.snapshot)
-        r.revision.value.memory.first.roots
+        → IfOk result (λ r. StandsFor (run_under setting.now) r
         (events.start n m.body [] (start_locations setting.now.code.vars) fuel)) }
-    ensures stands { IfOk result (λ r. (c : State ℕ) × IsAt
-        (run_under setting.now) r.revision.value.run
-        r.revision.value.memory.delta (P.base r.revision.value.memory.snapshot)
-        r.revision.value.memory.first.roots c) }
-    ensures group { IfOk result (λ r. P.group r.revision.value.memory.snapshot ≡ P.group snapshot) }
+    ensures stands { IfOk result (λ r. (c : State ℕ) × StandsFor (run_under setting.now) r c) }
+    ensures group { IfOk result (λ r. runner_group r ≡ P.group snapshot) }
     ensures err { IfErr result (λ s. s ≡ snapshot) }
 {
     let main = main_of(setting.code());

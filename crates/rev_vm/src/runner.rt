@@ -7,8 +7,8 @@ ghost use Rattle.rev_code.specs.State.{Location, State};
 ghost use Rattle.rev_code.specs.Words.{Word};
 ghost use Rattle.block_run.specs.Area.{count};
 ghost use Rattle.code_machine.specs.Local.{CodeRun};
-ghost use Rattle.rev_vm.specs.Meaning.{IsAt};
 ghost use Rattle.rev_vm.specs.Starts.{IsBase, IsCalled, run_under};
+ghost use Rattle.rev_vm.specs.Values.{StandsFor, runner_group};
 
 use crate::end::{Broken, break_off, in_box};
 use crate::starting::begin_with;
@@ -53,11 +53,9 @@ impl<P: Snapshot> Runner<P> {
         ensures state { (b : CodeBlock) (xs : List (Word _)) (ls : List (Location _))
             → IsCalled (run_under setting.now) block b xs args.now
             → IsBase (run_under setting.now) (P.base snapshot) ls
-            → IfOk result (λ r. IsAt (run_under setting.now) r.revision.value.run
-            r.revision.value.memory.delta (P.base r.revision.value.memory.snapshot)
-            r.revision.value.memory.first.roots (events.start block b xs ls fuel)) }
-        ensures group { IfOk result (λ r. P.group r.revision.value.memory.snapshot
-            ≡ P.group snapshot) }
+            → IfOk result (λ r. StandsFor (run_under setting.now) r
+            (events.start block b xs ls fuel)) }
+        ensures group { IfOk result (λ r. runner_group r ≡ P.group snapshot) }
         ensures err { IfErr result (λ s. s ≡ snapshot) }
     {
         match begin_with(alloc, setting, block, args, fuel) {
@@ -78,25 +76,21 @@ impl<P: Snapshot> Runner<P> {
 
     /// The fuel that is left.
     pub fn fuel(&self) -> u64
-        ensures { (g : CodeRun) (c : State _) → IsAt g self.now.revision.value.run
-            self.now.revision.value.memory.delta (P.base self.now.revision.value.memory.snapshot)
-            self.now.revision.value.memory.first.roots c → result ≡ c.fuel }
+        ensures { (g : CodeRun) (c : State _) → StandsFor g self.now c → result ≡ c.fuel }
     {
         self.revision.run.registers.fuel
     }
 
     /// What the revision has printed so far.
     pub fn text(&self) -> &[u8]
-        ensures { (g : CodeRun) (c : State _) → IsAt g self.now.revision.value.run
-            self.now.revision.value.memory.delta (P.base self.now.revision.value.memory.snapshot)
-            self.now.revision.value.memory.first.roots c → result.now ≡ c.text }
+        ensures { (g : CodeRun) (c : State _) → StandsFor g self.now c → result.now ≡ c.text }
     {
         self.revision.run.text.as_slice()
     }
 
     /// Its snapshot, given back.
     pub fn give_up(self) -> P::Spent
-        ensures { P.spent_group result ≡ P.group self.revision.value.memory.snapshot }
+        ensures { P.spent_group result ≡ runner_group self }
     {
         let Runner { revision } = self;
         break_off(revision).give_up()

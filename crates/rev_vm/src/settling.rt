@@ -16,9 +16,10 @@ ghost use Rattle.code_machine.specs.Local.{CodeRun, End, end_of, at_work};
 ghost use Rattle.code_machine.specs.Joining.{join_in};
 ghost use Rattle.block_merges.specs.Merging.{AreMergesOf};
 ghost use Rattle.rev_vm.specs.declared.settling.Settled.TheVariants as settled;
-ghost use Rattle.rev_vm.specs.Meaning.{IsAt, IsClaimed, IsEnd, IsPast, IsPopped};
+ghost use Rattle.rev_vm.specs.Meaning.{IsEnd, IsPast, IsPopped};
 ghost use Rattle.rev_vm.specs.Meaning.{IsReady, IsTakenOver};
 ghost use Rattle.rev_vm.specs.States.{is_by_join};
+ghost use Rattle.rev_vm.specs.Values.{HasClaimed, StandsFor, joiner_group, runner_group};
 ghost use Rattle.rev_vm.specs.Writes.{HasWritten};
 ghost use Rattle.rev_vm.specs.NewWords.{IsMergedTo};
 
@@ -158,7 +159,7 @@ fn take_over<P: Snapshot>(
         (at r.revision.value.memory.first.roots)) }
     ensures size { IfOk result (λ r. P.size r.revision.value.memory.snapshot
         ≡ P.size revision.value.memory.snapshot) }
-    ensures group { IfOk result (λ r. P.group r.revision.value.memory.snapshot
+    ensures group { IfOk result (λ r. runner_group r
         ≡ P.group revision.value.memory.snapshot) }
     ensures answered { IfOk result (λ r. (c : Collapsed)
         → P.answered revision.value.memory.snapshot c
@@ -192,23 +193,13 @@ pub fn settle<P: Snapshot, M: MergeBy>(
     claimed: Claimed<P>,
     merges: &mut M,
 ) -> Result<Settled<P>, Broken<P>>
-    requires { (g : CodeRun) × (c : State ℕ) × (j : End ℕ)
-        × IsClaimed g claimed.at.revision.value.run
-        claimed.at.revision.value.memory.delta (P.base claimed.at.revision.value.memory.snapshot)
-        claimed.at.revision.value.memory.first.roots claimed.at.written claimed.at.is_try
-        claimed.at.on
-        claimed.end c j × (M.size merges.old ≡ count g.code.vars) }
+    requires { M.size merges.old ≡ P.size claimed.at.revision.value.memory.snapshot }
     ensures settled { (g : CodeRun) (c : State ℕ) (j : End ℕ)
-        → IsClaimed g claimed.at.revision.value.run
-        claimed.at.revision.value.memory.delta (P.base claimed.at.revision.value.memory.snapshot)
-        claimed.at.revision.value.memory.first.roots claimed.at.written claimed.at.is_try
-        claimed.at.on
-        claimed.end c j → AreMergesOf g (M.merges merges.old)
+        → HasClaimed g claimed c j → AreMergesOf g (M.merges merges.old)
         → IfOk result (λ s. elim s [
           | settled.Run r ↦ (c' : State ℕ)
               × (join_in g c claimed.at.is_try claimed.at.on j j.phase ≡ at_work c')
-              × IsAt g r.revision.value.run r.revision.value.memory.delta
-              (P.base r.revision.value.memory.snapshot) r.revision.value.memory.first.roots c'
+              × StandsFor g r c'
           | settled.Trap t ↦ IsEnd g
               (end_of (join_in g c claimed.at.is_try claimed.at.on j j.phase)) t.end
         ]) }
@@ -217,9 +208,8 @@ pub fn settle<P: Snapshot, M: MergeBy>(
       | settled.Trap t ↦ is_by_join t.end.finish ≡ true
     ]) }
     ensures group { IfOk result (λ s. elim s [
-      | settled.Run r ↦ P.group r.revision.value.memory.snapshot
-          ≡ P.group claimed.at.revision.value.memory.snapshot
-      | settled.Trap t ↦ P.group t.snapshot ≡ P.group claimed.at.revision.value.memory.snapshot
+      | settled.Run r ↦ runner_group r ≡ joiner_group claimed.at
+      | settled.Trap t ↦ P.group t.snapshot ≡ joiner_group claimed.at
     ]) }
     ensures collapsed { IfOk result (λ s. elim s [
       | settled.Run r ↦ HasCollapsed P.answered r.revision.value.memory.snapshot
@@ -227,7 +217,7 @@ pub fn settle<P: Snapshot, M: MergeBy>(
     ]) }
     ensures broken_collapsed { IfErr result (λ b. HasCollapsed P.answered b.snapshot) }
     ensures broken { IfErr result
-        (λ b. P.group b.snapshot ≡ P.group claimed.at.revision.value.memory.snapshot) }
+        (λ b. P.group b.snapshot ≡ joiner_group claimed.at) }
     ensures merges_size { M.size merges.new ≡ M.size merges.old }
     ensures merges_same { M.merges merges.new ≡ M.merges merges.old }
 {

@@ -4,6 +4,7 @@ use Rattle.std.proofs.Common.{zero, suc, ◌+◌, ◌-◌, ◌%◌, ◌<◌, ◌
 use Rattle.std.proofs.Common.{refl, ap, ◌∙◌, subst, arith, inl}
 use Rattle.std.proofs.Math.Nat.{mul-mod_left}
 use Rattle.segment_store.specs.Live.{live_segments}
+use Rattle.segment_store.specs.Closing.{out_of}
 use Rattle.segment_store.specs.Rule.{Rule}
 use mathlib.Core.Option.{some, some-injective, some-ne-none}
 use mathlib.Core.Logic.{dite}
@@ -103,29 +104,24 @@ found_is [] i a d e = absurd (some-ne-none a (sym e))
 found_is (x ∷ xs) zero a d e = some-injective x a e
 found_is (x ∷ xs) (suc i) a d e = found_is xs i a d e
 
--- what `close` answers
-pub answers : (words stride segments : ℕ) → 1 < stride → words ≡ (segments + 1) * stride
+-- where all views stand for fewer than 2^64 holds, those that were not gathered are counted exactly,
+-- and with none of them no segment has a count
+pub exact : (words stride segments : ℕ) → 1 < stride → words ≡ (segments + 1) * stride
     → (s : State (Unit {0}) View) → Kept words stride s → (id : ℕ) (v : View)
     → get_elem? s.views id ≡ some v → v.chain ≡ [] → v.build ≡ 0 → v.left ≡ 0
-    → (ws : List ℕ) → s.words ≡ ws → (word live : ℕ) → get_elem? ws 0 ≡ some word
-    → live ≡ live_segments stride ws segments
-    → (made : ℕ) × (v.holds ≤ made)
-    × (made < 18446744073709551616
-    → ((word + (18446744073709551616 - v.holds)) % 18446744073709551616 ≡ made - v.holds)
-    × ((word + (18446744073709551616 - v.holds)) % 18446744073709551616 ≡ 0 → live ≡ 0))
-answers words stride segments big rooms s r id v at no_chain no_build none_left ws is word live w0
-    counts = let made : ℕ = total held s.views in let mine = total_one held s.views id v at in
-    let tally : word ≡ made % 18446744073709551616 = sym (found_is ws 0 word 0 w0)
-    ∙ (ap (λ (l : List ℕ). get_or l 0 0) (sym is) ∙ r.tally) in (
-      made,
-      omega arith,
-      λ fits. (
-        omega arith,
-        λ all. counts ∙ none_live words stride segments ws big rooms
-            (λ c b. ap (λ (l : List ℕ). get_or l c 0) (sym is)
-            ∙ closes words stride s r id v at no_chain no_build (omega arith) c b) segments
-            (omega arith),
-      ),
+    → (live out : ℕ) → live ≡ live_segments stride s.words segments
+    → out ≡ out_of (total held s.views) v.holds → total held s.views < 18446744073709551616
+    → (v.holds ≤ total held s.views) × (out ≡ total held s.views - v.holds)
+    × (out ≡ 0 → live ≡ 0)
+exact words stride segments big rooms s r id v at no_chain no_build none_left live out counts is few =
+    let mine = total_one held s.views id v at in
+    let under : v.holds ≤ total held s.views = omega arith in
+    let rest : out ≡ total held s.views - v.holds = omega arith in (
+      under,
+      rest,
+      λ all. counts ∙ none_live words stride segments s.words big rooms
+          (closes words stride s r id v at no_chain no_build (omega arith)) segments
+          (omega arith),
     )
 
 -- one more segment is counted

@@ -19,7 +19,7 @@ use Rattle.segment_store.specs.Base.{Rests, IsLaid, filled, Forked}
 use Rattle.std.specs.declared.vec.Vec.{Vec}
 use Rattle.std.specs.declared.alloc.Global.{Global}
 use Rattle.segment_store.specs.Own.{root_in, IsOwn, IsComplete}
-use Rattle.segment_store.proofs.Pops.{bare_value}
+use Rattle.segment_store.proofs.Pops.{bare_value, empty}
 use Rattle.segment_store.proofs.Walk.{sound, all_whole}
 
 -- the view after the fork
@@ -151,3 +151,19 @@ completes words stride masks first depth v initial (Some ws) old new l r own_is 
     ap (word_or (value masks initial.items v.chain l)) (done.1 l (omega arith))
     ∙ ap (λ (b : ℕ). word_or b (at old l))
     (sym (bare_value ws.items words stride masks first depth v l r o.1))
+
+-- below a chain are the store's words
+pub store_root : (words stride masks first depth : ℕ) (v : View) (initial : Vec ℕ Global)
+    (own : Option (Vec ℕ Global)) → Rests words stride masks first depth v
+    → IsOwn stride masks first own → depth ≢ 0 → root_in initial own ≡ initial.items
+store_root words stride masks first depth v initial None r own_is some = refl
+store_root words stride masks first depth v initial (Some ws) r own_is some =
+    absurd (some (empty words stride masks first depth v r (own_is ws refl).1))
+
+-- a hold with a chain has no words of its own
+pub own_none : (words stride masks first depth : ℕ) (v : View) (own : Option (Vec ℕ Global))
+    → Rests words stride masks first depth v → IsOwn stride masks first own → depth ≢ 0
+    → own ≡ None
+own_none words stride masks first depth v None r own_is some = refl
+own_none words stride masks first depth v (Some ws) r own_is some =
+    absurd (some (empty words stride masks first depth v r (own_is ws refl).1))

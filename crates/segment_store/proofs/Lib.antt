@@ -9,6 +9,7 @@ pub mod Taken
 pub mod Fills
 pub mod Looks
 pub mod Forks
+pub mod Bases
 pub mod Opens
 pub mod Pops
 pub mod Reached
@@ -18,3 +19,4 @@ pub mod Tying
 pub mod Traces
 pub mod Lifts
 pub mod Grounds
+pub mod Tells

@@ -6,7 +6,7 @@ use Rattle.atomic_table.specs.declared.shared.Seat.{Seat}
 use Rattle.segment_store.specs.declared.board.View.{View}
 use Rattle.segment_store.specs.Same.{IsWord, IsSameSeat, Becomes}
 use Rattle.segment_store.specs.Entry.{Entry, Look}
-use Rattle.segment_store.specs.Store.{look, first_of, rest_of, Has, pops}
+use Rattle.segment_store.specs.Store.{look, first_of, rest_of, Has, pops, drops}
 use Rattle.atomic_table.specs.Table.{Me}
 use Rattle.segment_store.specs.Base.{word_of, bit_of, value, Known, Whole, Sound, AllWhole, Rests}
 use Rattle.segment_store.specs.Base.{logged}
@@ -227,8 +227,11 @@ pub record Falling (words stride masks at left : ℕ) (s t : Seat (Unit {0}) Vie
   pub build : t.me.0.build ≡ s.me.0.build
   pub holds : t.me.0.holds ≡ s.me.0.holds
   pub left_same : t.me.0.left ≡ s.me.0.left
+  pub log : t.me.0.log ≡ s.me.0.log
+  pub alone : s.me.0.alone ≡ 0 → t.me.0.alone ≡ 0
   pub slots : t.me.1 ≡ s.me.1
   pub table : t.table_id ≡ s.table_id
+  pub number : t.id ≡ s.id
 
 -- what a load of a word of the head gives
 pub head_word : (e : Entry) (more : List Entry) (s : Seat (Unit {0}) View) (at i x : ℕ)
@@ -254,8 +257,11 @@ falls words stride masks at left next s t u f h word b = let many = f.many in
       build = ap (λ (v : View). v.build) is ∙ f.build;
       holds = ap (λ (v : View). v.holds) is ∙ f.holds;
       left_same = ap (λ (v : View). v.left) is ∙ f.left_same;
+      log = ap (λ (v : View). v.log) is ∙ f.log;
+      alone = λ _. ap (λ (v : View). v.alone) is;
       slots = ap (λ (m : Me (Unit {0}) View). m.1) b.2 ∙ f.slots;
       table = b.0 ∙ f.table;
+      number = b.1 ∙ f.number;
     }
 
 pub falls_same : (words stride masks at left : ℕ) (s t u : Seat (Unit {0}) View)
@@ -270,6 +276,42 @@ falls_same words stride masks at left s t u f b = let c = chain_of t u b.2 in
       build = ap (λ (x : View). x.build) v ∙ f.build;
       holds = ap (λ (x : View). x.holds) v ∙ f.holds;
       left_same = ap (λ (x : View). x.left) v ∙ f.left_same;
+      log = ap (λ (x : View). x.log) v ∙ f.log;
+      alone = λ none. ap (λ (x : View). x.alone) v ∙ f.alone none;
       slots = ap (λ (m : Me (Unit {0}) View). m.1) b.2 ∙ f.slots;
       table = b.0 ∙ f.table;
+      number = b.1 ∙ f.number;
+    }
+
+-- a hold whose chain was given up to its end
+pub fallen : (words stride masks first depth at left : ℕ) (s t : Seat (Unit {0}) View)
+    → Falling words stride masks at left s t → left ≡ 0
+    → Rests words stride masks first depth s.me.0 → Rests words stride masks 0 0 t.me.0
+fallen words stride masks first depth at left s t f none r =
+    let bare = no_entries t.me.0.chain (sym f.many ∙ none) in record {
+      single = f.single;
+      not_alone = f.alone r.not_alone;
+      not_building = f.build ∙ r.not_building;
+      none_left = f.left_same ∙ r.none_left;
+      one_hold = f.holds ∙ r.one_hold;
+      head = ap first_of (sym bare);
+      deep = sym none ∙ f.many;
+      whole = all_whole words stride masks t.me.0.chain f.sounds;
+    }
+
+-- a hold whose chain was given up as far as others refer to it
+pub let_go : (words stride masks first depth at left : ℕ) (s t u : Seat (Unit {0}) View)
+    → Falling words stride masks at left s t → Becomes t u (drops t.me.0)
+    → Rests words stride masks first depth s.me.0 → Rests words stride masks 0 0 u.me.0
+let_go words stride masks first depth at left s t u f b r =
+    let is : u.me.0 ≡ drops t.me.0 = ap (λ (m : Me (Unit {0}) View). m.0) b.2 in
+    subst (Rests words stride masks 0 0) (sym is) record {
+      single = f.single;
+      not_alone = refl;
+      not_building = f.build ∙ r.not_building;
+      none_left = f.left_same ∙ r.none_left;
+      one_hold = f.holds ∙ r.one_hold;
+      head = refl;
+      deep = refl;
+      whole = all_whole words stride masks [] tt;
     }

@@ -50,6 +50,10 @@ abbrev pub AllWhole : ℕ → ℕ → ℕ → List Entry → Type 0
 AllWhole words stride masks es = (e : Entry) (before after : List Entry) → es ≡ before ++ e ∷ after
     → Whole words stride masks e × (word_of e 1 ≡ first_of after)
 
+-- no chain of a hold is longer than this
+abbrev pub longest : ℕ
+longest = 32
+
 -- a hold between two calls
 pub record Rests (words stride masks first depth : ℕ) (v : View) : Type 0 where
   pub single : v.extra ≡ 0

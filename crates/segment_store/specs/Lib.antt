@@ -11,3 +11,4 @@ pub mod Live
 pub mod Names
 pub mod Group
 pub mod Depth
+pub mod Closing

@@ -3,6 +3,9 @@ use Rattle.std.specs.Prelude.{◌≡◌, ℕ, ◌<◌, List, ◌∷◌, vec_len,
 use Rattle.atomic_table.specs.declared.shared.Seat.{Seat}
 use Rattle.version_map.specs.declared.delta.Delta.{Delta}
 use Rattle.version_map.specs.Deltas.{at, locations}
+use Rattle.version_map.specs.declared.snapshot.Collapsed.{Collapsed}
+use Rattle.version_map.specs.declared.snapshot.Collapsed.TheVariants as collapsed
+use Rattle.segment_store.specs.Act as act
 use Rattle.segment_store.specs.declared.board.View.{View}
 use Rattle.segment_store.specs.Entry.{Entry, Look}
 use Rattle.segment_store.specs.Store.{sees, pops, IsSegment}
@@ -68,3 +71,23 @@ abbrev pub TookFirst : Store → Hold → Hold → Delta → Delta → Type 0
 TookFirst s h k old new = (k.seat.me.0 ≡ pops (sees h.seat.me.0))
     × ((e : Entry) (more : List Entry) → h.seat.me.0.chain ≡ e ∷ more
     → (l : ℕ) → l < vec_len s.initial → at new l ≡ absorbed s.masks e (at old l) l)
+
+-- both have the same word at each of the store's locations
+abbrev pub IsSameBase : Store → Hold → Hold → Type 0
+IsSameBase s h k = (l : ℕ) → l < vec_len s.initial → base s k l ≡ base s h l
+
+-- the last that it found was this count, at its first segment
+abbrev pub FoundLast : Hold → ℕ → Type 0
+FoundLast h n = (before : List Look)
+    × (h.seat.me.0.log ≡ record { segment = h.first; count = n } ∷ before)
+
+-- the last that it did to the segments was a collapse
+abbrev pub CollapsedLast : Hold → Type 0
+CollapsedLast h = (c : ℕ) × (before : List act.Act)
+    × (h.seat.me.0.did ≡ act.collapse c ∷ before)
+
+-- what a hold tells of the answer of its last collapse
+abbrev pub Told : Hold → Collapsed → Type 0
+Told h collapsed.Took = CollapsedLast h
+Told h (collapsed.Kept n) = (1 < n) × FoundLast h n
+Told h collapsed.Base = h.depth ≡ 0

@@ -1,6 +1,6 @@
 //! A hold with its store.
-ghost use Rattle.std.specs.Prelude.{◌≡◌, ◌<◌, vec_len};
-ghost use Rattle.segment_store.specs.Names.{IsOf, base};
+ghost use Rattle.std.specs.Prelude.{vec_len};
+ghost use Rattle.segment_store.specs.Names.{IsOf, base, Told};
 ghost use Rattle.segment_store.specs.Group.{group_of};
 
 use crate::store::{Hold, Spent, Store};
@@ -15,8 +15,6 @@ pub struct Held<'a> {
 }
 
 impl<'a> Snapshot for Held<'a> {
-    ghost use Rattle.version_map.specs.declared.snapshot.Collapsed.TheVariants as collapsed;
-
     type Spent = Spent;
 
     ghost size = { λ h. vec_len h.store.now.initial };
@@ -27,12 +25,12 @@ impl<'a> Snapshot for Held<'a> {
 
     ghost group = { λ h. group_of h.hold.seat.table_id };
 
-    // Base: its chain has no segment. Kept: this count of references was found, which is above 1.
-    ghost answered = { λ h c. elim c [
-      | collapsed.Took ↦ Unit {0}
-      | collapsed.Kept n ↦ 1 < n
-      | collapsed.Base ↦ h.hold.depth ≡ 0
-    ] };
+    // Took: the last that the hold did to the segments was a collapse. Kept: the last that it found
+    // was this count, above 1, at its first segment. Base: its chain has no segment.
+    ghost answered = { λ h c. Told h.hold c };
+
+    // A fork shares where a segment is free, and else it copies.
+    ghost hows = { λ _. Unit {0} };
 
     ghost spent_group = { λ s. group_of s.seat.table_id };
 

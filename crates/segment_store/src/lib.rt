@@ -12,4 +12,4 @@ pub use board::{Size, View};
 pub use held::Held;
 pub use laws::{core_laws, depth_bound, group_law, held_law};
 pub use plays::Law;
-pub use store::{Closed, Hold, Spent, Store};
+pub use store::{Closed, Hold, Shut, Spent, Store};

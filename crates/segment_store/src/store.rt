@@ -1,20 +1,21 @@
 //! The store and its holds.
 ghost use Rattle.std.specs.Prelude.{◌≡◌, ◌≢◌, ℕ, ◌+◌, ◌-◌, ◌*◌, ◌/◌, ◌%◌, ◌<◌, ◌≤◌, ◌^◌, []};
 ghost use Rattle.std.specs.Prelude.{vec_len, replicate, cond, min, ◌==◌, IfOk, IfErr, None, IfNone};
-ghost use Rattle.std.specs.Prelude.{IfSome};
+ghost use Rattle.std.specs.Prelude.{IfSome, slice_index};
 ghost use mathlib.Core.Option.{some};
 ghost use lib.ListN.{get_elem?};
 ghost use Rattle.atomic_table.specs.Table.{State};
 ghost use Rattle.version_map.specs.Masks.{rows};
 ghost use Rattle.version_map.specs.Deltas.{locations, IsEmpty};
-ghost use Rattle.version_map.specs.Overlay.{under};
+ghost use Rattle.version_map.specs.Overlay.{under, Agree};
 ghost use Rattle.segment_store.specs.Rule.{Rule};
 ghost use Rattle.segment_store.specs.Store.{notes, counts};
-ghost use Rattle.segment_store.specs.Base.{value, Rests};
+ghost use Rattle.segment_store.specs.Base.{value, Rests, longest};
 ghost use Rattle.segment_store.specs.Live.{live_segments};
 ghost use Rattle.segment_store.specs.Same.{IsSameSeat};
 ghost use Rattle.segment_store.specs.Own.{IsOwn};
 
+mod closing;
 mod copies;
 mod steps;
 mod walks;
@@ -22,10 +23,15 @@ mod walks;
 use crate::board::{Size, View};
 use crate::plays::Law;
 use atomic_table::{Seat, Table};
+pub use closing::Shut;
+use copies::{copy_of, words_under};
 use std::alloc::{AllocError, Global};
 use version_map::{Collapsed, Delta, How, mask_rows};
 
 pub type Place = Seat<(), View>;
+
+// No chain is longer.
+const LONGEST: u64 = 32;
 
 /// Segments of words that many threads share.
 #[derive(Drop)]
@@ -45,8 +51,7 @@ pub struct Store {
     ghost few: { segments < 2 ^ 32 },
 }
 
-/// What one revision reads under its own delta.
-#[derive(Drop)]
+/// What one revision reads under its own delta. It is never let go of: `release` takes it.
 pub struct Hold {
     seat: Seat<(), View>,
     first: usize,
@@ -57,6 +62,7 @@ pub struct Hold {
     ghost rests: { Rests seat.table_id.words stride masks first depth seat.me.0 },
     ghost no_slots: { seat.me.1 ≡ [] },
     ghost own_words: { IsOwn stride masks first own },
+    ghost short: { depth ≤ longest },
 }
 
 /// What `close` counted.
@@ -76,7 +82,7 @@ impl Closed {
         self.live
     }
 
-    /// How many holds were not gathered, where fewer than 2^64 were made.
+    /// How many of the holds that were counted were not gathered, modulo 2^64.
     pub fn out(&self) -> u64
         ensures { result ≡ self.now.out }
     {
@@ -84,8 +90,8 @@ impl Closed {
     }
 }
 
-/// What is left of holds that were given back, with their number modulo 2^64.
-#[derive(Drop)]
+/// What is left of holds that were given back, with their number modulo 2^64. It is never let go of:
+/// `gather` and `close` take it.
 pub struct Spent {
     seat: Place,
     holds: u64,
@@ -97,7 +103,7 @@ pub struct Spent {
 impl Store {
     ghost use Rattle.segment_store.specs.Names.{IsOf, IsSeatOf, IsDeltaOf, IsSameHold, TookFirst};
     ghost use Rattle.segment_store.specs.Names.{FoundAllIn};
-    ghost use Rattle.segment_store.specs.Names.{base, gathered};
+    ghost use Rattle.segment_store.specs.Names.{base, gathered, IsSameBase};
     ghost use Rattle.segment_store.specs.First.{AreFreeAtFirst};
     ghost use Rattle.version_map.specs.declared.snapshot.Collapsed.TheVariants as collapsed;
     ghost use Rattle.version_map.specs.declared.snapshot.How.TheVariants.{Shared, Copied};
@@ -150,6 +156,7 @@ impl Store {
     // A hold for a child over a new segment with the delta.
     fn fork_push(&self, hold: &mut Hold, delta: &mut Delta) -> Option<Hold>
         requires own { IsOf self.now hold.old × IsDeltaOf self.now delta.old }
+        requires short { hold.old.depth < longest }
         ensures own { IsOf self.now hold.new × (locations delta.new ≡ locations delta.old) }
         ensures none { IfNone result (IsSameHold hold.old hold.new × (delta.new ≡ delta.old)
             × FoundAllIn self.now hold.old.seat.me.0.log hold.new.seat.me.0.log) }
@@ -175,32 +182,79 @@ impl Store {
         })
     }
 
-    // A hold for a child with words of its own.
-    fn fork_copy(&self, alloc: Global, hold: &mut Hold, delta: &Delta) -> Result<Hold, AllocError>
-        requires own { IsOf self.now hold.old × IsDeltaOf self.now delta.now }
-        ensures own { IsOf self.now hold.new × IsSameHold hold.old hold.new
+    // Gives the hold these words of its own, and gives back its chain.
+    fn keep_words(&self, hold: &mut Hold, words: Vec<u64>)
+        requires own { IsOf self.now hold.old }
+        requires words { vec_len words ≡ vec_len self.now.initial }
+        ensures own { IsOf self.now hold.new
             × (hold.new.seat.me.0.log ≡ hold.old.seat.me.0.log) }
-        ensures child { IfOk result (λ h. IsOf self.now h × (h.own ≢ None)) }
-        ensures base { IfOk result (λ h. (l : ℕ) → l < vec_len self.now.initial
-            → base self.now h l ≡ under delta.now (base self.now hold.old) l) }
+        ensures base { (l : ℕ) → base self.now hold.new l ≡ slice_index words.items l }
+        ensures bare { hold.new.depth ≡ 0 }
     {
-        let words = self.copy(
+        self.release_all(&mut hold.seat, hold.first, hold.depth);
+        hold.first = 0;
+        hold.depth = 0;
+        hold.own = Some(words);
+    }
+
+    // Gives back the chain.
+    fn drop_chain(&self, hold: &mut Hold)
+        requires own { IsOf self.now hold.old × (hold.old.own ≡ None) }
+        ensures own { IsOf self.now hold.new
+            × (hold.new.seat.me.0.log ≡ hold.old.seat.me.0.log) }
+        ensures base { (l : ℕ) → base self.now hold.new l ≡ slice_index self.now.initial.items l }
+        ensures bare { hold.new.depth ≡ 0 }
+    {
+        self.release_all(&mut hold.seat, hold.first, hold.depth);
+        hold.first = 0;
+        hold.depth = 0;
+        hold.own = None;
+    }
+
+    // The base under the delta. A hold that has a chain gives it back, and keeps its base as words
+    // of its own.
+    fn copy(&self, alloc: Global, hold: &mut Hold, delta: &Delta) -> Result<Vec<u64>, AllocError>
+        requires own { IsOf self.now hold.old × IsDeltaOf self.now delta.now }
+        ensures own { IsOf self.now hold.new × IsSameBase self.now hold.old hold.new
+            × (hold.new.seat.me.0.log ≡ hold.old.seat.me.0.log) }
+        ensures failed { IfErr result (λ _. IsSameHold hold.old hold.new) }
+        ensures words { IfOk result (λ v. (vec_len v ≡ vec_len self.now.initial)
+            × Agree (vec_len self.now.initial) (slice_index v.items)
+            (under delta.now (base self.now hold.old))) }
+        ensures bare { IfOk result (λ _. hold.new.depth ≡ 0) }
+    {
+        if hold.depth == 0 {
+            return self.copy_bare(alloc, &hold.own, delta);
+        }
+        let base = self.copy_chain(
             alloc,
             &mut hold.seat,
             hold.first,
             hold.depth,
-            &hold.own,
-            delta,
+            delta.locations(),
         )?;
+        let words = words_under(alloc, delta, &base)?;
+        self.keep_words(hold, base);
+        Ok(words)
+    }
+
+    // A hold for a child with these words of its own.
+    fn fork_own(&self, hold: &mut Hold, words: Vec<u64>) -> Hold
+        requires own { IsOf self.now hold.old × (vec_len words ≡ vec_len self.now.initial) }
+        ensures own { IsOf self.now hold.new × IsSameHold hold.old hold.new
+            × (hold.new.seat.me.0.log ≡ hold.old.seat.me.0.log) }
+        ensures child { IsOf self.now result × (result.own ≢ None) }
+        ensures base { (l : ℕ) → base self.now result l ≡ slice_index words.items l }
+    {
         let seat = self.split_off(&mut hold.seat, hold.first, hold.depth);
-        Ok(Hold {
+        Hold {
             seat,
             first: 0,
             depth: 0,
             stride: self.stride,
             masks: self.masks,
             own: Some(words),
-        })
+        }
     }
 
     // A hold for a child of the same base. It is `None` where the hold has no segment, where a look
@@ -227,9 +281,59 @@ impl Store {
         })
     }
 
+    // A fork of a hold whose chain is at its longest. It gives the chain back first, so that a new
+    // segment has the delta over all values of the chain, and no parent.
+    fn fork_long(
+        &self,
+        alloc: Global,
+        hold: &mut Hold,
+        delta: &mut Delta,
+    ) -> Result<(Hold, How), AllocError>
+        requires own { IsOf self.now hold.old × IsDeltaOf self.now delta.old }
+        requires some { (0 < hold.old.depth) × (hold.old.own ≡ None) }
+        ensures own { IsOf self.now hold.new × (locations delta.new ≡ locations delta.old) }
+        ensures failed { IfErr result (λ _. IsSameHold hold.old hold.new
+            × (delta.new ≡ delta.old)) }
+        ensures child { IfOk result (λ r. IsOf self.now r.0
+            × ((l : ℕ) → l < vec_len self.now.initial
+            → base self.now r.0 l ≡ under delta.old (base self.now hold.old) l)) }
+        ensures parent { (l : ℕ) → l < vec_len self.now.initial
+            → under delta.new (base self.now hold.new) l ≡ under delta.old (base self.now hold.old)
+            l }
+        ensures shared { IfOk result (λ r. r.1 ≡ Shared → IsEmpty delta.new
+            × (r.0.first ≡ hold.new.first) × (0 < r.0.first)
+            × (r.0.seat.me.0.chain ≡ hold.new.seat.me.0.chain)) }
+        ensures copied { IfOk result (λ r. r.1 ≡ Copied → (delta.new ≡ delta.old)
+            × IsSameBase self.now hold.old hold.new × (r.0.own ≢ None)
+            × FoundAllIn self.now hold.old.seat.me.0.log hold.new.seat.me.0.log) }
+    {
+        let base = self.copy_chain(
+            alloc,
+            &mut hold.seat,
+            hold.first,
+            hold.depth,
+            delta.locations(),
+        )?;
+        let words = words_under(alloc, delta, &base)?;
+        let mut all = copy_of(alloc, delta)?;
+        self.absorb_chain(&mut hold.seat, hold.first, hold.depth, &mut all);
+        self.drop_chain(hold);
+        match self.fork_push(hold, &mut all) {
+            Some(child) => {
+                delta.clear();
+                Ok((child, How::Shared))
+            },
+            None => {
+                self.keep_words(hold, base);
+                Ok((self.fork_own(hold, words), How::Copied))
+            },
+        }
+    }
+
     /// A hold for a child, whose base is the hold's under the delta.
     /// Shared: the delta is empty afterwards, and both holds have one first segment.
-    /// Copied: the child has words of its own, and each segment's count was found not 0.
+    /// Copied: the delta and the hold's base are as before, the child has words of its own, and each
+    /// segment's count was found not 0. A hold that had a chain has words of its own, too.
     /// The error is want of memory: the delta is as before, and the hold has its chain and words.
     pub fn fork(
         &self,
@@ -251,7 +355,7 @@ impl Store {
             × (r.0.first ≡ hold.new.first) × (0 < r.0.first)
             × (r.0.seat.me.0.chain ≡ hold.new.seat.me.0.chain)) }
         ensures copied { IfOk result (λ r. r.1 ≡ Copied → (delta.new ≡ delta.old)
-            × IsSameHold hold.old hold.new × (r.0.own ≢ None)
+            × IsSameBase self.now hold.old hold.new × (r.0.own ≢ None)
             × FoundAllIn self.now hold.old.seat.me.0.log hold.new.seat.me.0.log) }
     {
         if delta.is_empty() {
@@ -259,10 +363,14 @@ impl Store {
                 return Ok((child, How::Shared));
             }
         }
+        if hold.depth >= LONGEST {
+            return self.fork_long(alloc, hold, delta);
+        }
         if let Some(child) = self.fork_push(hold, delta) {
             return Ok((child, How::Shared));
         }
-        Ok((self.fork_copy(alloc, hold, delta)?, How::Copied))
+        let words = self.copy(alloc, hold, delta)?;
+        Ok((self.fork_own(hold, words), How::Copied))
     }
 
     /// Took: the first segment was given up, the hold has its parent, and its values are in `into`
@@ -279,7 +387,8 @@ impl Store {
             × TookFirst self.now hold.old hold.new into.old into.new }
         ensures kept { (n : ℕ) → result ≡ collapsed.Kept n → (1 < n)
             × (hold.new.seat.me.0 ≡ notes hold.old.seat.me.0 hold.old.first n)
-            × (hold.new.depth ≡ hold.old.depth) × (into.new ≡ into.old) }
+            × (hold.new.first ≡ hold.old.first) × (hold.new.depth ≡ hold.old.depth)
+            × (into.new ≡ into.old) }
         ensures exact { hold.old.depth ≡ 0 → result ≡ collapsed.Base }
         ensures bottom { result ≡ collapsed.Base → (hold.old.depth ≡ 0) × (hold.new ≡ hold.old)
             × (into.new ≡ into.old) }
@@ -319,45 +428,11 @@ impl Store {
         Spent { seat, holds: 1 }
     }
 
-    /// Ends the store. `out` is how many of the holds that were made were not gathered, and `live`
-    /// how many segments have a count that is not 0. Where fewer than 2^64 were made, `out` is
-    /// exact, and with none out no segment has a count.
-    pub fn close(self, mut all: Spent) -> Closed
-        requires own { IsSeatOf self all.seat }
-        ensures counts { (s : State (Unit {0}) View) × Rule self.words self.stride self.masks s
-            × (get_elem? s.views all.seat.id ≡ some all.seat.me.0)
-            × (result.live ≡ live_segments self.stride s.words self.segments) }
-        ensures group { IsSeatOf self result.witness }
-        ensures out { (made : ℕ) × (gathered all ≤ made)
-            × (made < 2 ^ 64 → (result.out ≡ made - gathered all)
-            × (result.out ≡ 0 → result.live ≡ 0)) }
-    {
-        let witness = self.witness(&mut all.seat);
-        let Store {
-            table,
-            initial: _,
-            stride,
-            masks: _,
-            segments,
-            words: _,
-        } = self;
-        let Spent { seat, holds } = all;
-        let closed = table.close_with(seat);
-        let out = closed.word(0).wrapping_sub(holds);
-        let mut live = 0;
-        let mut k = 0;
-        while k < segments {
-            live += busy(closed.word((k + 1) * stride));
-            k += 1;
-        }
-        closed.free();
-        Closed { live, out, witness }
-    }
-
-    /// Gives back the reference.
+    /// Gives back the hold's reference. What is left is the hold's own seat.
     pub fn release(&self, hold: Hold) -> Spent
         requires own { IsOf self.now hold }
-        ensures { IsSeatOf self.now result.seat × (gathered result ≡ 1) }
+        ensures own { IsSeatOf self.now result.seat × (result.seat.id ≡ hold.seat.id) }
+        ensures spent { gathered result ≡ 1 }
     {
         let Hold {
             mut seat,
@@ -371,13 +446,15 @@ impl Store {
         Spent { seat, holds: 1 }
     }
 
-    /// The word of the hold's base at this location, which is one of the store's.
+    /// The word of the hold's base at this location, which is one of the store's. What the hold has
+    /// found and done stays.
     pub fn read(&self, hold: &mut Hold, location: u32) -> u64
         requires own { IsOf self.now hold.old }
         requires inside { location < vec_len self.now.initial }
         ensures value { result ≡ base self.now hold.old location }
         ensures same { IsOf self.now hold.new × IsSameSeat hold.old.seat hold.new.seat
-            × IsSameHold hold.old hold.new × (hold.new.depth ≡ hold.old.depth) }
+            × IsSameHold hold.old hold.new × (hold.new.first ≡ hold.old.first)
+            × (hold.new.depth ≡ hold.old.depth) }
     {
         self.base_word(
             &mut hold.seat,
@@ -400,12 +477,6 @@ fn opened(segments: u32, stride: usize) -> usize
     } else {
         most
     }
-}
-
-fn busy(word: u64) -> u32
-    ensures { result ≡ cond (word == 0) 0 1 }
-{
-    if word == 0 { 0 } else { 1 }
 }
 
 fn zeros(alloc: Global, n: usize) -> Result<Vec<u64>, AllocError>

@@ -12,8 +12,8 @@ use code_world::World;
 use leg_run::CodeSetting;
 use rev_io::Sink;
 use rev_num::Outcome;
-use world_streams::{StreamFault, stream};
 use std::alloc::Global;
+use world_streams::{StreamFault, stream};
 
 /// The outcome of verified code with these inputs, share and fuel, of which there are at most
 /// 4,000,000,000 units, and which never joins a revision twice. `out` gets the text of `main` leg by

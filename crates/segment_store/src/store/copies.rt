@@ -1,10 +1,10 @@
 //! A copy of what a hold reads.
-ghost use Rattle.std.specs.Prelude.{◌≡◌, ℕ, ◌<◌, length, vec_len, slice_index, IfOk};
+ghost use Rattle.std.specs.Prelude.{◌≡◌, ℕ, ◌<◌, length, vec_len, slice_index, IfOk, IfSome};
 ghost use Rattle.version_map.specs.Deltas.{at, locations};
 ghost use Rattle.version_map.specs.Overlay.{under, Agree};
 ghost use Rattle.segment_store.specs.Base.{value};
 ghost use Rattle.segment_store.specs.Same.{IsSameSeat};
-ghost use Rattle.segment_store.specs.Own.{root_in, IsOwn};
+ghost use Rattle.segment_store.specs.Own.{root_in};
 
 use crate::store::{Place, Store};
 use std::alloc::{AllocError, Global};
@@ -33,58 +33,49 @@ impl Store {
         }
     }
 
-    // The base under the delta, for a hold with no words of its own. It goes down the chain once.
+    // The words of a chain's base. It goes down the chain once.
     pub(super) fn copy_chain(
         &self,
         alloc: Global,
         seat: &mut Place,
         first: usize,
         depth: u64,
-        delta: &Delta,
+        locations: u32,
     ) -> Result<Vec<u64>, AllocError>
-        requires own { IsSeatOf self.now seat.old × IsDeltaOf self.now delta.now }
+        requires own { IsSeatOf self.now seat.old × (locations ≡ vec_len self.now.initial) }
         requires rests { RestsIn self.now first depth seat.old.me.0 }
         ensures same { IsSameSeat seat.old seat.new }
         ensures words { IfOk result (λ v. (vec_len v ≡ vec_len self.now.initial)
-            × Agree (vec_len self.now.initial) (slice_index v.items) (under delta.now
-            (value self.now.masks self.now.initial.items seat.old.me.0.chain))) }
+            × Agree (vec_len self.now.initial) (slice_index v.items)
+            (value self.now.masks self.now.initial.items seat.old.me.0.chain)) }
     {
-        if depth == 0 {
-            return words_under(alloc, delta, &self.initial);
-        }
-        let mut all = copy_of(alloc, delta)?;
+        let mut all = Delta::new(alloc, locations)?;
         self.absorb_chain(seat, first, depth, &mut all);
         words_under(alloc, &all, &self.initial)
     }
 
-    // The base under the delta.
-    pub(super) fn copy(
+    // The base under the delta, for a hold with no segment.
+    pub(super) fn copy_bare(
         &self,
         alloc: Global,
-        seat: &mut Place,
-        first: usize,
-        depth: u64,
         own: &Option<Vec<u64>>,
         delta: &Delta,
     ) -> Result<Vec<u64>, AllocError>
-        requires own { IsSeatOf self.now seat.old × IsDeltaOf self.now delta.now }
-        requires rests { RestsIn self.now first depth seat.old.me.0
-            × IsOwn self.now.stride self.now.masks first own.now }
-        ensures same { IsSameSeat seat.old seat.new }
-        ensures words { IfOk result (λ v. (vec_len v ≡ vec_len self.now.initial)
-            × ((l : ℕ) → l < vec_len self.now.initial
-            → slice_index v.items l ≡ under delta.now
-            (value self.now.masks (root_in self.now.initial own.now) seat.old.me.0.chain) l)) }
+        requires { IsDeltaOf self.now delta.now
+            × IfSome own.now (λ ws. vec_len ws ≡ vec_len self.now.initial) }
+        ensures { IfOk result (λ v. (vec_len v ≡ vec_len self.now.initial)
+            × Agree (vec_len self.now.initial) (slice_index v.items)
+            (under delta.now (slice_index (root_in self.now.initial own.now)))) }
     {
         match own {
             Some(words) => words_under(alloc, delta, words),
-            None => self.copy_chain(alloc, seat, first, depth, delta),
+            None => words_under(alloc, delta, &self.initial),
         }
     }
 }
 
 // A delta with the same values.
-fn copy_of(alloc: Global, delta: &Delta) -> Result<Delta, AllocError>
+pub(super) fn copy_of(alloc: Global, delta: &Delta) -> Result<Delta, AllocError>
     ensures { IfOk result (λ d. (locations d ≡ locations delta.now)
         × ((l : ℕ) → l < locations delta.now → at d l ≡ at delta.now l)) }
 {
@@ -99,7 +90,11 @@ fn copy_of(alloc: Global, delta: &Delta) -> Result<Delta, AllocError>
 }
 
 // The words under the delta.
-fn words_under(alloc: Global, delta: &Delta, words: &[u64]) -> Result<Vec<u64>, AllocError>
+pub(super) fn words_under(
+    alloc: Global,
+    delta: &Delta,
+    words: &[u64],
+) -> Result<Vec<u64>, AllocError>
     requires { length words.now ≡ locations delta.now }
     ensures { IfOk result (λ v. (vec_len v ≡ locations delta.now)
         × Agree (locations delta.now) (slice_index v.items)

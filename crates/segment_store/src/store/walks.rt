@@ -325,7 +325,10 @@ impl Store {
         ensures empty { (seat.new.me.0.chain ≡ []) × (seat.new.me.0.build ≡ seat.old.me.0.build)
             × (seat.new.me.0.holds ≡ seat.old.me.0.holds)
             × (seat.new.me.0.left ≡ seat.old.me.0.left) × (seat.new.me.1 ≡ seat.old.me.1)
-            × (seat.new.table_id ≡ seat.old.table_id) }
+            × (seat.new.table_id ≡ seat.old.table_id) × (seat.new.id ≡ seat.old.id) }
+        ensures log { seat.new.me.0.log ≡ seat.old.me.0.log }
+        ensures rests { RestsIn self.now first depth seat.old.me.0
+            → RestsIn self.now 0 0 seat.new.me.0 }
     {
         let mut at = first;
         let mut below = depth;

@@ -1,4 +1,4 @@
-use Rattle.std.proofs.Common.{◌∙◌, refl}
+use Rattle.std.proofs.Common.{◌∙◌, sym}
 use Rattle.code_machine.specs.Local.{CodeRun}
 use Rattle.code_outcomes.specs.Outcomes.{HasOutcome}
 use Rattle.rev_vm.specs.Starts.{run_under}
@@ -13,7 +13,7 @@ pub new-requires-clause-inputs : goal.new-requires-clause-inputs
 new-requires-clause-inputs c = c.note_inputs.ensures
 
 pub replay-requires-clause-merges : goal.replay-requires-clause-merges
-replay-requires-clause-merges c = c.in_ok-merges.ensures.merges (run_under c.in_ok-setting.setting) refl
+replay-requires-clause-merges c = c.in_ok-merges.ensures.merges (run_under c.in_ok-setting.setting) (sym c.code.ensures.code)
 
 pub complete-requires-clause-underway : goal.complete-requires-clause-underway
 complete-requires-clause-underway c =
@@ -23,7 +23,7 @@ complete-requires-clause-underway c =
 pub complete-requires-clause-merges : goal.complete-requires-clause-merges
 complete-requires-clause-merges c =
     let own = run_under c.in_ok-setting.setting in
-    merges_still own _ _ c.in_ok-world.ensures.same (c.in_ok-merges.ensures.merges own refl)
+    merges_still own _ _ c.in_ok-world.ensures.same (c.in_ok-merges.ensures.merges own (sym c.code.ensures.code))
 
 pub returns-clause-legal : goal.returns-clause-legal
 returns-clause-legal c =

@@ -2,6 +2,7 @@ use Rattle.std.proofs.Common.{◌≡◌, ◌∙◌, ◌++◌, length, take, ap, 
 use Rattle.std.proofs.lemmas.List.{take_all}
 use Rattle.std.specs.List.Sorted.{IsPermutation}
 use Rattle.rev_vm.specs.Starts.{run_under}
+use Rattle.rev_code.specs.declared.code.Code.{Code}
 use Rattle.code_soundness.specs.Typed.{location_kinds}
 use Rattle.revision_machine.specs.Numbered.{paths_of}
 use Rattle.world_traces.specs.Parts.{places}
@@ -38,7 +39,7 @@ loop-noted-preserved c =
           let ended = c.requires.ended (length c.pop.new.self.items) c.in-Some.noted last.1 in
           let k = is_the_part g w c.args.notes.items noted over (length c.pop.new.self.items) c.in-Some.noted ended.0 last.1 ended.1 in
           let made = c.in_ok-part.ensures (paths_of w) ended.0 names ended.1
-          ∙ (λ i. noted_part ((c.deref.ensures.value ∙ c.in_ok-places.ensures ∙ ap places c.as_slice.ensures) i) ((c.deref-in-Some.ensures.value ∙ c.in_ok-kinds.ensures ∙ ap location_kinds c.as_slice-2.ensures) i) (paths_of w) (number i) c.in-Some.noted.meetings.items ended.0) ∙ k.3 in
+          ∙ (λ i. noted_part ((c.deref.ensures.value ∙ c.in_ok-places.ensures ∙ ap places (c.as_slice.ensures ∙ ap (λ (z : Code). z.vars) c.code.ensures.code)) i) ((c.deref-in-Some.ensures.value ∙ c.in_ok-kinds.ensures ∙ ap location_kinds (c.as_slice-2.ensures ∙ ap (λ (z : Code). z.vars) c.code-2.ensures.code)) i) (paths_of w) (number i) c.in-Some.noted.meetings.items ended.0) ∙ k.3 in
           one_more g w c.loop-noted.parts.items (length c.pop.new.self.items) k.0 k.1 c.in_ok-part.part c.push.new.self.items k.2 made (c.in_ok-push.ensures).items
           (subst (λ n. IsPermutation (world_parts g w) (c.loop-noted.parts.items ++ take n (world_parts g w))) (ap length c.in-Some.ensures.items ∙ more_length c.pop.new.self.items c.in-Some.noted) (c.loop-noted.invariant.parts w names noted over));
     }

@@ -1,4 +1,4 @@
-use Rattle.std.proofs.Common.{◌≡◌, ◌∙◌, refl}
+use Rattle.std.proofs.Common.{◌≡◌, ◌∙◌, sym}
 use Rattle.revision_machine.specs.Numbered.{begin}
 use Rattle.code_machine.specs.Local.{CodeRun}
 use Rattle.code_machine.specs.Machines.{numbered, start_in}
@@ -19,7 +19,7 @@ finish_noting-requires-clause-reached c =
     (begin (numbered g) (start_in g b.0 b.1.body c.args.fuel), start_reached g b.0 b.1 c.args.fuel c.requires, b.2, c.in_ok-notes.ensures g c.args.fuel b.0 b.1)
 
 pub finish_noting-requires-clause-merges : goal.finish_noting-requires-clause-merges
-finish_noting-requires-clause-merges c = c.in_ok-merges.ensures.merges (run_under c.in_ok-setting.setting) refl
+finish_noting-requires-clause-merges c = c.in_ok-merges.ensures.merges (run_under c.in_ok-setting.setting) (sym c.code.ensures.code)
 
 pub traced_after-requires-clause-over : goal.traced_after-requires-clause-over
 traced_after-requires-clause-over c =

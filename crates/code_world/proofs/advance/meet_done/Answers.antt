@@ -1,17 +1,24 @@
-use Rattle.std.proofs.Common.{◌∙◌, sym, subst}
+use Rattle.std.proofs.Common.{◌∙◌, refl, sym, subst}
 use Rattle.code_machine.specs.Local.{end_of}
 use Rattle.rev_vm.specs.Meaning.{IsEnd}
 use Rattle.code_world.specs.Came.{meets}
 use Rattle.code_world.proofs.Coming.{is_claimed, fuels_fit, meets_is}
 use Rattle.code_world.proofs.advance.meet_done.Goals as goal
 
-pub claim-requires : goal.claim-requires
-claim-requires g c = let q = c.requires.meeting in fuels_fit q.0 c.args.at c.args.end q.1 q.2 q.3
+pub claim-requires-clause-fuel : goal.claim-requires-clause-fuel
+claim-requires-clause-fuel g c = let q = c.requires.meeting in fuels_fit q.0 c.args.at c.args.end q.1 q.2 q.3
+
+pub claim-requires-clause-of : goal.claim-requires-clause-of
+claim-requires-clause-of g c =
+    let q = c.requires.meeting in
+    let k = is_claimed q.0 c.args.at c.args.at c.args.end c.args.end q.1 q.2 refl refl q.3 c.requires.done in
+    (q.0, q.1, q.2, k.joiner, k.joinee)
 
 pub settle-requires : goal.settle-requires
 settle-requires g c =
     let q = c.requires.meeting in
-    (q.0, q.1, q.2, is_claimed q.0 c.args.at c.claim.result.at c.args.end c.claim.result.end q.1 q.2 c.claim.ensures.at c.claim.ensures.end q.3 c.requires.done, q.4)
+    let k = is_claimed q.0 c.args.at c.claim.result.at c.args.end c.claim.result.end q.1 q.2 c.claim.ensures.at c.claim.ensures.end q.3 c.requires.done in
+    q.4 ∙ sym k.joiner.stands.size ∙ c.claim.result.at.revision.value.memory.written
 
 pub returns-in-Ok-Run-clause-met : goal.returns-in-Ok-Run-clause-met
 returns-in-Ok-Run-clause-met g c = λ r s j m are.

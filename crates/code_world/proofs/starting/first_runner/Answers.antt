@@ -1,12 +1,17 @@
+use Rattle.std.proofs.Common.{◌∙◌, ap, subst}
+use Rattle.rev_code.specs.declared.code.Code.{Code}
+use Rattle.version_map.specs.contracts.whole.WholeSnapshot.TheImpl.{ghosts}
+use Rattle.block_run.specs.Area.{count}
+use Rattle.rev_vm.specs.Opening.{StartsWith}
 use Rattle.rev_vm.specs.Starts.{run_under}
 use Rattle.code_world.proofs.Beginning.{main, main_number}
 use Rattle.code_world.proofs.starting.first_runner.Goals as goal
 
 pub start_main-requires-clause-size : goal.start_main-requires-clause-size
-start_main-requires-clause-size c = c.in_ok-words.ensures.size
+start_main-requires-clause-size c = c.in_ok-words.ensures.size ∙ ap (λ (z : Code). count z.vars) c.code.ensures.code
 
 pub start_main-requires-clause-base : goal.start_main-requires-clause-base
-start_main-requires-clause-base c = c.in_ok-words.ensures.base
+start_main-requires-clause-base c = subst (λ (z : Code). StartsWith z.vars (ghosts.base c.in_ok-words.words)) c.code.ensures.code c.in_ok-words.ensures.base
 
 pub returns-in-Ok : goal.returns-in-Ok
 returns-in-Ok c =

@@ -1,4 +1,4 @@
-use Rattle.std.proofs.Common.{◌≡◌, ◌∙◌, Some, None, refl, sym, ap}
+use Rattle.std.proofs.Common.{◌≡◌, ◌∙◌, Some, None, sym, ap}
 use Rattle.std.specs.Prelude.{slice_get}
 use Rattle.rev_vm.specs.Opening.{words_at_start}
 use Rattle.rev_vm.specs.Starts.{run_under}
@@ -9,4 +9,4 @@ start_main-requires-clause-base c = λ l w is.
     let z : None ≡ Some w = sym (ap (λ vs. slice_get (words_at_start vs) l) c.requires.none) ∙ is in absurd cc
 
 pub run_to_end-requires-clause-merges : goal.run_to_end-requires-clause-merges
-run_to_end-requires-clause-merges c = c.in_ok-merges.ensures.merges (run_under c.args.setting.now) refl
+run_to_end-requires-clause-merges c = c.in_ok-merges.ensures.merges (run_under c.args.setting.now) (sym c.code.ensures.code)

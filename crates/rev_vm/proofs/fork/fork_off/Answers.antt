@@ -1,4 +1,4 @@
-use Rattle.std.proofs.Common.{◌∙◌, sym, subst, arith}
+use Rattle.std.proofs.Common.{◌∙◌, ap, sym, subst, arith}
 use Rattle.rev_code.specs.Events as events
 use Rattle.rev_vm.specs.Starts.{IsForker, run_under}
 use Rattle.rev_vm.proofs.Forking.{above, child_at, parent_at, place, room_for_handle, safe, within}
@@ -38,7 +38,7 @@ leave_fork-requires-clause-place g c =
 pub leave_fork-requires-clause-part : goal.leave_fork-requires-clause-part
 leave_fork-requires-clause-part g c =
     let a = part_less c.args.setting.now.share c.args.revision.now.run.registers.fuel in
-    let e = c.part_of-part.ensures in omega (arith, a, e)
+    let e = c.part_of-part.ensures ∙ ap (λ s. events.part s c.args.revision.now.run.registers.fuel) c.share.ensures in omega (arith, a, e)
 
 pub leave_fork-requires-clause-few : goal.leave_fork-requires-clause-few
 leave_fork-requires-clause-few g c = c.requires.at.2.stands.stands.few
@@ -48,7 +48,7 @@ returns-clause-parent g c = λ st xs h.
     parent_at (run_under c.args.setting.now) c.args.revision.now.run c.args.revision.now.memory.delta (g.P.Snapshot.base c.args.revision.now.memory.snapshot) c.args.revision.now.memory.first.roots c.args.block st xs h c.block-b.result.now c.block-b.ensures
     (g.P.Snapshot.size c.args.revision.now.memory.snapshot) (sym c.args.revision.now.memory.written ∙ h.stands.size)
     c.leave_fork.new.run c.fork.new.self.delta c.fork.new.self.first.roots (g.P.Snapshot.base c.fork.new.self.snapshot) (c.fork.new.self.written ∙ c.in_ok-child.ensures.size)
-    (subst (λ m. IsForker m (events.part c.args.setting.now.share c.args.revision.now.run.registers.fuel) c.args.revision.now.run c.leave_fork.new.run) c.params_of.ensures (subst (λ m. IsForker c.params_of.result m c.args.revision.now.run c.leave_fork.new.run) c.part_of-part.ensures c.in_ok-leave_fork.ensures.forker))
+    (subst (λ m. IsForker m (events.part c.args.setting.now.share c.args.revision.now.run.registers.fuel) c.args.revision.now.run c.leave_fork.new.run) c.params_of.ensures (subst (λ m. IsForker c.params_of.result m c.args.revision.now.run c.leave_fork.new.run) (c.part_of-part.ensures ∙ ap (λ s. events.part s c.args.revision.now.run.registers.fuel) c.share.ensures) c.in_ok-leave_fork.ensures.forker))
     c.in_ok-child.ensures.kept
 
 pub returns-clause-child : goal.returns-clause-child

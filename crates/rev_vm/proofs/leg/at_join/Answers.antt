@@ -6,7 +6,7 @@ use Rattle.rev_vm.proofs.Legs.{ready_noted}
 use Rattle.rev_vm.proofs.leg.at_join.Goals as goal
 
 pub invariant_of-result : goal.invariant_of-result
-invariant_of-result g c = record { ready = ready_noted c.args.on c.deref_mut.result.now.run c.come_to_join.new.revision.run (same_ready (sym c.deref_mut.ensures.value) c.requires) c.in-Ok.ensures.noted }
+invariant_of-result g c = record { ready = ready_noted c.args.on c.deref_mut.result.now.run c.come_to_join.new.revision.run (same_ready (sym c.deref_mut.ensures.value) c.requires) c.in-Ok.ensures.noted; ascending = c.in-Ok.ensures.order }
 
 pub returns-in-Ok-clause-noted : goal.returns-in-Ok-clause-noted
 returns-in-Ok-clause-noted g c = same_noted c.deref_mut.ensures.value c.args.on c.come_to_join.new.revision.run c.in-Ok.ensures.noted

@@ -1,6 +1,5 @@
-use Rattle.std.proofs.Common.{◌∙◌, map, sym, subst, arith}
+use Rattle.std.proofs.Common.{◌∙◌, ap, map, sym, subst, arith}
 use Rattle.rev_num.specs.declared.outcome.Cause.TheVariants as cause
-use Rattle.code_soundness.specs.Typed.{location_kinds}
 use Rattle.version_map.specs.declared.end.Written.{Written}
 use Rattle.version_map.specs.Deltas.{at}
 use Rattle.version_map.specs.Overlay.{under}
@@ -9,38 +8,30 @@ use Rattle.version_map.specs.Composing.{composed, entries}
 use Rattle.rev_vm.specs.NewWords.{IsMergedTo}
 use Rattle.rev_vm.specs.Writes.{HasWritten}
 use Rattle.rev_vm.proofs.Boxes.{same_claimed, same_line, same_ready}
-use Rattle.rev_vm.proofs.Firsts.{kinds_many}
-use Rattle.rev_vm.proofs.Joins.{settled_run, settled_trap, values_many, within_all}
+use Rattle.rev_vm.proofs.Claims.{claimed_within}
+use Rattle.rev_vm.proofs.Joins.{settled_run, settled_trap, values_many}
 use Rattle.rev_vm.proofs.settling.settle.Goals as goal
 
 pub merge_words-requires-clause-memory : goal.merge_words-requires-clause-memory
 merge_words-requires-clause-memory g c = λ k d less.
-    let q = c.requires in
-    let w = within_all (location_kinds q.0.code.vars) q.2.written c.args.claimed.end.written q.3.joinee.written k d less in
-    let m = kinds_many q.0.code.vars in
-    let a = c.deref_mut-inside.result.now.memory.written in
-    let b = (same_claimed (sym c.deref_mut-inside.ensures.value) q.0 c.args.claimed.at.written c.args.claimed.at.is_try c.args.claimed.at.on c.args.claimed.end q.1 q.2 q.3).joiner.stands.size in
-    let e = c.collapse.ensures.size in omega (arith, w, m, a, b, e)
+    let w = claimed_within c.args.claimed k d less in
+    let e = c.collapse.ensures.size in
+    let f = ap (λ r. g.P.Snapshot.size r.memory.snapshot) c.deref_mut-inside.ensures.value in omega (arith, w, e, f)
 
 pub merge_words-requires-clause-merges : goal.merge_words-requires-clause-merges
 merge_words-requires-clause-merges g c = λ k d less.
-    let q = c.requires in
-    let w = within_all (location_kinds q.0.code.vars) q.2.written c.args.claimed.end.written q.3.joinee.written k d less in
-    let m = kinds_many q.0.code.vars in
-    let e = q.4 in omega (arith, w, m, e)
+    let w = claimed_within c.args.claimed k d less in
+    let e = c.requires in omega (arith, w, e)
 
 pub take_over-requires-clause-ready : goal.take_over-requires-clause-ready
 take_over-requires-clause-ready g c = same_ready (sym c.deref_mut-inside.ensures.value) c.args.claimed.at.ready
 
 pub take_over-requires-clause-within : goal.take_over-requires-clause-within
 take_over-requires-clause-within g c = λ k d less.
-    let q = c.requires in
-    let w = within_all (location_kinds q.0.code.vars) q.2.written c.args.claimed.end.written q.3.joinee.written k d less in
-    let m = kinds_many q.0.code.vars in
-    let a = c.deref_mut-inside.result.now.memory.written in
-    let b = (same_claimed (sym c.deref_mut-inside.ensures.value) q.0 c.args.claimed.at.written c.args.claimed.at.is_try c.args.claimed.at.on c.args.claimed.end q.1 q.2 q.3).joiner.stands.size in
+    let w = claimed_within c.args.claimed k d less in
     let e = c.collapse.ensures.size in
-    let f = c.merge_words.ensures.size in omega (arith, w, m, a, b, e, f)
+    let f = ap (λ r. g.P.Snapshot.size r.memory.snapshot) c.deref_mut-inside.ensures.value in
+    let h = c.merge_words.ensures.size in omega (arith, w, e, f, h)
 
 pub take_over-requires-clause-many : goal.take_over-requires-clause-many
 take_over-requires-clause-many g c =

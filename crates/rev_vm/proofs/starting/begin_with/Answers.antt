@@ -8,7 +8,7 @@ pub first_frame-requires-clause-room : goal.first_frame-requires-clause-room
 first_frame-requires-clause-room c = (c.room-room.ensures c.block-b.result.now c.block-b.ensures).frame
 
 pub location_count-count-requires : goal.location_count-count-requires
-location_count-count-requires c = no_fault_accepted c.code-count.result.now c.code-count.ensures.faultless
+location_count-count-requires c = no_fault_accepted c.code.result.now c.code.ensures.faultless
 
 pub returns-clause-run : goal.returns-clause-run
 returns-clause-run c = record {

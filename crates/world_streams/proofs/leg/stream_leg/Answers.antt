@@ -29,8 +29,7 @@ pub returns-in-Ok-put_behind-clause-put : goal.returns-in-Ok-put_behind-clause-p
 returns-in-Ok-put_behind-clause-put g c = λ w h is never.
     let s = run_under c.args.setting.now in
     let k = c.in-Ok.ensures.answer w h is in
-    let u = after_stands s w h never.now c.args.revision c.in-Ok.made.1 c.in-Ok.made.0 k in
-    (
+    let u = after_stands s w h never.now c.args.revision c.in-Ok.made.1 c.in-Ok.made.0 k in (
       drop (length c.main_text-before.result.now) c.main_text.result.now,
       gain_is s c.args.setting.now.faultless c.args.world w h is c.args.revision never.now never.after c.in-Ok.made.1 c.in-Ok.made.0 k c.in-Ok.ensures.touches
           c.main_text-before.result.now c.main_text.result.now (c.main_text-before.ensures s w is) (c.main_text.ensures s u.0 u.1),
@@ -42,8 +41,7 @@ returns-in-Err-Failed-clause-put g c = λ w h is never.
     let s = run_under c.args.setting.now in
     let k = c.in-Ok.ensures.answer w h is in
     let u = after_stands s w h never.now c.args.revision c.in-Ok.made.1 c.in-Ok.made.0 k in
-    let wrote = rw c.in-Err-Failed.field-0-is at c.in-Err-Failed.ensures in
-    (
+    let wrote = rw c.in-Err-Failed.field-0-is at c.in-Err-Failed.ensures in (
       wrote.0,
       record {
         answer = c.in-Ok.made.1;
@@ -61,8 +59,7 @@ returns-in-Err-OutOfMemory-clause-put g c = λ w h is never.
     let s = run_under c.args.setting.now in
     let k = c.in-Ok.ensures.answer w h is in
     let u = after_stands s w h never.now c.args.revision c.in-Ok.made.1 c.in-Ok.made.0 k in
-    let wrote = rw c.in-Err-OutOfMemory.field-0-is at c.in-Err-OutOfMemory.ensures in
-    (
+    let wrote = rw c.in-Err-OutOfMemory.field-0-is at c.in-Err-OutOfMemory.ensures in (
       wrote.0,
       inl (record {
         answer = c.in-Ok.made.1;

@@ -47,8 +47,7 @@ returns-in_err-next-clause-put g c = λ w h is never.
 pub returns-in-Err-clause-put : goal.returns-in-Err-clause-put
 returns-in-Err-clause-put g c = λ w h is never.
     let s = run_under c.args.setting.now in
-    let p = c.in_ok-next.ensures.put w h is (never_by s w c.args.number never) in
-    (
+    let p = c.in_ok-next.ensures.put w h is (never_by s w c.args.number never) in (
       p.2.calm,
       puts_whole s w c.args.world h (never [] w refl) is c.args.number _ _ c.in_ok-next.answer c.in_ok-next.next (c.in_ok-next.ensures.answer w h is) (record { gain = p.0; gains = p.1; took = p.2 }),
     )

@@ -1,4 +1,4 @@
-use Rattle.std.proofs.Common.{◌≡◌, ◌∙◌, refl, sym, Ok, Err}
+use Rattle.std.proofs.Common.{◌≡◌, ◌∙◌, sym, Ok, Err}
 use Rattle.code_machine.specs.Local.{CodeRun}
 use Rattle.rev_vm.specs.Starts.{run_under}
 use Rattle.code_runs.proofs.Underway.{of_run}
@@ -25,7 +25,7 @@ stream-requires-clause-reached g c =
     (_, first, b.2, from)
 
 pub stream-requires-clause-merges : goal.stream-requires-clause-merges
-stream-requires-clause-merges g c = c.in_ok-merges.ensures.merges (run_under c.in_ok-setting.setting) refl
+stream-requires-clause-merges g c = c.in_ok-merges.ensures.merges (run_under c.in_ok-setting.setting) (sym c.code.ensures.code)
 
 pub returns-in_err-setting : goal.returns-in_err-setting
 returns-in_err-setting g c =

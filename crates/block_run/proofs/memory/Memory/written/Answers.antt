@@ -1,10 +1,12 @@
-use Rattle.std.proofs.Common.{◌≡◌, ◌∙◌, ℕ, zero, suc, ◌+◌, ◌<◌, ◌≤◌, ◌++◌, Option, None, ap, arith, sym, append-nil}
+use Rattle.std.proofs.Common.{◌≡◌, ◌∙◌, ℕ, zero, suc, ◌+◌, ◌<◌, ◌≤◌, ◌++◌, Option, None, ap, arith, sym, subst, append-nil}
 use Rattle.version_map.proofs.Bits.{row_is_unset, chosen_zero}
 use Rattle.version_map.specs.declared.delta.Delta.{Delta}
 use Rattle.version_map.specs.Deltas.{StartsEmptyRow, mask_of}
 use Rattle.version_map.specs.Deltas.{at}
 use Rattle.version_map.specs.Overlay.{under}
 use Rattle.block_run.specs.Remembering.{written_below, written_there}
+use Rattle.version_map.specs.Ascending.{IsAscending}
+use Rattle.block_run.proofs.Ascending.{ascends}
 use Rattle.block_run.proofs.Turning.{kept_on}
 use Rattle.block_run.proofs.memory.Memory.written.Goals as goal
 
@@ -66,3 +68,6 @@ loop-location-preserved-then-starts_empty_row g c =
       size = inv.size;
       group = inv.group;
     }
+
+pub returns-clause-order : goal.returns-clause-order
+returns-clause-order g c = subst IsAscending (sym c.loop-location.invariant.written) (ascends _ _ c.loop-location.location)

@@ -6,6 +6,8 @@ use Rattle.code_machine.specs.Joining.{join_in}
 use Rattle.code_hub.specs.CodeState.{state_of}
 use Rattle.code_hub.specs.Values.{code_hub, is_end, joined, LeftValue}
 use Rattle.hub_workers.specs.Legs.{IsEndBy}
+use Rattle.version_map.specs.declared.end.EndValue.{EndValue}
+use Rattle.version_map.specs.declared.end.Finish.TheVariants as finish
 use Rattle.rev_vm.specs.Meaning.{IsClaimed, IsEnd}
 use Rattle.rev_vm.specs.Starts.{run_under}
 use Rattle.rev_vm.specs.States.{end_for}
@@ -18,8 +20,8 @@ use Rattle.run_revision.proofs.Events.{by_phase}
 use Rattle.run_revision.proofs.Taking.{same_hand, same_end, fuels, is_done, joined_is, end_stops}
 use Rattle.run_revision.proofs.legs.CodeRevisionsLegs.settle.Goals as goal
 
-pub claim-requires : goal.claim-requires
-claim-requires g c =
+pub claim-requires-clause-fuel : goal.claim-requires-clause-fuel
+claim-requires-clause-fuel g c =
     let q = c.requires.met in
     let own = run_under c.at.inside.setting.now in
     let its = run_under c.end.inside.setting.now in
@@ -27,6 +29,28 @@ claim-requires g c =
     let s = joiner_state own c.at.inside.at in
     subst (λ v. s.fuel + v.fuel < 2 ^ 64) (sym c.into_inner-left.ensures)
     (fuels own its mine s c.at.inside.at.is_try c.at.inside.at.on (joiner_group c.at.inside.at) c.end.inside.value.value c.args.hand.now q.0 q.1 (c.at.view_is ∙ q.2.0) (c.end.view_is ∙ q.2.1) (ap (λ z. z.run) c.hand.view_is) q.4)
+
+pub claim-requires-clause-done : goal.claim-requires-clause-done
+claim-requires-clause-done g c =
+    let q = c.requires.met in
+    let own = run_under c.at.inside.setting.now in
+    let its = run_under c.end.inside.setting.now in
+    let mine = run_under c.hand.inside.setting.now in
+    let s = joiner_state own c.at.inside.at in
+    subst (λ (v : EndValue). v.finish ≡ finish.Done) (sym c.into_inner-left.ensures)
+    (is_done own its mine s c.at.inside.at.is_try c.at.inside.at.on (joiner_group c.at.inside.at) c.end.inside.value.value c.args.hand.now q.0 q.1 (c.at.view_is ∙ q.2.0) (c.end.view_is ∙ q.2.1) (ap (λ z. z.run) c.hand.view_is) q.4 q.3)
+
+pub claim-requires-clause-of : goal.claim-requires-clause-of
+claim-requires-clause-of g c =
+    let q = c.requires.met in
+    let own = run_under c.at.inside.setting.now in
+    let its = run_under c.end.inside.setting.now in
+    let mine = run_under c.hand.inside.setting.now in
+    let s = joiner_state own c.at.inside.at in
+    let j : End ℕ = end_for own c.end.inside.value.value in
+    let alike = same_end own its mine s c.at.inside.at.is_try c.at.inside.at.on (joiner_group c.at.inside.at) c.end.inside.value.value c.args.hand.now q.0 q.1 (c.at.view_is ∙ q.2.0) (c.end.view_is ∙ q.2.1) (ap (λ z. z.run) c.hand.view_is) q.4 in
+    (own, s, j, c.at.invariant, subst (IsEnd own j) (sym c.into_inner-left.ensures)
+    (subst (λ z. IsEnd z (end_for z c.end.inside.value.value) c.end.inside.value.value) alike c.end.invariant))
 
 pub settle-requires : goal.settle-requires
 settle-requires g c =
@@ -47,8 +71,7 @@ settle-requires g c =
     let given : IsClaimed own c.claim.result.at.revision.value.run c.claim.result.at.revision.value.memory.delta (g.P.Snapshot.base c.claim.result.at.revision.value.memory.snapshot) c.claim.result.at.revision.value.memory.first.roots c.claim.result.at.written c.claim.result.at.is_try c.claim.result.at.on c.claim.result.end s j =
     subst (λ v. IsClaimed own c.claim.result.at.revision.value.run c.claim.result.at.revision.value.memory.delta (g.P.Snapshot.base c.claim.result.at.revision.value.memory.snapshot) c.claim.result.at.revision.value.memory.first.roots c.claim.result.at.written c.claim.result.at.is_try c.claim.result.at.on v s j) (sym (c.claim.ensures.end ∙ c.into_inner-left.ensures))
     (subst (λ k. IsClaimed own k.revision.value.run k.revision.value.memory.delta (g.P.Snapshot.base k.revision.value.memory.snapshot) k.revision.value.memory.first.roots k.written k.is_try k.on c.end.inside.value.value s j) (sym c.claim.ensures.at) has) in
-    let merges : AreMergesOf own (g.M.MergeBy.merges c.hand.inside.merges) = subst (λ z. AreMergesOf z (g.M.MergeBy.merges c.hand.inside.merges)) (sym same) c.hand.invariant.1 in
-    (own, s, j, given, c.hand.invariant.0 ∙ ap (λ z. count z.code.vars) (sym same))
+    c.hand.invariant.0 ∙ ap (λ z. count z.code.vars) (sym same) ∙ sym given.joiner.stands.size ∙ c.claim.result.at.revision.value.memory.written
 
 pub invariant_of-result : goal.invariant_of-result
 invariant_of-result g c =

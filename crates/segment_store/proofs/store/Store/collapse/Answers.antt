@@ -14,6 +14,7 @@ invariant_of-hold c = let o = c.requires.own.0 in record {
       (ap (λ t. t.words) (c.in-Ok.ensures.same.0 ∙ o.0) ∙ c.args.self.now.sized.0) o.1 o.2;
   no_slots = c.in-Ok.ensures.same.1 ∙ c.args.hold.now.no_slots;
   own_words = λ ws e. absurd (c.if-hold-eq0.false (c.args.hold.now.own_words ws e).1);
+  short = let h = c.args.hold.now.short in omega arith;
 }
 
 pub returns-in-Ok-clause-base : goal.returns-in-Ok-clause-base

@@ -1,16 +1,34 @@
-use Rattle.std.proofs.Common.{arith, ℕ, List, slice_index, sym, ap, ◌∙◌}
-use Rattle.std.proofs.lemmas.Result.{IfOk-weaker}
+use Rattle.atomic_table.specs.Table.{Me}
+use Rattle.segment_store.specs.declared.board.View.{View}
+use Rattle.std.proofs.Common.{◌<◌, ℕ, List, slice_index, sym, ap, ◌∙◌, subst}
 use Rattle.version_map.specs.Deltas.{at}
 use Rattle.version_map.specs.Overlay.{word_or}
-use Rattle.segment_store.proofs.Forks.{own_value}
+use Rattle.segment_store.specs.Entry.{Entry}
+use Rattle.segment_store.specs.Base.{value}
+use Rattle.segment_store.proofs.Walk.{chain_of}
+use Rattle.segment_store.proofs.Forks.{store_root}
 use Rattle.segment_store.proofs.store.Store.copy.Goals as goal
 
-pub returns-in-Some-clause-words : goal.returns-in-Some-clause-words
-returns-in-Some-clause-words c = let r = c.requires.rests in let o = c.requires.own.1 in
-    IfOk-weaker c.words_under.result _ _ (λ v q. (
+pub returns-clause-own : goal.returns-clause-own
+returns-clause-own c = let h = c.args.hold.now in let s = c.args.self.now in
+    let k = c.keep_words.ensures in
+    let root = store_root _ _ _ _ _ h.seat.me.0 s.initial h.own h.rests h.own_words
+    c.if-hold-eq0.false in (
+      k.own.0,
+      λ l lt. k.base l ∙ (c.in_ok-base.ensures.words.1 l lt
+          ∙ ap (λ (xs : List ℕ). value s.masks xs h.seat.me.0.chain l) (sym root)),
+      k.own.1 ∙ ap (λ (m : Me (Unit {0}) View). m.0.log) c.copy_chain.ensures.same.2,
+    )
+
+pub returns-clause-words : goal.returns-clause-words
+returns-clause-words c = let h = c.args.hold.now in let s = c.args.self.now in
+    let o = c.requires.own.1 in let q = c.in_ok-words.ensures in
+    let root = store_root _ _ _ _ _ h.seat.me.0 s.initial h.own h.rests h.own_words
+    c.if-hold-eq0.false in (
       q.0 ∙ o,
-      λ l lt. q.1 l (omega arith) ∙ ap (λ (base : ℕ). word_or base (at c.args.delta.now l))
+      λ l lt. q.1 l (subst (λ (n : ℕ). l < n) (sym o) lt)
+          ∙ ap (λ (b : ℕ). word_or b (at c.args.delta.now l))
           (ap (λ (xs : List ℕ). slice_index xs l) c.deref.ensures.value
-          ∙ sym (own_value _ _ _ _ _ _ c.args.self.now.initial c.in-Some.words c.args.own.now l r.0
-          r.1 c.in-Some.is)),
-    )) c.words_under.ensures
+          ∙ (c.in_ok-base.ensures.words.1 l lt
+          ∙ ap (λ (xs : List ℕ). value s.masks xs h.seat.me.0.chain l) (sym root))),
+    )

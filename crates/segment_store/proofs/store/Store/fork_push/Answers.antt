@@ -13,6 +13,7 @@ invariant_of-hold-2 c = let o = c.requires.own.0 in let e = c.in_ok-segment.ensu
       ∙ c.args.self.now.sized.0) o.1 o.2;
   no_slots = e.same.1 ∙ c.args.hold.now.no_slots;
   own_words = λ ws q. absurd (none_some ws None refl q);
+  short = let h = c.requires.short in omega arith;
 }
 
 pub invariant_of-result : goal.invariant_of-result
@@ -21,6 +22,7 @@ invariant_of-result c = let o = c.requires.own.0 in let e = c.in_ok-segment.ensu
       ∙ c.args.self.now.sized.0) refl refl;
   no_slots = e.some.2;
   own_words = λ ws q. absurd (none_some ws None refl q);
+  short = let h = c.requires.short in omega arith;
 }
 
 pub returns-clause-child : goal.returns-clause-child

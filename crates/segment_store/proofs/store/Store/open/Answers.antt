@@ -50,6 +50,7 @@ invariant_of-hold c = let e = c.in_ok-table.ensures in record {
       (rests _ _ _);
   no_slots = ap (λ (m : Me (Unit {0}) View). m.1) e.4;
   own_words = λ ws q. absurd (none_some ws None refl q);
+  short = omega arith;
 }
 
 pub returns-clause-free : goal.returns-clause-free

@@ -1,5 +1,7 @@
 use Rattle.std.proofs.Common.{arith, sym, ap, ◌∙◌, refl}
-use Rattle.segment_store.proofs.Walk.{falls, falls_same, chain_of, head_word}
+use Rattle.atomic_table.specs.Table.{Me}
+use Rattle.segment_store.specs.declared.board.View.{View}
+use Rattle.segment_store.proofs.Walk.{falls, falls_same, chain_of, head_word, fallen, let_go}
 use Rattle.segment_store.specs.Store.{first_of}
 use Rattle.segment_store.proofs.store.Store.release_all.Goals as goal
 
@@ -13,8 +15,11 @@ loop-below-init c = let r = c.requires.rests in
       build = refl;
       holds = refl;
       left_same = refl;
+      log = refl;
+      alone = λ none. none;
       slots = refl;
       table = refl;
+      number = refl;
     }
 
 pub loop-below-preserved : goal.loop-below-preserved
@@ -28,3 +33,22 @@ loop-below-preserved c = let f = c.loop-below.invariant in let same = c.word-up.
     (f.head ∙ ap first_of is') c.word-up.ensures.word
     (whole.header 1 (omega arith) (omega arith)))
     (c.release_one.ensures.last c.if-not-release_one.false)
+
+pub returns-then-not-release_one-clause-log : goal.returns-then-not-release_one-clause-log
+returns-then-not-release_one-clause-log c = let f = c.loop-below.invariant in
+    let e = c.release_one.ensures.more c.if-not-release_one.true in
+    ap (λ (m : Me (Unit {0}) View). m.0.log) e.2
+    ∙ (ap (λ (m : Me (Unit {0}) View). m.0.log) c.word-up.ensures.same.2 ∙ f.log)
+
+pub returns-then-not-release_one-clause-rests : goal.returns-then-not-release_one-clause-rests
+returns-then-not-release_one-clause-rests c = let f = c.loop-below.invariant in
+    let_go _ _ _ _ _ _ _ c.args.seat.now c.word-up.new.seat c.release_one.new.seat
+    (falls_same _ _ _ _ _ c.args.seat.now c.loop-below.seat c.word-up.new.seat f
+    c.word-up.ensures.same) (c.release_one.ensures.more c.if-not-release_one.true)
+
+pub returns-clause-log : goal.returns-clause-log
+returns-clause-log c = c.loop-below.invariant.log
+
+pub returns-clause-rests : goal.returns-clause-rests
+returns-clause-rests c = fallen _ _ _ _ _ _ _ c.args.seat.now c.loop-below.seat
+    c.loop-below.invariant (let h = c.loop-below-test.false in omega arith)

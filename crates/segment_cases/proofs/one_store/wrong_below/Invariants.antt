@@ -1,0 +1,5 @@
+use Rattle.segment_cases.specs.Parts.{IsPart}
+use Rattle.segment_cases.proofs.one_store.wrong_below.Given as goal
+
+abbrev pub invariant-loop-location : goal.invariant-loop-location
+invariant-loop-location l = IsPart l.fn.store l.part.hold l.part.delta l.part.all

@@ -1,0 +1,14 @@
+use Rattle.std.proofs.Common.{ℕ, ap, ◌∙◌, subst}
+use Rattle.segment_store.specs.Base.{Sound}
+use Rattle.segment_store.proofs.Walk.{sound}
+use Rattle.segment_store.proofs.store.Store.keep_words.Goals as goal
+
+pub release_all-requires-clause-rests : goal.release_all-requires-clause-rests
+release_all-requires-clause-rests c = let h = c.args.hold.now in let r = h.rests in
+    let o = c.requires.own in let s = c.args.self.now.sized in (
+      r.head,
+      r.deep,
+      subst (λ (z : ℕ × ℕ × ℕ). Sound z.0 z.1 z.2 h.seat.me.0.chain)
+          (λ i. ((ap (λ t. t.words) o.0 ∙ s.0) i, o.1 i, o.2 i)) (sound _ _ _ _ r.whole),
+      r.single,
+    )
