@@ -83,8 +83,7 @@ leaf_has_entry g ok n m fuel ns w replays k r c l there none ends =
     let e = of_named number d.forks (ended_by (leg g d)) l named in
     let reads : leg_reads g c ≡ map (renamed_read number) (leg_reads g d) =
     ap (leg_reads g) same ∙ ap (λ j. reach_reads (under g) j (renamed_as number d.forks d)) (clock_named number g f d x.begins.fresh)
-    ∙ (legs_are_renamed number g.code g.inputs g.share (clock g d) d.forks d).reads in
-    (
+    ∙ (legs_are_renamed number g.code g.inputs g.share (clock g d) d.forks d).reads in (
       record { path = r; block = f.block; args = f.args; fuel = f.fuel; reads = leg_reads g d; end = end_of e.0 },
       record {
         entry = record {
@@ -174,11 +173,16 @@ recorded_by_number g ok n m fuel ns w replays over es rec = at_end w (has_final 
       where
         by : (s : Global (Local Path)) → Complete (machine g) (start (machine g) (first g n m fuel)) x.by s → Agrees (machine g) (machine_by (numbered g) x.table) (IsNumbered x.table) s (Live (globe_of w)) → HasMemo g n m fuel es
         by Twice complete agrees = absurd agrees
-        by (Live h) complete agrees = (x.by, Live h, complete, recorded_is_memo g ok n m fuel x.by h complete es (record {
-          each = rec.0;
-          found = λ r y there none. (let k = unlisted_there g ok n m fuel w x.table h agrees r y there none in rec.1 k.number r k.entry k.there k.unlisted);
-          once = rec.2;
-        }))
+        by (Live h) complete agrees = (
+          x.by,
+          Live h,
+          complete,
+          recorded_is_memo g ok n m fuel x.by h complete es (record {
+            each = rec.0;
+            found = λ r y there none. (let k = unlisted_there g ok n m fuel w x.table h agrees r y there none in rec.1 k.number r k.entry k.there k.unlisted);
+            once = rec.2;
+          }),
+        )
 
 -- ---- counting
 
@@ -219,13 +223,18 @@ counted_by_number g ok n m fuel ns w replays over es paths counted = at_end w (h
       where
         by : (s : Global (Local Path)) → Complete (machine g) (start (machine g) (first g n m fuel)) x.by s → Agrees (machine g) (machine_by (numbered g) x.table) (IsNumbered x.table) s (Live (globe_of w)) → HasReused g n m fuel es (length paths)
         by Twice complete agrees = absurd agrees
-        by (Live h) complete agrees = (x.by, Live h, complete, counted_is_reused g ok n m fuel x.by h complete es paths (record {
-          each = c.0;
-          found = λ r y there none.
-              let k = unlisted_there g ok n m fuel w x.table h agrees r y there none in
-              kept r (c.1 k.number r k.entry k.there k.unlisted);
-          once = c.2;
-        }))
+        by (Live h) complete agrees = (
+          x.by,
+          Live h,
+          complete,
+          counted_is_reused g ok n m fuel x.by h complete es paths (record {
+            each = c.0;
+            found = λ r y there none.
+                let k = unlisted_there g ok n m fuel w x.table h agrees r y there none in
+                kept r (c.1 k.number r k.entry k.there k.unlisted);
+            once = c.2;
+          }),
+        )
           where
             kept : (r : Path) → IsIn r paths ⊎ Refused g n m fuel es r → IsIn r paths ⊎ HasNone g n m fuel es r
             kept r (inl i) = inl i

@@ -203,7 +203,6 @@ main_takes_none g ok n m =
     let z : b.params ≡ 0 = grind (arith, nat_tests, e) in
     ap (λ u. take u b.locals) z
 
-
 module _ {H : Type 0} where
   abbrev start_words : List CodeVar → List (Word H)
   start_words [] = []

@@ -51,11 +51,7 @@ fn words_seen(alloc: Global, delta: &Delta, base: &[u64]) -> Result<Vec<u64>, Al
 }
 
 /// With what a revision began that stands before its first instruction.
-fn begun(
-    alloc: Global,
-    setting: &CodeSetting,
-    runner: &Runner<Whole>,
-) -> Result<Fresh, AllocError>
+fn begun(alloc: Global, setting: &CodeSetting, runner: &Runner<Whole>) -> Result<Fresh, AllocError>
     requires fresh { (c : State ℕ) × (f : DefinedFresh ℕ) × Runs (run_under setting.now) runner.now c
         × IsFresh setting.now.code f c }
     ensures begun { (c : State ℕ) (f : DefinedFresh ℕ) → Runs (run_under setting.now) runner.now c

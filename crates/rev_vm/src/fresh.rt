@@ -8,8 +8,8 @@ ghost use Rattle.rev_code.specs.State.{State};
 ghost use Rattle.plain_words.specs.Agreement.{AreWords};
 ghost use Rattle.code_machine.specs.Local.{CodeRun};
 ghost use Rattle.code_memos.specs.Leaf.{Fresh, IsFresh};
-ghost use Rattle.rev_vm.specs.Meaning.{IsAt};
 ghost use Rattle.rev_vm.specs.Starts.{run_under};
+ghost use Rattle.rev_vm.specs.Values.{StandsFor};
 
 use crate::runner::Runner;
 use fun_run::params_of;
@@ -44,9 +44,7 @@ impl<P: Snapshot> Runner<P> {
     /// Whether it has listed no fork and no join. In a world that a schedule reaches it stands
     /// before its first instruction then.
     pub fn is_fresh(&self) -> bool
-        ensures { (g : CodeRun) (c : State ℕ) → IsAt g self.now.revision.value.run
-            self.now.revision.value.memory.delta (P.base self.now.revision.value.memory.snapshot)
-            self.now.revision.value.memory.first.roots c
+        ensures { (g : CodeRun) (c : State ℕ) → StandsFor g self.now c
             → result ≡ (length c.listed == 0) }
     {
         self.revision.run.meetings.as_slice().is_empty()
@@ -54,24 +52,17 @@ impl<P: Snapshot> Runner<P> {
 
     /// The block that it runs: at first the one with which it was started.
     pub fn block(&self) -> u16
-        ensures { (g : CodeRun) (c : State ℕ) → IsAt g self.now.revision.value.run
-            self.now.revision.value.memory.delta (P.base self.now.revision.value.memory.snapshot)
-            self.now.revision.value.memory.first.roots c → result ≡ c.block }
+        ensures { (g : CodeRun) (c : State ℕ) → StandsFor g self.now c → result ≡ c.block }
     {
         self.revision.run.registers.block
     }
 
     /// The arguments with which it was started, where it stands before its first instruction.
     pub fn args(&self, setting: &CodeSetting) -> &[u64]
-        requires fresh { (c : State ℕ) × (f : Fresh ℕ) × IsAt (run_under setting.now)
-            self.now.revision.value.run self.now.revision.value.memory.delta
-            (P.base self.now.revision.value.memory.snapshot)
-            self.now.revision.value.memory.first.roots c × IsFresh setting.now.code f c }
-        ensures args { (c : State ℕ) (f : Fresh ℕ) → IsAt (run_under setting.now)
-            self.now.revision.value.run self.now.revision.value.memory.delta
-            (P.base self.now.revision.value.memory.snapshot)
-            self.now.revision.value.memory.first.roots c → IsFresh setting.now.code f c
-            → AreWords f.args result.now }
+        requires fresh { (c : State ℕ) × (f : Fresh ℕ) × StandsFor (run_under setting.now) self.now c
+            × IsFresh setting.now.code f c }
+        ensures args { (c : State ℕ) (f : Fresh ℕ) → StandsFor (run_under setting.now) self.now c
+            → IsFresh setting.now.code f c → AreWords f.args result.now }
     {
         first_args(setting, &self.revision.run)
     }

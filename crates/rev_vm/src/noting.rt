@@ -13,9 +13,11 @@ ghost use Rattle.code_reads.specs.Legs.{leg_reads};
 ghost use Rattle.noting_run.specs.Marks.{HasMarked, marks_of};
 ghost use Rattle.rev_vm.specs.declared.leg.Event.TheVariants as event;
 ghost use Rattle.rev_vm.specs.Legs.{trap_of};
-ghost use Rattle.rev_vm.specs.Meaning.{IsAt, IsAtFork, IsAtJoin, IsEnd};
+ghost use Rattle.rev_vm.specs.Meaning.{IsEnd};
 ghost use Rattle.rev_vm.specs.Starts.{run_under};
 ghost use Rattle.rev_vm.specs.States.{is_by_join};
+ghost use Rattle.rev_vm.specs.Values.{StandsFor, StandsAtFork, StandsAtJoin};
+ghost use Rattle.rev_vm.specs.Values.{fork_group, joiner_group, runner_group};
 
 use crate::end::{Broken, break_off};
 use crate::fork::AtFork;
@@ -33,26 +35,18 @@ pub fn run_leg_noting<P: Snapshot>(
     setting: &CodeSetting,
     noted: &mut Noted,
 ) -> Result<Event<P>, Broken<P>>
-    requires stands { (c : State ℕ) × IsAt (run_under setting.now) runner.revision.value.run
-        runner.revision.value.memory.delta (P.base runner.revision.value.memory.snapshot)
-        runner.revision.value.memory.first.roots c }
+    requires stands { (c : State ℕ) × StandsFor (run_under setting.now) runner c }
     requires locations { locations noted.old.locations ≡ count setting.now.code.vars }
     requires few { length setting.now.inputs.items < 2 ^ 32 }
     requires positions { locations noted.old.inputs ≡ length setting.now.inputs.items }
-    ensures event { (c : State ℕ) → IsAt (run_under setting.now) runner.revision.value.run
-        runner.revision.value.memory.delta (P.base runner.revision.value.memory.snapshot)
-        runner.revision.value.memory.first.roots c
+    ensures event { (c : State ℕ) → StandsFor (run_under setting.now) runner c
         → IfOk result (λ e. elim e [
           | event.Fork a ↦ (d : State ℕ) × (args : List (Word ℕ))
               × (leg (run_under setting.now) c ≡ forks d a.block args)
-              × IsAtFork (run_under setting.now) a.revision.value.run a.revision.value.memory.delta
-              (P.base a.revision.value.memory.snapshot) a.revision.value.memory.first.roots a.block
-              d args
+              × StandsAtFork (run_under setting.now) a d args
           | event.Join a ↦ (d : State ℕ)
               × (leg (run_under setting.now) c ≡ joins d a.is_try a.on)
-              × IsAtJoin (run_under setting.now) a.revision.value.run a.revision.value.memory.delta
-              (P.base a.revision.value.memory.snapshot) a.revision.value.memory.first.roots
-              a.written a.is_try a.on d
+              × StandsAtJoin (run_under setting.now) a d
           | event.End s ↦ (d : State ℕ) × (w : Option (Word ℕ))
               × (leg (run_under setting.now) c ≡ ends d w)
               × IsEnd (run_under setting.now) (end_of (has_ended d done)) s.end
@@ -61,12 +55,10 @@ pub fn run_leg_noting<P: Snapshot>(
               × IsEnd (run_under setting.now) (end_of (has_ended d (trap_of d e))) s.end
         ]) }
     ensures group { IfOk result (λ e. elim e [
-      | event.Fork a ↦ P.group a.revision.value.memory.snapshot
-          ≡ P.group runner.revision.value.memory.snapshot
-      | event.Join a ↦ P.group a.revision.value.memory.snapshot
-          ≡ P.group runner.revision.value.memory.snapshot
-      | event.End s ↦ P.group s.snapshot ≡ P.group runner.revision.value.memory.snapshot
-      | event.Trap s ↦ P.group s.snapshot ≡ P.group runner.revision.value.memory.snapshot
+      | event.Fork a ↦ fork_group a ≡ runner_group runner
+      | event.Join a ↦ joiner_group a ≡ runner_group runner
+      | event.End s ↦ P.group s.snapshot ≡ runner_group runner
+      | event.Trap s ↦ P.group s.snapshot ≡ runner_group runner
     ]) }
     ensures own { IfOk result (λ e. elim e [
       | event.Fork a ↦ Unit {0}
@@ -74,13 +66,11 @@ pub fn run_leg_noting<P: Snapshot>(
       | event.End s ↦ is_by_join s.end.finish ≡ false
       | event.Trap s ↦ is_by_join s.end.finish ≡ false
     ]) }
-    ensures noted { (c : State ℕ) → IsAt (run_under setting.now) runner.revision.value.run
-        runner.revision.value.memory.delta (P.base runner.revision.value.memory.snapshot)
-        runner.revision.value.memory.first.roots c
+    ensures noted { (c : State ℕ) → StandsFor (run_under setting.now) runner c
         → IfOk result (λ _. HasMarked noted.old noted.new
         (marks_of (leg_reads (run_under setting.now) c))) }
     ensures broken { IfErr result
-        (λ b. P.group b.snapshot ≡ P.group runner.revision.value.memory.snapshot) }
+        (λ b. P.group b.snapshot ≡ runner_group runner) }
 {
     let Runner { mut revision } = runner;
     match run_noting(setting, &mut *revision, noted) {
