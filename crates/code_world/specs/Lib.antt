@@ -11,3 +11,4 @@ pub mod Said
 pub mod Touches
 pub mod Adopted
 pub mod Beginnings
+pub mod Between
