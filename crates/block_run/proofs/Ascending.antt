@@ -9,6 +9,9 @@ use Rattle.version_map.specs.declared.end.Written.{Written}
 use Rattle.version_map.specs.Ascending.{IsAscending}
 use Rattle.block_run.specs.Remembering.{written_below, written_there}
 
+abbrev one_at : (l word root : ℕ) → Written
+one_at l word root = record { location = l; value = word; root = root }
+
 last_or_before : (xs : List Written) (x : Written) (i : ℕ) (v : Written) → slice_get (xs ++ x ∷ []) i ≡ Some v
     → (slice_get xs i ≡ Some v) ⊎ ((i ≡ length xs) × (x ≡ v))
 last_or_before [] x zero v e = inr (refl, some_eq e)
@@ -31,10 +34,10 @@ module _ (seen : ℕ → ℕ) (root : ℕ → Option ℕ) where
       by None e rec =
           let is = subst (λ xs. slice_get xs i ≡ Some v) (append-nil (written_below seen root n)) e in
           let lt = rec is in omega (arith, lt)
-      by (Some r) e rec = split (last_or_before (written_below seen root n) _ i v e)
+      by (Some r) e rec = split (last_or_before (written_below seen root n) (one_at n (seen n) r) i v e)
         where
           split : (slice_get (written_below seen root n) i ≡ Some v)
-              ⊎ ((i ≡ length (written_below seen root n)) × (record { location = n; value = seen n; root = r } ≡ v)) → v.location < suc n
+              ⊎ ((i ≡ length (written_below seen root n)) × (one_at n (seen n) r ≡ v)) → v.location < suc n
           split (inl is) = let lt = rec is in omega (arith, lt)
           split (inr last) = let same = ap (λ (w : Written). w.location) last.1 in omega (arith, same)
 
@@ -46,23 +49,17 @@ module _ (seen : ℕ → ℕ) (root : ℕ → Option ℕ) where
           → IsAscending (written_below seen root n ++ written_there n (seen n) o)
       by None rec = subst IsAscending (sym (append-nil (written_below seen root n))) rec
       by (Some r) rec = λ i j v w lt ei ej.
-          split i j v w lt (last_or_before (written_below seen root n) _ i v ei) (last_or_before (written_below seen root n) _ j w ej)
+          split i j v w lt (last_or_before (written_below seen root n) (one_at n (seen n) r) i v ei) (last_or_before (written_below seen root n) (one_at n (seen n) r) j w ej)
         where
-          abbrev xs : List Written
-          xs = written_below seen root n
-
-          abbrev x : Written
-          x = record { location = n; value = seen n; root = r }
-
           split : (i j : ℕ) (v w : Written) → i < j
-              → (slice_get xs i ≡ Some v) ⊎ ((i ≡ length xs) × (x ≡ v))
-              → (slice_get xs j ≡ Some w) ⊎ ((j ≡ length xs) × (x ≡ w)) → v.location < w.location
+              → (slice_get (written_below seen root n) i ≡ Some v) ⊎ ((i ≡ length (written_below seen root n)) × (one_at n (seen n) r ≡ v))
+              → (slice_get (written_below seen root n) j ≡ Some w) ⊎ ((j ≡ length (written_below seen root n)) × (one_at n (seen n) r ≡ w)) → v.location < w.location
           split i j v w lt (inl a) (inl b) = rec i j v w lt a b
           split i j v w lt (inl a) (inr b) =
               let less = below n i v a in
               let same = ap (λ (u : Written). u.location) b.1 in omega (arith, less, same)
           split i j v w lt (inr a) (inl b) =
-              let inside = some_within xs j w b in
+              let inside = some_within (written_below seen root n) j w b in
               let last = a.0 in absurd (omega (arith, lt, inside, last))
           split i j v w lt (inr a) (inr b) =
               let one = a.0 in

@@ -4,7 +4,8 @@
 --   AreRooms    a table of them
 --   are_rooms_prop   in one way at most
 --   room_of     as many words as serve a block of verified code, by the rooms of the blocks before it
-use Rattle.std.specs.Prelude.{ℕ, ◌≡◌, ◌<◌, ◌≤◌, ◌+◌, ◌^◌, ◌∙◌, ap, max, min, subst, sym, true, if◌then◌else◌, List, [], ◌∷◌, length, Option, Some, None, slice_get, slice_index_or}
+use Rattle.std.specs.Prelude.{ℕ, ◌≡◌, ◌<◌, ◌≤◌, ◌+◌, ◌^◌, max, min, true, if◌then◌else◌, List, [], ◌∷◌, length, Option, Some, None, slice_get, slice_index_or}
+use Rattle.std.proofs.Common.{◌∙◌, ap, subst, sym}
 use Rattle.std.specs.Coded.{Coded-set, coded_ℕ, coded_option, le_prop, ×_prop}
 use Rattle.rev_code.specs.declared.code.Code.{Code}
 use Rattle.rev_code.specs.declared.code.CodeBlock.{CodeBlock}
@@ -46,7 +47,7 @@ room_prop : (code : Code) (rooms : List ℕ) (n : ℕ) (b : CodeBlock) (room : �
 room_prop code rooms n b room =
     ×_prop (Coded-set (coded_option coded_ℕ) (slice_get rooms n) (Some room)) (is_room_prop code n b room)
 
-with_room : (code : Code) (rooms : List ℕ) (n : ℕ) (b : CodeBlock) (room : ℕ) → Room code rooms n b room → HasRoomFor code rooms n b
+abbrev with_room : (code : Code) (rooms : List ℕ) (n : ℕ) (b : CodeBlock) (room : ℕ) → Room code rooms n b room → HasRoomFor code rooms n b
 with_room code rooms n b room r = record { room = room; is = r.0; enough = r.1 }
 
 abbrev room_or : Option ℕ → ℕ
