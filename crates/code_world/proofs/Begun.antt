@@ -25,7 +25,7 @@ use Rattle.code_world.specs.declared.table.Table.{Table}
 use Rattle.code_world.specs.Beginnings.{FreshIn, IsBegun}
 use Rattle.code_world.specs.Slots.{WholeRunner, WholeJoin, IsSlot, Runs, words}
 use Rattle.code_world.specs.Turns.{IsGood}
-use Rattle.code_world.proofs.Adopting.{slot_of}
+use Rattle.code_world.proofs.AdoptedEnds.{slot_of}
 use Rattle.code_world.proofs.Ended.{plain_same}
 use Rattle.code_world.proofs.Turning.{runner}
 

@@ -1,4 +1,4 @@
-use Rattle.code_world.proofs.Adopting.{ends_running, live_answers}
+use Rattle.code_world.proofs.AdoptedEnds.{ends_running, live_answers}
 use Rattle.code_world.proofs.Worlds.{good_listing}
 use Rattle.code_world.proofs.Touching.{touches_in}
 use Rattle.code_world.proofs.adopting.adopt.Goals as goal

@@ -3,7 +3,7 @@ use Rattle.revision_machine.specs.Numbered.{put_number}
 use Rattle.code_world.specs.declared.slot.Slot.TheVariants as slot
 use Rattle.code_world.specs.Answers.{Answers}
 use Rattle.code_world.specs.Turns.{ends_with}
-use Rattle.code_world.proofs.Adopting.{adopted}
+use Rattle.code_world.proofs.AdoptedEnds.{adopted}
 use Rattle.code_world.proofs.Touching.{ends_touch, others_put, touches_so}
 use Rattle.code_world.proofs.table.Table.adopt.Goals as goal
 
