@@ -1,7 +1,9 @@
 -- Paths by births.
-use Rattle.std.proofs.Common.{◌≡◌, ◌∙◌, ℕ, zero, suc, ◌<◌, ◌≤◌, List, [], ◌∷◌, ◌++◌, length, reverse, Option, Some, None, refl, sym, ap, arith}
+use Rattle.std.proofs.Common.{◌≡◌, ◌∙◌, ◌⊎◌, inl, inr, ℕ, zero, suc, ◌<◌, ◌≤◌, Bool, true, false, List, [], ◌∷◌, ◌++◌, length, reverse, Option, Some, None, refl, sym, ap, arith}
 use Rattle.std.proofs.lemmas.List.{reverse-append}
-use Rattle.rev_num.specs.Path.{Path, child}
+use Rattle.std.specs.Prelude.{◌&&◌, nat_eq}
+use Rattle.rev_num.specs.Path.{Path, child, same}
+use Rattle.revision_machine.specs.Laws.{IsIn}
 use Rattle.revision_machine.specs.Numbered.{at_number, or_path}
 use Rattle.revision_machine.proofs.Lists.{at_none}
 use Rattle.code_world.specs.declared.table.Birth.{Birth}
@@ -50,3 +52,50 @@ pub place_more : (q more more' : List ℕ) (k : ℕ) → more' ≡ more ++ k ∷
 place_more q more more' k is =
     ap (λ xs. q ++ xs) (ap reverse is ∙ reverse-append more (k ∷ []))
     ∙ sym (append_assoc q (k ∷ []) (reverse more))
+
+-- ---- numbers of paths
+
+-- the path of a number of the births is that of the paths
+pub path_there : (bs : List Birth) (paths : List Path) → Names bs paths → (n : ℕ) → n < length bs → at_number paths n ≡ Some (path_in paths n)
+path_there bs paths names n small = by (at_number paths n) refl
+  where
+    by : (o : Option Path) → at_number paths n ≡ o → at_number paths n ≡ Some (path_in paths n)
+    by None e = absurd (let few = at_within paths n e in let same = names.all in omega (arith, few, same, small))
+    by (Some p) e = e ∙ ap (λ z. Some (or_path z [])) (sym e)
+
+-- where each path of a number is another one, this is none of them
+pub none_there : (paths : List Path) (p : Path) → ((n : ℕ) → n < length paths → at_number paths n ≡ Some p → ⊥) → IsIn p paths → ⊥
+none_there [] p none i = i
+none_there (q ∷ paths) p none (inl e) = none 0 (omega arith) (ap Some (sym e))
+none_there (q ∷ paths) p none (inr i) = none_there paths p (λ n small e. none (suc n) (omega (arith, small)) e) i
+
+-- two paths with these ends are the same where their ends and the paths before them are
+pub same_more : (q r : Path) (k j : ℕ) → same (child q k) (child r j) ≡ (nat_eq k j && same q r)
+same_more [] [] k j = by (nat_eq k j)
+  where
+    by : (b : Bool) → (b && true) ≡ (b && true)
+    by b = refl
+same_more [] (y ∷ r) k j = shorter (nat_eq k y) r j (nat_eq k j)
+  where
+    shorter : (b : Bool) (r : Path) (j : ℕ) (c : Bool) → (b && same [] (child r j)) ≡ (c && false)
+    shorter true [] j true = refl
+    shorter true [] j false = refl
+    shorter true (x ∷ r) j true = refl
+    shorter true (x ∷ r) j false = refl
+    shorter false r j true = refl
+    shorter false r j false = refl
+same_more (x ∷ q) [] k j = longer (nat_eq x j) q k (nat_eq k j)
+  where
+    longer : (b : Bool) (q : Path) (k : ℕ) (c : Bool) → (b && same (child q k) []) ≡ (c && false)
+    longer true [] k true = refl
+    longer true [] k false = refl
+    longer true (x ∷ q) k true = refl
+    longer true (x ∷ q) k false = refl
+    longer false q k true = refl
+    longer false q k false = refl
+same_more (x ∷ q) (y ∷ r) k j = ap (λ b. nat_eq x y && b) (same_more q r k j) ∙ swap (nat_eq x y) (nat_eq k j) (same q r)
+  where
+    swap : (a b c : Bool) → (a && (b && c)) ≡ (b && (a && c))
+    swap true b c = refl
+    swap false true c = refl
+    swap false false c = refl

@@ -8,5 +8,5 @@ mod values;
 
 pub use of_world::outcome_of_world;
 pub use outcomes::outcome_of;
-pub use paths::path_of;
+pub use paths::{number_of, path_of};
 pub use values::value_of;
