@@ -1,6 +1,7 @@
 -- A revision before its first instruction.
-use Rattle.std.proofs.Common.{◌≡◌, ◌∙◌, ℕ, ◌+◌, ◌-◌, ◌≤◌, List, length, map, take, drop, min, Option, Some, refl, sym, ap, subst, arith}
+use Rattle.std.proofs.Common.{◌≡◌, ◌∙◌, ℕ, ◌+◌, ◌-◌, ◌≤◌, List, length, map, take, drop, Option, Some, refl, sym, ap, subst, arith}
 use Rattle.std.specs.Prelude.{slice_get, slice_range}
+use Rattle.std.proofs.Math.Nat.{min-le_right}
 use Rattle.std.proofs.lemmas.List.{length-map, length-take, take-take}
 use Rattle.rev_num.proofs.Options.{some_eq}
 use Rattle.rev_code.specs.declared.code.CodeBlock.{CodeBlock}
@@ -28,10 +29,7 @@ pub range_here : (xs : List ℕ) (b k : ℕ) → slice_range xs b (b + k) ≡ ta
 range_here xs b k = let e : b + k - b ≡ k = omega arith in ap (λ m. take m (drop b xs)) e
 
 params_few : (b : CodeBlock) → length (params b) ≤ length b.locals
-params_few b = let e = length-take b.params b.locals in let m = min_right b.params (length b.locals) in omega (arith, e, m)
-  where
-    min_right : (x y : ℕ) → min x y ≤ y
-    min_right x y = grind arith
+params_few b = let e = length-take b.params b.locals in let m = min-le_right b.params (length b.locals) in omega (arith, e, m)
 
 module _ (g : CodeRun) (run : Run) (delta : Delta) (base : ℕ → ℕ) (first : Delta) (c : State ℕ) (h : IsAt g run delta base first c)
     (b : CodeBlock) (is : slice_get g.code.blocks run.registers.block ≡ Some b) where
