@@ -1,6 +1,7 @@
 -- A running revision that has listed nothing, and with what it began.
-use Rattle.std.proofs.Common.{◌≡◌, ◌≢◌, ◌∙◌, ℕ, zero, suc, ◌<◌, List, [], ◌∷◌, length, Option, Some, None, refl, sym, ap, subst, arith}
-use Rattle.std.specs.Prelude.{slice_get, slice_index}
+use Rattle.std.proofs.Common.{◌≡◌, ◌≢◌, ◌∙◌, ℕ, zero, suc, ◌<◌, true, false, List, [], ◌∷◌, length, Option, Some, None, refl, sym, ap, subst, arith}
+use Rattle.std.proofs.lemmas.Bool.Decides.{nat_tests}
+use Rattle.std.specs.Prelude.{◌==◌, slice_get, slice_index}
 use Rattle.rev_num.specs.Path.{Path}
 use Rattle.rev_num.proofs.Options.{none_some}
 use Rattle.rev_code.specs.Words.{Word}
@@ -8,7 +9,9 @@ use Rattle.rev_code.specs.State.{Location, State}
 use Rattle.code_soundness.specs.Typed.{location_kinds}
 use Rattle.plain_words.specs.Agreement.{IsWord, AreWords}
 use Rattle.block_run.specs.Standing.{IsSeen}
-use Rattle.version_map.specs.Deltas.{at, locations}
+use Rattle.version_map.specs.declared.delta.Delta.{Delta}
+use Rattle.version_map.specs.declared.whole.Whole.{Whole}
+use Rattle.version_map.specs.Deltas.{locations}
 use Rattle.version_map.specs.Overlay.{under, Agree}
 use Rattle.revision_machine.specs.Machine.{Plain}
 use Rattle.revision_machine.specs.Numbered.{Entries, Listing, at_number, paths_of}
@@ -67,12 +70,27 @@ module _ (g : CodeRun) (r : WholeRunner) (c : State ℕ) (runs : Runs g r c) (f 
       sym (unwritten_length f.snapshot) ∙ ap length (sym (ap (λ (z : State ℕ). z.locations) fresh.state))
       ∙ same_many (location_kinds g.code.vars) c.locations runs.stands.here.good.locations ∙ kinds_many g.code.vars ∙ sym runs.size
 
-  pub seen_base : (ws : List ℕ) → length ws ≡ memory_locations → Agree memory_locations (slice_index ws) (under r.revision.value.memory.delta (words r.revision.value.memory.snapshot)) → AreWords f.snapshot ws
-  seen_base ws long agree =
+  seen_here : (ws : List ℕ) → length ws ≡ memory_locations → Agree memory_locations (slice_index ws) (under r.revision.value.memory.delta (words r.revision.value.memory.snapshot)) → AreWords f.snapshot ws
+  seen_here ws long agree =
       words_by_place f.snapshot ws (long ∙ sym many) (λ l x there.
       let small : l < memory_locations = (let a = in_length f.snapshot l x there in let b = many in omega (arith, a, b)) in
       let located : slice_get c.locations l ≡ Some (record { snapshot = x; written = None }) = ap (λ (z : State ℕ). slice_get z.locations l) fresh.state ∙ unwritten_at f.snapshot l x there in
       subst (IsWord x) (sym (agree l small)) (seen_word x _ _ (runs.stands.here.locations l _ located)))
+
+  -- of what lies over its snapshot, and of the snapshot's words
+  pub seen_base : (ws : List ℕ) (delta : Delta) (whole : Whole) (base : List ℕ) → delta ≡ r.revision.value.memory.delta → whole ≡ r.revision.value.memory.snapshot → base ≡ whole.words.items
+      → length ws ≡ locations delta → Agree (locations delta) (slice_index ws) (under delta (slice_index base)) → AreWords f.snapshot ws
+  seen_base ws delta whole base d w b long agree =
+      seen_here ws (long ∙ ap locations d)
+      (subst (λ z. Agree (locations z) (slice_index ws) (under z (words r.revision.value.memory.snapshot))) d
+      (subst (λ z. Agree (locations delta) (slice_index ws) (under delta (words z))) w
+      (subst (λ z. Agree (locations delta) (slice_index ws) (under delta (slice_index z))) b agree)))
+
+-- a snapshot has a word for each location of its memory
+pub base_of : (r : WholeRunner) (delta : Delta) (whole : Whole) (base : List ℕ) → delta ≡ r.revision.value.memory.delta → whole ≡ r.revision.value.memory.snapshot → base ≡ whole.words.items → locations delta ≡ length base
+base_of r delta whole base d w b =
+    let m = r.revision.value.memory.written in
+    ap locations d ∙ m ∙ r.revision.value.memory.snapshot.words.ok.0 ∙ ap (λ (z : Whole). length z.words.items) (sym w) ∙ ap length (sym b)
 
 -- ---- revisions of a table
 
@@ -105,3 +123,12 @@ other_not g t w h n other p c f there fresh =
     by (slot.Ended v) e is = absurd is.phase
     by (slot.Joined v) e is = absurd is
     by slot.Taken e is = absurd is
+
+-- a list is empty by its length
+pub none_by_length : {A : Type 0} (xs : List A) → (length xs == 0) ≡ true → xs ≡ []
+none_by_length [] e = refl
+none_by_length (x ∷ xs) e = absurd (grind (arith, nat_tests))
+
+pub some_by_length : {A : Type 0} (xs : List A) → (length xs == 0) ≡ false → xs ≢ []
+some_by_length [] e h = cc
+some_by_length (x ∷ xs) e h = cc

@@ -25,14 +25,14 @@ come-requires-clause-came g c = (
   c.requires.size,
 )
 
-pub returns-in_ok-came-clause-answer : goal.returns-in_ok-came-clause-answer
-returns-in_ok-came-clause-answer g c = λ w good.
+pub returns-clause-answer : goal.returns-clause-answer
+returns-clause-answer g c = λ w good.
     c.come.ensures.answer (run_under c.args.setting.now) c.args.self.now w (record { good = good; runner = c.take_runner-runner.result; there = c.take_runner-runner.ensures.was; taken = c.take_runner-runner.ensures.now; births = c.take_runner-runner.ensures.births; next = c.len-child.ensures ∙ c.args.self.now.slots.ok.0; comes = λ d runs. c.in_ok-came.ensures d runs }) c.requires.merges
 
-pub returns-in_ok-came-clause-noted : goal.returns-in_ok-came-clause-noted
-returns-in_ok-came-clause-noted g c = λ w good.
+pub returns-clause-noted : goal.returns-clause-noted
+returns-clause-noted g c = λ w good.
     c.come.ensures.noted (run_under c.args.setting.now) c.args.self.now w (record { good = good; runner = c.take_runner-runner.result; there = c.take_runner-runner.ensures.was; taken = c.take_runner-runner.ensures.now; births = c.take_runner-runner.ensures.births; next = c.len-child.ensures ∙ c.args.self.now.slots.ok.0; comes = λ d runs. c.in_ok-came.ensures d runs })
 
-pub returns-in_ok-came-clause-touches : goal.returns-in_ok-came-clause-touches
-returns-in_ok-came-clause-touches g c =
+pub returns-clause-touches : goal.returns-clause-touches
+returns-clause-touches g c =
     c.come.ensures.touches (run_under c.args.setting.now) c.args.self.now c.requires.runs.0 (record { good = c.requires.runs.1; runner = c.take_runner-runner.result; there = c.take_runner-runner.ensures.was; taken = c.take_runner-runner.ensures.now; births = c.take_runner-runner.ensures.births; next = c.len-child.ensures ∙ c.args.self.now.slots.ok.0; comes = λ d runs. c.in_ok-came.ensures d runs })

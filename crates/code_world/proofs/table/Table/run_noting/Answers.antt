@@ -27,20 +27,20 @@ come-requires-clause-came g c = (
   c.requires.size,
 )
 
-pub returns-in_ok-came-clause-answer : goal.returns-in_ok-came-clause-answer
-returns-in_ok-came-clause-answer g c = λ w good.
+pub returns-clause-answer : goal.returns-clause-answer
+returns-clause-answer g c = λ w good.
     c.come.ensures.answer (run_under c.args.setting.now) c.args.self.now w (record { good = good; runner = c.take_runner-runner.result; there = c.take_runner-runner.ensures.was; taken = c.take_runner-runner.ensures.now; births = c.take_runner-runner.ensures.births; next = c.len-child.ensures ∙ c.args.self.now.slots.ok.0; comes = λ d runs. c.in_ok-came.ensures.come d runs }) c.requires.merges
 
-pub returns-in_ok-came-clause-noted : goal.returns-in_ok-came-clause-noted
-returns-in_ok-came-clause-noted g c = λ w good.
+pub returns-clause-noted : goal.returns-clause-noted
+returns-clause-noted g c = λ w good.
     c.come.ensures.noted (run_under c.args.setting.now) c.args.self.now w (record { good = good; runner = c.take_runner-runner.result; there = c.take_runner-runner.ensures.was; taken = c.take_runner-runner.ensures.now; births = c.take_runner-runner.ensures.births; next = c.len-child.ensures ∙ c.args.self.now.slots.ok.0; comes = λ d runs. c.in_ok-came.ensures.come d runs })
 
-pub returns-in_ok-came-clause-touches : goal.returns-in_ok-came-clause-touches
-returns-in_ok-came-clause-touches g c =
+pub returns-clause-touches : goal.returns-clause-touches
+returns-clause-touches g c =
     c.come.ensures.touches (run_under c.args.setting.now) c.args.self.now c.requires.runs.0 (record { good = c.requires.runs.1; runner = c.take_runner-runner.result; there = c.take_runner-runner.ensures.was; taken = c.take_runner-runner.ensures.now; births = c.take_runner-runner.ensures.births; next = c.len-child.ensures ∙ c.args.self.now.slots.ok.0; comes = λ d runs. c.in_ok-came.ensures.come d runs })
 
-pub returns-in_ok-came-clause-read : goal.returns-in_ok-came-clause-read
-returns-in_ok-came-clause-read g c = λ w good.
+pub returns-clause-read : goal.returns-clause-read
+returns-clause-read g c = λ w good.
     IfOk-weaker c.come.result _ _ (λ a h.
     let k = runner (run_under c.args.setting.now) c.args.self.now w good c.args.number c.take_runner-runner.result c.take_runner-runner.ensures.was in
     read_there (run_under c.args.setting.now) w c.args.number k.path k.state k.there c.args.noted.now c.advance_noting.new.noted (c.in_ok-came.ensures.read k.state k.runs)) (c.come.ensures.noted (run_under c.args.setting.now) c.args.self.now w (record { good = good; runner = c.take_runner-runner.result; there = c.take_runner-runner.ensures.was; taken = c.take_runner-runner.ensures.now; births = c.take_runner-runner.ensures.births; next = c.len-child.ensures ∙ c.args.self.now.slots.ok.0; comes = λ d runs. c.in_ok-came.ensures.come d runs }))
