@@ -12,7 +12,7 @@ use Rattle.code_file.specs.Counts.{HasShortName, IsShort, IsShortBlock, IsShortL
 use Rattle.code_file.specs.Laws.{AcceptedIsCounted}
 use Rattle.rev_num.proofs.Lists.{and_left, and_right}
 
-each : {A : Type 0} (f : A → Bool) (P : A → Type 0) → ((x : A) → f x ≡ true → P x) → (xs : List A) → list_all f xs ≡ true → All P xs
+pub each : {A : Type 0} (f : A → Bool) (P : A → Type 0) → ((x : A) → f x ≡ true → P x) → (xs : List A) → list_all f xs ≡ true → All P xs
 each f P to [] h k d lt = absurd (omega arith)
 each f P to (x ∷ xs) h zero d lt = to x (and_left (f x) (list_all f xs) h)
 each f P to (x ∷ xs) h (suc k) d lt = each f P to xs (and_right (f x) (list_all f xs) h) k d (omega arith)

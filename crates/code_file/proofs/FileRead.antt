@@ -224,13 +224,13 @@ same_cons x y xs ys true b f h tail =
     ap (λ n. n ∷ xs) z ∙ ap (λ l. y ∷ l) w
 same_cons x y xs ys false b f h tail = absurd (cc)
 
-same_list : (xs ys : List ℕ) → pointwise nat_eq xs ys ≡ true → xs ≡ ys
+pub same_list : (xs ys : List ℕ) → pointwise nat_eq xs ys ≡ true → xs ≡ ys
 same_list [] [] e = refl
 same_list [] (y ∷ ys) e = absurd (cc)
 same_list (x ∷ xs) [] e = absurd (cc)
 same_list (x ∷ xs) (y ∷ ys) e = same_cons x y xs ys (nat_eq x y) (pointwise nat_eq xs ys) refl e (same_list xs ys)
 
-magic_if : (b c : Bool) (whole : ℕ) (bytes : List ℕ) (u : Unit {0}) (rest : List ℕ) →
+pub magic_if : (b c : Bool) (whole : ℕ) (bytes : List ℕ) (u : Unit {0}) (rest : List ℕ) →
     (if b then Got tt bytes else if c then Failed (fault.Truncated whole) else Failed fault.BadMagic) ≡ Got u rest → (b ≡ true) × (bytes ≡ rest)
 magic_if true c whole bytes u rest e = (refl, (cc))
 magic_if false true whole bytes u rest e = absurd (cc)

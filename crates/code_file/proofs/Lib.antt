@@ -11,3 +11,5 @@ pub mod OneFile
 pub mod EachRead
 pub mod Joined
 pub mod Accepted
+pub mod Firsts
+pub mod HasFiles

@@ -1,5 +1,5 @@
 -- Which code has a file, and the laws of files.
-use Rattle.std.specs.Prelude.{◌≡◌, ◌≢◌, ◌⊎◌, ℕ, ◌<◌, true, List, [], All, get_or}
+use Rattle.std.specs.Prelude.{◌≡◌, ◌≢◌, ◌⊎◌, ℕ, ◌<◌, ◌≤◌, true, List, [], ◌∷◌, ◌++◌, length, take, All, get_or}
 use Rattle.rev_num.specs.Arith.{fits_i64}
 use Rattle.rev_code.specs.declared.code.Code.{Code}
 use Rattle.rev_code.specs.declared.code.CodeVar.{CodeVar}
@@ -78,6 +78,17 @@ pub record IsBlock (b : CodeBlock) : Type 0 where
   pub params : Is8 b.params
   pub instrs : All IsInstr b.instrs
 
+-- each number of a variable, and of code, has the width of its field
+pub record VarFits (v : CodeVar) : Type 0 where
+  pub cells : Is32 v.cells
+  pub start : Is64 v.start
+  pub merge : Is16 v.merge
+
+pub record NumbersFit (code : Code) : Type 0 where
+  pub vars : All VarFits code.vars
+  pub items : All (All IsItem) code.layouts
+  pub blocks : All IsBlock code.blocks
+
 -- code has a file where each count and each field can hold what it has to
 pub record HasFile (code : Code) : Type 0 where
   pub counted : Counted code
@@ -119,3 +130,29 @@ FaultsHaveNoCode = (bytes : List ℕ) (f : ReadFault) (code : Code) → IsFirstF
 -- the verifier bounds each count of a file but that of `TryJoin`
 abbrev pub AcceptedIsCounted : Type 0
 AcceptedIsCounted = (code : Code) → first_fault code ≡ None → tries code.blocks < 4294967296 → Counted code
+
+-- ---- the first fault
+
+-- a file that is cut short is Truncated where it was cut
+abbrev pub CutIsTruncated : Type 0
+CutIsTruncated = (code : Code) (n : ℕ) → HasFile code → n < length (file_of code)
+    → reading (take n (file_of code)) ≡ Failed (fault.Truncated n)
+
+-- a file with a byte or more behind it is Trailing where the file ends
+abbrev pub MoreIsTrailing : Type 0
+MoreIsTrailing = (code : Code) (b : ℕ) (rest : List ℕ) → HasFile code
+    → reading (file_of code ++ b ∷ rest) ≡ Failed (fault.Trailing (length (file_of code)))
+
+-- the first bad field of these bytes stands at `at`, and they are known to be bad with the byte before `end`
+pub record IsBadField (bytes : List ℕ) (at end : ℕ) : Type 0 where
+  pub starts : at ≤ end
+  pub within : end ≤ length bytes
+  -- with fewer bytes there is no fault but that they are cut short
+  pub short : (n : ℕ) → n < end → reading (take n bytes) ≡ Failed (fault.Truncated n)
+  -- with these bytes there is this fault, whatever stands behind them
+  pub same : (rest : List ℕ) → reading (take end bytes ++ rest) ≡ Failed (fault.BadField at)
+  -- and no file begins with them
+  pub none : (code : Code) (rest : List ℕ) → HasFile code → file_of code ≡ take end bytes ++ rest → ⊥
+
+abbrev pub BadFieldIsFirst : Type 0
+BadFieldIsFirst = (bytes : List ℕ) (at : ℕ) → IsFirstFault bytes (fault.BadField at) → (end : ℕ) × IsBadField bytes at end

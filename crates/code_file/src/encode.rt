@@ -1,20 +1,26 @@
 //! The file of code.
 
-ghost use Rattle.std.specs.Prelude.{◌≡◌, ◌<◌, ◌++◌, IfOk, OnOk};
+ghost use Rattle.std.specs.Prelude.{◌≡◌, ◌<◌, ◌++◌, [], None, IfOk, OnOk};
 ghost use Rattle.code_rules.specs.Tables as tables;
+ghost use Rattle.code_rules.specs.Verdict.{first_fault};
 ghost use Rattle.code_file.specs.Counts.{Counted};
+ghost use Rattle.code_file.specs.Fields.{Got};
 ghost use Rattle.code_file.specs.Files as files;
 ghost use Rattle.code_file.specs.Files.{file_of};
+ghost use Rattle.code_file.specs.Laws.{IsFile};
+ghost use Rattle.code_file.specs.Reads.{reading};
 ghost use Rattle.code_file.specs.Parts as part;
 
 use crate::count::{locations, tries};
 use crate::values::{has_tries, is_wide};
 use crate::version::Version;
+use crate::widths::note_widths;
 use crate::write::{
     append_16, append_32, append_counted_blocks, append_counted_layouts, append_counted_texts,
     append_counted_vars,
 };
 use rev_code::{Code, CodeBlock, CodeVar};
+use rev_num::word_laws;
 use std::alloc::{AllocError, Global};
 
 /// The version of the file of code.
@@ -85,12 +91,19 @@ fn append_body(out: &mut Vec<u8>, wide: bool, may_try: bool, code: &Code) -> Res
 }
 
 /// The file of code, each of whose counts and lengths must fit its field. Code that the verifier
-/// accepts has such counts where it has fewer than 2^32 `TryJoin`.
+/// accepts has such counts where it has fewer than 2^32 `TryJoin`, and what is written of it is
+/// read again as the same code.
 #[tactic(auto, unfolding(crate::specs::Files::file_of))]
 pub fn write_code(alloc: Global, code: &Code) -> Result<Vec<u8>, AllocError>
     requires { Counted code.now }
-    ensures { IfOk result (λ bytes. bytes.items ≡ file_of code.now) }
+    ensures file { IfOk result (λ bytes. bytes.items ≡ file_of code.now) }
+    ensures has { first_fault code.now ≡ None
+        → IfOk result (λ bytes. IsFile code.now bytes.items) }
+    ensures back { first_fault code.now ≡ None
+        → IfOk result (λ bytes. reading bytes.items ≡ Got code.now []) }
 {
+    word_laws();
+    note_widths(code);
     let version = version_for(code);
     let mut out = Vec::new(alloc);
     out.extend_from_slice(b"REVC")?;

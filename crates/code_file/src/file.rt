@@ -7,6 +7,8 @@ ghost use Rattle.code_file.specs.Parts as part;
 ghost use Rattle.code_file.specs.Reads as reads;
 ghost use Rattle.code_file.specs.Laws.{IsFile, IsFirstFault};
 ghost use Rattle.code_file.specs.declared.fault.ReadFault.{ReadFault};
+ghost use Rattle.code_file.specs.declared.fault.ReadFault.TheVariants as fault;
+ghost use Rattle.rev_code.specs.declared.code.Code.{Code};
 
 use crate::count::{locations, tries};
 use crate::cursor::Cursor;
@@ -117,6 +119,9 @@ fn file(alloc: Global, cursor: &mut Cursor<'_>) -> Result<Code, ReadFault>
 pub fn read_code(alloc: Global, bytes: &[u8]) -> Result<Code, ReadFault>
     ensures code { IfOk result (λ code. IsFile code bytes.now) }
     ensures fault { IfErr result (λ e. e ≢ ReadFault.OutOfMemory → IsFirstFault bytes.now e) }
+    ensures back { (code : Code) → IsFile code bytes.now → IfOk result (λ c. c ≡ code) }
+    ensures memory { (code : Code) → IsFile code bytes.now
+        → IfErr result (λ e. e ≡ fault.OutOfMemory) }
 {
     word_laws();
     let mut cursor = Cursor::new(bytes);

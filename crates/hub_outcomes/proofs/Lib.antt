@@ -2,3 +2,4 @@ pub mod Bearing
 pub mod Naming
 pub mod Firsts
 pub mod Mains
+pub mod Owning

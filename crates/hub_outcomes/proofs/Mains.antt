@@ -1,5 +1,6 @@
 -- What a run of code leaves that no halt ended: a world, and in it the end of `main`.
 use Rattle.std.proofs.Common.{◌≡◌, ◌≢◌, ◌∙◌, refl, ℕ, ◌+◌, ◌≤◌, List, [], ◌∷◌, length, Option, Some, None, sym, ap, subst, arith}
+use Rattle.std.specs.Global.{Box}
 use Rattle.rev_num.specs.Path.{Path}
 use Rattle.rev_num.specs.declared.outcome.Outcome.{Outcome}
 use Rattle.rev_num.specs.declared.outcome.Outcome.TheVariants as o
@@ -14,6 +15,7 @@ use Rattle.hub_algebra.specs.Replay.{replay}
 use Rattle.hub_table.specs.declared.state.HubState.{HubState}
 use Rattle.hub_table.specs.declared.state.HubState.TheVariants.{All, Twice, NoMemory}
 use Rattle.turn_hub.specs.declared.closing.HubRun.{HubRun}
+use Rattle.turn_rule.specs.declared.revision.Revision.{Ghosts}
 use Rattle.turn_hub.specs.Closing.{Legal, ClosedHub}
 use Rattle.turn_hub.specs.Names.{run_state, run_schedule, run_forkers, run_ends}
 use Rattle.hub_workers.specs.Running.{IsRunFrom}
@@ -34,6 +36,7 @@ use Rattle.reached_worlds.proofs.Reaching.{main_stands, small}
 use Rattle.rev_vm.specs.Meaning.{IsEnd}
 use Rattle.world_outcomes.specs.Ends.{StartsAsDeclared, IsEndOfMain}
 use Rattle.hub_outcomes.specs.Births.{AreBirths, AreEarlier}
+use Rattle.hub_outcomes.specs.Ends.{AreOwned, AreEndsOf}
 use Rattle.hub_outcomes.specs.Runs.{IsRunOf}
 use Rattle.run_revision.proofs.CodeRuns.{Leads, leads, leads_both, over_there}
 use Rattle.hub_outcomes.proofs.Naming.{names_theirs}
@@ -63,6 +66,28 @@ first_end (Some e ∷ es) ((q, x) ∷ w) h r s at =
     let same : h.0.0 ≡ s = cc in
     record { end = e; there = refl; is = subst (is_end e) same h.0.2.1 }
 
+-- ---- the ends of all, as values that own what they tell
+
+end_in : (g : CodeRun) (l : Local ℕ) (s : CodeState) (e : LeftValue) (v : Box EndValue) → ◌≡◌ {A = Entry CodeState} (Plain (state_of g l)) (Plain s) → is_end e s → IsEnd e.run e.left v.value → IsEnd g (end_of l) v.value
+end_in g l s e v same is end =
+    let here : is_end e (state_of g l) = subst (is_end e) (let x : s ≡ state_of g l = cc in x) is in
+    subst (λ (z : CodeRun × End ℕ). IsEnd z.0 z.1 v.value) (λ i. (sym here.0 i, sym here.1 i)) end
+
+pub owned_here : (g : CodeRun) (w : Entries (Local ℕ)) (es : List (Option LeftValue)) (vs : List (Option (Box EndValue))) → EndsAre (hub.numbered code_hub) (hub.values code_hub is_end) es (shown_all g w) → AreOwned es vs
+    → AreEndsOf g w vs
+owned_here g [] [] [] h own = tt
+owned_here g [] [] (v ∷ vs) h own = absurd own
+owned_here g [] (None ∷ es) vs h own = absurd h
+owned_here g [] (Some e ∷ es) vs h own = absurd h
+owned_here g ((r, x) ∷ w) [] vs h own = absurd h
+owned_here g ((r, x) ∷ w) (e ∷ es) [] h own = absurd own
+owned_here g ((r, Plain l) ∷ w) (None ∷ es) (v ∷ vs) h own = let z : ◌≡◌ {A = Entry CodeState} (Plain (state_of g l)) (Joined h.0.0) = h.0.1 in absurd cc
+owned_here g ((r, Joined l) ∷ w) (None ∷ es) (None ∷ vs) h own = (tt, owned_here g w es vs h.1 own.1)
+owned_here g ((r, Joined l) ∷ w) (None ∷ es) (Some v ∷ vs) h own = absurd own.0
+owned_here g ((r, Plain l) ∷ w) (Some e ∷ es) (None ∷ vs) h own = absurd own.0
+owned_here g ((r, Plain l) ∷ w) (Some e ∷ es) (Some v ∷ vs) h own = (end_in g l h.0.0 e v h.0.1 h.0.2.1 own.0, owned_here g w es vs h.1 own.1)
+owned_here g ((r, Joined l) ∷ w) (Some e ∷ es) (v ∷ vs) h own = let z : ◌≡◌ {A = Entry CodeState} (Joined (state_of g l)) (Plain h.0.0) = h.0.1 in absurd cc
+
 -- what is known of a run that no halt ended
 pub record Left (g : CodeRun) (fuel : ℕ) (schedule forkers : List ℕ) (ended : List (Option LeftValue)) : Type 0 where
   pub world : Entries (Local ℕ)
@@ -74,6 +99,7 @@ pub record Left (g : CodeRun) (fuel : ℕ) (schedule forkers : List ℕ) (ended 
   pub ends : at_number ended 0 ≡ Some (Some end)
   pub run : end.run ≡ g
   pub left : end.left ≡ end_of local
+  pub each : EndsAre (hub.numbered code_hub) (hub.values code_hub is_end) ended (shown_all g world)
   pub forked : ForkersAre (paths_of world) forkers
   pub few : length forkers ≤ 1 + most_fuel
   pub earlier : AreEarlier forkers
@@ -119,6 +145,7 @@ module _ (g : CodeRun) (fuel : ℕ) (small_fuel : fuel ≤ most_fuel) (start : C
           ends = last.there;
           run = sym last.is.0;
           left = sym last.is.1;
+          each = subst (λ w. EndsAre (hub.numbered code_hub) (hub.values code_hub is_end) ended w) led.same ends;
           forked = of_world;
           few = omega (arith, many, long, paths);
           earlier = named.0;
@@ -146,7 +173,7 @@ module _ (g : CodeRun) (fuel : ℕ) (small_fuel : fuel ≤ most_fuel) (start : C
       })
       o.Twice refl
 
-module _ {M S R A C P : Type 0} (g : CodeRun) (fuel : ℕ) (run : HubRun M S R A LeftValue C P) (is : IsRunOf g fuel run) where
+module _ {M S R A C P : Type 0} {k : Ghosts M S R A LeftValue C P} (g : CodeRun) (fuel : ℕ) (run : HubRun M S R A LeftValue C P k) (is : IsRunOf g fuel run) where
   pub left_of : run_state run ≡ All → Left g fuel (run_schedule run) (run_forkers run) (run_ends run)
   left_of all =
       leaves g fuel is.few is.start is.begins is.group (run_state run) (run_schedule run) (run_forkers run) (run_ends run) is.kept is.taken is.closed all
@@ -169,7 +196,7 @@ module _ (g : CodeRun) (fuel : ℕ) (schedule forkers : List ℕ) (ended : List 
   shown ok x is = shown_by g ok fuel schedule (Listing l.world) l.complete x is
 
 -- a run by threads, of revisions of code
-pub run_of : {M C P : Type 0} (g : CodeRun) (fuel : ℕ) → fuel ≤ most_fuel → (start : CodeState) → IsStart g fuel start
-    → (group : List ℕ) (run : HubRun M CodeState RunnerValue JoinerValue LeftValue C P) → IsRunFrom code_hub is_end start group run → run_state run ≢ NoMemory → IsRunOf g fuel run
+pub run_of : {M C P : Type 0} {k : Ghosts M CodeState RunnerValue JoinerValue LeftValue C P} (g : CodeRun) (fuel : ℕ) → fuel ≤ most_fuel → (start : CodeState) → IsStart g fuel start
+    → (group : List ℕ) (run : HubRun M CodeState RunnerValue JoinerValue LeftValue C P k) → IsRunFrom code_hub is_end start group run → run_state run ≢ NoMemory → IsRunOf g fuel run
 run_of g fuel few start begins group run left known =
     record { few = few; start = start; begins = begins; group = group; kept = left.kept; taken = left.taken; closed = left.closed; known = known }

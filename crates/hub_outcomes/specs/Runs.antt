@@ -6,6 +6,7 @@ use Rattle.reached_worlds.specs.Reached.{most_fuel}
 use Rattle.hub_table.specs.declared.kept.Kept.{Kept}
 use Rattle.hub_table.specs.declared.state.HubState.TheVariants.{NoMemory}
 use Rattle.turn_hub.specs.declared.closing.HubRun.{HubRun}
+use Rattle.turn_rule.specs.declared.revision.Revision.{Ghosts}
 use Rattle.turn_hub.specs.Closing.{ClosedHub}
 use Rattle.turn_hub.specs.Names.{run_state, run_schedule, run_forkers, run_ends}
 use Rattle.code_machine.specs.Local.{CodeRun}
@@ -13,8 +14,8 @@ use Rattle.code_hub.specs.CodeState.{CodeState}
 use Rattle.code_hub.specs.Values.{RunnerValue, JoinerValue, LeftValue, is_end, code_hub}
 use Rattle.code_hub.specs.Laws.{IsStart}
 
-pub record IsRunOf {M S R A C P : Type 0} (g : CodeRun) (fuel : ℕ)
-    (run : HubRun M S R A LeftValue C P) : Type 0 where
+pub record IsRunOf {M S R A C P : Type 0} {k : Ghosts M S R A LeftValue C P} (g : CodeRun) (fuel : ℕ)
+    (run : HubRun M S R A LeftValue C P k) : Type 0 where
   pub few : fuel ≤ most_fuel
   pub start : CodeState
   pub begins : IsStart g fuel start

@@ -7,5 +7,6 @@ mod laws;
 mod outcomes;
 
 pub use births::births_of;
+pub use ends::owned_ends;
 pub use laws::birth_law;
 pub use outcomes::outcome_of_run;

@@ -9,7 +9,7 @@ use Rattle.turn_hub.specs.declared.seat.HubSeat.{HubSeat}
 use Rattle.turn_hub.specs.Closing.{saw_of}
 use Rattle.turn_hub.specs.Names.{IsSeatOf, AreSeatsOf, view_of, began, places}
 use Rattle.turn_rule.specs.Seats.{AreNew}
-use Rattle.hub_workers.specs.Running.{IsNewSeat}
+use Rattle.hub_workers.specs.Running.{IsSeatFor}
 
 module _ {M S R A E C P : Type 0} {g : Ghosts M S R A E C P} where
   -- it knows that all is over
@@ -35,7 +35,7 @@ module _ {M S R A E C P : Type 0} {g : Ghosts M S R A E C P} where
       (hub : TurnHub M S R A E C P) (start : Option S) (group : List ℕ)
       (xs : List (HubSeat M S R A E C P g)) → (began hub).start ≡ start
       → (began hub).group ≡ group → AreSeatsOf hub xs → AreNew start group (places xs)
-      → AllByRecursion (IsNewSeat hub) xs
+      → AllByRecursion (IsSeatFor hub) xs
   new_ones hub start group [] s g own new = tt
   new_ones hub start group (x ∷ xs) s g own new =
       ((own.0, new.0 ∙ sym s, new.1 ∙ sym g), new_ones hub start group xs s g own.1 new.5)
@@ -44,9 +44,9 @@ module _ {M S R A E C P : Type 0} {g : Ghosts M S R A E C P} where
       (hub : TurnHub M S R A E C P) (start : Option S) (group : List ℕ)
       (xs : List (HubSeat M S R A E C P g)) → (began hub).start ≡ start
       → (began hub).group ≡ group → AreSeatsOf hub xs → AreNew start group (places xs)
-      → All (IsNewSeat hub) xs
+      → All (IsSeatFor hub) xs
   all_new hub start group xs s g own new =
-      All-from_recursion (IsNewSeat hub) xs (new_ones hub start group xs s g own new)
+      All-from_recursion (IsSeatFor hub) xs (new_ones hub start group xs s g own new)
 
 pub written_whole :
     {X : Type 0} → (n : ℕ) (xs ys : List X) → n ≡ length xs → take n (xs ++ ys) ≡ xs

@@ -1,5 +1,5 @@
 -- A run by threads.
---   IsNewSeat     a seat of this hub, with the start and the group of its run
+--   IsSeatFor     a seat for the run that this hub began
 --   IsHandFor     a hand for the run that this hub began
 --   IsRunFrom     what a run leaves that began in a state, with snapshots of a group
 use Rattle.std.specs.Prelude.{◌≡◌, ℕ, List, Some}
@@ -13,8 +13,8 @@ use Rattle.turn_hub.specs.Closing.{ClosedHub}
 use Rattle.turn_hub.specs.Names.{IsSeatOf, view_of, began, run_start, run_group, run_state, run_schedule, run_forkers, run_ends}
 
 module _ {M S R A E C P : Type 0} {g : Ghosts M S R A E C P} where
-  abbrev pub IsNewSeat : TurnHub M S R A E C P → HubSeat M S R A E C P g → Type 0
-  IsNewSeat hub seat =
+  abbrev pub IsSeatFor : TurnHub M S R A E C P → HubSeat M S R A E C P g → Type 0
+  IsSeatFor hub seat =
       IsSeatOf hub seat × ((view_of seat).start ≡ (began hub).start)
       × ((view_of seat).group ≡ (began hub).group)
 
@@ -24,10 +24,10 @@ module _ {H M S R A E C P : Type 0} (begins : H → S → Type 0) (group : H →
       (group hand ≡ (began hub).group)
       × ((start : S) × ((began hub).start ≡ Some start) × begins hand start)
 
-module _ {M S R A E C P : Type 0} (d : HubMachine S R A E) (ends : E → S → Type 0) where
+module _ {M S R A E C P : Type 0} {g : Ghosts M S R A E C P} (d : HubMachine S R A E) (ends : E → S → Type 0) where
   -- the run tells where it began and what its snapshots belong to. Its schedule is legal, or in Twice its last entry joined
   -- what was joined; where no halt was entered it is complete, and it has the ends of all revisions without the mark
-  pub record IsRunFrom (start : S) (group : List ℕ) (run : HubRun M S R A E C P) : Type 0 where
+  pub record IsRunFrom (start : S) (group : List ℕ) (run : HubRun M S R A E C P g) : Type 0 where
     pub start_is : run_start run ≡ Some start
     pub group_is : run_group run ≡ group
     pub kept : List (Kept R A)

@@ -3,7 +3,7 @@ ghost use Rattle.std.specs.Prelude.{◌≡◌, ◌<◌, ◌≤◌, ◌^◌, [], 
 ghost use Rattle.turn_hub.specs.Closing.{AreKeptOf};
 ghost use Rattle.turn_hub.specs.Names.{IsSeatOf, began, view_of};
 ghost use Rattle.hub_workers.specs.Threads.{IsWorkerOf, HasWorked};
-ghost use Rattle.hub_workers.specs.Running.{IsNewSeat, IsHandFor, IsRunFrom};
+ghost use Rattle.hub_workers.specs.Running.{IsSeatFor, IsHandFor, IsRunFrom};
 
 use crate::bell::Bell;
 use crate::gate::Gate;
@@ -35,7 +35,7 @@ fn pair_up<L: Legs>(
     hands: &mut Vec<L::Hand>,
     workers: &mut Vec<Worker<L>>,
 )
-    requires seats { All (λ s. IsNewSeat hub.now s) seats.old.items }
+    requires seats { All (λ s. IsSeatFor hub.now s) seats.old.items }
     requires hands { All (λ h. IsHandFor L.begins L.hand_group hub.now h) hands.old.items }
     requires many { length seats.old.items ≡ length hands.old.items }
     requires room { (workers.old.items ≡ [])
@@ -112,7 +112,7 @@ where
     L::End: Send,
     L::Hand: Send,
     requires some { 0 < length hands.items }
-    requires seats { All (λ s. IsNewSeat hub s) seats.items }
+    requires seats { All (λ s. IsSeatFor hub s) seats.items }
     requires hands { All (λ h. IsHandFor L.begins L.hand_group hub h) hands.items }
     requires many { (length seats.items ≡ length hands.items)
         × ((began hub).parts ≡ length hands.items) }

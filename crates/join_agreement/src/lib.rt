@@ -2,6 +2,7 @@
 #![tactic(auto)]
 
 ghost use Rattle.join_agreement.specs.Laws.{JoinsAgree};
+ghost use Rattle.join_agreement.specs.Merges.{CodeHasTheMerges};
 
 /// The joiner of the calculus and its code are the same behind the join of a revision that has
 /// ended on both sides alike: it has taken over what the other wrote, by the merges of the program,
@@ -9,4 +10,11 @@ ghost use Rattle.join_agreement.specs.Laws.{JoinsAgree};
 /// what it wrote.
 pub fn join_law()
     ensures { JoinsAgree }
+{}
+
+/// For every kind of handle, revision numbers among them: the merge of each cumulative location of
+/// generated code gives, for all three numbers, the value of the merge that the program declares
+/// for it, or the same fault.
+pub fn merge_law<H>()
+    ensures { CodeHasTheMerges H }
 {}

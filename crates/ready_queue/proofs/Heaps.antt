@@ -1,9 +1,9 @@
 -- Numbers in lists and heaps.
-use Rattle.std.proofs.Common.{◌≡◌, ◌∙◌, ◌⊎◌, inl, inr, ℕ, ◌-◌, ◌<◌, ◌≤◌, ◌^◌, true, nat_eq, List, [], ◌∷◌, All, sym, subst, arith, true≢false, eq-eqb}
+use Rattle.std.proofs.Common.{◌≡◌, ◌∙◌, ◌⊎◌, inl, inr, ℕ, ◌-◌, ◌<◌, ◌≤◌, ◌^◌, true, nat_eq, List, [], ◌∷◌, map, All, sym, subst, arith, true≢false, eq-eqb}
 use Rattle.std.proofs.lemmas.Bool.{or_cases, or_left, or_right}
 use Rattle.std.proofs.lemmas.Bool.Decides.{nat_tests}
 use Rattle.std.proofs.lemmas.List.Elements.{All-head, All-tail}
-use Rattle.std.proofs.lemmas.List.Sorted.{list_any-IsPermutation, le_from_greatest}
+use Rattle.std.proofs.lemmas.List.Sorted.{list_any-IsPermutation, IsPermutation-map, le_from_greatest}
 use Rattle.std.specs.BinaryHeap.{IsUpperBound}
 use Rattle.std.specs.List.Sorted.{IsPermutation}
 use Rattle.std.specs.Ordering.{nat_cmp}
@@ -47,3 +47,10 @@ taken_or_left x xs ys n p less e = by (has_parts x ys (above n) (has_permuted xs
     by : (x ≡ above n) ⊎ (has ys (above n) ≡ true) → (n ≡ 4294967295 - x) ⊎ (has ys (above n) ≡ true)
     by (inl is) = inl (omega (arith, is, less))
     by (inr there) = inr there
+
+-- one number more, and one less
+pub one_more : (n : ℕ) (xs ys : List ℕ) → n < 2 ^ 32 → IsPermutation ((4294967295 - n) ∷ xs) ys → IsPermutation (n ∷ map above xs) (map above ys)
+one_more n xs ys less p = let back : 4294967295 - (4294967295 - n) ≡ n = omega (arith, less) in subst (λ x. IsPermutation (x ∷ map above xs) (map above ys)) back (IsPermutation-map above ((4294967295 - n) ∷ xs) ys p)
+
+pub one_less : (x : ℕ) (xs ys : List ℕ) → IsPermutation xs (x ∷ ys) → IsPermutation (map above xs) ((4294967295 - x) ∷ map above ys)
+one_less x xs ys p = IsPermutation-map above xs (x ∷ ys) p

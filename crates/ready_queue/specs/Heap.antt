@@ -2,7 +2,8 @@
 --   above    what is left above a number of 32 bits
 --   has      whether a number stands in a list
 --   Has      it stands in the heap
-use Rattle.std.specs.Prelude.{ℕ, ◌≡◌, ◌-◌, Bool, true, List, nat_eq}
+--   listed   the numbers in the heap, each as often as it stands there
+use Rattle.std.specs.Prelude.{ℕ, ◌≡◌, ◌-◌, Bool, true, List, nat_eq, map}
 use Rattle.std.specs.BinaryHeap.{heap_items}
 use Rattle.std.specs.List.{list_any}
 use Rattle.ready_queue.specs.declared.heap.LeastHeap.{LeastHeap}
@@ -15,3 +16,6 @@ has xs n = list_any (λ x. nat_eq x n) xs
 
 abbrev pub Has : LeastHeap → ℕ → Type 0
 Has h n = has (heap_items h.above) (above n) ≡ true
+
+abbrev pub listed : LeastHeap → List ℕ
+listed h = map above (heap_items h.above)

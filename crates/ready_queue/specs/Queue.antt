@@ -1,16 +1,20 @@
 -- Numbers that are ready, and numbers that wait.
 --   HasReady     the number is ready
+--   ready        the numbers that are ready, each as often as it was entered and not taken out
 --   entered      how many were entered and not taken out
 --   HasWaiter    it waits for this one
 --   KeepsAll     all that were ready are, and all that waited do
-use Rattle.std.specs.Prelude.{ℕ, ◌≡◌, true, Some, slice_get}
+use Rattle.std.specs.Prelude.{ℕ, ◌≡◌, true, List, Some, slice_get}
 use Rattle.std.specs.BinaryHeap.{heap_len}
 use Rattle.ready_queue.specs.declared.queue.ReadyQueue.{ReadyQueue}
 use Rattle.ready_queue.specs.declared.queue.Waiters.{Waiters}
-use Rattle.ready_queue.specs.Heap.{has, Has}
+use Rattle.ready_queue.specs.Heap.{has, Has, listed}
 
 abbrev pub HasReady : ReadyQueue → ℕ → Type 0
 HasReady q n = Has q.ready n
+
+abbrev pub ready : ReadyQueue → List ℕ
+ready q = listed q.ready
 
 -- how many numbers were entered and not yet taken out
 abbrev pub entered : ReadyQueue → ℕ

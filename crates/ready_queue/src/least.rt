@@ -1,8 +1,10 @@
 //! A heap of numbers, from which the least comes first.
 
 ghost use Rattle.std.specs.Prelude.{◌≡◌, ◌≤◌, ◌<◌, ◌+◌, ◌⊎◌, ◌^◌, ℕ, IfSome, IfNone, OnOk};
+ghost use Rattle.std.specs.Prelude.{[], ◌∷◌};
+ghost use Rattle.std.specs.List.Sorted.{IsPermutation};
 ghost use Rattle.std.specs.BinaryHeap.{heap_len};
-ghost use Rattle.ready_queue.specs.Heap.{Has};
+ghost use Rattle.ready_queue.specs.Heap.{Has, listed};
 
 use crate::heap::LeastHeap;
 use std::alloc::{AllocError, Global};
@@ -11,7 +13,8 @@ use std::collections::BinaryHeap;
 impl LeastHeap {
     /// A heap of none.
     pub fn new(alloc: Global) -> LeastHeap
-        ensures { (n : ℕ) → Has result n → ⊥ }
+        ensures none { (n : ℕ) → Has result n → ⊥ }
+        ensures empty { listed result ≡ [] }
     {
         LeastHeap {
             above: BinaryHeap::new(alloc),
@@ -22,19 +25,22 @@ impl LeastHeap {
     pub fn add(&mut self, number: u32) -> Result<(), AllocError>
         ensures here { OnOk result (Has self.new number) }
         ensures kept { OnOk result ((n : ℕ) → Has self.old n → Has self.new n) }
+        ensures exact { OnOk result (IsPermutation (number ∷ listed self.old) (listed self.new)) }
     {
         self.above.push(u32::MAX - number)?;
         Ok(())
     }
 
-    /// The least number, which is taken out once. The clauses do not say that it stood in the heap:
-    /// it is at most each number that did.
+    /// The least number, which is taken out once. The others stay, each as often as before.
     pub fn take(&mut self) -> Option<u32>
         ensures least { IfSome result
             (λ x. (n : ℕ) → n < 2 ^ 32 → Has self.old n → x ≤ n) }
         ensures kept { IfSome result
             (λ x. (n : ℕ) → n < 2 ^ 32 → Has self.old n → (n ≡ x) ⊎ Has self.new n) }
         ensures none { IfNone result ((n : ℕ) → Has self.old n → ⊥) }
+        ensures exact { IfSome result
+            (λ x. IsPermutation (listed self.old) (x ∷ listed self.new)) }
+        ensures empty { IfNone result ((listed self.old ≡ []) × (listed self.new ≡ [])) }
         ensures fewer { IfSome result
             (λ x. heap_len self.new.above + 1 ≡ heap_len self.old.above) }
     {

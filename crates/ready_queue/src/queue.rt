@@ -1,9 +1,10 @@
 //! Numbers that are ready, and numbers that wait for others.
 
 ghost use Rattle.std.specs.Prelude.{◌≡◌, ◌≢◌, ◌≤◌, ◌<◌, ◌+◌, ◌⊎◌, ◌^◌, ℕ, IfSome, IfNone, OnOk};
-ghost use Rattle.std.specs.Prelude.{length, true};
+ghost use Rattle.std.specs.Prelude.{length, true, [], ◌∷◌};
+ghost use Rattle.std.specs.List.Sorted.{IsPermutation};
 ghost use Rattle.ready_queue.specs.Heap.{Has, has};
-ghost use Rattle.ready_queue.specs.Queue.{HasReady, HasWaiter, KeepsAll, entered};
+ghost use Rattle.ready_queue.specs.Queue.{HasReady, HasWaiter, KeepsAll, entered, ready};
 
 use crate::heap::LeastHeap;
 use std::alloc::{AllocError, Global};
@@ -25,7 +26,8 @@ pub struct ReadyQueue {
 impl ReadyQueue {
     /// No numbers.
     pub fn new(alloc: Global) -> ReadyQueue
-        ensures { length result.waiters.items ≡ 0 }
+        ensures count { length result.waiters.items ≡ 0 }
+        ensures empty { ready result ≡ [] }
     {
         ReadyQueue {
             ready: LeastHeap::new(alloc),
@@ -38,6 +40,7 @@ impl ReadyQueue {
         ensures count { OnOk result
             (length self.new.waiters.items ≡ length self.old.waiters.items + 1) }
         ensures kept { OnOk result (KeepsAll self.old self.new) }
+        ensures ready { self.new.ready ≡ self.old.ready }
     {
         self.waiters.push(Waiters {
             numbers: Vec::new(alloc),
@@ -49,14 +52,15 @@ impl ReadyQueue {
     pub fn enter(&mut self, number: u32) -> Result<(), AllocError>
         ensures here { OnOk result (HasReady self.new number) }
         ensures kept { OnOk result (KeepsAll self.old self.new) }
+        ensures exact { OnOk result (IsPermutation (number ∷ ready self.old) (ready self.new)) }
         ensures count { self.new.waiters ≡ self.old.waiters }
     {
         self.ready.add(number)?;
         Ok(())
     }
 
-    /// The least number that is ready, which is taken out once. The clauses do not say that it was
-    /// ready: it is at most each number that was.
+    /// The least number that is ready, which is taken out once. The others stay, each as often as
+    /// before.
     pub fn take(&mut self) -> Option<u32>
         ensures least { IfSome result
             (λ x. (n : ℕ) → n < 2 ^ 32 → HasReady self.old n → x ≤ n) }
@@ -64,6 +68,9 @@ impl ReadyQueue {
             (λ x. (n : ℕ) → n < 2 ^ 32 → HasReady self.old n → (n ≡ x) ⊎ HasReady self.new n) }
         ensures none { IfNone result ((n : ℕ) → HasReady self.old n → ⊥) }
         ensures waiters { self.new.waiters ≡ self.old.waiters }
+        ensures exact { IfSome result
+            (λ x. IsPermutation (ready self.old) (x ∷ ready self.new)) }
+        ensures empty { IfNone result ((ready self.old ≡ []) × (ready self.new ≡ [])) }
         ensures fewer { IfSome result (λ x. entered self.new + 1 ≡ entered self.old) }
     {
         self.ready.take()

@@ -36,8 +36,8 @@ pub struct Claimed<P: Snapshot> {
     pub(crate) end: EndValue,
     ghost fuel: { at.revision.value.run.registers.fuel + end.fuel < 2 ^ 64 },
     ghost done: { end.finish ≡ finish.Done },
-    ghost of: { ∥ (g : CodeRun) × (c : State ℕ) × (j : End ℕ)
-        × ClaimsAs g at.revision.value at.written at.is_try at.on end c j ∥₁ },
+    ghost of: { ∥ ((g : CodeRun) × (c : State ℕ) × (j : End ℕ)
+        × ClaimsAs g at.revision.value at.written at.is_try at.on end c j) ∥₁ },
 }
 
 impl<P: Snapshot> AtJoin<P> {

@@ -1,7 +1,8 @@
 //! Frames: the main block or a call that goes on, with its locals and what it still has to do.
 
-ghost use Rattle.std.specs.Prelude.{◌≡◌, IfOk, OnOk, None, Some};
+ghost use Rattle.std.specs.Prelude.{◌≡◌, IfNone, IfOk, OnOk, None, Some};
 ghost use Rattle.std.specs.Prelude.{option_copied, option_map};
+ghost use Rattle.rev_syntax.specs.Trees.{no_statements};
 ghost use Rattle.rev_syntax.specs.View.{stmt, stmts};
 ghost use Rattle.merge_decl.specs.Table.{find};
 ghost use Rattle.revision_calculus.specs.Step.{append};
@@ -29,9 +30,11 @@ fn keep<'a>(blocks: &mut Vec<&'a [Stmt]>, others: &'a [Stmt]) -> Result<(), Allo
 
 /// Takes the next statement out of these blocks, the last block first, if there is one.
 fn next_of<'a>(blocks: &mut Vec<&'a [Stmt]>) -> Result<Option<&'a Stmt>, AllocError>
-    ensures { IfOk result
+    ensures taken { IfOk result
         (λ found. remaining blocks.old.items
         ≡ before (option_map stmt (option_copied found)) (remaining blocks.new.items)) }
+    ensures none { IfOk result
+        (λ found. IfNone found (remaining blocks.new.items ≡ no_statements)) }
 {
     while let Some(block) = blocks.pop() {
         if let Some((first, others)) = block.split_first() {
@@ -81,10 +84,11 @@ impl<'a> Rest<'a> {
         Ok(())
     }
 
-    /// Takes the next statement out, if there is one.
+    /// Takes the next statement out, if there is one. Where there is none, none is left.
     pub fn next(&mut self) -> Result<Option<&'a Stmt>, AllocError>
-        ensures { IfOk result
+        ensures taken { IfOk result
             (λ found. self.old ≡ before (option_map stmt (option_copied found)) self.new) }
+        ensures none { IfOk result (λ found. IfNone found (self.new ≡ no_statements)) }
     {
         next_of(&mut self.blocks)
     }
@@ -178,13 +182,14 @@ impl<'a> Frame<'a> {
         self.rest.enter(block)
     }
 
-    /// Takes the next statement out, if there is one.
+    /// Takes the next statement out, if there is one. Where there is none, all is as it was.
     pub fn next(&mut self) -> Result<Option<&'a Stmt>, AllocError>
-        ensures { IfOk result
+        ensures taken { IfOk result
             (λ found. self.old
             ≡ record self.new {
               rest = before (option_map stmt (option_copied found)) self.new.rest;
             }) }
+        ensures none { IfOk result (λ found. IfNone found (self.new ≡ self.old)) }
     {
         self.rest.next()
     }

@@ -1,6 +1,6 @@
 //! The frames of a revision, the one on top last.
 
-ghost use Rattle.std.specs.Prelude.{◌≡◌, ◌<◌, IfOk, OnOk, MatchOption, Some, [], ◌∷◌};
+ghost use Rattle.std.specs.Prelude.{◌≡◌, ◌<◌, IfNone, IfOk, OnOk, MatchOption, Some, [], ◌∷◌};
 ghost use Rattle.std.specs.Prelude.{option_copied, option_map, length, slice_get};
 ghost use Rattle.rev_syntax.specs.View.{stmt, stmts};
 ghost use Rattle.revision_calculus.specs.Step.{append};
@@ -121,11 +121,13 @@ impl<'a> Frames<'a> {
         }
     }
 
-    /// Takes the next statement out of the frame on top, if it has one. There is a frame.
+    /// Takes the next statement out of the frame on top, if it has one. There is a frame. Where the
+    /// frame has none, all is as it was.
     pub fn next(&mut self) -> Result<Option<&'a Stmt>, AllocError>
         requires { 0 < length self.old }
-        ensures { IfOk result
+        ensures taken { IfOk result
             (λ found. self.old ≡ with_next (option_map stmt (option_copied found)) self.new) }
+        ensures none { IfOk result (λ found. IfNone found (self.new ≡ self.old)) }
     {
         match self.pop() {
             None => Ok(None),

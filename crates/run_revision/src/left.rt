@@ -41,6 +41,13 @@ impl<'a> CodeEnd<'a> {
         &*self.value
     }
 
+    /// The same, apart from what it ran under.
+    pub fn into_value(self) -> Box<EndValue>
+        ensures { IsEnd self.entry.run self.entry.left result.value }
+    {
+        self.value
+    }
+
     /// Whether it ended by a trap.
     pub fn is_trapped(&self) -> bool
         ensures { result ≡ is_trap self.now.left.phase }

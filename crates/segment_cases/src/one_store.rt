@@ -100,11 +100,11 @@ fn rounds(alloc: Global, store: &Store, part: &mut Part, count: u32)
     }
 }
 
-fn work(alloc: Global, store: &Store, part: &mut Part, work: Work)
+fn play_part(alloc: Global, store: &Store, part: &mut Part, kind: Work)
     requires { IsPart store.now part.old.hold part.old.delta part.old.all }
     ensures { IsPart store.entry.now part.new.hold part.new.delta part.new.all }
 {
-    match work {
+    match kind {
         Work::Look => look(store, part),
         Work::Rounds(count) => rounds(alloc, store, part, count),
     }
@@ -126,12 +126,12 @@ fn in_two_threads<R: Threads + Sync>(
     let mut front = ||
         requires { IsPart store.now one.now.hold one.now.delta one.now.all }
         ensures { IsPart store.entry.now one.exit.now.hold one.exit.now.delta one.exit.now.all }
-    { work(alloc, store, one, kind) };
+    { play_part(alloc, store, one, kind) };
     let mut back = ||
         requires { IsPart store.now other.now.hold other.now.delta other.now.all }
         ensures { IsPart store.entry.now other.exit.now.hold other.exit.now.delta
             other.exit.now.all }
-    { work(alloc, store, other, kind) };
+    { play_part(alloc, store, other, kind) };
     join_mut(rt, &mut front, &mut back);
 }
 

@@ -1,12 +1,14 @@
 //! What a run by threads leaves.
 
 ghost use Rattle.std.specs.Prelude.{◌≡◌};
-ghost use Rattle.thread_runs.specs.Runs.{numbers_of};
+ghost use Rattle.thread_runs.specs.Runs.{numbers_of, state_of, forkers_of, ends_of};
 
+use hub_table::HubState;
 use rev_num::Outcome;
 use run_revision::AnyState;
 use segment_store::Closed;
 use turn_hub::HubSchedule;
+use version_map::EndValue;
 
 /// A run by threads that is over. It owns what it tells: the schedule is one that a hub kept, and a
 /// store made what its close counted. `run_threads` alone makes one.
@@ -14,6 +16,7 @@ use turn_hub::HubSchedule;
 pub struct Ran {
     pub(crate) outcome: Outcome,
     pub(crate) order: HubSchedule<AnyState>,
+    pub(crate) ends: Vec<Option<Box<EndValue>>>,
     pub(crate) copies: u64,
     pub(crate) live: u32,
     pub(crate) closed: Closed,
@@ -32,6 +35,28 @@ impl Ran {
         ensures { result.now ≡ numbers_of self.now }
     {
         self.order.numbers()
+    }
+
+    /// Twice where a revision was joined a second time, and else All.
+    pub fn state(&self) -> HubState
+        ensures { result ≡ state_of self.now }
+    {
+        self.order.state()
+    }
+
+    /// By number, the revision that forked it, and 0 for the first.
+    pub fn forkers(&self) -> &[u32]
+        ensures { result.now ≡ forkers_of self.now }
+    {
+        self.order.forkers()
+    }
+
+    /// By number, what each revision left that nobody joined. No clause tells of them in the state
+    /// Twice.
+    pub fn ends(&self) -> &[Option<Box<EndValue>>]
+        ensures { result.now ≡ ends_of self.now }
+    {
+        self.ends.as_slice()
     }
 
     /// How many forks gave the child words of its own, since they found each segment in use; up to

@@ -8,7 +8,7 @@ ghost use Rattle.thread_runs.specs.Runs.{IsRunOf};
 use crate::ran::Ran;
 use code_runs::note_inputs;
 use code_verifier::Verified;
-use hub_outcomes::outcome_of_run;
+use hub_outcomes::{outcome_of_run, owned_ends};
 use hub_workers::Gate;
 use leg_run::CodeSetting;
 use rev_workers::{Ran as Left, run_threads as run_over_store};
@@ -52,9 +52,12 @@ pub fn run_threads<R: Threads + Wait + Sync, G: Gate + Sync>(
         live,
         closed,
     } = left;
+    let (order, kept) = run.into_schedule();
+    let ends = owned_ends(alloc, kept)?;
     Ok(Ran {
         outcome,
-        order: run.into_schedule(),
+        order,
+        ends,
         copies,
         live,
         closed,

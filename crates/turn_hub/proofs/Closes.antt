@@ -1,8 +1,8 @@
 -- What is known at the close: of the slot, and of what the hub leaves.
-use Rattle.std.proofs.Common.{◌≡◌, ℕ, true, List, [], ◌∷◌, map, Option, sym, ◌∙◌, refl, subst}
+use Rattle.std.proofs.Common.{◌≡◌, ℕ, true, List, [], ◌∷◌, map, Option, Some, None, sym, ◌∙◌, refl, subst}
 use Rattle.std.specs.Global.{Box}
 use Rattle.atomic_table.specs.Table.{State}
-use Rattle.revision_machine.specs.Numbered.{at_number}
+use Rattle.revision_machine.specs.Numbered.{Wish, Entries, at_number}
 use Rattle.hub_algebra.specs.declared.status.Status.{Status}
 use Rattle.hub_algebra.specs.declared.status.Status.TheVariants.{Ready, Out, Waiting, Over, Gone}
 use Rattle.hub_algebra.specs.Hub as pure
@@ -19,7 +19,7 @@ use Rattle.hub_table.proofs.Slots.{no_more}
 use Rattle.turn_rule.specs.declared.view.View.{View}
 use Rattle.turn_rule.specs.Passes.{named}
 use Rattle.turn_rule.specs.Rule.{is_out, done, Sound, SoundFrom, AreOfGroup}
-use Rattle.turn_hub.specs.Closing.{ClosedTurn, ClosedHub, AreKeptOf, IsClosed}
+use Rattle.turn_hub.specs.Closing.{ClosedTurn, ClosedHub, AreKeptOf, IsClosed, EndsFit, OthersJoined, KeptRun, IsKeptRun, IsSameMachine, HaveSameEnds}
 use Rattle.turn_rule.proofs.Keeps.{AtEnd}
 use Rattle.turn_rule.proofs.Turns.{some_start}
 
@@ -38,6 +38,7 @@ module _ {L R A E : Type 0} (d : HubMachine L R A E) (ends : E → L → Type 0)
         state = a.state;
         over = a.over saw;
         same = a.same;
+        behind = a.behind;
       }
 
   over_from : (slots : List (Status R A E)) → all_over slots ≡ true → pure.all_ended (numbered d) (values d ends) slots
@@ -112,3 +113,57 @@ module _ {L R A E : Type 0} (d : HubMachine L R A E) (ends : E → L → Type 0)
       → ((n : ℕ) → named n v.passes ≡ taken n) → IsClosed d ends first t.state t.schedule.items t.revisions.forkers.items ended kept taken
   leaves first v t c ended kept taken ends_are kept_are same =
       (c.start, c.begun, leaves_by c.start first.group t.schedule.items t.revisions.forkers.items t.revisions.slots.items ended kept taken (λ n. c.outs n ∙ same n) ends_are kept_are c.grouped t.state c.sound c.over)
+
+  ends_fit : (slots : List (Status R A E)) (w : Entries L) → pure.AllFit (numbered d) (values d ends) slots w → EndsFit (numbered d) ends (map end_of slots) w
+  ends_fit [] [] h = tt
+  ends_fit [] (x ∷ w) h = absurd h
+  ends_fit (s ∷ slots) [] h = absurd h
+  ends_fit (Ready r ∷ slots) (x ∷ w) h = ends_fit slots w h.1
+  ends_fit (Out ∷ slots) (x ∷ w) h = ends_fit slots w h.1
+  ends_fit (Waiting a ∷ slots) (x ∷ w) h = ends_fit slots w h.1
+  ends_fit (Over e ∷ slots) (x ∷ w) h = (h.0, ends_fit slots w h.1)
+  ends_fit (Gone ∷ slots) (x ∷ w) h = ends_fit slots w h.1
+
+  others_joined : (ended : List (Option E)) (w : Entries L) → EndsAre (numbered d) (values d ends) ended w → OthersJoined (numbered d) ended w
+  others_joined [] [] h = tt
+  others_joined [] (x ∷ w) h = absurd h
+  others_joined (e ∷ es) [] h = absurd h
+  others_joined (None ∷ es) (x ∷ w) h = (h.0, others_joined es w h.1)
+  others_joined (Some e ∷ es) (x ∷ w) h = others_joined es w h.1
+
+  -- the run of what a hub leaves
+  pub run_of : (start : L) (group : List ℕ) (state : HubState) (schedule forkers : List ℕ) (ended : List (Option E)) (kept : List (Kept R A)) (taken : ℕ → ℕ) → ClosedHub d ends start group state schedule forkers ended kept taken
+      → KeptRun (numbered d) ends start state schedule forkers ended
+  run_of start group state schedule forkers ended kept taken h = record {
+    world = h.world;
+    legal = h.legal;
+    forked = h.forked;
+    fits = subst (λ l. EndsFit (numbered d) ends l h.world) (sym h.ends_are) (ends_fit h.slots h.world h.fits);
+    complete = λ e. let c = h.complete e in (c.0, others_joined ended h.world c.1);
+  }
+
+  pub run_from : (first : View L) (begun : Option L) (state : HubState) (schedule forkers : List ℕ) (ended : List (Option E)) (kept : List (Kept R A)) (taken : ℕ → ℕ) → IsClosed d ends first state schedule forkers ended kept taken
+      → begun ≡ first.start → IsKeptRun (numbered d) ends begun state schedule forkers ended
+  run_from first begun state schedule forkers ended kept taken h e = (h.0, e ∙ h.1, run_of h.0 first.group state schedule forkers ended kept taken h.2)
+
+-- a run of one machine is one of another that does the same
+module _ {L R A Q B E : Type 0} (d : HubMachine L R A E) (e : HubMachine L Q B E) (same : IsSameMachine d e) (ends other : E → L → Type 0) (have : HaveSameEnds ends other) where
+  fits_other : (ended : List (Option E)) (w : Entries L) → EndsFit (numbered d) ends ended w → EndsFit (numbered d) other ended w
+  fits_other [] [] h = tt
+  fits_other [] (x ∷ w) h = absurd h
+  fits_other (o ∷ es) [] h = absurd h
+  fits_other (None ∷ es) (x ∷ w) h = fits_other es w h
+  fits_other (Some o ∷ es) (x ∷ w) h = ((h.0.0, h.0.1, (h.0.2.0, (have o h.0.0).0 h.0.2.1)), fits_other es w h.1)
+
+  pub retyped : (begun : Option L) (state : HubState) (schedule forkers : List ℕ) (ended : List (Option E)) → IsKeptRun (numbered d) ends begun state schedule forkers ended → IsKeptRun (numbered e) other begun state schedule forkers ended
+  retyped begun state schedule forkers ended h = (
+    h.0,
+    h.1,
+    subst (λ (z : (L → Wish L) × (L → ℕ) × (L → ℕ → L → L)). KeptRun (record { Local = L; next = z.0; forks = z.1; join = z.2 }) other h.0 state schedule forkers ended) (λ i. (sym same.0 i, sym same.1 i, sym same.2 i)) record {
+      world = h.2.world;
+      legal = h.2.legal;
+      forked = h.2.forked;
+      fits = fits_other ended h.2.world h.2.fits;
+      complete = h.2.complete;
+    },
+  )

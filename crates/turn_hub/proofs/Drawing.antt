@@ -119,6 +119,7 @@ module _ {L R A E : Type 0} (d : HubMachine L R A E) (ends : E → L → Type 0)
         start = refl;
         group = refl;
         passes = refl;
+        turns = refl;
         fresh = p.0;
         mine = p.1;
         over = λ o. absurd (all_ended t'.revisions.slots.items n Out (ap (λ z. done z t'.revisions.slots.items) (sym none) ∙ o) out);

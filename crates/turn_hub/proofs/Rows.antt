@@ -1,5 +1,5 @@
 -- Lists of seats of one hub, and what they leave.
-use Rattle.std.proofs.Common.{◌≡◌, ◌≢◌, ◌⊎◌, inl, inr, ⊎_elim, ℕ, ◌+◌, Bool, cond, List, [], ◌∷◌, ◌++◌, map, Option, sym, ap, ◌∙◌, refl, eq-eqb, ne_eqb}
+use Rattle.std.proofs.Common.{◌≡◌, ◌≢◌, ◌⊎◌, inl, inr, ⊎_elim, ℕ, ◌+◌, Bool, cond, List, [], ◌∷◌, ◌++◌, map, length, arith, Option, sym, ap, ◌∙◌, refl, eq-eqb, ne_eqb}
 use mathlib.Core.Logic.{dite}
 use native.Mathlib.Decide.{ℕ_discrete}
 use Rattle.atomic_table.specs.Seated.{TableId}
@@ -9,9 +9,9 @@ use Rattle.hub_table.specs.declared.state.HubState.TheVariants.{All, Twice, NoMe
 use Rattle.hub_table.specs.Counts.{is_at}
 use Rattle.hub_table.proofs.Lists.{total_snoc, total_append}
 use Rattle.turn_rule.specs.declared.view.View.{View}
-use Rattle.turn_rule.specs.Passes.{named, Pass}
+use Rattle.turn_rule.specs.Passes.{named, Pass, AreStartsOf}
 use Rattle.turn_rule.specs.Views.{either_saw, either_halt}
-use Rattle.turn_rule.specs.Seats.{AreOf, AreNew}
+use Rattle.turn_rule.specs.Seats.{AreOf, AreNew, AreBehind}
 use Rattle.turn_hub.specs.Closing.{saw_of, halt_known, held_by}
 
 pub map_more : {B C : Type 0} → (f : B → C) (xs : List B) (y : B) → map f (xs ++ y ∷ []) ≡ map f xs ++ f y ∷ []
@@ -20,6 +20,10 @@ map_more f (x ∷ xs) y = ap (λ l. f x ∷ l) (map_more f xs y)
 
 pub map_items : {B C : Type 0} → (all front : List B) (x : B) → all ≡ front ++ x ∷ [] → (f : B → C) → map f all ≡ map f front ++ f x ∷ []
 map_items all front x e f = ap (λ l. map f l) e ∙ map_more f front x
+
+pub no_more_seats : {B : Type 0} → (xs : List B) → length xs ≡ 0 → xs ≡ []
+no_more_seats [] e = refl
+no_more_seats (x ∷ xs) e = absurd (omega (arith, e))
 
 either_here : (a b : ℕ) → a ≡ 1 → either_saw a b ≡ 1
 either_here a b e = ap (λ (c : Bool). cond c 1 b) (eq-eqb a 1 e)
@@ -56,6 +60,11 @@ module _ {S L : Type 0} where
       → (s.me.0.start ≡ start) × (s.me.0.group ≡ group) × (s.me.0.passes ≡ []) × (s.me.0.saw ≡ 0) × (s.me.0.halt ≡ All) → AreNew start group (ss ++ s ∷ [])
   new_more start group [] s all one = (one.0, one.1, one.2, one.3, one.4, tt)
   new_more start group (x ∷ ss) s all one = (all.0, all.1, all.2, all.3, all.4, new_more start group ss s all.5 one)
+
+  -- and the schedule begins with what one seat more left
+  pub behind_more : (log : List ℕ) (ss : List (Seat S (View L))) (s : Seat S (View L)) → AreBehind log ss → AreStartsOf log s.me.0.turns → AreBehind log (ss ++ s ∷ [])
+  behind_more log [] s all one = (one, tt)
+  behind_more log (x ∷ ss) s all one = (all.0, behind_more log ss s all.1 one)
 
   saw_split : (ss : List (Seat S (View L))) (s : Seat S (View L)) → saw_of (ss ++ s ∷ []) ≡ 1 → (saw_of ss ≡ 1) ⊎ (s.me.0.saw ≡ 1)
   saw_split [] s h = ⊎_elim (λ e. inr e) (λ e. inl e) (one_of s.me.0.saw 0 h)

@@ -21,7 +21,7 @@ use Rattle.turn_rule.specs.declared.view.Said.{Said}
 use Rattle.turn_rule.specs.declared.view.Said.TheVariants as mark
 use Rattle.turn_rule.specs.Views.{ended_said, ready_said, all_said, or_no_memory, commits, hands_in, ends_in, draws, stops, rests}
 use Rattle.turn_rule.specs.Passes.{IsPass}
-use Rattle.turn_rule.specs.Seats.{HasState, HasFork, HasJoin, ForkedAs, KeepsAll, KeepsHalt, KeepsOthers, IsSameSeat}
+use Rattle.turn_rule.specs.Seats.{HasState, HasFork, HasJoin, ForkedAs, KeepsAll, KeepsHalt, KeepsOthers, IsSameSeat, HadTurn}
 use Rattle.turn_rule.specs.Rule.{done, said_of, says, InHand, Told}
 use Rattle.turn_hub.specs.Answers.{IsSameTurn, OnwardSays, IsNoneReady, WaitedOn, HasCome}
 use Rattle.turn_hub.specs.Answers.{IsHalted, Ran, Retried, IsIdleNow, IsFinished, WasHalted, Forked, TookIn, HasMet, Waited, MetTwice, JoinSays, TakesIn, EndedSays}
@@ -29,6 +29,20 @@ use Rattle.turn_hub.specs.Answers.{IsHalted, Ran, Retried, IsIdleNow, IsFinished
 module _ {L : Type 0} where
   pub draws_turn : (w x : View L) (n : ℕ) → x ≡ draws n w → IsSameTurn w x
   draws_turn w x n is = subst (IsSameTurn w) (sym is) record { said = refl; entered = refl; found = refl; log = refl; saw = refl; halt = refl }
+
+  -- the turn that a seat took is the one more that it has had, once it gave it back
+  pub rested_turn : (v w x : View L) → w.turns ≡ v.turns → x ≡ rests w → HadTurn v x
+  rested_turn v w x same is = subst (HadTurn v) (sym is) (ap (λ l. w.log ∷ l) same)
+
+  pub halted_turn : (v w x : View L) → w.turns ≡ v.turns → x ≡ rests (stops (or_no_memory w.halt) w) → HadTurn v x
+  halted_turn v w x same is = subst (HadTurn v) (sym is) (ap (λ l. w.log ∷ l) same)
+
+  pub turn_over : (v w x : View L) → w.turns ≡ v.turns → x.turns ≡ x.log ∷ w.turns → HadTurn v x
+  turn_over v w x same had = had ∙ ap (λ l. x.log ∷ l) same
+
+  pub ends_turns : (b : Bool) (k : ℕ) (w : View L) → (ends_in b k w).turns ≡ w.turns
+  ends_turns true k w = refl
+  ends_turns false k w = refl
 
   pub same_turn : (w : View L) → IsSameTurn w w
   same_turn w = record { said = refl; entered = refl; found = refl; log = refl; saw = refl; halt = refl }

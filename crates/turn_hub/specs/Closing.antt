@@ -1,10 +1,14 @@
 -- What a hub leaves at its close.
 --   saw_of, halt_known, held_by   what the seats saw and know, and the passes that they have
 --   Legal        the schedule is legal, or its last entry joined what was joined
---   ClosedHub    the run: legal, with the ends, the forkers and what a halt left
-use Rattle.std.specs.Prelude.{◌≡◌, ℕ, true, List, [], ◌∷◌, ◌++◌, map, Option, Some}
+--   EndsFit      each end that is told is that of a revision that has ended and was not joined
+--   KeptRun      a run: legal, with the forkers and the ends of its world
+--   ClosedHub    what a hub leaves: the run, and what a halt left
+--   IsSameMachine, HaveSameEnds   two machines of the same states and ends do the same
+use Rattle.std.specs.Prelude.{◌≡◌, ◌↔◌, ℕ, true, List, [], ◌∷◌, ◌++◌, map, Option, Some, None}
 use Rattle.atomic_table.specs.declared.shared.Seat.{Seat}
-use Rattle.revision_machine.specs.Numbered.{Entries, Both, Listing, IsOver, at_number, paths_of}
+use Rattle.revision_machine.specs.Machine.{Plain, Joined}
+use Rattle.revision_machine.specs.Numbered.{Numbered, Entries, Both, Listing, Stops, IsOver, at_number, paths_of}
 use Rattle.hub_algebra.specs.declared.status.Status.{Status}
 use Rattle.hub_algebra.specs.Replay.{replay}
 use Rattle.hub_algebra.specs.Forkers.{ForkersAre}
@@ -18,7 +22,7 @@ use Rattle.hub_table.specs.declared.value.Turn.{Turn}
 use Rattle.hub_table.specs.Counts.{total}
 use Rattle.hub_table.specs.Left.{kept_of}
 use Rattle.turn_rule.specs.declared.view.View.{View}
-use Rattle.turn_rule.specs.Passes.{named}
+use Rattle.turn_rule.specs.Passes.{named, AreStartsOf}
 use Rattle.turn_rule.specs.Views.{either_saw, either_halt}
 use Rattle.turn_rule.specs.Rule.{is_out, is_over, Sound, AreOfGroup}
 
@@ -37,6 +41,49 @@ module _ {L S : Type 0} where
   abbrev pub held_by : ℕ → List (Seat S (View L)) → ℕ
   held_by n = total (λ s. named n s.me.0.passes)
 
+module _ (N : Numbered) where
+  -- the schedule leads to the world, or in Twice from there by one entry to the join that entered it
+  abbrev pub IsLegal : N.Local → HubState → List ℕ → Entries N.Local → Type 0
+  IsLegal start All schedule world = replay N start schedule ≡ Some (Listing world)
+  IsLegal start NoMemory schedule world = replay N start schedule ≡ Some (Listing world)
+  IsLegal start Twice schedule world =
+      (before : List ℕ) × (last : ℕ) × (schedule ≡ before ++ last ∷ [])
+      × (replay N start before ≡ Some (Listing world)) × (replay N start schedule ≡ Some Both)
+
+  -- each revision of which no end is told was joined
+  abbrev pub OthersJoined : {E : Type 0} → List (Option E) → Entries N.Local → Type 0
+  OthersJoined [] w = Unit {0}
+  OthersJoined (e ∷ es) [] = Unit {0}
+  OthersJoined (None ∷ es) (x ∷ w) = ((l : N.Local) × (x.1 ≡ Joined l)) × OthersJoined es w
+  OthersJoined (Some e ∷ es) (x ∷ w) = OthersJoined es w
+
+  module _ {E : Type 0} (ends : E → N.Local → Type 0) where
+    abbrev pub IsEndOf : E → N.Local → Type 0
+    IsEndOf e l = (N.next l ≡ Stops) × ends e l
+
+    abbrev pub EndsFit : List (Option E) → Entries N.Local → Type 0
+    EndsFit [] [] = Unit {0}
+    EndsFit [] (x ∷ w) = ⊥
+    EndsFit (e ∷ es) [] = ⊥
+    EndsFit (None ∷ es) (x ∷ w) = EndsFit es w
+    EndsFit (Some e ∷ es) (x ∷ w) =
+        ((l : N.Local) × (x.1 ≡ Plain l) × IsEndOf e l) × EndsFit es w
+
+    pub record KeptRun (start : N.Local) (state : HubState) (schedule forkers : List ℕ) (ended : List (Option E)) : Type 0 where
+      pub world : Entries N.Local
+      pub legal : IsLegal start state schedule world
+      -- of each revision of the world, the number that forked it
+      pub forked : ForkersAre (paths_of world) forkers
+      pub fits : EndsFit ended world
+      -- where no halt was entered, the schedule is complete
+      pub complete : state ≡ All → IsOver N start (Listing world) × OthersJoined ended world
+
+    -- the run began somewhere
+    abbrev pub IsKeptRun :
+        Option N.Local → HubState → List ℕ → List ℕ → List (Option E) → Type 0
+    IsKeptRun begun state schedule forkers ended =
+        (start : N.Local) × (begun ≡ Some start) × KeptRun start state schedule forkers ended
+
 module _ {L R A E : Type 0} (d : HubMachine L R A E) (ends : E → L → Type 0) where
   -- what the slot has at the end, by the view of all seats together
   pub record ClosedTurn (first v : View L) (t : Turn R A E) : Type 0 where
@@ -48,15 +95,10 @@ module _ {L R A E : Type 0} (d : HubMachine L R A E) (ends : E → L → Type 0)
     pub state : t.state ≡ v.halt
     pub over : is_over t ≡ true
     pub same : (v.start ≡ first.start) × (v.group ≡ first.group)
+    pub behind : AreStartsOf t.schedule.items v.turns
 
-  -- the schedule leads to the world, or in Twice from there by one entry to the join that entered it
   abbrev pub Legal : L → HubState → List ℕ → Entries L → Type 0
-  Legal start All schedule world = replay (numbered d) start schedule ≡ Some (Listing world)
-  Legal start NoMemory schedule world = replay (numbered d) start schedule ≡ Some (Listing world)
-  Legal start Twice schedule world =
-      (before : List ℕ) × (last : ℕ) × (schedule ≡ before ++ last ∷ [])
-      × (replay (numbered d) start before ≡ Some (Listing world))
-      × (replay (numbered d) start schedule ≡ Some Both)
+  Legal start state schedule world = IsLegal (numbered d) start state schedule world
 
   abbrev pub AreKeptOf : List ℕ → List (Kept R A) → Type 0
   AreKeptOf group [] = Unit {0}
@@ -88,3 +130,11 @@ module _ {L R A E : Type 0} (d : HubMachine L R A E) (ends : E → L → Type 0)
   IsClosed first state schedule forkers ended kept taken =
       (start : L) × (first.start ≡ Some start)
       × ClosedHub start first.group state schedule forkers ended kept taken
+
+-- two machines whose states step, fork and join alike, whatever stands for the states
+abbrev pub IsSameMachine :
+    {L R A E Q B D : Type 0} → HubMachine L R A E → HubMachine L Q B D → Type 0
+IsSameMachine d e = (e.next ≡ d.next) × (e.forks ≡ d.forks) × (e.join ≡ d.join)
+
+abbrev pub HaveSameEnds : {L E : Type 0} → (E → L → Type 0) → (E → L → Type 0) → Type 0
+HaveSameEnds {L = L} {E = E} ends other = (e : E) (l : L) → ends e l ↔ other e l

@@ -5,7 +5,7 @@
 --   began                      the first view of a hub: the number of its seats, its start and its group
 --   run_start, run_group       where a run began, and what its snapshots belong to
 --   run_state, run_schedule, run_forkers, run_ends   what a run tells
---   schedule_numbers, schedule_group   what its schedule tells
+--   schedule_numbers, schedule_forkers, schedule_state, schedule_group   what its schedule tells
 use Rattle.std.specs.Global.{Box}
 use Rattle.std.specs.Prelude.{◌≡◌, ℕ, List, map, Option}
 use Rattle.atomic_table.specs.declared.shared.Seat.{Seat}
@@ -24,6 +24,12 @@ module _ {S : Type 0} where
   abbrev pub schedule_numbers : HubSchedule S → List ℕ
   schedule_numbers order = order.numbers.items
 
+  abbrev pub schedule_forkers : HubSchedule S → List ℕ
+  schedule_forkers order = order.forkers.items
+
+  abbrev pub schedule_state : HubSchedule S → HubState
+  schedule_state order = order.state
+
   abbrev pub schedule_group : HubSchedule S → List ℕ
   schedule_group order = (first_of order.witness.views).group
 
@@ -32,26 +38,26 @@ module _ {L S R A E C P : Type 0} where
   abbrev pub began : TurnHub L S R A E C P → View S
   began hub = first_of hub.turn.shared.key.views
 
-  -- where a run began, and what its snapshots belong to
-  abbrev pub run_start : HubRun L S R A E C P → Option S
-  run_start run = (first_of run.witness.views).start
-
-  abbrev pub run_group : HubRun L S R A E C P → List ℕ
-  run_group run = (first_of run.witness.views).group
-
-  abbrev pub run_state : HubRun L S R A E C P → HubState
-  run_state run = run.state
-
-  abbrev pub run_schedule : HubRun L S R A E C P → List ℕ
-  run_schedule run = run.schedule.items
-
-  abbrev pub run_forkers : HubRun L S R A E C P → List ℕ
-  run_forkers run = run.forkers.items
-
-  abbrev pub run_ends : HubRun L S R A E C P → List (Option E)
-  run_ends run = run.ends.items
-
   module _ {g : Ghosts L S R A E C P} where
+    -- where a run began, and what its snapshots belong to
+    abbrev pub run_start : HubRun L S R A E C P g → Option S
+    run_start run = (first_of run.witness.views).start
+
+    abbrev pub run_group : HubRun L S R A E C P g → List ℕ
+    run_group run = (first_of run.witness.views).group
+
+    abbrev pub run_state : HubRun L S R A E C P g → HubState
+    run_state run = run.state
+
+    abbrev pub run_schedule : HubRun L S R A E C P g → List ℕ
+    run_schedule run = run.schedule.items
+
+    abbrev pub run_forkers : HubRun L S R A E C P g → List ℕ
+    run_forkers run = run.forkers.items
+
+    abbrev pub run_ends : HubRun L S R A E C P g → List (Option E)
+    run_ends run = run.ends.items
+
     -- what a seat knows
     abbrev pub view_of : HubSeat L S R A E C P g → View S
     view_of seat = seat.place.me.0

@@ -9,7 +9,7 @@ use std::sync::Wait;
 use turn_rule::Revision;
 
 impl<L: Revision> TurnHub<L> {
-    ghost use Rattle.turn_rule.specs.Seats.{HasFork, HasJoin, HasEnd, HasTrap};
+    ghost use Rattle.turn_rule.specs.Seats.{HasFork, HasJoin, HasEnd, HasTrap, HadTurn};
     ghost use Rattle.turn_hub.specs.Answers.{TakenSays, Forked, JoinSays, JoinedOn};
     ghost use Rattle.turn_hub.specs.Answers.{EndedSays, EndedOn, IsHalted};
 
@@ -19,6 +19,7 @@ impl<L: Revision> TurnHub<L> {
     pub fn take<W: Wait>(&self, rt: &W, seat: &mut HubSeat<L>) -> Taken<L::Runner, L::AtJoin>
         requires own { seat.old.place.table_id ≡ self.now.turn.shared.table_id }
         ensures own { seat.new.place.table_id ≡ seat.old.place.table_id }
+        ensures turn { HadTurn seat.old.place.me.0 seat.new.place.me.0 }
         ensures answer { TakenSays L.machine L.ends seat.old.place.me.0 seat.new.place.me.0 result }
     {
         let turn = self.enter(rt, &mut seat.place, &mut seat.patience);
@@ -48,6 +49,7 @@ impl<L: Revision> TurnHub<L> {
         requires event { HasFork L.machine L.ends seat.old.place.me.0 of child }
         requires group { L.machine.runner_group child ≡ seat.old.place.me.0.group }
         ensures own { seat.new.place.table_id ≡ seat.old.place.table_id }
+        ensures turn { HadTurn seat.old.place.me.0 seat.new.place.me.0 }
         ensures ok { IfOk result (λ n. Forked L.machine L.ends seat.old.place.me.0
             seat.new.place.me.0 of child n) }
         ensures err { IfErr result (λ c. (c ≡ child) × IsHalted seat.old.place.me.0
@@ -86,6 +88,7 @@ impl<L: Revision> TurnHub<L> {
         requires event { HasJoin L.machine L.ends seat.old.place.me.0 of at }
         requires group { L.machine.joiner_group at ≡ seat.old.place.me.0.group }
         ensures own { seat.new.place.table_id ≡ seat.old.place.table_id }
+        ensures turn { HadTurn seat.old.place.me.0 seat.new.place.me.0 }
         ensures answer { JoinSays L.machine L.ends L.claimed L.stopped
             L.claimed_group L.stopped_group
             seat.old.place.me.0 seat.new.place.me.0 of at result }
@@ -122,6 +125,7 @@ impl<L: Revision> TurnHub<L> {
         requires event { HasJoin L.machine L.ends seat.old.place.me.0 of at }
         requires group { L.machine.joiner_group at ≡ seat.old.place.me.0.group }
         ensures own { seat.new.place.table_id ≡ seat.old.place.table_id }
+        ensures turn { HadTurn seat.old.place.me.0 seat.new.place.me.0 }
         ensures answer { JoinedOn L.machine L.ends L.claimed L.stopped
             L.claimed_group L.stopped_group
             seat.old.place.me.0 seat.new.place.me.0 of at result }
@@ -158,6 +162,7 @@ impl<L: Revision> TurnHub<L> {
             (HasTrap L.machine L.ends seat.old.place.me.0 of end)
             (HasEnd L.machine L.ends seat.old.place.me.0 of end) }
         ensures own { seat.new.place.table_id ≡ seat.old.place.table_id }
+        ensures turn { HadTurn seat.old.place.me.0 seat.new.place.me.0 }
         ensures ok { OnOk result (EndedSays L.machine L.ends seat.old.place.me.0
             seat.new.place.me.0 of (L.by_join end)) }
         ensures err { IfErr result (λ e. (e ≡ end) × IsHalted seat.old.place.me.0
@@ -195,6 +200,7 @@ impl<L: Revision> TurnHub<L> {
             (HasTrap L.machine L.ends seat.old.place.me.0 of end)
             (HasEnd L.machine L.ends seat.old.place.me.0 of end) }
         ensures own { seat.new.place.table_id ≡ seat.old.place.table_id }
+        ensures turn { HadTurn seat.old.place.me.0 seat.new.place.me.0 }
         ensures ok { IfOk result (λ n. EndedOn L.machine L.ends L.claimed L.stopped
             L.claimed_group L.stopped_group
             seat.old.place.me.0 seat.new.place.me.0 of end (L.by_join end) n) }
@@ -219,6 +225,7 @@ impl<L: Revision> TurnHub<L> {
     pub fn halt<W: Wait>(&self, rt: &W, seat: &mut HubSeat<L>)
         requires own { seat.old.place.table_id ≡ self.now.turn.shared.table_id }
         ensures own { seat.new.place.table_id ≡ seat.old.place.table_id }
+        ensures turn { HadTurn seat.old.place.me.0 seat.new.place.me.0 }
         ensures halted { IsHalted seat.old.place.me.0 seat.new.place.me.0 }
     {
         let entered = self.enter(rt, &mut seat.place, &mut seat.patience);

@@ -1,9 +1,11 @@
 //! The close of a hub.
-ghost use Rattle.std.specs.Prelude.{◌≡◌, ◌<◌, ℕ, [], length, map};
+ghost use Rattle.std.specs.Prelude.{◌≡◌, ◌<◌, ℕ, List, [], length, map};
 ghost use Rattle.turn_rule.specs.Views.{first_of, both};
-ghost use Rattle.turn_rule.specs.Seats.{IsIdle, AreOf};
-ghost use Rattle.turn_rule.specs.Passes.{named};
+ghost use Rattle.turn_rule.specs.Seats.{IsIdle, AreOf, AreBehind};
+ghost use Rattle.turn_rule.specs.Passes.{named, AreStartsOf};
+ghost use Rattle.hub_algebra.specs.HubMachine.{numbered};
 ghost use Rattle.turn_hub.specs.Closing.{saw_of, halt_known, held_by, ClosedTurn, IsClosed};
+ghost use Rattle.turn_hub.specs.Closing.{IsKeptRun};
 
 mod order;
 mod retyped;
@@ -15,8 +17,9 @@ use hub_table::{HubState, Kept, Parted, Turn};
 pub use order::HubSchedule;
 use turn_rule::{Revision, TakeIn, View, Witness};
 
-/// A run that a hub kept. `close` alone makes one, and `as_of` makes it one of another machine. It
-/// tells where the run began, and what its snapshots belong to.
+/// A run that a hub kept: the schedule is legal from the start that the witness tells, and the
+/// forkers and the ends are those of the world that it leads to. `close` makes one, and `as_of`
+/// makes it one of another machine that does the same. It also tells what its snapshots belong to.
 #[derive(Drop)]
 pub struct HubRun<L: Revision> {
     schedule: Vec<u32>,
@@ -24,6 +27,8 @@ pub struct HubRun<L: Revision> {
     forkers: Vec<u32>,
     state: HubState,
     witness: Badge<View<L::State>>,
+    ghost kept: { ∥ IsKeptRun (numbered L.machine) L.ends (first_of witness.views).start
+        state schedule.items forkers.items ends.items ∥₁ },
 }
 
 impl<L: Revision> HubRun<L> {
@@ -81,6 +86,8 @@ impl<L: Revision> TurnHub<L> {
         ensures parts { result.me.0.parts ≡ length seats.items }
         ensures saw { saw_of (map (λ s. s.place) seats.items) ≡ 1 → result.me.0.saw ≡ 1 }
         ensures halt { result.me.0.halt ≡ halt_known (map (λ s. s.place) seats.items) }
+        ensures behind { (log : List ℕ) → AreStartsOf log result.me.0.turns
+            → AreBehind log (map (λ s. s.place) seats.items) }
         ensures passes { (n : ℕ) → named n result.me.0.passes ≡ held_by n (map
             (λ s. s.place) seats.items) }
     {
@@ -127,7 +134,8 @@ impl<L: Revision> TurnHub<L> {
     }
 
     /// What the hub has. All seats that `open` made are handed in, and one of them was answered
-    /// Finished or Halted, or entered a halt.
+    /// Finished or Halted, or entered a halt. The schedule of the run begins with each that one of
+    /// the seats left at the end of a turn, with its own entries: it is the hub's own.
     pub fn close(self, seats: Vec<HubSeat<L>>) -> HubEnd<L>
         requires own { AreOf self.turn.shared.table_id (map (λ s. s.place) seats.items) }
         requires every { length seats.items ≡ (first_of self.turn.shared.key.views).parts }
@@ -138,6 +146,7 @@ impl<L: Revision> TurnHub<L> {
             result.run.state result.run.schedule.items result.run.forkers.items
             result.run.ends.items
             result.kept.items (λ n. held_by n (map (λ s. s.place) seats.items)) }
+        ensures behind { AreBehind result.run.schedule.items (map (λ s. s.place) seats.items) }
         ensures start { (first_of result.run.witness.views).start
             ≡ (first_of self.turn.shared.key.views).start }
         ensures group { (first_of result.run.witness.views).group

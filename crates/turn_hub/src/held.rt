@@ -36,6 +36,7 @@ impl<L: Revision> TurnHub<L> {
         ensures own { (place.new.table_id ≡ place.old.table_id)
             × IsOpen L.machine L.ends place.new.me }
         ensures parts { place.new.me.0.parts ≡ place.old.me.0.parts }
+        ensures turns { place.new.me.0.turns ≡ place.old.me.0.turns }
         ensures hand { InHand L.machine L.ends place.new.me.0 turn.new }
         ensures state { turn.new.state ≡ turn.old.state }
         ensures turn { IsSameTurn place.old.me.0 place.new.me.0 }

@@ -25,7 +25,7 @@ module _ {L R A E : Type 0} (d : HubMachine L R A E) (ends : E → L → Type 0)
   pub begins : (first : View L) (b : Box (Turn R A E)) (c : R) (seats : ℕ) → first ≡ opens seats (Some (d.runs c)) (d.runner_group c) → 0 < seats
       → b.value.schedule.items ≡ [] → b.value.state ≡ All → b.value.revisions.slots.items ≡ Ready c ∷ [] → b.value.revisions.forkers.items ≡ 0 ∷ [] → HasOne b.value.revisions.queue → Turned d ends first (opening (0 ∷ []) (Some b ∷ []) first)
   begins first b c seats is some_seat schedule free slots forkers one =
-      subst (λ f. Turned d ends f (opening (0 ∷ []) (Some b ∷ []) f)) (sym is) (starts d ends (opens seats (Some (d.runs c)) (d.runner_group c)) b refl refl refl refl some_seat free record {
+      subst (λ f. Turned d ends f (opening (0 ∷ []) (Some b ∷ []) f)) (sym is) (starts d ends (opens seats (Some (d.runs c)) (d.runner_group c)) b refl refl refl refl refl some_seat free record {
         schedule = schedule;
         outs = subst (λ l. OutsAre l []) (sym slots) (one_ready c);
         sound = subst (λ (z : HubState × List (Status R A E) × List ℕ). SoundFrom d ends (Some (d.runs c)) z.0 [] z.1 z.2) (λ i. (sym free i, sym slots i, sym forkers i)) (hub.opens (numbered d) (values d ends) (d.runs c) c refl);

@@ -13,7 +13,7 @@ use Rattle.hub_algebra.specs.HubMachine.{HubMachine}
 use Rattle.hub_table.specs.declared.value.Turn.{Turn}
 use Rattle.hub_table.specs.Counts.{total, is_at, times}
 use Rattle.turn_rule.specs.declared.view.View.{View}
-use Rattle.turn_rule.specs.Passes.{Pass, named, without, left, IsPass, Fresh}
+use Rattle.turn_rule.specs.Passes.{Pass, named, without, left, IsPass, Fresh, AreStartsOf}
 use Rattle.hub_algebra.specs.declared.status.Status.{Status}
 use Rattle.hub_table.specs.declared.state.HubState.{HubState}
 use Rattle.hub_table.specs.declared.state.HubState.TheVariants.{All, Twice, NoMemory}
@@ -22,7 +22,7 @@ use Rattle.hub_table.proofs.Lists.{total_set, total_snoc, total_append, total_on
 use Rattle.turn_rule.specs.Views.{halt_count, either_halt, view, blank, parts_of, has_turn, names, halts, commits, hands_in, draws, stops, rests, both, most, part, witness}
 use Rattle.turn_rule.specs.Seats.{IsIdle}
 use Rattle.turn_rule.specs.Rule.{done, is_over, says, Holds, Knows, Turned, InHand, Told, took, gave, committed, handed_in, drew, stopped}
-use Rattle.turn_rule.proofs.Passes.{count_gone, count_other, pass_named, left_pass, since_more, since_now, fresh_append}
+use Rattle.turn_rule.proofs.Passes.{count_gone, count_other, pass_named, left_pass, since_more, since_now, fresh_append, start_now, starts_more, starts_append}
 
 one_if : (b : Bool) → flag b ≡ 1 → b ≡ true
 one_if true e = refl
@@ -94,10 +94,10 @@ module _ {L R A E : Type 0} (d : HubMachine L R A E) (ends : E → L → Type 0)
   -- a step of the holder that changes what its view says of the hub, its passes, and what is over and halted
   moved : (s : St) (r : Rule s) (id : ℕ) (v w : V) (over : ℕ) (state : HubState) → At s id v → v.has ≡ 1
       → (w.has ≡ 1) × (w.parts ≡ v.parts) × (w.start ≡ v.start) × (w.group ≡ v.group)
-      → (w.saw ≡ 1 → over ≡ 1) × (over ≡ 1 → w.saw ≡ 1) × (w.halt ≡ state) → (r.over ≡ 1 → over ≡ 1) × (r.state ≢ All → r.state ≡ state) → Fresh w.log w.passes
+      → (w.saw ≡ 1 → over ≡ 1) × (over ≡ 1 → w.saw ≡ 1) × (w.halt ≡ state) → (r.over ≡ 1 → over ≡ 1) × (r.state ≢ All → r.state ≡ state) → (w.turns ≡ v.turns) × ((ats : List (List ℕ)) → AreStartsOf v.log ats → AreStartsOf w.log ats) → Fresh w.log w.passes
       → ((ps : List Pass) → Fresh v.log ps → ((n : ℕ) → 0 < named n v.passes → named n ps ≡ 0) → Fresh w.log ps)
       → ((n : ℕ) → times n w.out + named n v.passes ≡ times n v.out + named n w.passes) → ((n : ℕ) → times n w.out ≤ 1) → Rule (with_view s id w)
-  moved s r id v w over state at h same knows more fresh others counts single = record {
+  moved s r id v w over state at h same knows more behind fresh others counts single = record {
     log = w.log;
     out = w.out;
     over = over;
@@ -114,6 +114,7 @@ module _ {L R A E : Type 0} (d : HubMachine L R A E) (ends : E → L → Type 0)
           idle = λ p. let z = (k.idle (let b = same.1 in omega arith)).0 in absurd (omega arith);
           holds = λ _. (refl, refl, knows.1, knows.2);
           fresh = fresh;
+          behind = subst (AreStartsOf w.log) (sym behind.0) (behind.1 v.turns (subst (λ l. AreStartsOf l v.turns) (sym (its_log s r id v at h).0) k.behind));
           saw = knows.0;
           halted = λ _. knows.2;
         })
@@ -123,6 +124,7 @@ module _ {L R A E : Type 0} (d : HubMachine L R A E) (ends : E → L → Type 0)
           idle = n.idle;
           holds = λ o. absurd (omega arith);
           fresh = others u.passes (subst (λ l. Fresh l u.passes) (sym (its_log s r id v at h).0) n.fresh) (λ i pos. let t = total_two (names i) s.views id j v u q.0 at q.1 in let a = r.once i in let b = r.single i in omega arith);
+          behind = behind.1 u.turns (subst (λ l. AreStartsOf l u.turns) (sym (its_log s r id v at h).0) n.behind);
           saw = λ o. more.0 (n.saw o);
           halted = λ o. n.halted o ∙ more.1 (λ c. o (n.halted o ∙ c));
         })
@@ -137,7 +139,7 @@ module _ {L R A E : Type 0} (d : HubMachine L R A E) (ends : E → L → Type 0)
 
   -- the same, where it sees no more
   steady : (s : St) (r : Rule s) (id : ℕ) (v w : V) → At s id v → v.has ≡ 1
-      → (w.has ≡ 1) × (w.parts ≡ v.parts) × (w.start ≡ v.start) × (w.group ≡ v.group) × (w.saw ≡ v.saw) × (w.halt ≡ v.halt) → Fresh w.log w.passes
+      → (w.has ≡ 1) × (w.parts ≡ v.parts) × (w.start ≡ v.start) × (w.group ≡ v.group) × (w.saw ≡ v.saw) × (w.halt ≡ v.halt) → (w.turns ≡ v.turns) × ((ats : List (List ℕ)) → AreStartsOf v.log ats → AreStartsOf w.log ats) → Fresh w.log w.passes
       → ((ps : List Pass) → Fresh v.log ps → ((n : ℕ) → 0 < named n v.passes → named n ps ≡ 0) → Fresh w.log ps)
       → ((n : ℕ) → times n w.out + named n v.passes ≡ times n v.out + named n w.passes) → ((n : ℕ) → times n w.out ≤ 1) → Rule (with_view s id w)
   steady s r id v w at h same =
@@ -155,7 +157,7 @@ module _ {L R A E : Type 0} (d : HubMachine L R A E) (ends : E → L → Type 0)
       (w, keeps, tt, subst (λ ws. Rule record { words = ws; homes = s.homes; views = set s.views id w }) (sym (ap (set s.words 0) same ∙ set-get_or s.words 0 0)) (ok s r at), refl)
 
   pub commit : (slots id : ℕ) (me : Me Slot V) (k : ℕ) → me.0.has ≡ 1 → 0 < named k me.0.passes → Allows Rule slots id me 0 (λ x. either (eqb x k) k x) (committed d ends (step slots 0 k k m.none) me)
-  commit slots id me k h has = stays slots id me k (commits k me.0) (λ s r at. steady s r id me.0 (commits k me.0) at h (h, refl, refl, refl, refl, refl)
+  commit slots id me k h has = stays slots id me k (commits k me.0) (λ s r at. steady s r id me.0 (commits k me.0) at h (h, refl, refl, refl, refl, refl) (refl, λ ats b. starts_more me.0.log k ats b)
       (λ j before p. ⊎_elim
       (λ (q : (k ≡ j) × (me.0.log ++ k ∷ [] ≡ before)). since_now (me.0.log ++ k ∷ []) j before q.1)
       (λ (q : IsPass (left k me.0.passes) j before). let z = left_pass k me.0.passes j before q in since_more me.0.log j k before (λ e. z.1 (sym e)) (own_fresh s r id me.0 at h j before z.0)) p)
@@ -166,7 +168,7 @@ module _ {L R A E : Type 0} (d : HubMachine L R A E) (ends : E → L → Type 0)
       (λ n. (mine_once s r id me.0 at h n).1))
 
   pub hand_in : (slots id : ℕ) (me : Me Slot V) (k : ℕ) → me.0.has ≡ 1 → 0 < named k me.0.passes → Allows Rule slots id me 0 (λ x. either (eqb x k) k x) (handed_in d ends (step slots 0 k k m.none) me)
-  hand_in slots id me k h has = stays slots id me k (hands_in k me.0) (λ s r at. steady s r id me.0 (hands_in k me.0) at h (h, refl, refl, refl, refl, refl)
+  hand_in slots id me k h has = stays slots id me k (hands_in k me.0) (λ s r at. steady s r id me.0 (hands_in k me.0) at h (h, refl, refl, refl, refl, refl) (refl, λ ats b. b)
       (λ j before p. own_fresh s r id me.0 at h j before (left_pass k me.0.passes j before p).0)
       (λ ps f apart. f)
       (λ n. let z = mine_once s r id me.0 at h k in let z0 = z.0 in let z1 = z.1 in dite (ℕ_discrete n k)
@@ -178,7 +180,7 @@ module _ {L R A E : Type 0} (d : HubMachine L R A E) (ends : E → L → Type 0)
       (λ ne. let b = count_other (λ (x : ℕ). x) k n me.0.out ne in omega arith)))
 
   pub draw : (slots id : ℕ) (me : Me Slot V) (k : ℕ) → me.0.has ≡ 1 → times k me.0.out ≡ 0 → Allows Rule slots id me 0 (λ x. either (eqb x k) k x) (drew d ends (step slots 0 k k m.none) me)
-  draw slots id me k h none = stays slots id me k (draws k me.0) (λ s r at. steady s r id me.0 (draws k me.0) at h (h, refl, refl, refl, refl, refl)
+  draw slots id me k h none = stays slots id me k (draws k me.0) (λ s r at. steady s r id me.0 (draws k me.0) at h (h, refl, refl, refl, refl, refl) (refl, λ ats b. b)
       (λ j before p. ⊎_elim (λ (q : (k ≡ j) × (me.0.log ≡ before)). since_now me.0.log j before q.1) (λ (q : IsPass me.0.passes j before). own_fresh s r id me.0 at h j before q) p)
       (λ ps f apart. f)
       (λ n. omega arith)
@@ -189,11 +191,11 @@ module _ {L R A E : Type 0} (d : HubMachine L R A E) (ends : E → L → Type 0)
   -- a halt, where none was entered
   pub stop : (slots id : ℕ) (me : Me Slot V) (k : ℕ) (state : HubState) → me.0.has ≡ 1 → me.0.halt ≡ All → Allows Rule slots id me 0 (λ x. either (eqb x k) k x) (stopped d ends state (step slots 0 k k m.none) me)
   stop slots id me k state h none = stays slots id me k (stops state me.0) (λ s r at. let its = (r.seats id me.0 at).holds h in
-      moved s r id me.0 (stops state me.0) 1 state at h (h, refl, refl, refl) ((λ _. refl), (λ _. refl), refl) ((λ _. refl), λ n. absurd (n (sym its.3 ∙ none)))
+      moved s r id me.0 (stops state me.0) 1 state at h (h, refl, refl, refl) ((λ _. refl), (λ _. refl), refl) ((λ _. refl), λ n. absurd (n (sym its.3 ∙ none))) (refl, λ ats b. b)
       (own_fresh s r id me.0 at h) (λ ps f apart. f) (λ n. refl) (λ n. (mine_once s r id me.0 at h n).1))
 
   abbrev taking : V → List ℕ → List ℕ → Turn R A E → V
-  taking v log out t = view v.parts v.start v.group 1 log out v.passes (flag (is_over t)) t.state (says d ends t.revisions.slots.items) t.state log
+  taking v log out t = view v.parts v.start v.group 1 log out v.passes (flag (is_over t)) t.state (says d ends t.revisions.slots.items) t.state log v.turns
 
   taken_rule : (s : St) (r : Rule s) (id : ℕ) (v : V) → At s id v → v.has ≡ 0 → 0 < v.parts → (t : Turn R A E) → get_or s.words 0 0 ≡ 0 → (r.over ≡ 1 → is_over t ≡ true) → t.state ≡ r.state
       → Rule record { words = set s.words 0 1; homes = set s.homes 0 m.none; views = set s.views id (taking v r.log r.out t) }
@@ -214,6 +216,7 @@ module _ {L R A E : Type 0} (d : HubMachine L R A E) (ends : E → L → Type 0)
           idle = λ p. absurd (omega arith);
           holds = λ _. (refl, refl, (λ o. o), is_state);
           fresh = mine.fresh;
+          behind = mine.behind;
           saw = λ o. o;
           halted = λ _. is_state;
         })
@@ -223,6 +226,7 @@ module _ {L R A E : Type 0} (d : HubMachine L R A E) (ends : E → L → Type 0)
           idle = n.idle;
           holds = λ o. absurd (omega arith);
           fresh = n.fresh;
+          behind = n.behind;
           saw = λ o. if_one (is_over t) (done_if (n.saw o));
           halted = n.halted;
         })
@@ -245,6 +249,7 @@ module _ {L R A E : Type 0} (d : HubMachine L R A E) (ends : E → L → Type 0)
     start = refl;
     group = refl;
     passes = refl;
+    turns = refl;
     fresh = mine.fresh;
     mine = λ k. let t' = total_one (names k) s.views id v at in let a = r.once k in omega arith;
     over = if_one (is_over t);
@@ -309,6 +314,7 @@ module _ {L R A E : Type 0} (d : HubMachine L R A E) (ends : E → L → Type 0)
               idle = λ p. let a = h.part in absurd (omega arith);
               holds = λ o. absurd (omega arith);
               fresh = mine.fresh;
+              behind = (start_now v.log r.log its.0, mine.behind);
               saw = mine.saw;
               halted = mine.halted;
             })
@@ -350,6 +356,7 @@ module _ {L R A E : Type 0} (d : HubMachine L R A E) (ends : E → L → Type 0)
               idle = λ p. absurd (omega arith);
               holds = λ o. absurd (omega arith);
               fresh = mine.fresh;
+              behind = mine.behind;
               saw = mine.saw;
               halted = mine.halted;
             })
@@ -358,6 +365,7 @@ module _ {L R A E : Type 0} (d : HubMachine L R A E) (ends : E → L → Type 0)
               idle = λ p. absurd (omega arith);
               holds = λ o. absurd (omega arith);
               fresh = λ k before p. absurd p;
+              behind = tt;
               saw = λ o. absurd (omega arith);
               halted = λ n. absurd (n refl);
             };
@@ -388,6 +396,7 @@ module _ {L R A E : Type 0} (d : HubMachine L R A E) (ends : E → L → Type 0)
               idle = λ p. (refl, refl, refl);
               holds = λ o. absurd (omega arith);
               fresh = λ k before p. absurd p;
+              behind = tt;
               saw = λ o. absurd (omega arith);
               halted = λ n. absurd (n refl);
             };
@@ -419,6 +428,7 @@ module _ {L R A E : Type 0} (d : HubMachine L R A E) (ends : E → L → Type 0)
               idle = λ p. absurd (omega arith);
               holds = λ o. absurd (omega arith);
               fresh = fresh_append r.log v.passes w.passes mine.fresh its.fresh;
+              behind = starts_append r.log v.turns w.turns mine.behind its.behind;
               saw = λ o. dite (ℕ_discrete v.saw 1) (λ e. mine.saw e) (λ ne. its.saw (sym (ap (λ (b : Bool). cond b 1 w.saw) (ne_eqb v.saw 1 ne)) ∙ o));
               halted = λ n. ⊎_elim
                   (λ (e : v.halt ≡ All). let same : either_halt v.halt w.halt ≡ w.halt = ap (λ h. either_halt h w.halt) e in same ∙ its.halted (λ c. n (same ∙ c)))
@@ -430,6 +440,7 @@ module _ {L R A E : Type 0} (d : HubMachine L R A E) (ends : E → L → Type 0)
               idle = λ p. (refl, refl, refl);
               holds = λ o. absurd (omega arith);
               fresh = λ k at' p. absurd p;
+              behind = tt;
               saw = λ o. absurd (omega arith);
               halted = λ n. absurd (n refl);
             };
@@ -451,6 +462,7 @@ module _ {L R A E : Type 0} (d : HubMachine L R A E) (ends : E → L → Type 0)
     pub over : v.saw ≡ 1 → is_over value.value ≡ true
     pub state : value.value.state ≡ v.halt
     pub passes : (n : ℕ) → times n out ≡ named n v.passes
+    pub behind : AreStartsOf value.value.schedule.items v.turns
     pub same : (v.start ≡ first.start) × (v.group ≡ first.group)
 
   -- the others are blank
@@ -483,6 +495,7 @@ module _ {L R A E : Type 0} (d : HubMachine L R A E) (ends : E → L → Type 0)
         over = λ o. h.3 (its.saw o);
         state = h.4 ∙ halts_at_end s r id v at every;
         passes = λ n. sym (r.once n) ∙ total_only (names n) s.views id v at (λ j u ne e. ap (named n) (others_blank s r id j v u at every ne e).2);
+        behind = subst (λ l. AreStartsOf l v.turns) (sym h.2.schedule) its.behind;
         same = its.begun some_part;
       }
 
@@ -490,8 +503,8 @@ module _ {L R A E : Type 0} (d : HubMachine L R A E) (ends : E → L → Type 0)
   one_view v w zero e = m.some-injective v w e
   one_view v w (suc i) e = absurd (m.some-ne-none w (sym e))
 
-  pub starts : (t : Box (Turn R A E)) → first.has ≡ 0 → first.saw ≡ 0 → first.passes ≡ [] → first.halt ≡ All → 0 < first.parts → t.value.state ≡ All → Holds d ends first.start first.group t.value [] [] → Rule record { words = 0 ∷ []; homes = m.some (Some t) ∷ []; views = first ∷ [] }
-  starts t idle blind none clear some_part free holds = record {
+  pub starts : (t : Box (Turn R A E)) → first.has ≡ 0 → first.saw ≡ 0 → first.passes ≡ [] → first.turns ≡ [] → first.halt ≡ All → 0 < first.parts → t.value.state ≡ All → Holds d ends first.start first.group t.value [] [] → Rule record { words = 0 ∷ []; homes = m.some (Some t) ∷ []; views = first ∷ [] }
+  starts t idle blind none fresh clear some_part free holds = record {
     log = [];
     out = [];
     over = 0;
@@ -507,6 +520,7 @@ module _ {L R A E : Type 0} (d : HubMachine L R A E) (ends : E → L → Type 0)
       idle = λ p. absurd (omega arith);
       holds = λ o. absurd (omega arith);
       fresh = λ k at p. let q : IsPass [] k at = subst (λ l. IsPass l k at) none p in absurd q;
+      behind = subst (AreStartsOf []) (sym fresh) tt;
       saw = λ o. absurd (omega arith);
       halted = λ n. absurd (n clear);
     };

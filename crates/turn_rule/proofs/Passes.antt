@@ -5,7 +5,7 @@ use native.Mathlib.Decide.{ℕ_discrete}
 use Rattle.hub_algebra.specs.Replay.{IsNotIn}
 use Rattle.hub_table.specs.Counts.{total, is_at}
 use Rattle.hub_table.proofs.Lists.{is_at_same, is_at_other}
-use Rattle.turn_rule.specs.Passes.{Pass, named, less, left, IsPass, IsSince, Fresh}
+use Rattle.turn_rule.specs.Passes.{Pass, named, less, left, IsPass, IsSince, Fresh, IsStartOf, AreStartsOf}
 
 module _ {A : Type 0} (f : A → ℕ) where
   abbrev count : ℕ → List A → ℕ
@@ -79,3 +79,19 @@ fresh_append log (p ∷ ps) qs f g = go (fresh_append log ps qs (λ k at h. f k 
     go : Fresh log (ps ++ qs) → (k : ℕ) (at : List ℕ) → IsPass (p ∷ (ps ++ qs)) k at → IsSince log k at
     go rest k at (inl e) = f k at (inl e)
     go rest k at (inr h) = rest k at h
+
+-- a schedule begins with itself, and goes on from what it began with
+pub start_now : (at log : List ℕ) → at ≡ log → IsStartOf at log
+start_now at log e = ([], sym e ∙ sym (append-nil at))
+
+pub starts_more : (log : List ℕ) (k : ℕ) (ats : List (List ℕ)) → AreStartsOf log ats → AreStartsOf (log ++ k ∷ []) ats
+starts_more log k [] h = tt
+starts_more log k (at ∷ ats) h = ((h.0.0 ++ k ∷ [], ap (λ l. l ++ k ∷ []) h.0.1 ∙ append_assoc at h.0.0 (k ∷ [])), starts_more log k ats h.1)
+
+pub starts_append : (log : List ℕ) (xs ys : List (List ℕ)) → AreStartsOf log xs → AreStartsOf log ys → AreStartsOf log (xs ++ ys)
+starts_append log [] ys h g = g
+starts_append log (x ∷ xs) ys h g = (h.0, starts_append log xs ys h.1 g)
+
+pub starts_parts : (log : List ℕ) (xs ys : List (List ℕ)) → AreStartsOf log (xs ++ ys) → AreStartsOf log xs × AreStartsOf log ys
+starts_parts log [] ys h = (tt, h)
+starts_parts log (x ∷ xs) ys h = let r = starts_parts log xs ys h.1 in ((h.0, r.0), r.1)

@@ -2,6 +2,7 @@
 --   Pass            a revision that a seat has: its number, and the schedule at its last turn
 --   named n ps      how many passes name it
 --   Fresh log ps    no pass has had an entry since
+--   IsStartOf at log, AreStartsOf log ats   the schedule begins with that one, or with each of those
 use Rattle.std.specs.Prelude.{◌≡◌, ◌⊎◌, ℕ, List, [], ◌∷◌, ◌++◌, cond, ◌==◌}
 use Rattle.hub_algebra.specs.Replay.{IsNotIn}
 use Rattle.hub_table.specs.Counts.{total, is_at}
@@ -32,3 +33,10 @@ IsSince log k at = (since : List ℕ) × (log ≡ at ++ since) × IsNotIn k sinc
 
 abbrev pub Fresh : List ℕ → List Pass → Type 0
 Fresh log ps = (k : ℕ) (at : List ℕ) → IsPass ps k at → IsSince log k at
+
+abbrev pub IsStartOf : List ℕ → List ℕ → Type 0
+IsStartOf at log = (since : List ℕ) × (log ≡ at ++ since)
+
+abbrev pub AreStartsOf : List ℕ → List (List ℕ) → Type 0
+AreStartsOf log [] = Unit {0}
+AreStartsOf log (at ∷ ats) = IsStartOf at log × AreStartsOf log ats

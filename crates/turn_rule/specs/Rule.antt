@@ -25,7 +25,7 @@ use Rattle.hub_table.specs.Queued.{Queued}
 use Rattle.turn_rule.specs.declared.view.Said.{Said}
 use Rattle.turn_rule.specs.declared.view.Said.TheVariants as mark
 use Rattle.turn_rule.specs.declared.view.View.{View}
-use Rattle.turn_rule.specs.Passes.{named, Fresh}
+use Rattle.turn_rule.specs.Passes.{named, Fresh, AreStartsOf}
 use Rattle.turn_rule.specs.Views.{halts, has_turn, parts_of, names, commits, hands_in, draws, stops, rests}
 
 module _ {R A E : Type 0} where
@@ -95,6 +95,8 @@ module _ {L R A E : Type 0} (d : HubMachine L R A E) (ends : E → L → Type 0)
     pub idle : v.parts ≡ 0 → (v.has ≡ 0) × (v.halt ≡ All) × (v.passes ≡ [])
     pub holds : v.has ≡ 1 → (v.log ≡ log) × (v.out ≡ out) × (over ≡ 1 → v.saw ≡ 1) × (v.halt ≡ state)
     pub fresh : Fresh log v.passes
+    -- the schedule goes on from each that it left
+    pub behind : AreStartsOf log v.turns
     pub saw : v.saw ≡ 1 → over ≡ 1
     pub halted : v.halt ≢ All → v.halt ≡ state
 
@@ -151,6 +153,7 @@ module _ {L R A E : Type 0} (d : HubMachine L R A E) (ends : E → L → Type 0)
     pub start : w.start ≡ v.start
     pub group : w.group ≡ v.group
     pub passes : w.passes ≡ v.passes
+    pub turns : w.turns ≡ v.turns
     -- each pass has had no entry since, and its revision is out
     pub fresh : Fresh w.log v.passes
     pub mine : (k : ℕ) → named k v.passes ≤ times k w.out

@@ -1,6 +1,8 @@
 -- What a seat has: the passes of revisions, whose states are those of the hub's replay.
 --   IsIdle, IsResting                   it has not the turn, or no more
 --   AreOf, AreNew                       seats of one hub, and as its opening makes them
+--   HadTurn v w                         the seat had one turn between the two, and left that schedule
+--   AreBehind log ss                    the schedule begins with each that one of the seats left
 --   HasState v k l                      it has the pass of the revision k, whose state is l
 --   HasFork, HasJoin, HasEnd, HasTrap   what is handed in is the event of that revision's leg
 --   KeepsOthers, KeepsAll               the other passes, or all, are as they were, and so is a halt that it knew of
@@ -14,7 +16,7 @@ use Rattle.hub_algebra.specs.Hub.{Forks, Joins, EndsLeg, WasTrapped}
 use Rattle.hub_algebra.specs.HubMachine.{HubMachine, numbered, values}
 use Rattle.hub_table.specs.declared.state.HubState.TheVariants.{All}
 use Rattle.turn_rule.specs.declared.view.View.{View}
-use Rattle.turn_rule.specs.Passes.{IsPass}
+use Rattle.turn_rule.specs.Passes.{IsPass, AreStartsOf}
 
 module _ {S L : Type 0} where
   abbrev pub IsIdle : Me S (View L) → Type 0
@@ -22,13 +24,20 @@ module _ {S L : Type 0} where
 
   -- it had the turn and has it no more
   abbrev pub IsResting : Me S (View L) → Me S (View L) → Type 0
-  IsResting me me' = (me'.0.has ≡ 0) × (me'.1 ≡ []) × (me'.0.parts ≡ me.0.parts)
+  IsResting me me' =
+      (me'.0.has ≡ 0) × (me'.1 ≡ []) × (me'.0.parts ≡ me.0.parts)
+      × (me'.0.turns ≡ me'.0.log ∷ me.0.turns)
 
 module _ {S L : Type 0} where
   -- seats of this hub
   abbrev pub AreOf : TableId → List (Seat S (View L)) → Type 0
   AreOf id [] = Unit {0}
   AreOf id (s ∷ ss) = (s.table_id ≡ id) × AreOf id ss
+
+  -- the schedule begins with each that one of these left at the end of a turn
+  abbrev pub AreBehind : List ℕ → List (Seat S (View L)) → Type 0
+  AreBehind log [] = Unit {0}
+  AreBehind log (s ∷ ss) = AreStartsOf log s.me.0.turns × AreBehind log ss
 
   -- as `open` makes them: of this start and group, with no pass
   abbrev pub AreNew : Option L → List ℕ → List (Seat S (View L)) → Type 0
@@ -41,6 +50,10 @@ module _ {L : Type 0} where
   -- what no call changes
   abbrev pub IsSameSeat : View L → View L → Type 0
   IsSameSeat v w = (w.start ≡ v.start) × (w.group ≡ v.group) × (w.parts ≡ v.parts)
+
+  -- it had one turn more, at whose end the schedule was that of its view
+  abbrev pub HadTurn : View L → View L → Type 0
+  HadTurn v w = w.turns ≡ w.log ∷ v.turns
 
   -- a halt that it knew of is the one that it knows of
   abbrev pub KeepsHalt : View L → View L → Type 0

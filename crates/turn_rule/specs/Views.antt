@@ -65,8 +65,8 @@ either_saw a b = cond (a == 1) 1 b
 module _ {L : Type 0} where
   abbrev pub view :
       ℕ → Option L → List ℕ → ℕ → List ℕ → List ℕ → List Pass → ℕ → HubState
-      → List Said → HubState → List ℕ → View L
-  view parts start group has log out passes saw halt said entered found = record {
+      → List Said → HubState → List ℕ → List (List ℕ) → View L
+  view parts start group has log out passes saw halt said entered found turns = record {
     parts = parts;
     start = start;
     group = group;
@@ -79,13 +79,14 @@ module _ {L : Type 0} where
     said = said;
     entered = entered;
     found = found;
+    turns = turns;
   }
 
   abbrev pub blank : View L
-  blank = view 0 None [] 0 [] [] [] 0 All [] All []
+  blank = view 0 None [] 0 [] [] [] 0 All [] All [] []
 
   abbrev pub opens : ℕ → Option L → List ℕ → View L
-  opens parts start group = view parts start group 0 [] [] [] 0 All [] All []
+  opens parts start group = view parts start group 0 [] [] [] 0 All [] All [] []
 
   abbrev pub parts_of : View L → ℕ
   parts_of v = v.parts
@@ -107,12 +108,12 @@ module _ {L : Type 0} where
   abbrev pub commits : ℕ → View L → View L
   commits k v =
       view v.parts v.start v.group v.has (v.log ++ k ∷ []) v.out ((k, v.log ++ k ∷ []) ∷ left k v.passes)
-      v.saw v.halt v.said v.entered v.found
+      v.saw v.halt v.said v.entered v.found v.turns
 
   abbrev pub hands_in : ℕ → View L → View L
   hands_in k v =
       view v.parts v.start v.group v.has v.log (without k v.out) (left k v.passes)
-      v.saw v.halt v.said v.entered v.found
+      v.saw v.halt v.said v.entered v.found v.turns
 
   -- the end of a revision: one entry, and none where its join trapped it
   abbrev pub ends_in : Bool → ℕ → View L → View L
@@ -122,28 +123,29 @@ module _ {L : Type 0} where
   abbrev pub draws : ℕ → View L → View L
   draws k v =
       view v.parts v.start v.group v.has v.log (k ∷ v.out) ((k, v.log) ∷ v.passes)
-      v.saw v.halt v.said v.entered v.found
+      v.saw v.halt v.said v.entered v.found v.turns
 
   abbrev pub stops : HubState → View L → View L
-  stops h v = view v.parts v.start v.group v.has v.log v.out v.passes 1 h v.said v.entered v.found
+  stops h v = view v.parts v.start v.group v.has v.log v.out v.passes 1 h v.said v.entered v.found v.turns
 
   abbrev pub rests : View L → View L
   rests v =
       view v.parts v.start v.group 0 v.log [] v.passes v.saw v.halt v.said v.entered v.found
+      (v.log ∷ v.turns)
 
   -- the same seat, had it found this of the revisions, and this schedule
   abbrev pub sees : List Said → List ℕ → View L → View L
   sees said found v =
-      view v.parts v.start v.group v.has v.log v.out v.passes v.saw v.halt said v.entered found
+      view v.parts v.start v.group v.has v.log v.out v.passes v.saw v.halt said v.entered found v.turns
 
   abbrev pub both : View L → View L → View L
   both v w =
       view (v.parts + w.parts) v.start v.group 0 [] [] (v.passes ++ w.passes)
-      (either_saw v.saw w.saw) (either_halt v.halt w.halt) [] All []
+      (either_saw v.saw w.saw) (either_halt v.halt w.halt) [] All [] (v.turns ++ w.turns)
 
   abbrev pub most : View L → View L
   most v =
-      view (v.parts - 1) v.start v.group 0 [] [] v.passes v.saw v.halt v.said v.entered v.found
+      view (v.parts - 1) v.start v.group 0 [] [] v.passes v.saw v.halt v.said v.entered v.found v.turns
 
   abbrev pub part : View L → View L
   part v = opens 1 v.start v.group

@@ -38,4 +38,6 @@ pub struct View<S> {
     pub said: LinkedList<Said>,
     pub entered: HubState,
     pub found: LinkedList<u64>,
+    // The schedule as it left it at the end of each of its turns, the last first.
+    pub turns: LinkedList<LinkedList<u64>>,
 }

@@ -1,4 +1,4 @@
-//! The schedule of a run, for who has no use for its ends.
+//! The schedule of a run, apart from its ends.
 ghost use Rattle.std.specs.Prelude.{◌≡◌};
 
 use crate::closing::HubRun;
@@ -40,25 +40,27 @@ impl<S> HubSchedule<S> {
 }
 
 impl<L: Revision> HubRun<L> {
-    /// The schedule of the run. The ends are let go.
-    pub fn into_schedule(self) -> HubSchedule<L::State>
-        ensures numbers { result.numbers ≡ self.schedule }
-        ensures forkers { result.forkers ≡ self.forkers }
-        ensures state { result.state ≡ self.state }
-        ensures witness { result.witness ≡ self.witness }
+    /// The schedule of the run, and by number the ends that were handed in.
+    pub fn into_schedule(self) -> (HubSchedule<L::State>, Vec<Option<L::End>>)
+        ensures numbers { result.0.numbers ≡ self.schedule }
+        ensures forkers { result.0.forkers ≡ self.forkers }
+        ensures state { result.0.state ≡ self.state }
+        ensures witness { result.0.witness ≡ self.witness }
+        ensures ends { result.1 ≡ self.ends }
     {
         let HubRun {
             schedule,
-            ends: _,
+            ends,
             forkers,
             state,
             witness,
         } = self;
-        HubSchedule {
+        let order = HubSchedule {
             numbers: schedule,
             forkers,
             state,
             witness,
-        }
+        };
+        (order, ends)
     }
 }

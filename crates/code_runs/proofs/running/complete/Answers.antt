@@ -14,11 +14,11 @@ finish-requires-clause-size g c = c.requires.size
 pub finish-requires-clause-merges : goal.finish-requires-clause-merges
 finish-requires-clause-merges g c = c.requires.merges
 
-pub outcome_after-requires-clause-over : goal.outcome_after-requires-clause-over
-outcome_after-requires-clause-over g c =
+pub outcome_after-requires : goal.outcome_after-requires
+outcome_after-requires g c =
     let s = run_under c.args.setting.now in
     let u = c.requires.underway in
-    (u.0, is_after s u.0 c.args.world u.1 c.in_ok-end.end (c.in_ok-end.ensures.finished u.1.world (reached s u.0 c.args.world u.1) u.1.stands))
+    record { over = (u.0, is_after s u.0 c.args.world u.1 c.in_ok-end.end (c.in_ok-end.ensures.finished u.1.world (reached s u.0 c.args.world u.1) u.1.stands)) }
 
 pub returns : goal.returns
 returns g c = λ fuel u.

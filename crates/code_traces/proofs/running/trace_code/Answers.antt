@@ -21,13 +21,13 @@ finish_noting-requires-clause-reached c =
 pub finish_noting-requires-clause-merges : goal.finish_noting-requires-clause-merges
 finish_noting-requires-clause-merges c = c.in_ok-merges.ensures.merges (run_under c.in_ok-setting.setting) (sym c.code.ensures.code)
 
-pub traced_after-requires-clause-over : goal.traced_after-requires-clause-over
-traced_after-requires-clause-over c =
+pub traced_after-requires : goal.traced_after-requires
+traced_after-requires c =
     let g = run_under c.in_ok-setting.setting in
     let b = c.in_ok-start.ensures.begun in
     let main = start_in g b.0 b.1.body c.args.fuel in
     let f = c.in_ok-end.ensures.finished (begin (numbered g) main) (start_reached g b.0 b.1 c.args.fuel c.requires) b.2 (c.in_ok-notes.ensures g c.args.fuel b.0 b.1) in
-    (c.args.fuel, noted_after g c.args.fuel b.0 b.1 c.requires c.in_ok-end.end c.finish_noting.new.notes.items f)
+    record { over = (c.args.fuel, noted_after g c.args.fuel b.0 b.1 c.requires c.in_ok-end.end c.finish_noting.new.notes.items f) }
 
 pub returns-clause-outcome : goal.returns-clause-outcome
 returns-clause-outcome c =

@@ -6,13 +6,13 @@ use Rattle.rev_vm.specs.Starts.{run_under}
 use Rattle.code_world.proofs.Coming.{has_ended_done, has_ended_trapped}
 use Rattle.code_world.proofs.advance.advance.Goals as goal
 
-pub run_leg-requires-clause-stands : goal.run_leg-requires-clause-stands
-run_leg-requires-clause-stands c = c.requires.stands
+pub run_leg-requires : goal.run_leg-requires
+run_leg-requires c = record { stands = c.requires.stands }
 
-pub fork-requires-clause-stands : goal.fork-requires-clause-stands
-fork-requires-clause-stands c =
+pub fork-requires : goal.fork-requires
+fork-requires c =
     let e = rw c.in-Ok-Fork.field-0-is at (c.in-Ok-Fork.ensures.event c.requires.stands.0 c.requires.stands.1) in
-    (e.0, e.1, e.3)
+    record { stands = (e.0, e.1, e.3) }
 
 pub returns-in-Ok-Fork : goal.returns-in-Ok-Fork
 returns-in-Ok-Fork c = λ s runs.

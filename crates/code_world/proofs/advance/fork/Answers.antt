@@ -2,8 +2,8 @@ use Rattle.rev_vm.specs.Starts.{run_under}
 use Rattle.code_world.proofs.Coming.{has_forked}
 use Rattle.code_world.proofs.advance.fork.Goals as goal
 
-pub fork-requires-clause-at : goal.fork-requires-clause-at
-fork-requires-clause-at c = c.requires.stands
+pub fork-requires : goal.fork-requires
+fork-requires c = record { at = c.requires.stands }
 
 pub returns-in-Ok : goal.returns-in-Ok
 returns-in-Ok c = λ s d args is at.

@@ -2,13 +2,13 @@ use Rattle.std.proofs.Common.{◌≡◌, ◌+◌, length, Some, sym, ap, ◌∙�
 use Rattle.std.proofs.lemmas.List.Elements.{All-pop, All-push, All-same}
 use Rattle.hub_table.proofs.Lists.{many_more}
 use Rattle.hub_workers.specs.Threads.{IsWorkerOf}
-use Rattle.hub_workers.specs.Running.{IsNewSeat, IsHandFor}
+use Rattle.hub_workers.specs.Running.{IsSeatFor, IsHandFor}
 use Rattle.hub_workers.proofs.running.pair_up.Goals as goal
 
 pub loop-preserved : goal.loop-preserved
 loop-preserved g c =
     let i = c.loop.invariant in
-    let seat = All-pop (λ s. IsNewSeat c.args.hub.now s) c.loop.seats.items c.take_last-seat.new.list.items (Some c.take_last-seat.result) c.take_last-seat.ensures.items i.0 in
+    let seat = All-pop (λ s. IsSeatFor c.args.hub.now s) c.loop.seats.items c.take_last-seat.new.list.items (Some c.take_last-seat.result) c.take_last-seat.ensures.items i.0 in
     let hand = All-pop (λ h. IsHandFor g.L.Legs.begins g.L.Legs.hand_group c.args.hub.now h) c.loop.hands.items c.take_last-hand.new.list.items (Some c.take_last-hand.result) c.take_last-hand.ensures.items i.1 in
     let a : length c.loop.seats.items ≡ length c.take_last-seat.new.list.items + 1 = ap length c.take_last-seat.ensures.items ∙ many_more c.take_last-seat.new.list.items c.take_last-seat.result in
     let b : length c.loop.hands.items ≡ length c.take_last-hand.new.list.items + 1 = ap length c.take_last-hand.ensures.items ∙ many_more c.take_last-hand.new.list.items c.take_last-hand.result in

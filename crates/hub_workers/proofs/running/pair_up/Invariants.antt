@@ -1,11 +1,11 @@
 use Rattle.std.proofs.Common.{◌≡◌, ◌+◌, ◌≤◌, length, All, vec_capacity}
 use Rattle.hub_workers.specs.Threads.{IsWorkerOf}
-use Rattle.hub_workers.specs.Running.{IsNewSeat, IsHandFor}
+use Rattle.hub_workers.specs.Running.{IsSeatFor, IsHandFor}
 use Rattle.hub_workers.proofs.running.pair_up.Given as goal
 
 abbrev pub invariant-loop : goal.invariant-loop
 invariant-loop g l =
-    All (λ s. IsNewSeat l.hub s) l.seats.items
+    All (λ s. IsSeatFor l.hub s) l.seats.items
     × All (λ h. IsHandFor g.L.Legs.begins g.L.Legs.hand_group l.hub h) l.hands.items
     × All (λ w. IsWorkerOf g.L.Legs.begins g.L.Legs.hand_group l.hub w.seat w.hand) l.workers.items
     × (length l.seats.items ≡ length l.hands.items)

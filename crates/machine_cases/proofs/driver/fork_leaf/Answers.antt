@@ -2,11 +2,11 @@ use Rattle.rev_code.specs.Events as events
 use Rattle.rev_vm.specs.Starts.{run_under}
 use Rattle.machine_cases.proofs.driver.fork_leaf.Goals as goal
 
-pub leaf_end-requires-clause-stands : goal.leaf_end-requires-clause-stands
-leaf_end-requires-clause-stands g c =
+pub leaf_end-requires : goal.leaf_end-requires
+leaf_end-requires g c =
     let q = c.requires.stands in
     let k = c.in-Ok.ensures.child q.0 q.1 q.2 in
-    (events.child c.args.setting.now.share q.0 c.args.at.block k.0 q.1, k.2)
+    record { stands = (events.child c.args.setting.now.share q.0 c.args.at.block k.0 q.1, k.2) }
 
 pub returns-in-Ok-leaf_end : goal.returns-in-Ok-leaf_end
 returns-in-Ok-leaf_end g c =

@@ -2,10 +2,10 @@ use Rattle.rev_vm.specs.Starts.{run_under}
 use Rattle.machine_cases.proofs.Steps.{at_fork, at_join}
 use Rattle.machine_cases.proofs.driver.go_on.Goals as goal
 
-pub fork_leaf-requires-clause-stands : goal.fork_leaf-requires-clause-stands
-fork_leaf-requires-clause-stands g c =
+pub fork_leaf-requires : goal.fork_leaf-requires
+fork_leaf-requires g c =
     let q = c.requires.stands in
-    at_fork (run_under c.args.setting.now) q.0 c.in-Ok-Fork.field-0 c.in-Ok-Fork.at c.in-Ok-Fork.field-0-is (c.in-Ok-Fork.ensures.event q.0 q.1)
+    record { stands = at_fork (run_under c.args.setting.now) q.0 c.in-Ok-Fork.field-0 c.in-Ok-Fork.at c.in-Ok-Fork.field-0-is (c.in-Ok-Fork.ensures.event q.0 q.1) }
 
 pub meet-requires-clause-stands : goal.meet-requires-clause-stands
 meet-requires-clause-stands g c =

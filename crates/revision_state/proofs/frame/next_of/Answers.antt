@@ -2,8 +2,8 @@ use Rattle.std.proofs.Common.{◌∙◌, sym}
 use Rattle.revision_state.proofs.Blocks.{taken, ended}
 use Rattle.revision_state.proofs.frame.next_of.Goals as goal
 
-pub returns-in-Some-split_first : goal.returns-in-Some-split_first
-returns-in-Some-split_first c =
+pub returns-in-Some-split_first-clause-taken : goal.returns-in-Some-split_first-clause-taken
+returns-in-Some-split_first-clause-taken c =
     sym c.loop-block.invariant ∙ taken _ _ c.in-Some.block _ _ _ c.in-Some.ensures.items c.in-Some-split_first.ensures.cases.0 c.in_ok-keep.ensures
 
 pub loop-block-preserved : goal.loop-block-preserved

@@ -1,9 +1,12 @@
-use Rattle.std.proofs.Common.{◌∙◌, ap, refl, sym}
+use Rattle.std.proofs.Common.{◌∙◌, ap, refl, sym, subst}
 use Rattle.code_machine.specs.Local.{CodeRun}
 use Rattle.code_outcomes.specs.Outcomes.{HasOutcome}
 use Rattle.rev_vm.specs.Starts.{run_under}
 use Rattle.turn_rule.specs.Views.{first_of}
 use Rattle.code_runs.proofs.Underway.{of_run}
+use Rattle.turn_hub.specs.Names.{run_forkers, run_ends}
+use Rattle.hub_outcomes.specs.Ends.{AreOwned}
+use Rattle.hub_outcomes.proofs.Mains.{left_of}
 use Rattle.thread_runs.proofs.Owning.{is_kept, owned}
 use Rattle.thread_runs.proofs.running.run_threads.Goals as goal
 
@@ -34,8 +37,15 @@ returns-clause-run g c =
     let own = c.in_ok-setting.setting in
     owned own c.args.fuel c.args.code.code c.args.inputs.items c.args.share
     (s.code ∙ c.into_code.ensures.code) s.inputs s.share
-    _ _ c.in-Ok.ensures.schedule c.in-Ok.ensures.state
-    _ (ap (λ v. v.items) c.into_schedule.ensures.numbers)
-    (sym c.in-Ok.ensures.run.left.group_is ∙ sym (ap (λ w. (first_of w.views).group) c.into_schedule.ensures.witness))
-    c.in-Ok.ensures.live.0 c.in-Ok.ensures.live.1
+    _ _ (run_forkers c.in-Ok.left.run) (run_ends c.in-Ok.left.run) c.in-Ok.ensures.schedule c.in-Ok.ensures.state
+    (left_of (run_under own) c.args.fuel c.in-Ok.left.run (is_kept (run_under own) c.args.fuel _ c.in-Ok.left.run c.requires.fuel c.in-Ok.ensures.run c.in-Ok.ensures.state))
+    _ record {
+      numbers = ap (λ v. v.items) c.into_schedule-order.ensures.numbers;
+      state_is = c.into_schedule-order.ensures.state;
+      forks = ap (λ v. v.items) c.into_schedule-order.ensures.forkers;
+      owned = subst (λ v. AreOwned v.items c.in_ok-ends.ends.items) c.into_schedule-order.ensures.ends c.in_ok-ends.ensures;
+      store = sym c.in-Ok.ensures.run.left.group_is ∙ sym (ap (λ w. (first_of w.views).group) c.into_schedule-order.ensures.witness);
+      counted = c.in-Ok.ensures.live.0;
+      none = c.in-Ok.ensures.live.1;
+    }
     (c.in_ok-outcome.ensures c.args.fuel (is_kept (run_under own) c.args.fuel _ c.in-Ok.left.run c.requires.fuel c.in-Ok.ensures.run c.in-Ok.ensures.state))

@@ -5,8 +5,8 @@ use Rattle.reached_worlds.proofs.Reaching.{start_reached}
 use Rattle.world_runs.proofs.Making.{replay_begins, replay_goes, replay_ends, merges_still}
 use Rattle.world_runs.proofs.replaying.replay.Goals as goal
 
-pub begin-requires-clause-fuel : goal.begin-requires-clause-fuel
-begin-requires-clause-fuel g c = c.requires.fuel
+pub begin-requires : goal.begin-requires
+begin-requires g c = record { fuel = c.requires.fuel }
 
 pub loop-at-init : goal.loop-at-init
 loop-at-init g c =

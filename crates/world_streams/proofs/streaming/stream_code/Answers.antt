@@ -59,8 +59,8 @@ returns-in_err-end g c =
     (faults (run_under own) own.faultless b.0 b.1 c.args.fuel c.requires.few never c.in_ok-start.start c.in_ok-start.ensures.silent (g.O.Sink.stream c.args.out.now) (g.O.Sink.stream c.stream.new.out) c.in_err-end.field-0.0
     (c.in_err-end.ensures.put _ first b.2 from)))
 
-pub outcome_after-requires-clause-over : goal.outcome_after-requires-clause-over
-outcome_after-requires-clause-over g c =
+pub outcome_after-requires : goal.outcome_after-requires
+outcome_after-requires g c =
     let b = c.in_ok-start.ensures.begun in
     let s = c.in_ok-setting.ensures in
     let own = c.in_ok-setting.setting in
@@ -69,7 +69,7 @@ outcome_after-requires-clause-over g c =
     (sym (s.code ∙ c.into_code.ensures.code)) (sym s.inputs) (sym s.share) c.requires.never in
     let first = first_reached (run_under own) own.faultless b.0 b.1 c.args.fuel c.requires.few never in
     let from = never_from (run_under own) own.faultless b.0 b.1 c.args.fuel c.requires.few never in
-    (c.args.fuel, after_run (run_under own) b.0 b.1 c.args.fuel c.requires.few c.in_ok-end.end (c.in_ok-end.ensures.finished _ first b.2 from))
+    record { over = (c.args.fuel, after_run (run_under own) b.0 b.1 c.args.fuel c.requires.few c.in_ok-end.end (c.in_ok-end.ensures.finished _ first b.2 from)) }
 
 pub returns-in_err-outcome : goal.returns-in_err-outcome
 returns-in_err-outcome g c =

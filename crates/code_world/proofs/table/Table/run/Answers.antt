@@ -11,10 +11,10 @@ overflow_cast-child g c =
 pub take_runner-runner-requires : goal.take_runner-runner-requires
 take_runner-runner-requires g c = c.requires.running
 
-pub advance-requires-clause-stands : goal.advance-requires-clause-stands
-advance-requires-clause-stands g c =
+pub advance-requires : goal.advance-requires
+advance-requires g c =
     let k = runner (run_under c.args.setting.now) c.args.self.now c.requires.runs.0 c.requires.runs.1 c.args.number c.take_runner-runner.result c.take_runner-runner.ensures.was in
-    (k.state, k.runs)
+    record { stands = (k.state, k.runs) }
 
 pub come-requires-clause-came : goal.come-requires-clause-came
 come-requires-clause-came g c = (

@@ -1,7 +1,7 @@
 use Rattle.std.proofs.Common.{◌-◌, ◌∷◌, refl}
 use Rattle.std.specs.BinaryHeap.{heap_items}
 use Rattle.ready_queue.specs.Heap.{above}
-use Rattle.ready_queue.proofs.Heaps.{has_first, has_later, has_permuted}
+use Rattle.ready_queue.proofs.Heaps.{has_first, has_later, has_permuted, one_more}
 use Rattle.ready_queue.proofs.heap.LeastHeap.add.Goals as goal
 
 pub returns-clause-here : goal.returns-clause-here
@@ -13,3 +13,6 @@ pub returns-clause-kept : goal.returns-clause-kept
 returns-clause-kept c = λ n h.
     has_permuted ((4294967295 - c.args.number) ∷ heap_items c.args.self.now.above) (heap_items c.push.new.self) (above n) c.in_ok-push.ensures.permutation
     (has_later (4294967295 - c.args.number) (heap_items c.args.self.now.above) (above n) h)
+
+pub returns-clause-exact : goal.returns-clause-exact
+returns-clause-exact c = one_more c.args.number (heap_items c.args.self.now.above) (heap_items c.push.new.self) c.ranges.number.fits c.in_ok-push.ensures.permutation

@@ -4,10 +4,10 @@ use Rattle.rev_vm.specs.Starts.{run_under}
 use Rattle.rev_vm.proofs.Boxes.{same_at, same_fork}
 use Rattle.rev_vm.proofs.fork.AtFork.fork.Goals as goal
 
-pub fork_off-requires-clause-at : goal.fork_off-requires-clause-at
-fork_off-requires-clause-at g c =
+pub fork_off-requires : goal.fork_off-requires
+fork_off-requires g c =
     let q = c.requires.at in
-    (q.0, q.1, same_fork (sym c.deref_mut.ensures.value) (run_under c.args.setting.now) c.args.self.block q.0 q.1 q.2)
+    record { at = (q.0, q.1, same_fork (sym c.deref_mut.ensures.value) (run_under c.args.setting.now) c.args.self.block q.0 q.1 q.2) }
 
 pub returns-in-Ok-in_box-clause-parent : goal.returns-in-Ok-in_box-clause-parent
 returns-in-Ok-in_box-clause-parent g c = λ s args h.

@@ -11,10 +11,10 @@ use Rattle.rev_vm.proofs.Boxes.{same_boxed}
 use Rattle.rev_vm.proofs.Firsts.{locations_many, start_stands, unwritten}
 use Rattle.rev_vm.proofs.runner.Runner.start.Goals as goal
 
-pub begin_with-requires-clause-block : goal.begin_with-requires-clause-block
-begin_with-requires-clause-block g c =
+pub begin_with-requires : goal.begin_with-requires
+begin_with-requires g c =
     let q = c.requires.called in
-    (q.0, q.2.is, sym (words_length q.1 c.args.args.now q.2.stand) ∙ sym (kinds_length q.1) ∙ ap length q.2.kinds)
+    record { block = (q.0, q.2.is, sym (words_length q.1 c.args.args.now q.2.stand) ∙ sym (kinds_length q.1) ∙ ap length q.2.kinds) }
 
 pub returns-in-Ok-clause-state : goal.returns-in-Ok-clause-state
 returns-in-Ok-clause-state g c = λ b xs ls k base.

@@ -2,7 +2,7 @@ use Rattle.std.proofs.Common.{rules, ◌≡◌, refl, ap, ◌∙◌}
 use Rattle.hub_table.specs.declared.state.HubState.TheVariants.{All}
 use Rattle.turn_rule.specs.Views.{rests, stops, or_no_memory}
 use Rattle.turn_rule.proofs.Turns.{told_at}
-use Rattle.turn_hub.proofs.Says.{ended_free, now_halted}
+use Rattle.turn_hub.proofs.Says.{ended_free, now_halted, halted_turn, turn_over, ends_turns}
 use Rattle.turn_hub.proofs.Drawing.{ended_on, passes_after}
 use Rattle.turn_hub.proofs.hub.TurnHub.end_and_take.Goals as goal
 
@@ -33,3 +33,12 @@ returns-in-Err-clause-err g c =
 
 pub returns-then-is_some-clause-err : goal.returns-then-is_some-clause-err
 returns-then-is_some-clause-err g c = (refl, now_halted _ _ _ _ _ c.enter-turn.result.value c.enter-turn.ensures.told (ap (λ m. m.0) c.put_home_halted.ensures.rests))
+
+pub returns-in-Ok-clause-turn : goal.returns-in-Ok-clause-turn
+returns-in-Ok-clause-turn g c = turn_over c.args.seat.now.place.me.0 c.end_in.new.place.me.0 c.take_or_join.new.place.me.0 (ap (λ v. v.turns) c.in-Ok.ensures.ok.0 ∙ (ends_turns (g.L.Revision.by_join c.args.end) c.args.of c.enter-turn.new.place.me.0 ∙ c.enter-turn.ensures.told.turns)) c.take_or_join.ensures.rests.3
+
+pub returns-in-Err-clause-turn : goal.returns-in-Err-clause-turn
+returns-in-Err-clause-turn g c = halted_turn c.args.seat.now.place.me.0 c.end_in.new.place.me.0 c.put_home_halted-in-Err.new.place.me.0 (ap (λ v. v.turns) c.in-Err.ensures.err.1 ∙ c.enter-turn.ensures.told.turns) (ap (λ m. m.0) c.put_home_halted-in-Err.ensures.rests)
+
+pub returns-then-is_some-clause-turn : goal.returns-then-is_some-clause-turn
+returns-then-is_some-clause-turn g c = halted_turn c.args.seat.now.place.me.0 c.enter-turn.new.place.me.0 c.put_home_halted.new.place.me.0 c.enter-turn.ensures.told.turns (ap (λ m. m.0) c.put_home_halted.ensures.rests)

@@ -3,7 +3,7 @@ use Rattle.hub_table.specs.declared.state.HubState.TheVariants.{All}
 use Rattle.hub_table.proofs.Queues.{queue_few, queue_add, queue_kept}
 use Rattle.turn_rule.specs.Views.{rests}
 use Rattle.turn_rule.proofs.Turns.{forked, same_hand, moved_hand, has_pass, told_at}
-use Rattle.turn_hub.proofs.Says.{has_forked, now_halted}
+use Rattle.turn_hub.proofs.Says.{has_forked, now_halted, rested_turn, halted_turn}
 use Rattle.turn_hub.proofs.hub.TurnHub.fork.Goals as goal
 
 pub grow-requires-clause-queue : goal.grow-requires-clause-queue
@@ -42,3 +42,12 @@ returns-then-is_some-clause-err g c = (refl, now_halted _ _ _ _ _ c.enter-turn.r
 
 pub returns-in-Err-clause-err : goal.returns-in-Err-clause-err
 returns-in-Err-clause-err g c = (c.in-Err.ensures.err.0, now_halted _ _ _ _ _ c.enter-turn.result.value c.enter-turn.ensures.told (ap (λ m. m.0) c.put_home_halted-in-Err.ensures.rests))
+
+pub returns-in-Ok-clause-turn : goal.returns-in-Ok-clause-turn
+returns-in-Ok-clause-turn g c = rested_turn c.args.seat.now.place.me.0 c.commit.new.place.me.0 c.put_home.new.place.me.0 (ap (λ m. m.0.turns) c.commit.ensures.after ∙ c.enter-turn.ensures.told.turns) (ap (λ m. m.0) c.put_home.ensures.rests)
+
+pub returns-then-is_some-clause-turn : goal.returns-then-is_some-clause-turn
+returns-then-is_some-clause-turn g c = halted_turn c.args.seat.now.place.me.0 c.enter-turn.new.place.me.0 c.put_home_halted.new.place.me.0 c.enter-turn.ensures.told.turns (ap (λ m. m.0) c.put_home_halted.ensures.rests)
+
+pub returns-in-Err-clause-turn : goal.returns-in-Err-clause-turn
+returns-in-Err-clause-turn g c = halted_turn c.args.seat.now.place.me.0 c.enter-turn.new.place.me.0 c.put_home_halted-in-Err.new.place.me.0 c.enter-turn.ensures.told.turns (ap (λ m. m.0) c.put_home_halted-in-Err.ensures.rests)

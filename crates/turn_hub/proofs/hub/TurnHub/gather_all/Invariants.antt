@@ -1,7 +1,7 @@
-use Rattle.std.proofs.Common.{◌≡◌, ◌+◌, ◌<◌, ℕ, [], length, map}
-use Rattle.turn_rule.specs.Passes.{named}
+use Rattle.std.proofs.Common.{◌≡◌, ◌+◌, ◌<◌, ℕ, List, [], length, map}
+use Rattle.turn_rule.specs.Passes.{named, AreStartsOf}
 use Rattle.turn_rule.specs.Views.{either_saw, either_halt}
-use Rattle.turn_rule.specs.Seats.{AreOf}
+use Rattle.turn_rule.specs.Seats.{AreOf, AreBehind}
 use Rattle.turn_hub.specs.Closing.{saw_of, halt_known, held_by}
 use Rattle.turn_hub.proofs.hub.TurnHub.gather_all.Given as goal
 
@@ -12,4 +12,5 @@ invariant-loop g l =
     × AreOf l.self.turn.shared.table_id (map (λ s. s.place) l.rest.items)
     × (saw_of (map (λ s. s.place) l.fn.seats.items) ≡ 1 → either_saw l.all.me.0.saw (saw_of (map (λ s. s.place) l.rest.items)) ≡ 1)
     × (either_halt l.all.me.0.halt (halt_known (map (λ s. s.place) l.rest.items)) ≡ halt_known (map (λ s. s.place) l.fn.seats.items))
+    × ((log : List ℕ) → AreStartsOf log l.all.me.0.turns → AreBehind log (map (λ s. s.place) l.rest.items) → AreBehind log (map (λ s. s.place) l.fn.seats.items))
     × ((n : ℕ) → named n l.all.me.0.passes + held_by n (map (λ s. s.place) l.rest.items) ≡ held_by n (map (λ s. s.place) l.fn.seats.items))

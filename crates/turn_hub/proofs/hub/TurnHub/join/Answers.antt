@@ -4,7 +4,7 @@ use Rattle.hub_table.specs.declared.state.HubState.TheVariants.{All}
 use Rattle.hub_table.specs.Found.{ended_here}
 use Rattle.turn_rule.specs.Views.{rests, stops, or_no_memory}
 use Rattle.turn_rule.proofs.Turns.{told_at}
-use Rattle.turn_hub.proofs.Says.{waited, now_halted}
+use Rattle.turn_hub.proofs.Says.{waited, now_halted, rested_turn, halted_turn, turn_over}
 use Rattle.turn_hub.proofs.Drawing.{same_found}
 use Rattle.turn_hub.proofs.hub.TurnHub.join.Goals as goal
 
@@ -44,3 +44,15 @@ returns-in-Err-clause-answer g c =
 
 pub returns-then-is_some-clause-answer : goal.returns-then-is_some-clause-answer
 returns-then-is_some-clause-answer g c = (refl, now_halted _ _ _ _ _ c.enter-turn.result.value c.enter-turn.ensures.told (ap (λ m. m.0) c.put_home_halted.ensures.rests))
+
+pub returns-then-has_ended-clause-turn : goal.returns-then-has_ended-clause-turn
+returns-then-has_ended-clause-turn g c = turn_over c.args.seat.now.place.me.0 c.enter-turn.new.place.me.0 c.join_in.new.place.me.0 (c.enter-turn.ensures.told.turns) c.join_in.ensures.rests.3
+
+pub returns-in-Ok-clause-turn : goal.returns-in-Ok-clause-turn
+returns-in-Ok-clause-turn g c = rested_turn c.args.seat.now.place.me.0 c.keep_in.new.place.me.0 c.put_home.new.place.me.0 (ap (λ v. v.turns) c.in-Ok.ensures.ok.0 ∙ c.enter-turn.ensures.told.turns) (ap (λ m. m.0) c.put_home.ensures.rests)
+
+pub returns-in-Err-clause-turn : goal.returns-in-Err-clause-turn
+returns-in-Err-clause-turn g c = halted_turn c.args.seat.now.place.me.0 c.keep_in.new.place.me.0 c.put_home_halted-in-Err.new.place.me.0 (ap (λ v. v.turns) c.in-Err.ensures.err.1 ∙ c.enter-turn.ensures.told.turns) (ap (λ m. m.0) c.put_home_halted-in-Err.ensures.rests)
+
+pub returns-then-is_some-clause-turn : goal.returns-then-is_some-clause-turn
+returns-then-is_some-clause-turn g c = halted_turn c.args.seat.now.place.me.0 c.enter-turn.new.place.me.0 c.put_home_halted.new.place.me.0 c.enter-turn.ensures.told.turns (ap (λ m. m.0) c.put_home_halted.ensures.rests)

@@ -7,7 +7,7 @@ use Rattle.hub_table.specs.Found.{ended_here}
 use Rattle.hub_table.proofs.Queues.{queue_join, queue_same}
 use Rattle.turn_rule.specs.Views.{commits, rests, stops, sees}
 use Rattle.turn_rule.proofs.Turns.{joined, twice, moved_hand, same_hand, has_pass, told_at}
-use Rattle.turn_hub.proofs.Says.{took_in, has_met, takes_says, come_says, met_twice, now_halted}
+use Rattle.turn_hub.proofs.Says.{took_in, has_met, takes_says, come_says, met_twice, now_halted, rested_turn, halted_turn}
 use Rattle.turn_hub.proofs.Drawing.{unseen}
 use Rattle.turn_hub.proofs.hub.TurnHub.join_in.Goals as goal
 
@@ -87,13 +87,13 @@ pub returns-in-Some-clause-come : goal.returns-in-Some-clause-come
 returns-in-Some-clause-come g c = come_says g.L.Revision.machine g.L.Revision.ends g.L.Revision.claimed g.L.Revision.stopped g.L.Revision.claimed_group g.L.Revision.stopped_group _ _ _ c.take_in.ensures
 
 pub returns-in-Some-clause-rests : goal.returns-in-Some-clause-rests
-returns-in-Some-clause-rests g c = let e = c.put_home.ensures.rests in (ap (λ m. m.0.has) e, ap (λ m. m.1) e, ap (λ m. m.0.parts) e ∙ ap (λ m. m.0.parts) c.commit.ensures.after)
+returns-in-Some-clause-rests g c = let e = c.put_home.ensures.rests in (ap (λ m. m.0.has) e, ap (λ m. m.1) e, ap (λ m. m.0.parts) e ∙ ap (λ m. m.0.parts) c.commit.ensures.after, rested_turn c.args.place.now.me.0 c.commit.new.place.me.0 c.put_home.new.place.me.0 (ap (λ m. m.0.turns) c.commit.ensures.after) (ap (λ m. m.0) e))
 
 pub returns-in-None-clause-rests : goal.returns-in-None-clause-rests
-returns-in-None-clause-rests g c = let e = c.put_home-in-None.ensures.rests in (ap (λ m. m.0.has) e, ap (λ m. m.1) e, ap (λ m. m.0.parts) e ∙ (ap (λ m. m.0.parts) c.stop_twice.ensures.after ∙ ap (λ m. m.0.parts) c.commit.ensures.after))
+returns-in-None-clause-rests g c = let e = c.put_home-in-None.ensures.rests in (ap (λ m. m.0.has) e, ap (λ m. m.1) e, ap (λ m. m.0.parts) e ∙ (ap (λ m. m.0.parts) c.stop_twice.ensures.after ∙ ap (λ m. m.0.parts) c.commit.ensures.after), rested_turn c.args.place.now.me.0 c.stop_twice.new.place.me.0 c.put_home-in-None.new.place.me.0 (ap (λ m. m.0.turns) c.stop_twice.ensures.after ∙ ap (λ m. m.0.turns) c.commit.ensures.after) (ap (λ m. m.0) e))
 
 pub returns-then-not-enter-clause-rests : goal.returns-then-not-enter-clause-rests
-returns-then-not-enter-clause-rests g c = let e = c.put_home_halted.ensures.rests in (ap (λ m. m.0.has) e, ap (λ m. m.1) e, ap (λ m. m.0.parts) e)
+returns-then-not-enter-clause-rests g c = let e = c.put_home_halted.ensures.rests in (ap (λ m. m.0.has) e, ap (λ m. m.1) e, ap (λ m. m.0.parts) e, halted_turn c.args.place.now.me.0 c.args.place.now.me.0 c.put_home_halted.new.place.me.0 refl (ap (λ m. m.0) e))
 
 pub returns-in-Some-clause-turn : goal.returns-in-Some-clause-turn
 returns-in-Some-clause-turn g c = let e = c.put_home.ensures.rests in let f = c.commit.ensures.after in

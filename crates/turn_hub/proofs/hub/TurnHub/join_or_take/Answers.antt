@@ -4,7 +4,7 @@ use Rattle.hub_table.specs.declared.state.HubState.TheVariants.{All}
 use Rattle.hub_table.specs.Found.{ended_here}
 use Rattle.turn_rule.specs.Views.{rests, stops, or_no_memory}
 use Rattle.turn_rule.proofs.Turns.{told_at}
-use Rattle.turn_hub.proofs.Says.{waited_on, now_halted}
+use Rattle.turn_hub.proofs.Says.{waited_on, now_halted, halted_turn, turn_over}
 use Rattle.turn_hub.proofs.Drawing.{same_found}
 use Rattle.turn_hub.proofs.hub.TurnHub.join_or_take.Goals as goal
 
@@ -53,3 +53,15 @@ returns-in-Err-clause-answer g c =
 
 pub returns-then-is_some-clause-answer : goal.returns-then-is_some-clause-answer
 returns-then-is_some-clause-answer g c = (tt, (refl, now_halted _ _ _ _ _ c.enter-turn.result.value c.enter-turn.ensures.told (ap (λ m. m.0) c.put_home_halted.ensures.rests)))
+
+pub returns-then-ended-clause-turn : goal.returns-then-ended-clause-turn
+returns-then-ended-clause-turn g c = turn_over c.args.seat.now.place.me.0 c.enter-turn.new.place.me.0 c.join_in.new.place.me.0 (c.enter-turn.ensures.told.turns) c.join_in.ensures.rests.3
+
+pub returns-in-Ok-clause-turn : goal.returns-in-Ok-clause-turn
+returns-in-Ok-clause-turn g c = turn_over c.args.seat.now.place.me.0 c.keep_in.new.place.me.0 c.take_next.new.place.me.0 (ap (λ v. v.turns) c.in-Ok.ensures.ok.0 ∙ c.enter-turn.ensures.told.turns) c.take_next.ensures.rests.3
+
+pub returns-in-Err-clause-turn : goal.returns-in-Err-clause-turn
+returns-in-Err-clause-turn g c = halted_turn c.args.seat.now.place.me.0 c.keep_in.new.place.me.0 c.put_home_halted-in-Err.new.place.me.0 (ap (λ v. v.turns) c.in-Err.ensures.err.1 ∙ c.enter-turn.ensures.told.turns) (ap (λ m. m.0) c.put_home_halted-in-Err.ensures.rests)
+
+pub returns-then-is_some-clause-turn : goal.returns-then-is_some-clause-turn
+returns-then-is_some-clause-turn g c = halted_turn c.args.seat.now.place.me.0 c.enter-turn.new.place.me.0 c.put_home_halted.new.place.me.0 c.enter-turn.ensures.told.turns (ap (λ m. m.0) c.put_home_halted.ensures.rests)

@@ -1,7 +1,7 @@
 use Rattle.std.proofs.Common.{rules, ◌≡◌, ◌≢◌, sym, ap, ◌∙◌}
 use Rattle.hub_table.specs.declared.state.HubState.TheVariants.{All}
 use Rattle.hub_table.proofs.Queues.{queue_over, queue_open}
-use Rattle.turn_hub.proofs.Says.{ran_after, retried_after, idle_now, finished, was_halted}
+use Rattle.turn_hub.proofs.Says.{ran_after, retried_after, idle_now, finished, was_halted, rested_turn, turn_over}
 use Rattle.turn_hub.proofs.hub.TurnHub.take.Goals as goal
 
 pub take_next-requires-clause-free : goal.take_next-requires-clause-free
@@ -30,3 +30,18 @@ returns-else-over-clause-answer g c =
 pub returns-in-Some-clause-answer : goal.returns-in-Some-clause-answer
 returns-in-Some-clause-answer g c =
     was_halted _ _ _ _ _ c.enter-turn.result.value _ c.enter-turn.ensures.told (ap (λ t. t.state) (sym c.deref.ensures) ∙ c.in-Some.ensures) (ap (λ m. m.0) c.put_home.ensures.rests)
+
+pub returns-in-Run-clause-turn : goal.returns-in-Run-clause-turn
+returns-in-Run-clause-turn g c = turn_over c.args.seat.now.place.me.0 c.enter-turn.new.place.me.0 c.take_next.new.place.me.0 (c.enter-turn.ensures.told.turns) c.take_next.ensures.rests.3
+
+pub returns-in-Retry-clause-turn : goal.returns-in-Retry-clause-turn
+returns-in-Retry-clause-turn g c = turn_over c.args.seat.now.place.me.0 c.enter-turn.new.place.me.0 c.take_next.new.place.me.0 (c.enter-turn.ensures.told.turns) c.take_next.ensures.rests.3
+
+pub returns-then-over-clause-turn : goal.returns-then-over-clause-turn
+returns-then-over-clause-turn g c = turn_over c.args.seat.now.place.me.0 c.enter-turn.new.place.me.0 c.take_next.new.place.me.0 (c.enter-turn.ensures.told.turns) c.take_next.ensures.rests.3
+
+pub returns-else-over-clause-turn : goal.returns-else-over-clause-turn
+returns-else-over-clause-turn g c = turn_over c.args.seat.now.place.me.0 c.enter-turn.new.place.me.0 c.take_next.new.place.me.0 (c.enter-turn.ensures.told.turns) c.take_next.ensures.rests.3
+
+pub returns-in-Some-clause-turn : goal.returns-in-Some-clause-turn
+returns-in-Some-clause-turn g c = rested_turn c.args.seat.now.place.me.0 c.enter-turn.new.place.me.0 c.put_home.new.place.me.0 (c.enter-turn.ensures.told.turns) (ap (λ m. m.0) c.put_home.ensures.rests)

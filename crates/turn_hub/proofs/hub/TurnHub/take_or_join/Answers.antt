@@ -4,6 +4,7 @@ use Rattle.turn_rule.specs.Rule.{says}
 use Rattle.turn_hub.specs.declared.answers.EndStep.TheVariants as ending
 use Rattle.turn_hub.specs.Answers.{Ran, EndStepSays}
 use Rattle.turn_hub.proofs.Drawing.{turn_rests, onward_rests, told_drawn, came_on}
+use Rattle.turn_hub.proofs.Says.{rested_turn, turn_over}
 use Rattle.turn_hub.proofs.hub.TurnHub.take_or_join.Goals as goal
 
 pub join_in-answer-requires-clause-told : goal.join_in-answer-requires-clause-told
@@ -25,3 +26,12 @@ returns-in-Retry-clause-answer g c =
     (came_on g.L.Revision.machine g.L.Revision.ends g.L.Revision.claimed g.L.Revision.stopped g.L.Revision.claimed_group g.L.Revision.stopped_group
     c.args.place.now.me.0 w c.join_in-answer.new.place.me.0 c.deref_mut.result.now c.draw_next.new.turn c.in-Retry.number c.in-Retry.at c.join_in-answer.result
     c.in-Retry.ensures.drawn c.draw_next.ensures.turn c.in-Retry.ensures.answer c.join_in-answer.ensures.come (c.join_in-answer.ensures.answer w said w.log told c.in-Retry.ensures.answer.event))
+
+pub returns-in-Run-clause-rests : goal.returns-in-Run-clause-rests
+returns-in-Run-clause-rests g c = let e = c.put_home.ensures.rests in (ap (λ m. m.0.has) e, ap (λ m. m.1) e, ap (λ m. m.0.parts) e ∙ c.draw_next.ensures.parts, rested_turn c.args.place.now.me.0 c.draw_next.new.place.me.0 c.put_home.new.place.me.0 c.draw_next.ensures.turns (ap (λ m. m.0) e))
+
+pub returns-in-Nothing-clause-rests : goal.returns-in-Nothing-clause-rests
+returns-in-Nothing-clause-rests g c = let e = c.put_home-in-Nothing.ensures.rests in (ap (λ m. m.0.has) e, ap (λ m. m.1) e, ap (λ m. m.0.parts) e ∙ c.draw_next.ensures.parts, rested_turn c.args.place.now.me.0 c.draw_next.new.place.me.0 c.put_home-in-Nothing.new.place.me.0 c.draw_next.ensures.turns (ap (λ m. m.0) e))
+
+pub returns-in-Retry-clause-rests : goal.returns-in-Retry-clause-rests
+returns-in-Retry-clause-rests g c = let r = c.join_in-answer.ensures.rests in (r.0, r.1, r.2 ∙ c.draw_next.ensures.parts, turn_over c.args.place.now.me.0 c.draw_next.new.place.me.0 c.join_in-answer.new.place.me.0 c.draw_next.ensures.turns r.3)
