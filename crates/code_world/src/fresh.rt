@@ -52,9 +52,9 @@ fn words_seen(alloc: Global, delta: &Delta, base: &[u64]) -> Result<Vec<u64>, Al
 
 /// With what a revision began that stands before its first instruction.
 fn begun(alloc: Global, setting: &CodeSetting, runner: &Runner<Whole>) -> Result<Fresh, AllocError>
-    requires fresh { (c : State ℕ) × (f : DefinedFresh ℕ) × Runs (run_under setting.now) runner.now c
+    requires { (c : State ℕ) × (f : DefinedFresh ℕ) × Runs (run_under setting.now) runner.now c
         × IsFresh setting.now.code f c }
-    ensures begun { (c : State ℕ) (f : DefinedFresh ℕ) → Runs (run_under setting.now) runner.now c
+    ensures { (c : State ℕ) (f : DefinedFresh ℕ) → Runs (run_under setting.now) runner.now c
         → IsFresh setting.now.code f c → IfOk result (λ x. IsBegun f x) }
 {
     let given = runner.args(setting);
@@ -81,8 +81,8 @@ impl Table {
         setting: &CodeSetting,
         number: usize,
     ) -> Result<Option<Fresh>, AllocError>
-        requires good { (w : Entries (Local ℕ)) × IsGood (run_under setting.now) self.now w }
-        ensures fresh { (w : Entries (Local ℕ)) → IsGood (run_under setting.now) self.now w
+        requires { (w : Entries (Local ℕ)) × IsGood (run_under setting.now) self.now w }
+        ensures { (w : Entries (Local ℕ)) → IsGood (run_under setting.now) self.now w
             → IfOk result (λ o. FreshIn (run_under setting.now) self.now w number o) }
     {
         match self.slots.get(number) {
@@ -108,9 +108,9 @@ pub fn fresh(
     world: &World,
     revision: u32,
 ) -> Result<Option<Fresh>, AllocError>
-    requires reached { (w : DefinedWorld (Local ℕ)) × IsReached (run_under setting.now) w
+    requires { (w : DefinedWorld (Local ℕ)) × IsReached (run_under setting.now) w
         × IsWorld (run_under setting.now) world.now w }
-    ensures fresh { (w : DefinedWorld (Local ℕ)) → IsReached (run_under setting.now) w
+    ensures { (w : DefinedWorld (Local ℕ)) → IsReached (run_under setting.now) w
         → IsWorld (run_under setting.now) world.now w
         → IfOk result (λ o. FreshAt (run_under setting.now) world.now w revision o) }
 {

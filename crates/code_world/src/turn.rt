@@ -122,7 +122,7 @@ impl Table {
         child: u32,
         came: Came,
     ) -> Result<NotedLeg, AllocError>
-        requires came { (g : CodeRun) × (t : Table) × (w : Entries (Local ℕ))
+        requires { (g : CodeRun) × (t : Table) × (w : Entries (Local ℕ))
             × IsBetween g t w number self.old child came × (M.size merges.old ≡ count g.code.vars) }
         ensures answer { (g : CodeRun) (t : Table) (w : Entries (Local ℕ))
             → IsBetween g t w number self.old child came → AreMergesOf g (M.merges merges.old)

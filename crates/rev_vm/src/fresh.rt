@@ -59,9 +59,9 @@ impl<P: Snapshot> Runner<P> {
 
     /// The arguments with which it was started, where it stands before its first instruction.
     pub fn args(&self, setting: &CodeSetting) -> &[u64]
-        requires fresh { (c : State ℕ) × (f : Fresh ℕ) × StandsFor (run_under setting.now) self.now c
+        requires { (c : State ℕ) × (f : Fresh ℕ) × StandsFor (run_under setting.now) self.now c
             × IsFresh setting.now.code f c }
-        ensures args { (c : State ℕ) (f : Fresh ℕ) → StandsFor (run_under setting.now) self.now c
+        ensures { (c : State ℕ) (f : Fresh ℕ) → StandsFor (run_under setting.now) self.now c
             → IsFresh setting.now.code f c → AreWords f.args result.now }
     {
         first_args(setting, &self.revision.run)

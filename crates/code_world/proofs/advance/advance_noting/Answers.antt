@@ -10,10 +10,10 @@ use Rattle.code_world.proofs.advance.advance_noting.Goals as goal
 pub run_leg_noting-requires-clause-stands : goal.run_leg_noting-requires-clause-stands
 run_leg_noting-requires-clause-stands c = c.requires.stands
 
-pub fork-requires-clause-stands : goal.fork-requires-clause-stands
-fork-requires-clause-stands c =
+pub fork-requires : goal.fork-requires
+fork-requires c =
     let e = rw c.in-Ok-Fork.field-0-is at (c.in-Ok-Fork.ensures.event c.requires.stands.0 c.requires.stands.1) in
-    (e.0, e.1, e.3)
+    record { stands = (e.0, e.1, e.3) }
 
 pub returns-in-Ok-Fork-clause-come : goal.returns-in-Ok-Fork-clause-come
 returns-in-Ok-Fork-clause-come c = λ s runs.

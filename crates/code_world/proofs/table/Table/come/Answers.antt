@@ -16,7 +16,7 @@ use Rattle.code_world.proofs.Touching.{ends_touch, fork_stays, joining_touches, 
 
 pub bear-requires-clause-slots : goal.bear-requires-clause-slots
 bear-requires-clause-slots g c =
-    let q = c.requires.came in
+    let q = c.requires in
     let x = q.3 in
     let a = at_below q.1.slots.items c.args.number (slot.Running x.runner) x.there in
     let y = ap length x.taken ∙ put_length q.1.slots.items c.args.number slot.Taken in
@@ -24,7 +24,7 @@ bear-requires-clause-slots g c =
 
 pub bear-requires-clause-births : goal.bear-requires-clause-births
 bear-requires-clause-births g c =
-    let q = c.requires.came in
+    let q = c.requires in
     let x = q.3 in
     let a = births_below q.0 q.1 q.2 x.good c.args.number x.runner x.there in
     let y = ap (λ b. length b.items) x.births in
@@ -32,14 +32,14 @@ bear-requires-clause-births g c =
 
 pub bear-requires-clause-few : goal.bear-requires-clause-few
 bear-requires-clause-few g c = λ b e.
-    let q = c.requires.came in
+    let q = c.requires in
     let x = q.3 in
     few_forks q.0 q.1 q.2 x.good c.args.number x.runner x.there b
     (ap (λ bs. at_number bs.items c.args.number) (sym x.births) ∙ e)
 
 pub put-requires : goal.put-requires
 put-requires g c =
-    let q = c.requires.came in
+    let q = c.requires in
     let x = q.3 in
     let a = at_below q.1.slots.items c.args.number (slot.Running x.runner) x.there in
     let y = ap length x.taken ∙ put_length q.1.slots.items c.args.number slot.Taken in
@@ -47,7 +47,7 @@ put-requires g c =
 
 pub put-requires-in-Ended : goal.put-requires-in-Ended
 put-requires-in-Ended g c =
-    let q = c.requires.came in
+    let q = c.requires in
     let x = q.3 in
     let a = at_below q.1.slots.items c.args.number (slot.Running x.runner) x.there in
     let y = ap length x.taken ∙ put_length q.1.slots.items c.args.number slot.Taken in
@@ -55,7 +55,7 @@ put-requires-in-Ended g c =
 
 pub join-requires : goal.join-requires
 join-requires g c =
-    let q = c.requires.came in
+    let q = c.requires in
     let x = q.3 in
     let s = q.0 in
     let k = runner s q.1 q.2 x.good c.args.number x.runner x.there in

@@ -18,8 +18,8 @@ advance_noting-requires-clause-stands g c =
     let k = runner (run_under c.args.setting.now) c.args.self.now c.requires.runs.0 c.requires.runs.1 c.args.number c.take_runner-runner.result c.take_runner-runner.ensures.was in
     (k.state, k.runs)
 
-pub come-requires-clause-came : goal.come-requires-clause-came
-come-requires-clause-came g c = (
+pub come-requires : goal.come-requires
+come-requires g c = (
   run_under c.args.setting.now,
   c.args.self.now,
   c.requires.runs.0,

@@ -7,13 +7,13 @@ use Rattle.rev_vm.proofs.runner.Runner.args.Goals as goal
 
 pub first_args-requires-clause-block : goal.first_args-requires-clause-block
 first_args-requires-clause-block t c =
-    let q = c.requires.fresh in
+    let q = c.requires in
     let s = (same_at (sym c.deref.ensures) (run_under c.args.setting.now) q.0 q.2).stands in
     (s.body, s.is)
 
 pub first_args-requires-clause-inside : goal.first_args-requires-clause-inside
 first_args-requires-clause-inside t c = λ b is.
-    let q = c.requires.fresh in
+    let q = c.requires in
     first_inside (run_under c.args.setting.now) c.deref.result.now.run c.deref.result.now.memory.delta (t.P.Snapshot.base c.deref.result.now.memory.snapshot) c.deref.result.now.memory.first.roots q.0
     (same_at (sym c.deref.ensures) (run_under c.args.setting.now) q.0 q.2) b is
 
