@@ -24,7 +24,7 @@ use Rattle.world_streams.specs.declared.fault.StreamFault.TheVariants as fault
 use Rattle.world_streams.specs.Streamed.{PutsPart, Streamed}
 use Rattle.world_streams.specs.Runs.{NeverTwiceFrom, PutsAll, PutsOn, StreamsTo}
 use Rattle.world_streams.proofs.Gaining.{world_says}
-use Rattle.world_streams.proofs.Pieces.{some_all, some_longer, some_none}
+use Rattle.world_streams.proofs.Putting.{some_all, some_longer, some_none}
 
 module _ (g : CodeRun) (ok : IsVerified g) (n : ℕ) (m : IsMain g n) (fuel : ℕ) (few : fuel ≤ most_fuel) (never : NeverJoinsTwice g fuel) where
   abbrev first : World (Local ℕ)

@@ -31,7 +31,7 @@ use Rattle.reached_worlds.specs.Reached.{IsReached}
 use Rattle.reached_worlds.proofs.Reaching.{legs_reached, main_stands}
 use Rattle.world_runs.specs.Made.{HasMade, made_of}
 use Rattle.world_runs.proofs.Making.{makes}
-use Rattle.world_streams.proofs.Pieces.{grows_by, grows_length}
+use Rattle.world_streams.proofs.Putting.{grows_by, grows_length}
 use Rattle.step_forms.specs.Forms.{Grows, Says}
 use Rattle.step_forms.proofs.Texts.{grows_same}
 use Rattle.main_texts.specs.Texts.{HasSaid, as_it_is, at_join, MainSays}

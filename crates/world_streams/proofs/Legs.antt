@@ -25,7 +25,7 @@ use Rattle.world_streams.specs.declared.fault.StreamFault.{StreamFault}
 use Rattle.world_streams.specs.declared.fault.StreamFault.TheVariants as fault
 use Rattle.world_streams.specs.Legs.{Gains, NeverTwiceBy, PutsSome, StreamsLeg}
 use Rattle.world_streams.specs.Runs.{NeverTwiceFrom, PutsAll, PutsOn, StreamsTo, world_of}
-use Rattle.world_streams.proofs.Pieces.{rose_behind, some_all, some_behind, some_none, took_none}
+use Rattle.world_streams.proofs.Putting.{rose_behind, some_all, some_behind, some_none, took_none}
 
 -- ---- what never leads to Twice
 

@@ -1,4 +1,4 @@
-pub mod Pieces
+pub mod Putting
 pub mod Gaining
 pub mod Legs
 pub mod Coming

@@ -5,6 +5,8 @@ ghost use Rattle.rev_num.specs.Limits.{most_fuel};
 ghost use Rattle.world_streams.specs.Streamed.{Streamed};
 ghost use Rattle.main_texts.specs.Texts.{NeverJoinsTwice};
 
+use crate::fault::StreamFault;
+use crate::run::stream;
 use block_merges::BlockMerges;
 use code_runs::{note_inputs, outcome_after};
 use code_verifier::Verified;
@@ -13,7 +15,6 @@ use leg_run::CodeSetting;
 use rev_io::Sink;
 use rev_num::Outcome;
 use std::alloc::Global;
-use world_streams::{StreamFault, stream};
 
 /// The outcome of verified code with these inputs, share and fuel, of which there are at most
 /// 4,000,000,000 units, and which never joins a revision twice. `out` gets the text of `main` leg by

@@ -1,4 +1,4 @@
-use Rattle.world_streams.proofs.Pieces.{rose_behind, some_behind, some_longer}
+use Rattle.world_streams.proofs.Putting.{rose_behind, some_behind, some_longer}
 use Rattle.world_streams.proofs.pieces.piece_laws.Goals as goal
 
 pub returns : goal.returns

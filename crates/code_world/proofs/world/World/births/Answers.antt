@@ -1,4 +1,5 @@
-use Rattle.std.proofs.Common.{◌∙◌, subst}
+use Rattle.std.proofs.Common.{List, sym, subst}
+use Rattle.code_world.specs.declared.table.Birth.{Birth}
 use Rattle.code_world.specs.Endings.{Names}
 use Rattle.code_world.specs.Tables.{IsWorld}
 use Rattle.code_world.proofs.Ended.{names}
@@ -7,7 +8,8 @@ use Rattle.code_world.proofs.world.World.births.Goals as goal
 
 pub returns-in-Live : goal.returns-in-Live
 returns-in-Live c = λ g w is.
-    names g c.in-Live.table w (subst (λ v. IsWorld g v (Listing w)) c.in-Live.is is)
+    subst (λ (bs : List Birth). Names bs (paths_of w)) (sym c.as_slice.ensures.value)
+    (names g c.in-Live.table w (subst (λ v. IsWorld g v (Listing w)) c.in-Live.is is))
 
 pub returns-in-Twice : goal.returns-in-Twice
 returns-in-Twice c = λ g w is. absurd (subst (λ v. IsWorld g v (Listing w)) c.in-Twice.is is)

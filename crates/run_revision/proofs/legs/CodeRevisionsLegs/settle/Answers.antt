@@ -48,9 +48,14 @@ claim-requires-clause-of g c =
     let mine = run_under c.hand.inside.setting.now in
     let s = joiner_state own c.at.inside.at in
     let j : End ℕ = end_for own c.end.inside.value.value in
-    let alike = same_end own its mine s c.at.inside.at.is_try c.at.inside.at.on (joiner_group c.at.inside.at) c.end.inside.value.value c.args.hand.now q.0 q.1 (c.at.view_is ∙ q.2.0) (c.end.view_is ∙ q.2.1) (ap (λ z. z.run) c.hand.view_is) q.4 in
-    (own, s, j, c.at.invariant, subst (IsEnd own j) (sym c.into_inner-left.ensures)
-    (subst (λ z. IsEnd z (end_for z c.end.inside.value.value) c.end.inside.value.value) alike c.end.invariant))
+    let alike = same_end own its mine s c.at.inside.at.is_try c.at.inside.at.on (joiner_group c.at.inside.at) c.end.inside.value.value c.args.hand.now q.0 q.1 (c.at.view_is ∙ q.2.0) (c.end.view_is ∙ q.2.1) (ap (λ z. z.run) c.hand.view_is) q.4 in (
+      own,
+      s,
+      j,
+      c.at.invariant,
+      subst (IsEnd own j) (sym c.into_inner-left.ensures)
+          (subst (λ z. IsEnd z (end_for z c.end.inside.value.value) c.end.inside.value.value) alike c.end.invariant),
+    )
 
 pub settle-requires : goal.settle-requires
 settle-requires g c =
