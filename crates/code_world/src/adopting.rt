@@ -45,11 +45,10 @@ pub fn adopt(world: World, revision: u32, end: EndValue) -> (World, LegAnswer)
         → LegAnswers g (Listing w) revision result.1 result.0 }
     ensures touches { TouchesIn world revision result.1 result.0 }
 {
-    match world {
-        World::Live(mut table) => {
-            let answer = table.adopt(revision, end);
-            (world_of(table, answer), answer)
-        },
+    let mut table = match world {
+        World::Live(table) => table,
         World::Twice => unreachable!(),
-    }
+    };
+    let answer = table.adopt(revision, end);
+    (world_of(table, answer), answer)
 }
