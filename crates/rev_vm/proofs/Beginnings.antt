@@ -39,7 +39,7 @@ module _ (g : CodeRun) (run : Run) (delta : Delta) (base : ℕ → ℕ) (first :
       let same : s.body ≡ b = some_eq (sym s.is ∙ is) in
       let few = params_few b in
       let all = ap (λ (x : CodeBlock). length x.locals) same in
-      let low = s.here.top in
+      let low : run.registers.base + length s.body.locals ≤ run.registers.top = s.here.top in
       let top = top_inside g.code h.verified g.inputs g.share run (overlay.under delta base) (at first) c s s.body s.is in
       omega (arith, few, all, low, top)
 
