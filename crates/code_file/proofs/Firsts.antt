@@ -577,19 +577,21 @@ bad_field_is_first back bytes at e =
     let long = ap length q.split ∙ length-append q.used q.rest in
     let begins : take end bytes ≡ q.used = ap (take end) q.split ∙ take_at q.used q.rest end refl in
     let same : (rest : List ℕ) → reading (take end bytes ++ rest) ≡ Failed (fault.BadField at) = λ rest.
-        ap (λ l. reading (l ++ rest)) begins
-        ∙ whole_is (q.used ++ rest) (0 + length (q.used ++ rest)) (sym (zero_more (length (q.used ++ rest))))
-        ∙ ap (λ x. go_on x ended (0 + length (q.used ++ rest))) (q.again rest) in
-    (end, record {
-      starts = omega (arith, upto);
-      within = omega (arith, long);
-      short = λ n lt.
-          ap reading (ap (take n) q.split ∙ take-append-le n q.used q.rest (omega (arith, lt)))
-          ∙ whole_is (take n q.used) n (length-take-le n q.used (omega (arith, lt)))
-          ∙ ap (λ x. go_on x ended n) (q.cut n n lt);
-      same = same;
-      none = λ code rest has is. not_both code at (sym (back code has) ∙ ap reading is ∙ same rest);
-    })
+    ap (λ l. reading (l ++ rest)) begins
+    ∙ whole_is (q.used ++ rest) (0 + length (q.used ++ rest)) (sym (zero_more (length (q.used ++ rest))))
+    ∙ ap (λ x. go_on x ended (0 + length (q.used ++ rest))) (q.again rest) in (
+      end,
+      record {
+        starts = omega (arith, upto);
+        within = omega (arith, long);
+        short = λ n lt.
+            ap reading (ap (take n) q.split ∙ take-append-le n q.used q.rest (omega (arith, lt)))
+            ∙ whole_is (take n q.used) n (length-take-le n q.used (omega (arith, lt)))
+            ∙ ap (λ x. go_on x ended n) (q.cut n n lt);
+        same = same;
+        none = λ code rest has is. not_both code at (sym (back code has) ∙ ap reading is ∙ same rest);
+      },
+    )
   where
     not_both : (code : Code) (at : ℕ) → Got code [] ≡ Failed (fault.BadField at) → ⊥
     not_both code at y = absurd (cc)

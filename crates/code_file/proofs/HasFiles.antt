@@ -1,6 +1,9 @@
 -- Code that the verifier accepts has a file.
 use Rattle.std.proofs.Common.{◌≡◌, ◌∙◌, ℕ, zero, suc, ◌<◌, Bool, true, false, not, ◌&&◌, if◌then◌else◌, List, [], ◌∷◌, length, get_or, All, Option, Some, None, refl, sym, ap, arith, nat_eq}
 use Rattle.std.specs.List.{list_all}
+use Rattle.std.specs.Prelude.{slice_get}
+use Rattle.rev_num.specs.Value.{same_kind}
+use Rattle.rev_num.specs.declared.value.ValueKind.TheVariants as k
 use Rattle.rev_num.proofs.Lists.{and_left, and_right}
 use Rattle.rev_code.specs.declared.code.Code.{Code}
 use Rattle.rev_code.specs.declared.code.CodeVar.{CodeVar}
@@ -17,15 +20,9 @@ kept : (a b : Bool) (o : Option Fault) (f g : Fault) → (if a then (if b then o
 kept true b o f g e = refl
 kept false b o f g e = absurd (cc)
 
-merge_of : (code : Code) (v : CodeVar) (c : Bool) → v.cumulative ≡ c → tables.merges_well code v ≡ true → is_merge v.cumulative v.merge ≡ true
-merge_of code v c e h = ap (λ x. is_merge x v.merge) e ∙ by c (sym (ap (λ x. if x then cumulative else nat_eq v.merge tables.no_merge) e) ∙ h)
-  where
-    cumulative : Bool
-    cumulative = Rattle.rev_num.specs.Value.same_kind v.kind Rattle.rev_num.specs.declared.value.ValueKind.TheVariants.Int && not (nat_eq v.merge tables.no_merge) && tables.is_int_merge (Rattle.std.specs.Prelude.slice_get code.blocks v.merge)
-
-    by : (x : Bool) → (if x then cumulative else nat_eq v.merge tables.no_merge) ≡ true → is_merge x v.merge ≡ true
-    by true y = and_right (Rattle.rev_num.specs.Value.same_kind v.kind Rattle.rev_num.specs.declared.value.ValueKind.TheVariants.Int) (not (nat_eq v.merge tables.no_merge)) (and_left (Rattle.rev_num.specs.Value.same_kind v.kind Rattle.rev_num.specs.declared.value.ValueKind.TheVariants.Int && not (nat_eq v.merge tables.no_merge)) (tables.is_int_merge (Rattle.std.specs.Prelude.slice_get code.blocks v.merge)) y)
-    by false y = y
+merge_by : (cumulative whole has : Bool) (merge : ℕ) → (if cumulative then whole && not (nat_eq merge tables.no_merge) && has else nat_eq merge tables.no_merge) ≡ true → is_merge cumulative merge ≡ true
+merge_by true whole has merge h = and_right whole (not (nat_eq merge tables.no_merge)) (and_left (whole && not (nat_eq merge tables.no_merge)) has h)
+merge_by false whole has merge h = h
 
 a_var : (code : Code) (v : CodeVar) → tables.is_var code v ≡ true → VarFits v → IsVar v
 a_var code v h fits =
@@ -37,7 +34,7 @@ a_var code v h fits =
       cells_fit = fits.cells;
       start = and_right (tables.is_name v.name && tables.has_cells v.array v.cells) (tables.is_start v.kind v.start) named;
       start_fits = fits.start;
-      merge = merge_of code v v.cumulative refl (and_right (tables.is_name v.name && tables.has_cells v.array v.cells && tables.is_start v.kind v.start) (tables.merges_well code v) h);
+      merge = merge_by v.cumulative (same_kind v.kind k.Int) (tables.is_int_merge (slice_get code.blocks v.merge)) v.merge (and_right (tables.is_name v.name && tables.has_cells v.array v.cells && tables.is_start v.kind v.start) (tables.merges_well code v) h);
       merge_fits = fits.merge;
     }
 

@@ -90,10 +90,22 @@ fn append_body(out: &mut Vec<u8>, wide: bool, may_try: bool, code: &Code) -> Res
     append_try_total(out, may_try, code.blocks.as_slice())
 }
 
+#[tactic(auto, unfolding(crate::specs::Files::file_of))]
+fn file_bytes(alloc: Global, code: &Code) -> Result<Vec<u8>, AllocError>
+    requires { Counted code.now }
+    ensures { IfOk result (λ bytes. bytes.items ≡ file_of code.now) }
+{
+    let version = version_for(code);
+    let mut out = Vec::new(alloc);
+    out.extend_from_slice(b"REVC")?;
+    append_16(&mut out, version_number(version))?;
+    append_body(&mut out, is_wide(version), has_tries(version), code)?;
+    Ok(out)
+}
+
 /// The file of code, each of whose counts and lengths must fit its field. Code that the verifier
 /// accepts has such counts where it has fewer than 2^32 `TryJoin`, and what is written of it is
 /// read again as the same code.
-#[tactic(auto, unfolding(crate::specs::Files::file_of))]
 pub fn write_code(alloc: Global, code: &Code) -> Result<Vec<u8>, AllocError>
     requires { Counted code.now }
     ensures file { IfOk result (λ bytes. bytes.items ≡ file_of code.now) }
@@ -104,10 +116,6 @@ pub fn write_code(alloc: Global, code: &Code) -> Result<Vec<u8>, AllocError>
 {
     word_laws();
     note_widths(code);
-    let version = version_for(code);
-    let mut out = Vec::new(alloc);
-    out.extend_from_slice(b"REVC")?;
-    append_16(&mut out, version_number(version))?;
-    append_body(&mut out, is_wide(version), has_tries(version), code)?;
-    Ok(out)
+    let bytes = file_bytes(alloc, code)?;
+    Ok(bytes)
 }

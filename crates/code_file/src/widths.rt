@@ -10,18 +10,15 @@ use rev_num::Items;
 
 fn note_8(n: u8)
     ensures { Is8 n }
-{
-}
+{}
 
 fn note_16(n: u16)
     ensures { Is16 n }
-{
-}
+{}
 
 fn note_32(n: u32)
     ensures { Is32 n }
-{
-}
+{}
 
 /// Looks at an instruction: its operand has the width of its type.
 fn note_instr(x: &Instr)

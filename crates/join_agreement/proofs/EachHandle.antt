@@ -89,7 +89,7 @@ module _ (p : ProgramTree) (well : IsAccepted p) where
   by_location H g run l k at =
       let d = all_declared (merges_of (variables p)) l (Some k) laid.declared at in
       let there : slice_get (joining.merges_of (code_of p).vars) l ≡ Some (Some (merge_number k p.declarations)) =
-          ap (λ xs. slice_get xs l) laid.same ∙ get_map (coded_merge p.declarations) (merges_of (variables p)) l (Some k) at in
+      ap (λ xs. slice_get xs l) laid.same ∙ get_map (coded_merge p.declarations) (merges_of (variables p)) l (Some k) at in
       record {
         declared = d.0;
         is = d.1;

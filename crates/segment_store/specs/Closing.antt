@@ -1,9 +1,10 @@
 -- What the close of a store counts.
---   AreLast      the words are those of a state that meets the store's rule, in which the seat that
---                gathered has its view
+--   IsEnd        a state meets the store's rule, and the seat that gathered has its view in it
+--   AreLast      the words are those of such a state
 --   made         how many holds the views of a state stand for, with those that were counted and not
 --                made
---   IsCounted    the answer of `close`, in such a state
+--   IsCounted    the answer of `close`, by the last words; of each state that can have them it says
+--                how many holds are out
 use Rattle.std.specs.Prelude.{◌≡◌, ℕ, ◌+◌, ◌-◌, ◌%◌, ◌<◌, ◌≤◌, ◌^◌, List}
 use mathlib.Core.Option.{some}
 use lib.ListN.{get_elem?}
@@ -16,7 +17,6 @@ use Rattle.segment_store.specs.Names.{gathered}
 use Rattle.segment_store.specs.Rule.{Rule, St}
 use Rattle.segment_store.specs.Store.{held}
 
--- the store's rule, and the seat of what was gathered has its view
 pub record IsEnd (s : Store) (all : Spent) (now : St) : Type 0 where
   pub rule : Rule s.words s.stride s.masks now
   pub seat : get_elem? now.views all.seat.id ≡ some all.seat.me.0
@@ -31,12 +31,15 @@ made now = total held now.views
 abbrev pub out_of : ℕ → ℕ → ℕ
 out_of made gathered = (made + 2 ^ 64 - gathered % 2 ^ 64) % 2 ^ 64
 
-pub record IsCounted (s : Store) (all : Spent) (c : Closed) : Type 0 where
-  pub now : St
-  pub end : IsEnd s all now
-  pub live : c.live ≡ live_segments s.stride now.words s.segments
+-- in the state, `out` is modulo 2^64 the holds of all views that were not gathered; where all views
+-- have fewer than 2^64 it is those, and with none out no segment has a count
+pub record IsOut (all : Spent) (c : Closed) (now : St) : Type 0 where
   pub out : c.out ≡ out_of (made now) (gathered all)
-  -- with fewer than 2^64 holds it is those that were not gathered, and none is out only where no
-  -- segment has a count
   pub few : made now < 2 ^ 64 → (gathered all ≤ made now) × (c.out ≡ made now - gathered all)
       × (c.out ≡ 0 → c.live ≡ 0)
+
+pub record IsCounted (s : Store) (all : Spent) (c : Closed) : Type 0 where
+  pub words : List ℕ
+  pub last : AreLast s all words
+  pub live : c.live ≡ live_segments s.stride words s.segments
+  pub out : (now : St) → IsEnd s all now → now.words ≡ words → IsOut all c now

@@ -56,8 +56,9 @@ impl Store {
     }
 
     /// Ends the store, and counts in its last words. `live` is how many segments have a count that
-    /// is not 0, `out` how many of the holds that were counted were not gathered, modulo 2^64.
-    /// Where fewer than 2^64 were counted, `out` is exact, and with none out no segment has a count.
+    /// is not 0. In each state that can have these words, and in which the seat of `all` has its
+    /// view, `out` is how many holds of all seats were not gathered, modulo 2^64. Where they have
+    /// fewer than 2^64, `out` is exact, and with none out no segment has a count.
     pub fn close(self, all: Spent) -> Closed
         requires own { IsSeatOf self all.seat }
         ensures counted { IsCounted self all result }
