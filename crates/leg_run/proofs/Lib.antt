@@ -8,3 +8,4 @@ pub mod Applying
 pub mod Printing
 pub mod Rounding
 pub mod Limits
+pub mod NotedLegs

@@ -33,7 +33,7 @@ use Rattle.leg_run.specs.declared.revision.Run.{Run}
 use Rattle.leg_run.specs.declared.turn.Turn.{Turn}
 use Rattle.leg_run.specs.declared.turn.Turn.TheVariants as turn
 use Rattle.leg_run.specs.Changes.{SameRest}
-use Rattle.leg_run.specs.Ends.{LegEnds, RoundTo, StandsAt, TurnsTo}
+use Rattle.leg_run.specs.Ends.{Leaves, LegEnds, RoundTo, StandsAt, TurnsTo}
 use Rattle.leg_run.specs.Standing.{AreBelow, Stands, IsStanding, listed_as, state_of}
 use Rattle.leg_run.proofs.Decoding.{its_state, leaves_state}
 use Rattle.leg_run.proofs.Frames as f
@@ -59,24 +59,22 @@ module _ (code : Code) (ok : first_fault code ≡ None) (inputs : List ℤ) (sha
 
   module _ (run : Run) (seen : ℕ → ℕ) (root : ℕ → Option ℕ) (c : State ℕ) (st : Stands code inputs share run seen root c)
       (b : CodeBlock) (is : slice_get code.blocks run.registers.block ≡ Some b) where
+    pub leaves_trap : (e : Cause) (ws' : List ℕ) (r' : Registers) (seen' : ℕ → ℕ) (root' : ℕ → Option ℕ) (h : IsTrapped code inputs (program share) b c e ws' r' seen' root')
+        → (run' : Run) → run'.registers ≡ r' → SameRest run run' → Leaves code run' seen' root' h.trapped
+    leaves_trap e ws' r' seen' root' h run' registers rest =
+        let good = steps_good c h.before st.here.good h.steps in record {
+          locations = h.locations;
+          kinds = subst (AreLocations (location_kinds code.vars)) (sym (trap_locations h.before h.trapped e h.trap)) good.locations;
+          fuel = sym h.run.fuel ∙ ap (λ (z : Registers). z.fuel) (sym registers);
+          line = sym h.run.line ∙ ap (λ (z : Registers). z.line) (sym registers);
+          forks = h.same.forks ∙ st.forks ∙ sym rest.forks;
+          listed = h.same.listed ∙ st.listed ∙ ap (map listed_as) (sym rest.meetings);
+          text = h.same.text ∙ st.text ∙ sym rest.text;
+        }
+
     pub trapped : (e : Cause) (ws' : List ℕ) (r' : Registers) (seen' : ℕ → ℕ) (root' : ℕ → Option ℕ) → IsTrapped code inputs (program share) b c e ws' r' seen' root'
         → (run' : Run) → run'.registers ≡ r' → SameRest run run' → RoundTo code inputs share c (turn.Ends (end.Trap e)) run' seen' root'
-    trapped e ws' r' seen' root' h run' registers rest =
-        let good = steps_good c h.before st.here.good h.steps in (
-          h.before,
-          h.trapped,
-          h.steps,
-          h.trap,
-          record {
-            locations = h.locations;
-            kinds = subst (AreLocations (location_kinds code.vars)) (sym (trap_locations h.before h.trapped e h.trap)) good.locations;
-            fuel = sym h.run.fuel ∙ ap (λ (z : Registers). z.fuel) (sym registers);
-            line = sym h.run.line ∙ ap (λ (z : Registers). z.line) (sym registers);
-            forks = h.same.forks ∙ st.forks ∙ sym rest.forks;
-            listed = h.same.listed ∙ st.listed ∙ ap (map listed_as) (sym rest.meetings);
-            text = h.same.text ∙ st.text ∙ sym rest.text;
-          },
-        )
+    trapped e ws' r' seen' root' h run' registers rest = (h.before, h.trapped, h.steps, h.trap, leaves_trap e ws' r' seen' root' h run' registers rest)
 
     module _ (ws' : List ℕ) (r' : Registers) (seen' : ℕ → ℕ) (root' : ℕ → Option ℕ) (h : Ahead code inputs (program share) b c ws' r' seen' root') where
       pub stands_now : r'.block ≡ run.registers.block → r'.base ≡ run.registers.base → take run.registers.base ws' ≡ take run.registers.base run.words.items → length ws' ≡ length run.words.items

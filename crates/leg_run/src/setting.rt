@@ -78,6 +78,13 @@ impl CodeSetting {
         room_at(self.rooms.as_slice(), n)
     }
 
+    /// The input numbers.
+    pub fn inputs(&self) -> &[i64]
+        ensures { result.now ≡ self.now.inputs.items }
+    {
+        self.inputs.as_slice()
+    }
+
     /// The most fuel that a child gets.
     pub fn share(&self) -> u64
         ensures { result ≡ self.now.share }
