@@ -47,7 +47,7 @@ coded_value (Err f) = Err f
 
 -- ---- one merge
 
-answer_alike : (a : Answer) → IsNumberOrFault a → word_or_fault (Some (coded a)) ≡ coded_value (number_value (merge_answer a))
+pub answer_alike : (a : Answer) → IsNumberOrFault a → word_or_fault (Some (coded a)) ≡ coded_value (number_value (merge_answer a))
 answer_alike (Ok (v.Int z)) is = refl
 answer_alike (Ok (v.Bool z)) is = absurd (let q : k.Bool ≡ k.Int = is in cc)
 answer_alike (Ok (v.Rev z)) is = absurd (let q : k.Rev ≡ k.Int = is in cc)
@@ -187,7 +187,7 @@ Alike words values n (m ∷ ms) (j ∷ js) = AlikeAt words values n m j j.writte
 Alike words values n [] js = Unit {0}
 Alike words values n (m ∷ ms) [] = Unit {0}
 
-get_map : {A B : Type 0} (f : A → B) (xs : List A) (n : ℕ) (x : A) → slice_get xs n ≡ Some x → slice_get (map f xs) n ≡ Some (f x)
+pub get_map : {A B : Type 0} (f : A → B) (xs : List A) (n : ℕ) (x : A) → slice_get xs n ≡ Some x → slice_get (map f xs) n ≡ Some (f x)
 get_map f [] n x h = absurd (let z : None ≡ Some x = h in cc)
 get_map f (y ∷ xs) zero x h = (let z : Some y ≡ Some x = h in let q : y ≡ x = cc in ap (λ i. Some (f i)) q)
 get_map f (y ∷ xs) (suc n) x h = get_map f xs n x h

@@ -8,7 +8,7 @@ use Rattle.rev_workers.proofs.Opened.{kept_more}
 use Rattle.rev_workers.proofs.hands.give_back.Goals as goal
 
 pub gather-requires : goal.gather-requires
-gather-requires c =
+gather-requires g c =
     let h = All-pop (IsHandAt c.args.store.now) c.loop.rest.items c.take_last.new.list.items (Some c.take_last.result) c.take_last.ensures.items c.loop.invariant.0 in
     record {
       own = (
@@ -19,7 +19,7 @@ gather-requires c =
     }
 
 pub loop-preserved : goal.loop-preserved
-loop-preserved c =
+loop-preserved g c =
     let i = c.loop.invariant in
     let h = All-pop (IsHandAt c.args.store.now) c.loop.rest.items c.take_last.new.list.items (Some c.take_last.result) c.take_last.ensures.items i.0 in
     let a : length c.loop.rest.items ≡ length c.take_last.new.list.items + 1 = ap length c.take_last.ensures.items ∙ many_more c.take_last.new.list.items c.take_last.result in

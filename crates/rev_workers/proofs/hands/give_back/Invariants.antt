@@ -4,7 +4,7 @@ use Rattle.rev_workers.specs.Hands.{IsHandAt, kept_by}
 use Rattle.rev_workers.proofs.hands.give_back.Given as goal
 
 abbrev pub invariant-loop : goal.invariant-loop
-invariant-loop l =
+invariant-loop g l =
     All (IsHandAt l.fn.store) l.rest.items × (length l.rest.items + l.counter ≡ l.count)
     × IsSeatOf l.fn.store l.all.seat
     × (gathered l.all + kept_by l.rest.items ≡ gathered l.initial.all + kept_by l.fn.hands.items)

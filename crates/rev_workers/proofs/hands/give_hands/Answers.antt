@@ -6,14 +6,18 @@ use Rattle.rev_workers.specs.Hands.{AreMergesFor, IsHandFor, store_group}
 use Rattle.rev_workers.proofs.Opened.{last_of}
 use Rattle.rev_workers.proofs.hands.give_hands.Goals as goal
 
+pub new-requires-clause-size : goal.new-requires-clause-size
+new-requires-clause-size g c =
+    (All-pop (AreMergesFor g.M.MergeBy.size g.M.MergeBy.merges c.args.setting.now) c.loop.rest.items c.take_last-merges.new.list.items (Some c.take_last-merges.result) c.take_last-merges.ensures.items c.loop.invariant.0).1.0
+
 pub new-requires-clause-merges : goal.new-requires-clause-merges
-new-requires-clause-merges c =
-    (All-pop (AreMergesFor c.args.setting.now) c.loop.rest.items c.take_last-merges.new.list.items (Some c.take_last-merges.result) c.take_last-merges.ensures.items c.loop.invariant.0).1.1
+new-requires-clause-merges g c =
+    (All-pop (AreMergesFor g.M.MergeBy.size g.M.MergeBy.merges c.args.setting.now) c.loop.rest.items c.take_last-merges.new.list.items (Some c.take_last-merges.result) c.take_last-merges.ensures.items c.loop.invariant.0).1.1
 
 pub loop-preserved : goal.loop-preserved
-loop-preserved c =
+loop-preserved g c =
     let i = c.loop.invariant in
-    let m = All-pop (AreMergesFor c.args.setting.now) c.loop.rest.items c.take_last-merges.new.list.items (Some c.take_last-merges.result) c.take_last-merges.ensures.items i.0 in
+    let m = All-pop (AreMergesFor g.M.MergeBy.size g.M.MergeBy.merges c.args.setting.now) c.loop.rest.items c.take_last-merges.new.list.items (Some c.take_last-merges.result) c.take_last-merges.ensures.items i.0 in
     let a : length c.loop.rest.items ≡ length c.take_last-merges.new.list.items + 1 = ap length c.take_last-merges.ensures.items ∙ many_more c.take_last-merges.new.list.items c.take_last-merges.result in
     let b : length c.append.new.list.items ≡ length c.loop.hands.items + 1 = ap length c.append.ensures.items ∙ many_more c.loop.hands.items c.new.result in
     let left = i.4 in

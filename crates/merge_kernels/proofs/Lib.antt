@@ -1,0 +1,9 @@
+pub mod Listed
+pub mod Equality
+pub mod Renaming
+pub mod LinkSteps
+pub mod MergeTerms
+pub mod ThreeValues
+pub mod OneLane
+pub mod RowChoices
+pub mod RowWords

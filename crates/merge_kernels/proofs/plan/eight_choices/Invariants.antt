@@ -1,0 +1,5 @@
+use Rattle.std.proofs.Common.{◌≡◌, length, take, drop}
+use Rattle.merge_kernels.proofs.plan.eight_choices.Given as goal
+
+abbrev pub invariant-loop-k : goal.invariant-loop-k
+invariant-loop-k l = (length l.eight ≡ 8) × (take l.k l.eight ≡ take l.k (drop l.at l.choices))

@@ -1,0 +1,14 @@
+use Rattle.std.proofs.Common.{rules, ◌≡◌, ◌∙◌, ap, sym, true, false, Ok, int_lt, w64, arith}
+use Rattle.std.proofs.lemmas.Int.{to_z-of_z, ints}
+use Rattle.merge_kernels.proofs.ThreeValues.{least_is}
+use Rattle.merge_kernels.proofs.three.least.Goals as goal
+
+pub returns-then-join-main : goal.returns-then-join-main
+returns-then-join-main c =
+    let t : int_lt c.args.join c.args.main ≡ true = search rules in
+    ap Ok (to_z-of_z w64 c.args.join c.ranges.join) ∙ sym (least_is c.args.main c.args.join c.args._root true t)
+
+pub returns-else-join-main : goal.returns-else-join-main
+returns-else-join-main c =
+    let t : int_lt c.args.join c.args.main ≡ false = search rules in
+    ap Ok (to_z-of_z w64 c.args.main c.ranges.main) ∙ sym (least_is c.args.main c.args.join c.args._root false t)

@@ -1,0 +1,12 @@
+pub mod Terms
+pub mod Closing
+pub mod Named
+pub mod Values
+pub mod Equal
+pub mod Merges
+pub mod Lanes
+pub mod Answering
+pub mod Lists
+pub mod Three
+pub mod Plans
+pub mod Words

@@ -1,0 +1,114 @@
+//! A closure beside the definition whose value it answers, and one for eight lanes.
+
+ghost use Rattle.std.specs.Prelude.{◌≡◌, IfSome, None, Some, is_some, true};
+ghost use Rattle.merge_kernels.specs.Answering.{Answers, RowAnswers};
+ghost use Rattle.merge_kernels.specs.Equal.{equal};
+ghost use Rattle.merge_kernels.specs.Lanes.{lanes_answer};
+ghost use Rattle.merge_kernels.specs.Terms.{answer_of, definition};
+
+use crate::lanes::note_lanes;
+use crate::term::MergeDef;
+use rev_num::NumFault;
+
+/// A merge as a closure, of the joiner's, the joinee's and the root's number.
+pub type Run = Box<dyn Fn(i64, i64, i64) -> Result<i64, NumFault> + Send + Sync>;
+
+/// A merge of eight lanes as a closure: none where one of them faults.
+pub type RowRun = Box<dyn Fn([i64; 8], [i64; 8], [i64; 8]) -> Option<[i64; 8]> + Send + Sync>;
+
+/// A closure for eight lanes, and the definition whose values it answers.
+#[derive(Drop)]
+pub struct RowKernel {
+    def: MergeDef,
+    run: RowRun,
+    ghost callable: { RowRun.IsAlwaysCallable run },
+    ghost answers: { RowAnswers (RowRun.post run) (definition def) },
+}
+
+impl RowKernel {
+    /// A closure that answers this definition's values for all lanes: Some exactly where no lane
+    /// faults. It takes no memory.
+    pub fn new(def: MergeDef, run: RowRun) -> RowKernel
+        requires callable { RowRun.IsAlwaysCallable run }
+        requires answers { RowAnswers (RowRun.post run) (definition def) }
+        ensures { result.def ≡ def }
+    {
+        RowKernel { def, run }
+    }
+
+    /// The values of the definition for eight lanes, or none where one faults.
+    pub fn call(&self, main: [i64; 8], join: [i64; 8], root: [i64; 8]) -> Option<[i64; 8]>
+        ensures { result ≡ lanes_answer (answer_of (definition self.now.def)) main join root }
+    {
+        note_lanes(&main);
+        note_lanes(&join);
+        note_lanes(&root);
+        (self.run)(main, join, root)
+    }
+}
+
+/// A definition, and closures that may always be called and answer its value: one for three
+/// numbers, and maybe one for eight lanes.
+#[derive(Drop)]
+pub struct Kernel {
+    def: MergeDef,
+    run: Run,
+    row: Option<RowKernel>,
+    ghost callable: { Run.IsAlwaysCallable run },
+    ghost answers: { Answers (Run.post run) (definition def) },
+    ghost same: { (r : _) → row ≡ Some r → equal (definition r.def) (definition def) ≡ true },
+}
+
+impl Kernel {
+    /// A closure that answers this definition's value for all numbers, with no row. It takes no
+    /// memory.
+    pub fn new(def: MergeDef, run: Run) -> Kernel
+        requires callable { Run.IsAlwaysCallable run }
+        requires answers { Answers (Run.post run) (definition def) }
+        ensures def { result.def ≡ def }
+        ensures row { result.row ≡ None }
+    {
+        Kernel {
+            def,
+            run,
+            row: None,
+        }
+    }
+
+    /// The same with a row, which is of the same definition. It takes no memory.
+    pub fn with_row(self, row: RowKernel) -> Kernel
+        requires { equal (definition row.def) (definition self.def) ≡ true }
+        ensures def { result.def ≡ self.def }
+        ensures row { result.row ≡ Some row }
+    {
+        let Kernel { def, run, row: _ } = self;
+        Kernel {
+            def,
+            run,
+            row: Some(row),
+        }
+    }
+
+    /// The definition.
+    pub fn def(&self) -> &MergeDef
+        ensures { result.now ≡ self.now.def }
+    {
+        &self.def
+    }
+
+    /// The value of the definition.
+    pub fn call(&self, main: i64, join: i64, root: i64) -> Result<i64, NumFault>
+        ensures { result ≡ answer_of (definition self.now.def) main join root }
+    {
+        (self.run)(main, join, root)
+    }
+
+    /// The row, if there is one.
+    pub fn row(&self) -> Option<&RowKernel>
+        ensures any { is_some result ≡ is_some self.now.row }
+        ensures same { IfSome result
+            (λ r. equal (definition r.now.def) (definition self.now.def) ≡ true) }
+    {
+        self.row.as_ref()
+    }
+}
