@@ -7,6 +7,7 @@ use Rattle.std.proofs.Common.{◌≡◌, ℕ, zero, suc, ◌<◌, ◌≤◌, Boo
 use Rattle.std.specs.Prelude.{slice_get, nat_lt}
 use Rattle.std.proofs.lemmas.Bool.Decides.{nat_tests}
 use Rattle.rev_num.specs.declared.value.NumFault.{NumFault}
+use Rattle.rev_num.proofs.Options.{none_some, some_eq}
 use Rattle.version_map.specs.declared.end.Written.{Written}
 use Rattle.version_map.specs.Ascending.{IsAscending}
 use Rattle.version_map.specs.Composing.{Merges, Composition, FaultsAt, before_later, and_later, composed, entries}
@@ -16,12 +17,6 @@ ok_err x y h = cc
 
 err_eq : {A B : Type 0} (x y : B) → ◌≡◌ {A = Result A B} (Err x) (Err y) → x ≡ y
 err_eq x y h = cc
-
-some_eq : {A : Type 0} (x y : A) → Some x ≡ Some y → x ≡ y
-some_eq x y h = cc
-
-none_some : {A : Type 0} (x : A) → None ≡ Some x → ⊥
-none_some x h = cc
 
 module _ (merge : Merges ℕ) where
   abbrev Faults : (main : ℕ) → Written → NumFault → Type 0
@@ -75,8 +70,8 @@ module _ (merge : Merges ℕ) where
     where
       before : NoneBefore (main ∷ mains) (w ∷ ws) (suc r.at)
       before zero n v h lt em ev e =
-          let a : main ≡ n = some_eq main n em in
-          let b : w ≡ v = some_eq w v ev in
+          let a : main ≡ n = some_eq em in
+          let b : w ≡ v = some_eq ev in
           let e' : Faults main w h = subst (λ k. Faults k w h) (sym a) (subst (λ u. Faults n u h) (sym b) e) in
           ok_err x h (sym is ∙ e')
       before (suc j) n v h lt em ev e = r.before j n v h (omega (arith, lt)) em ev e
@@ -100,8 +95,8 @@ module _ (merge : Merges ℕ) where
           later (Err p) rec e = behind main x mains w ws l f is (rec e)
 
   no_fault : (mains : List ℕ) (ws : List Written) (values : List ℕ) → composed merge mains (entries ws) ≡ Ok values → AtNone mains ws
-  no_fault [] ws values e j n v h em ev is = absurd (none_some n em)
-  no_fault (main ∷ mains) [] values e j n v h em ev is = absurd (none_some v ev)
+  no_fault [] ws values e j n v h em ev is = absurd (none_some em)
+  no_fault (main ∷ mains) [] values e j n v h em ev is = absurd (none_some ev)
   no_fault (main ∷ mains) (w ∷ ws) values e j n v h em ev is =
       by (merge w.location main w.value w.root) refl (λ xs is. no_fault mains ws xs is) e j n v h em ev is
     where
@@ -115,8 +110,8 @@ module _ (merge : Merges ℕ) where
               → AtNone (main ∷ mains) (w ∷ ws)
           later (Err p) rec e j n v h em ev e' = absurd (ok_err values p (sym e))
           later (Ok xs) rec e zero n v h em ev e' =
-              let a : main ≡ n = some_eq main n em in
-              let b : w ≡ v = some_eq w v ev in
+              let a : main ≡ n = some_eq em in
+              let b : w ≡ v = some_eq ev in
               ok_err x h (sym is ∙ subst (λ k. Faults k w h) (sym a) (subst (λ u. Faults n u h) (sym b) e'))
           later (Ok xs) rec e (suc j) n v h em ev e' = rec xs refl j n v h em ev e'
 
@@ -141,7 +136,7 @@ module _ (merge : Merges ℕ) where
             omega (arith, z, a, b)
         by r k g h false d false u =
             let same : r.at ≡ h.at = grind (arith, nat_tests, d, u) in
-            let z : r.entry ≡ h.entry = some_eq r.entry h.entry (sym r.is ∙ (ap (slice_get ws) same ∙ h.is)) in
+            let z : r.entry ≡ h.entry = some_eq (sym r.is ∙ (ap (slice_get ws) same ∙ h.is)) in
             let a = r.location_is in
             let b = h.location_is in
             let y = ap (λ (w : Written). w.location) z in

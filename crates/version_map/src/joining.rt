@@ -46,7 +46,8 @@ pub trait MergeBy {
     ) -> Option<[u64; 8]>
         requires within { first + 8 ≤ size self.old }
         requires short { first + 8 ≤ 2 ^ 32 }
-        ensures value { result ≡ merged_eight (row self.old first) (merges self.old) first main join root }
+        ensures value { result
+            ≡ merged_eight (row self.old first) (merges self.old) first main join root }
         ensures size { size self.new ≡ size self.old }
         ensures merges { merges self.new ≡ merges self.old }
         ensures row { row self.new ≡ row self.old }
