@@ -1,5 +1,5 @@
 -- A legal schedule of a program's code agrees with a run of the program.
-use Rattle.std.proofs.Common.{◌≡◌, ◌≢◌, ℕ, List, refl, subst}
+use Rattle.std.proofs.Common.{◌≢◌, ℕ, List, refl, subst}
 use Rattle.rev_num.specs.Path.{Path}
 use Rattle.revision_machine.specs.Machine.{Global, Live, Twice, Runs, start}
 use Rattle.revision_machine.specs.Numbered.{World, Both, begin, Replays, machine_by, shows}

@@ -1,5 +1,5 @@
 -- What `main` has said grows along legs.
-use Rattle.std.proofs.Common.{◌≡◌, ◌≢◌, ◌⊎◌, inl, inr, ◌∙◌, ℕ, Bool, true, false, List, [], ◌∷◌, ◌++◌, length, Option, Some, None, Ok, Err, refl, sym, ap, subst, append-nil}
+use Rattle.std.proofs.Common.{◌≡◌, ◌≢◌, ◌⊎◌, inl, inr, ◌∙◌, ℕ, Bool, true, false, List, [], ◌++◌, length, Option, Some, None, Ok, Err, refl, sym, ap, subst}
 use Rattle.rev_num.specs.Path.{Path}
 use Rattle.rev_code.specs.declared.code.CodeBlock.{CodeBlock}
 use Rattle.rev_code.specs.State.{State}
@@ -14,15 +14,15 @@ use Rattle.revision_machine.proofs.Lists.{at_front, put_other, put_here}
 use Rattle.code_machine.specs.Local.{CodeRun, IsVerified, under, Phase, running, done, trapped, Trap, Local, End, end_of, at_work, has_ended}
 use Rattle.code_machine.specs.Leg.{leg, clock}
 use Rattle.code_machine.specs.Joining.{merges, mains, absorb, inherit, join_in, join_end, join}
-use Rattle.code_machine.specs.Machines.{Act, Goes, Bears, Wants, Stops, fork, act_of, act_in, act, wish_of, numbered}
+use Rattle.code_machine.specs.Machines.{Goes, Bears, Wants, Stops, fork, act_of, act_in, act, wish_of, numbered}
 use Rattle.code_machine.specs.Worlds.{Joins}
-use Rattle.code_machine.proofs.Changes.{LegOf, went, bore, took, twice, leg_ways, legs_change, decide}
+use Rattle.code_machine.proofs.Changes.{LegOf, went, bore, took, twice, leg_ways, legs_change}
 use Rattle.code_machine.proofs.Typing.{goes_act, bears_act, wants_act}
 use Rattle.reached_worlds.specs.Reached.{IsReached}
 use Rattle.reached_worlds.proofs.Reaching.{joinees}
 use Rattle.step_forms.specs.Forms.{Grows, Says}
 use Rattle.step_forms.proofs.Texts.{grows_on, grows_same, reach_says}
-use Rattle.main_texts.specs.Texts.{HasSaid, as_it_is, at_join, LegsSay, MainSays}
+use Rattle.main_texts.specs.Texts.{HasSaid, as_it_is, at_join, LegsSay}
 
 pub plain_same : {L : Type 0} (o : Option (Path × Entry L)) (r q : Path) (l k : L) → o ≡ Some (r, Plain l) → o ≡ Some (q, Plain k) → (r ≡ q) × (l ≡ k)
 plain_same {L} o r q l k a b =

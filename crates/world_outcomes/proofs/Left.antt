@@ -5,7 +5,7 @@ use Rattle.rev_num.specs.declared.outcome.Outcome.TheVariants as o
 use Rattle.version_map.specs.declared.end.EndValue.{EndValue}
 use Rattle.revision_machine.specs.Laws.{local_of}
 use Rattle.revision_machine.specs.Machine.{Entry, Plain}
-use Rattle.revision_machine.specs.Numbered.{Entries, World, Both, Listing, at_number, paths_of}
+use Rattle.revision_machine.specs.Numbered.{Entries, World, Both, Listing, at_number}
 use Rattle.code_machine.specs.Local.{CodeRun, IsVerified, Local}
 use Rattle.code_machine.specs.Outcome.{outcome}
 use Rattle.code_machine.specs.Proper.{IsOver}

@@ -1,5 +1,5 @@
 -- How far a run that prints has come.
-use Rattle.std.proofs.Common.{ℕ, List, ◌++◌}
+use Rattle.std.proofs.Common.{ℕ, ◌++◌}
 use Rattle.revision_machine.specs.Numbered.{World, Replays}
 use Rattle.revision_machine.proofs.Replays.{replays_on}
 use Rattle.code_machine.specs.Local.{CodeRun, Local}

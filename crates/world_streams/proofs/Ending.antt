@@ -1,7 +1,7 @@
 -- What was put on the way is a first part of the text of the outcome.
 use Rattle.std.proofs.Common.{◌≡◌, ◌≢◌, ◌∙◌, ℕ, ◌≤◌, List, [], ◌++◌, Ok, Err, refl, sym, ap, subst, append-nil}
 use Rattle.std.specs.Prelude.{Result, IsErrAnd}
-use Rattle.rev_io.specs.Stream.{Stream, Rose, Took, TookSome}
+use Rattle.rev_io.specs.Stream.{Stream, Took}
 use Rattle.rev_num.specs.declared.outcome.Outcome.{Outcome}
 use Rattle.rev_num.specs.declared.outcome.Outcome.TheVariants as o
 use Rattle.revision_machine.specs.Numbered as numbers

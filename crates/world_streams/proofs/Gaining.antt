@@ -1,12 +1,11 @@
 -- What a world has of the text of `main` grows in a leg.
-use Rattle.std.proofs.Common.{◌≡◌, ◌≢◌, ◌⊎◌, inl, inr, ◌∙◌, ℕ, ◌≤◌, List, [], ◌∷◌, ◌++◌, length, drop, arith, Option, Some, None, refl, sym, ap, subst}
+use Rattle.std.proofs.Common.{◌≡◌, ◌≢◌, ◌⊎◌, inl, inr, ◌∙◌, ℕ, ◌≤◌, List, [], ◌++◌, length, drop, arith, Option, Some, None, refl, sym, ap, subst}
 use Rattle.rev_num.specs.Path.{Path}
-use Rattle.rev_code.specs.State.{State}
 use Rattle.revision_machine.specs.Machine.{Entry, Plain, Joined}
 use Rattle.revision_machine.specs.Laws.{local_of}
 use Rattle.revision_machine.specs.Numbered as numbers
 use Rattle.revision_machine.specs.Numbered.{Entries, World, Both, Listing, at_number}
-use Rattle.code_machine.specs.Local.{CodeRun, IsVerified, Local, at_work, running}
+use Rattle.code_machine.specs.Local.{CodeRun, IsVerified, Local, at_work}
 use Rattle.code_machine.specs.Machines.{numbered}
 use Rattle.code_machine.proofs.Changes.{decide}
 use Rattle.code_world.specs.declared.answer.LegAnswer.{LegAnswer}
@@ -18,7 +17,6 @@ use Rattle.code_world.specs.declared.world.World as rust
 use Rattle.code_world.specs.declared.world.World.TheVariants as world
 use Rattle.code_world.specs.Answers.{Answers, HasStopped, LegAnswers, Leaves}
 use Rattle.code_world.specs.Said.{main_text, slot_text}
-use Rattle.code_world.specs.Slots.{WholeJoin}
 use Rattle.code_world.specs.Tables.{IsTable, IsWorld}
 use Rattle.code_world.specs.Touches.{StaysOrIsJoined, OthersStay, TouchesIn}
 use Rattle.code_world.specs.Turns.{StandsOn}
@@ -26,7 +24,6 @@ use Rattle.code_world.proofs.Finding.{running_at, standing_at, ended_at, joined_
 use Rattle.code_world.proofs.Rows.{none_some, slot_none, some_same}
 use Rattle.code_world.proofs.Saying.{runs_text, stands_text}
 use Rattle.code_world.proofs.Touching.{touches_stays}
-use Rattle.code_world.proofs.Worlds.{world_live}
 use Rattle.reached_worlds.specs.Reached.{IsReached}
 use Rattle.reached_worlds.proofs.Reaching.{legs_reached, main_stands}
 use Rattle.world_runs.specs.Made.{HasMade, made_of}

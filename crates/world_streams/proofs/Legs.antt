@@ -1,7 +1,7 @@
 -- Legs and runs whose text goes to a sink, put together.
-use Rattle.std.proofs.Common.{◌≡◌, ◌≢◌, ◌⊎◌, inl, inr, ◌∙◌, ℕ, List, [], ◌∷◌, ◌++◌, Option, Some, None, Ok, Err, refl, sym, ap, subst, append-nil, append_assoc}
+use Rattle.std.proofs.Common.{◌≡◌, ◌≢◌, ◌⊎◌, inl, inr, ◌∙◌, ℕ, List, [], ◌∷◌, ◌++◌, Some, Ok, Err, refl, sym, ap, subst, append-nil, append_assoc}
 use Rattle.std.specs.Prelude.{Result, IsErrAnd}
-use Rattle.rev_io.specs.Stream.{Stream, Rose, Took, TookSome}
+use Rattle.rev_io.specs.Stream.{Stream, Took}
 use Rattle.rev_io.proofs.Streams.{took_more}
 use Rattle.revision_machine.specs.Numbered as numbers
 use Rattle.revision_machine.specs.Numbered.{Entries, World, Both, Listing, Replays}

@@ -1,10 +1,8 @@
 -- What a sink took, piece after piece.
-use Rattle.std.proofs.Common.{◌≡◌, ◌∙◌, ◌⊎◌, inl, inr, ℕ, zero, suc, ◌≤◌, ◌<◌, ◌+◌, ◌-◌, List, [], ◌∷◌, ◌++◌, take, drop, length, Some, refl, sym, ap, subst, append-nil, append_assoc, length-append, arith}
+use Rattle.std.proofs.Common.{◌≡◌, ◌∙◌, inl, inr, ℕ, zero, suc, ◌≤◌, ◌+◌, List, [], ◌∷◌, ◌++◌, take, drop, length, Some, refl, sym, ap, append-nil, append_assoc, length-append, arith}
 use Rattle.std.proofs.lemmas.Grind.{common_steps}
-use Rattle.std.proofs.lemmas.List.{take_all, take-append-le}
 use Rattle.std.proofs.Math.Seq.{take-length}
 use Rattle.rev_io.specs.Stream.{Stream, Rose, Took, TookSome}
-use Rattle.rev_io.proofs.Streams.{took_more}
 use Rattle.step_forms.specs.Forms.{Grows}
 
 -- ---- lists

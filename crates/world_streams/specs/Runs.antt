@@ -3,7 +3,7 @@
 --   PutsOn           a sink took a first part of what `main` gains on the way to some world
 --   PutsAll          it took all of that
 --   StreamsTo        what a sink took on the way to this world, or why it took no more
-use Rattle.std.specs.Prelude.{ℕ, ◌≡◌, ◌≢◌, ◌++◌, List, Result, Ok, Err}
+use Rattle.std.specs.Prelude.{ℕ, ◌≡◌, ◌≢◌, List, Result, Ok, Err}
 use Rattle.rev_io.specs.Stream.{Stream, Rose, Took, TookSome}
 use Rattle.revision_machine.specs.Numbered.{World, Both, Replays}
 use Rattle.code_machine.specs.Local.{CodeRun, Local}

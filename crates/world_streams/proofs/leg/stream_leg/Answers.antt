@@ -1,6 +1,5 @@
-use Rattle.std.proofs.Common.{◌≡◌, ◌∙◌, ◌≤◌, length, drop, sym, ap, subst, inl, inr, refl, arith}
+use Rattle.std.proofs.Common.{length, drop, inl, inr, refl}
 use Rattle.rev_vm.specs.Starts.{run_under}
-use Rattle.code_world.specs.Said.{main_text}
 use Rattle.world_streams.proofs.Gaining.{after_stands, gain_fits, gain_is}
 use Rattle.world_streams.proofs.leg.stream_leg.Goals as goal
 

@@ -1,4 +1,4 @@
-use Rattle.std.proofs.Common.{◌∙◌, [], Err, refl, arith}
+use Rattle.std.proofs.Common.{◌∙◌, Err, refl, arith}
 use Rattle.rev_vm.specs.Starts.{run_under}
 use Rattle.world_runs.proofs.Leading.{first_covers, count_fits, came_none, came_more, came_last, came_few}
 use Rattle.world_runs.proofs.Making.{merges_still}

@@ -1,5 +1,4 @@
-use Rattle.std.proofs.Common.{[], refl, sym, subst, ap, ◌∙◌}
-use Rattle.code_world.specs.Tables.{IsWorld}
+use Rattle.std.proofs.Common.{[], refl}
 use Rattle.rev_vm.specs.Starts.{run_under}
 use Rattle.world_runs.proofs.Leading.{tried_live, known_live}
 use Rattle.world_streams.specs.Runs.{world_of}

@@ -1,4 +1,4 @@
-use Rattle.std.proofs.Common.{◌≡◌, ◌∙◌, sym, Ok, Err}
+use Rattle.std.proofs.Common.{◌∙◌, sym, Ok, Err}
 use Rattle.code_machine.specs.Local.{CodeRun}
 use Rattle.rev_vm.specs.Starts.{run_under}
 use Rattle.code_runs.proofs.Underway.{of_run}
