@@ -1,4 +1,4 @@
-use Rattle.std.proofs.Common.{List, ◌++◌, Option}
+use Rattle.std.proofs.Common.{◌≡◌, List, ◌++◌, length, Option}
 use Rattle.std.specs.Global.{Box}
 use Rattle.std.specs.Vec.Iter.{into_iter_items, into_iter_len}
 use Rattle.version_map.specs.declared.end.EndValue.{EndValue}
@@ -8,7 +8,8 @@ use Rattle.hub_outcomes.proofs.ends.owned_ends.Given as goal
 -- with whatever stands for the rest
 abbrev pub invariant-loop-end : goal.invariant-loop-end
 invariant-loop-end l =
-    (vs : List (Option (Box EndValue))) → AreOwned (into_iter_items l.rest) vs → AreOwned l.fn.ends.items (l.owned.items ++ vs)
+    (into_iter_len l.rest ≡ length (into_iter_items l.rest))
+    × ((vs : List (Option (Box EndValue))) → AreOwned (into_iter_items l.rest) vs → AreOwned l.fn.ends.items (l.owned.items ++ vs))
 
 abbrev pub decreases-loop-end : goal.decreases-loop-end
 decreases-loop-end l = into_iter_len l.rest
