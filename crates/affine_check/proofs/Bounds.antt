@@ -18,10 +18,12 @@ or-false false = refl
 
 -- ---- bounds
 
-le_first : (P R a p b q : ℕ) → is_less b q a p ≡ true → cond (is_less P R b q) false true ≡ (cond (is_less P R a p) false true || cond (is_less P R b q) false true)
+le_first : (P R a p b q : ℕ) → is_less b q a p ≡ true
+    → cond (is_less P R b q) false true ≡ (cond (is_less P R a p) false true || cond (is_less P R b q) false true)
 le_first P R a p b q h = grind (arith, nat_tests)
 
-le_second : (P R a p b q : ℕ) → is_less b q a p ≡ false → cond (is_less P R a p) false true ≡ (cond (is_less P R a p) false true || cond (is_less P R b q) false true)
+le_second : (P R a p b q : ℕ) → is_less b q a p ≡ false
+    → cond (is_less P R a p) false true ≡ (cond (is_less P R a p) false true || cond (is_less P R b q) false true)
 le_second P R a p b q h = grind (arith, nat_tests)
 
 module _ (last_place last_rank : ℕ) where
@@ -40,9 +42,11 @@ module _ (last_place last_rank : ℕ) where
 
   pub any-append : (make : ℕ → AffineFault) (xs ys : List ℕ) → any make (xs ++ ys) ≡ (any make xs || any make ys)
   any-append make [] ys = refl
-  any-append make (x ∷ xs) ys = ap (λ b. upto (make x) || b) (any-append make xs ys) ∙ sym (or-assoc (upto (make x)) (any make xs) (any make ys))
+  any-append make (x ∷ xs) ys =
+      ap (λ b. upto (make x) || b) (any-append make xs ys) ∙ sym (or-assoc (upto (make x)) (any make xs) (any make ys))
 
-  meets_two : (f g : AffineFault) (d : Bool) → precedes place rank g f ≡ d → meets (Some (cond d g f)) ≡ (upto f || upto g)
+  meets_two : (f g : AffineFault) (d : Bool) → precedes place rank g f ≡ d
+      → meets (Some (cond d g f)) ≡ (upto f || upto g)
   meets_two f g true h = le_first last_place last_rank (place f) (rank f) (place g) (rank g) h
   meets_two f g false h = le_second last_place last_rank (place f) (rank f) (place g) (rank g) h
 

@@ -23,7 +23,8 @@ and-true false = refl
 no_step : (f u r l : Bool) → (f || (u && l)) ≡ ((f || false) || ((r && false) || (u && l)))
 no_step f u r l = grind arith
 
-use_step : (f u r l i s g : Bool) → ((f || ((u && s) || (i && g))) || ((u || r) && l)) ≡ ((f || (i && g)) || ((r && l) || (u && (s || l))))
+use_step : (f u r l i s g : Bool)
+    → ((f || ((u && s) || (i && g))) || ((u || r) && l)) ≡ ((f || (i && g)) || ((r && l) || (u && (s || l))))
 use_step f u r l i s g = grind arith
 
 ahead_step : (a o s l : Bool) → ((a || (o && s)) || (o && l)) ≡ (a || (o && (s || l)))
@@ -32,10 +33,12 @@ ahead_step a o s l = grind arith
 value_step : (f u r : Bool) → (f || false) ≡ ((f || false) || ((r && false) || (u && false)))
 value_step f u r = grind arith
 
-ended_step : (f u r i s g : Bool) → ((f || ((u && s) || (i && g))) || false) ≡ ((f || (i && g)) || ((r && false) || (u && (s || false))))
+ended_step : (f u r i s g : Bool)
+    → ((f || ((u && s) || (i && g))) || false) ≡ ((f || (i && g)) || ((r && false) || (u && (s || false))))
 ended_step f u r i s g = grind arith
 
-then_step : (f l m r p g h b : Bool) → (((f || l) || ((r && g) || b)) || (m || ((r && p) && h))) ≡ ((f || (l || m)) || ((r && (g || (p && h))) || b))
+then_step : (f l m r p g h b : Bool)
+    → (((f || l) || ((r && g) || b)) || (m || ((r && p) && h))) ≡ ((f || (l || m)) || ((r && (g || (p && h))) || b))
 then_step f l m r p g h b = grind arith
 
 then_first : (su m rh bu : Bool) → ((su || m) || (rh || bu)) ≡ ((su || bu) || (m || rh))
@@ -47,13 +50,16 @@ met_step f g u w l = grind arith
 arm_ahead : (t o a b : Bool) → ((t || (o && a)) || (t || (o && b))) ≡ (t || (o && (a || b)))
 arm_ahead t o a b = grind arith
 
-arm_found : (f l m r g h u a b : Bool) → (((f || l) || ((r && g) || (u && a))) || ((f || m) || ((r && h) || (u && b)))) ≡ ((f || (l || m)) || ((r && (g || h)) || (u && (a || b))))
+arm_found : (f l m r g h u a b : Bool)
+    → (((f || l) || ((r && g) || (u && a))) || ((f || m) || ((r && h) || (u && b))))
+    ≡ ((f || (l || m)) || ((r && (g || h)) || (u && (a || b))))
 arm_found f l m r g h u a b = grind arith
 
 turn_first : (m iu a tu l : Bool) → ((m || (iu && a)) || ((tu || iu) && l)) ≡ ((m || (iu && (a || l))) || (tu && l))
 turn_first m iu a tu l = grind arith
 
-turn_then : (x y tu a io l : Bool) → ((x || (y || (tu && (a || (io && (a || l)))))) || (tu && l)) ≡ (x || (y || (tu && (a || l))))
+turn_then : (x y tu a io l : Bool)
+    → ((x || (y || (tu && (a || (io && (a || l)))))) || (tu && l)) ≡ (x || (y || (tu && (a || l))))
 turn_then x y tu a io l = grind arith
 
 turn_ahead : (t o a l : Bool) → ((t || (o && a)) || (o && l)) ≡ (t || (o && (a || l)))
@@ -117,7 +123,8 @@ module _ (last_place last_rank : ℕ) where
     abbrev mutual
       pub again : Statements → List ℕ → Bool
       again no_statements later = false
-      again (statements x rest) later = again_statement x (ahead n rest later) || (statement_passes x && again rest later)
+      again (statements x rest) later =
+          again_statement x (ahead n rest later) || (statement_passes x && again rest later)
 
       pub again_statement : Statement → List ℕ → Bool
       again_statement (statement at line form) later = again_form form later
@@ -201,7 +208,8 @@ module _ (last_place last_rank : ℕ) where
 
     -- The second trail stands behind something that some path passes, with these uses ahead of it, these second uses
     -- and uses in a loop.
-    pub record Goes (t u : Trail) (pass : Bool) (aheads : List ℕ → List ℕ) (agains : List ℕ → Bool) (loop : Bool) : Type 0 where
+    pub record Goes (t u : Trail) (pass : Bool) (aheads : List ℕ → List ℕ) (agains : List ℕ → Bool)
+        (loop : Bool) : Type 0 where
       pub reached : u.reached ≡ (t.reached && pass)
       pub found : (later : List ℕ) → twice_by u later ≡ found_from t loop (agains later) (aheads later)
       pub ahead : (later : List ℕ) → ahead_by u later ≡ ahead_from t (aheads later)
@@ -213,22 +221,30 @@ module _ (last_place last_rank : ℕ) where
       ahead = λ later. refl;
     }
 
-    uses : (inside : Bool) (o : Option ℕ) (t : Trail) → Goes t (used_at inside o t) true (λ later. places_of o ++ later) (λ later. after_use o later) (in_loop inside o)
+    uses : (inside : Bool) (o : Option ℕ) (t : Trail)
+        → Goes t (used_at inside o t) true (λ later. places_of o ++ later) (λ later. after_use o later)
+        (in_loop inside o)
     uses inside None t = stays t
     uses inside (Some at) t = record {
       reached = sym (and-true t.reached);
       found = λ later.
           ap (λ b. b || ((t.used || t.reached) && second later))
-          (meets-both last_place last_rank t.found (both (when t.used (UsedTwice at)) (when inside (InLoop at))) ∙ ap (λ b. found_at t.found || b)
-          (meets-both last_place last_rank (when t.used (UsedTwice at)) (when inside (InLoop at)) ∙ (λ i. meets-when last_place last_rank t.used (UsedTwice at) i || meets-when last_place last_rank inside (InLoop at) i)))
-          ∙ use_step (found_at t.found) t.used t.reached (second later) inside (upto last_place last_rank (UsedTwice at)) (upto last_place last_rank (InLoop at));
+          (meets-both last_place last_rank t.found (both (when t.used (UsedTwice at)) (when inside (InLoop at)))
+          ∙ ap (λ b. found_at t.found || b)
+          (meets-both last_place last_rank (when t.used (UsedTwice at)) (when inside (InLoop at))
+          ∙ (λ i. meets-when last_place last_rank t.used (UsedTwice at) i
+          || meets-when last_place last_rank inside (InLoop at) i)))
+          ∙ use_step (found_at t.found) t.used t.reached (second later) inside
+          (upto last_place last_rank (UsedTwice at)) (upto last_place last_rank (InLoop at));
       ahead = λ later.
           ap (λ b. b || (t.unchanged && second later))
-          (meets-both last_place last_rank t.ahead (when t.unchanged (UsedTwice at)) ∙ ap (λ b. found_at t.ahead || b) (meets-when last_place last_rank t.unchanged (UsedTwice at)))
+          (meets-both last_place last_rank t.ahead (when t.unchanged (UsedTwice at))
+          ∙ ap (λ b. found_at t.ahead || b) (meets-when last_place last_rank t.unchanged (UsedTwice at)))
           ∙ ahead_step (found_at t.ahead) t.unchanged (upto last_place last_rank (UsedTwice at)) (second later);
     }
 
-    gets_by : (d : Bool) (t : Trail) → Goes t (if d then renewed t else t) true (λ later. if d then [] else later) (λ later. false) false
+    gets_by : (d : Bool) (t : Trail)
+        → Goes t (if d then renewed t else t) true (λ later. if d then [] else later) (λ later. false) false
     gets_by false t = stays t
     gets_by true t = record {
       reached = sym (and-true t.reached);
@@ -240,7 +256,8 @@ module _ (last_place last_rank : ℕ) where
         ahead_none a o = grind arith
 
     -- behind a use and a `return`
-    returns_by : (inside : Bool) (o : Option ℕ) (t : Trail) → Goes t (ended (used_at inside o t)) false (λ later. places_of o) (λ later. false) (in_loop inside o)
+    returns_by : (inside : Bool) (o : Option ℕ) (t : Trail)
+        → Goes t (ended (used_at inside o t)) false (λ later. places_of o) (λ later. false) (in_loop inside o)
     returns_by inside None t = record {
       reached = and-false t.reached;
       found = λ later. value_step (found_at t.found) t.used t.reached;
@@ -256,12 +273,17 @@ module _ (last_place last_rank : ℕ) where
       reached = and-false t.reached;
       found = λ later.
           ap (λ b. b || false)
-          (meets-both last_place last_rank t.found (both (when t.used (UsedTwice at)) (when inside (InLoop at))) ∙ ap (λ b. found_at t.found || b)
-          (meets-both last_place last_rank (when t.used (UsedTwice at)) (when inside (InLoop at)) ∙ (λ i. meets-when last_place last_rank t.used (UsedTwice at) i || meets-when last_place last_rank inside (InLoop at) i)))
-          ∙ ended_step (found_at t.found) t.used t.reached inside (upto last_place last_rank (UsedTwice at)) (upto last_place last_rank (InLoop at));
+          (meets-both last_place last_rank t.found (both (when t.used (UsedTwice at)) (when inside (InLoop at)))
+          ∙ ap (λ b. found_at t.found || b)
+          (meets-both last_place last_rank (when t.used (UsedTwice at)) (when inside (InLoop at))
+          ∙ (λ i. meets-when last_place last_rank t.used (UsedTwice at) i
+          || meets-when last_place last_rank inside (InLoop at) i)))
+          ∙ ended_step (found_at t.found) t.used t.reached inside (upto last_place last_rank (UsedTwice at))
+          (upto last_place last_rank (InLoop at));
       ahead = λ later.
           ap (λ b. b || false)
-          (meets-both last_place last_rank t.ahead (when t.unchanged (UsedTwice at)) ∙ ap (λ b. found_at t.ahead || b) (meets-when last_place last_rank t.unchanged (UsedTwice at)))
+          (meets-both last_place last_rank t.ahead (when t.unchanged (UsedTwice at))
+          ∙ ap (λ b. found_at t.ahead || b) (meets-when last_place last_rank t.unchanged (UsedTwice at)))
           ∙ ahead_end (found_at t.ahead) t.unchanged (upto last_place last_rank (UsedTwice at));
     }
       where
@@ -272,11 +294,13 @@ module _ (last_place last_rank : ℕ) where
         ahead_end a o s = grind arith
 
     -- one behind another
-    next : {t u w : Trail} {p q : Bool} {a b : List ℕ → List ℕ} {g h : List ℕ → Bool} {l m : Bool} → Goes t u p a g l → Goes u w q b h m → Goes t w (p && q) (λ later. a (b later)) (λ later. g (b later) || (p && h later)) (l || m)
+    next : {t u w : Trail} {p q : Bool} {a b : List ℕ → List ℕ} {g h : List ℕ → Bool} {l m : Bool} → Goes t u p a g l
+        → Goes u w q b h m → Goes t w (p && q) (λ later. a (b later)) (λ later. g (b later) || (p && h later)) (l || m)
     next {t} {u} {w} {p} {q} {a} {b} {g} {h} {l} {m} x y = record {
       reached = y.reached ∙ ap (λ r. r && q) x.reached ∙ and-assoc t.reached p q;
       found = λ later.
-          y.found later ∙ ap (λ r. (found_at u.found || m) || ((r && h later) || (u.used && second (b later)))) x.reached
+          y.found later
+          ∙ ap (λ r. (found_at u.found || m) || ((r && h later) || (u.used && second (b later)))) x.reached
           ∙ then_first (found_at u.found) m ((t.reached && p) && h later) (u.used && second (b later))
           ∙ ap (λ c. c || (m || ((t.reached && p) && h later))) (x.found (b later))
           ∙ then_step (found_at t.found) l m t.reached p (g (b later)) (h later) (t.used && second (a (b later)));
@@ -286,7 +310,9 @@ module _ (last_place last_rank : ℕ) where
         and-assoc : (a b c : Bool) → ((a && b) && c) ≡ (a && (b && c))
         and-assoc a b c = grind arith
 
-    alike : {t u : Trail} {p q : Bool} {a b : List ℕ → List ℕ} {g h : List ℕ → Bool} {l m : Bool} → Goes t u p a g l → p ≡ q → ((later : List ℕ) → a later ≡ b later) → ((later : List ℕ) → g later ≡ h later) → l ≡ m → Goes t u q b h m
+    alike : {t u : Trail} {p q : Bool} {a b : List ℕ → List ℕ} {g h : List ℕ → Bool} {l m : Bool} → Goes t u p a g l
+        → p ≡ q → ((later : List ℕ) → a later ≡ b later) → ((later : List ℕ) → g later ≡ h later) → l ≡ m
+        → Goes t u q b h m
     alike {t} x e f k d = record {
       reached = x.reached ∙ ap (λ r. t.reached && r) e;
       found = λ later. x.found later ∙ (λ i. found_from t (d i) (k later i) (f later i));
@@ -295,51 +321,86 @@ module _ (last_place last_rank : ℕ) where
 
     -- ---- expressions
 
-    use_goes : (inside : Bool) (x : Expression) (t : Trail) → Goes t (used_at inside (named n x) t) true (λ later. expression_places n x ++ later) (λ later. after_use (named n x) later) (in_loop inside (named n x))
-    use_goes inside x t = alike (uses inside (named n x) t) refl (λ later. ap (λ ps. ps ++ later) (sym (named-places n x))) (λ later. refl) refl
+    use_goes : (inside : Bool) (x : Expression) (t : Trail)
+        → Goes t (used_at inside (named n x) t) true (λ later. expression_places n x ++ later)
+        (λ later. after_use (named n x) later) (in_loop inside (named n x))
+    use_goes inside x t =
+        alike (uses inside (named n x) t) refl (λ later. ap (λ ps. ps ++ later) (sym (named-places n x)))
+        (λ later. refl) refl
 
-    args_go : (inside : Bool) (xs : Expressions) (t : Trail) → Goes t (trail_args n inside t xs) true (λ later. expressions_places n xs ++ later) (again_args xs) (loops_args inside xs)
+    args_go : (inside : Bool) (xs : Expressions) (t : Trail)
+        → Goes t (trail_args n inside t xs) true (λ later. expressions_places n xs ++ later) (again_args xs)
+        (loops_args inside xs)
     args_go inside no_expressions t = stays t
     args_go inside (expression x xs) t =
-        alike (next (use_goes inside x t) (args_go inside xs (used_at inside (named n x) t))) refl (λ later. sym (append_assoc (expression_places n x) (expressions_places n xs) later)) (λ later. refl) refl
+        alike (next (use_goes inside x t) (args_go inside xs (used_at inside (named n x) t))) refl
+        (λ later. sym (append_assoc (expression_places n x) (expressions_places n xs) later)) (λ later. refl) refl
 
-    right_goes : (inside : Bool) (r : RightSide) (t : Trail) → Goes t (trail_right n inside t r) true (λ later. right_side_places n r ++ later) (again_right r) (loops_right inside r)
+    right_goes : (inside : Bool) (r : RightSide) (t : Trail)
+        → Goes t (trail_right n inside t r) true (λ later. right_side_places n r ++ later) (again_right r)
+        (loops_right inside r)
     right_goes inside (plain e) t = stays t
     right_goes inside (called at w args) t = args_go inside args t
     right_goes inside (forked at w args) t = args_go inside args t
     right_goes inside (tried at handle) t = use_goes inside handle t
 
-    value_goes : (inside : Bool) (e : Option Expression) (t : Trail) → Goes t (ended (trail_value n inside t e)) false (λ later. value_places n e) (λ later. false) (loops_value inside e)
+    value_goes : (inside : Bool) (e : Option Expression) (t : Trail)
+        → Goes t (ended (trail_value n inside t e)) false (λ later. value_places n e) (λ later. false)
+        (loops_value inside e)
     value_goes inside None t = returns_by inside None t
-    value_goes inside (Some e) t = alike (returns_by inside (named n e) t) refl (λ later. sym (named-places n e)) (λ later. refl) refl
+    value_goes inside (Some e) t =
+        alike (returns_by inside (named n e) t) refl (λ later. sym (named-places n e)) (λ later. refl) refl
 
     bind_goes : (inside : Bool) (w : PlacedName) (r : RightSide) (t : Trail)
-        → Goes t (trail_gets n w (trail_right n inside t r)) true (λ later. right_side_places n r ++ (if same n w.text then [] else later)) (λ later. again_right r (if same n w.text then [] else later)) (loops_right inside r)
+        → Goes t (trail_gets n w (trail_right n inside t r)) true
+        (λ later. right_side_places n r ++ (if same n w.text then [] else later))
+        (λ later. again_right r (if same n w.text then [] else later)) (loops_right inside r)
     bind_goes inside w r t =
-        alike (next (right_goes inside r t) (gets_by (same n w.text) (trail_right n inside t r))) refl (λ later. refl) (λ later. or-false _) (or-false _)
+        alike (next (right_goes inside r t) (gets_by (same n w.text) (trail_right n inside t r))) refl (λ later. refl)
+        (λ later. or-false _) (or-false _)
 
     -- ---- where paths meet
 
     met_found : (t u : Trail) (later : List ℕ) → twice_by (met t u) later ≡ (twice_by t later || twice_by u later)
-    met_found t u later = ap (λ b. b || ((t.used || u.used) && second later)) (meets-both last_place last_rank t.found u.found) ∙ met_step (found_at t.found) (found_at u.found) t.used u.used (second later)
+    met_found t u later =
+        ap (λ b. b || ((t.used || u.used) && second later)) (meets-both last_place last_rank t.found u.found)
+        ∙ met_step (found_at t.found) (found_at u.found) t.used u.used (second later)
 
     met_ahead : (t u : Trail) (later : List ℕ) → ahead_by (met t u) later ≡ (ahead_by t later || ahead_by u later)
-    met_ahead t u later = ap (λ b. b || ((t.unchanged || u.unchanged) && second later)) (meets-both last_place last_rank t.ahead u.ahead) ∙ met_step (found_at t.ahead) (found_at u.ahead) t.unchanged u.unchanged (second later)
+    met_ahead t u later =
+        ap (λ b. b || ((t.unchanged || u.unchanged) && second later)) (meets-both last_place last_rank t.ahead u.ahead)
+        ∙ met_step (found_at t.ahead) (found_at u.ahead) t.unchanged u.unchanged (second later)
 
     -- the first turn of a loop says what all say
-    loop_goes : (body : Statements) (t turn : Trail) → Goes (turning t) turn (passes body) (ahead n body) (again body) (loops true body)
-        → Goes t (turned t turn) true (λ later. ahead n body [] ++ later) (λ later. again body (ahead n body [] ++ later)) (loops true body)
+    loop_goes : (body : Statements) (t turn : Trail)
+        → Goes (turning t) turn (passes body) (ahead n body) (again body) (loops true body)
+        → Goes t (turned t turn) true (λ later. ahead n body [] ++ later)
+        (λ later. again body (ahead n body [] ++ later)) (loops true body)
     loop_goes body t turn x = record {
       reached = sym (and-true t.reached);
       found = λ later.
-          ap (λ b. b || ((t.used || turn.used) && second later)) (meets-both last_place last_rank turn.found (cond turn.used turn.ahead None) ∙ ap (λ b. found_at turn.found || b) (found_if turn.used turn.ahead ∙ ap (λ b. turn.used && b) whole))
+          ap (λ b. b || ((t.used || turn.used) && second later))
+          (meets-both last_place last_rank turn.found (cond turn.used turn.ahead None)
+          ∙ ap (λ b. found_at turn.found || b) (found_if turn.used turn.ahead ∙ ap (λ b. turn.used && b) whole))
           ∙ turn_first (found_at turn.found) turn.used (second (ahead n body [])) t.used (second later)
-          ∙ ap (λ b. (found_at turn.found || (turn.used && b)) || (t.used && second later)) (sym (second-append (ahead n body []) later))
-          ∙ ap (λ b. b || (t.used && second later)) (x.found (ahead n body [] ++ later) ∙ ap (λ b. (found_at t.found || loops true body) || ((t.reached && again body (ahead n body [] ++ later)) || (t.used && b))) (more later))
-          ∙ turn_then (found_at t.found || loops true body) (t.reached && again body (ahead n body [] ++ later)) t.used (second (ahead n body [])) turn.unchanged (second later)
-          ∙ ap (λ b. (found_at t.found || loops true body) || ((t.reached && again body (ahead n body [] ++ later)) || (t.used && b))) (sym (second-append (ahead n body []) later));
+          ∙ ap (λ b. (found_at turn.found || (turn.used && b)) || (t.used && second later))
+          (sym (second-append (ahead n body []) later))
+          ∙ ap (λ b. b || (t.used && second later))
+          (x.found (ahead n body [] ++ later)
+          ∙ ap (λ b.
+          (found_at t.found || loops true body)
+          || ((t.reached && again body (ahead n body [] ++ later)) || (t.used && b)))
+          (more later))
+          ∙ turn_then (found_at t.found || loops true body) (t.reached && again body (ahead n body [] ++ later)) t.used
+          (second (ahead n body [])) turn.unchanged (second later)
+          ∙ ap (λ b.
+          (found_at t.found || loops true body)
+          || ((t.reached && again body (ahead n body [] ++ later)) || (t.used && b)))
+          (sym (second-append (ahead n body []) later));
       ahead = λ later.
-          ap (λ b. b || (t.unchanged && second later)) (meets-both last_place last_rank t.ahead (cond t.unchanged turn.ahead None) ∙ ap (λ b. found_at t.ahead || b) (found_if t.unchanged turn.ahead ∙ ap (λ b. t.unchanged && b) whole))
+          ap (λ b. b || (t.unchanged && second later))
+          (meets-both last_place last_rank t.ahead (cond t.unchanged turn.ahead None)
+          ∙ ap (λ b. found_at t.ahead || b) (found_if t.unchanged turn.ahead ∙ ap (λ b. t.unchanged && b) whole))
           ∙ turn_ahead (found_at t.ahead) t.unchanged (second (ahead n body [])) (second later)
           ∙ ap (λ b. found_at t.ahead || (t.unchanged && b)) (sym (second-append (ahead n body []) later));
     }
@@ -351,8 +412,11 @@ module _ (last_place last_rank : ℕ) where
         whole : found_at turn.ahead ≡ second (ahead n body [])
         whole = no_more (found_at turn.ahead) turn.unchanged ∙ x.ahead []
 
-        more : (later : List ℕ) → second (ahead n body (ahead n body [] ++ later)) ≡ (second (ahead n body []) || (turn.unchanged && (second (ahead n body []) || second later)))
-        more later = sym (x.ahead (ahead n body [] ++ later)) ∙ (λ i. whole i || (turn.unchanged && second-append (ahead n body []) later i))
+        more : (later : List ℕ)
+            → second (ahead n body (ahead n body [] ++ later))
+            ≡ (second (ahead n body []) || (turn.unchanged && (second (ahead n body []) || second later)))
+        more later = sym (x.ahead (ahead n body [] ++ later))
+            ∙ (λ i. whole i || (turn.unchanged && second-append (ahead n body []) later i))
 
     -- ---- statements
 
@@ -361,36 +425,57 @@ module _ (last_place last_rank : ℕ) where
     is_and false b = refl
 
     mutual
-      pub statements_go : (inside : Bool) (xs : Statements) (t : Trail) → Goes t (trail n inside t xs) (passes xs) (ahead n xs) (again xs) (loops inside xs)
+      pub statements_go : (inside : Bool) (xs : Statements) (t : Trail)
+          → Goes t (trail n inside t xs) (passes xs) (ahead n xs) (again xs) (loops inside xs)
       statements_go inside no_statements t = stays t
       statements_go inside (statements x rest) t =
-          alike (next (statement_goes inside x t) (statements_go inside rest (trail_statement n inside t x))) (sym (is_and (statement_passes x) (passes rest))) (λ later. refl) (λ later. refl) refl
+          alike (next (statement_goes inside x t) (statements_go inside rest (trail_statement n inside t x)))
+          (sym (is_and (statement_passes x) (passes rest))) (λ later. refl) (λ later. refl) refl
 
-      pub statement_goes : (inside : Bool) (x : Statement) (t : Trail) → Goes t (trail_statement n inside t x) (statement_passes x) (statement_ahead n x) (again_statement x) (loops_statement inside x)
+      pub statement_goes : (inside : Bool) (x : Statement) (t : Trail)
+          → Goes t (trail_statement n inside t x) (statement_passes x) (statement_ahead n x) (again_statement x)
+          (loops_statement inside x)
       statement_goes inside (statement at line form) t = form_goes inside form t
 
-      form_goes : (inside : Bool) (form : StatementForm) (t : Trail) → Goes t (trail_form n inside t form) (statement_form_passes form) (statement_form_ahead n form) (again_form form) (loops_form inside form)
+      form_goes : (inside : Bool) (form : StatementForm) (t : Trail)
+          → Goes t (trail_form n inside t form) (statement_form_passes form) (statement_form_ahead n form)
+          (again_form form) (loops_form inside form)
       form_goes inside (bind w r) t = bind_goes inside w r t
       form_goes inside (assign w r) t = bind_goes inside w r t
       form_goes inside (assign_cell w index e) t = stays t
       form_goes inside (choose arms) t = record {
         reached = arms_reached inside arms t (start false) t.reached ∙ either t.reached (arms_pass arms);
-        found = λ later. met_found (trail_arms n inside t (start false) arms) t later ∙ arms_found inside arms t (start false) later false false later (twice_by t later) (no_step (found_at t.found) t.used t.reached (second later));
-        ahead = λ later. met_ahead (trail_arms n inside t (start false) arms) t later ∙ arms_go_ahead inside arms t (start false) later later (ahead_by t later) refl;
+        found = λ later.
+            met_found (trail_arms n inside t (start false) arms) t later
+            ∙ arms_found inside arms t (start false) later false false later (twice_by t later)
+            (no_step (found_at t.found) t.used t.reached (second later));
+        ahead = λ later.
+            met_ahead (trail_arms n inside t (start false) arms) t later
+            ∙ arms_go_ahead inside arms t (start false) later later (ahead_by t later) refl;
       }
         where
           either : (r p : Bool) → ((false || (r && p)) || r) ≡ (r && true)
           either r p = grind arith
       form_goes inside (choose_or arms last) t =
           let x = statements_go inside last t in record {
-            reached = arms_reached inside arms t (start false) (trail n inside t last).reached ∙ ap (λ b. (false || (t.reached && arms_pass arms)) || b) x.reached ∙ either t.reached (arms_pass arms) (passes last) ∙ ap (λ b. t.reached && b) (sym (is_or (arms_pass arms) (passes last)));
-            found = λ later. met_found (trail_arms n inside t (start false) arms) (trail n inside t last) later ∙ arms_found inside arms t (start false) later (loops inside last) (again last later) (ahead n last later) (twice_by (trail n inside t last) later) (x.found later);
-            ahead = λ later. met_ahead (trail_arms n inside t (start false) arms) (trail n inside t last) later ∙ arms_go_ahead inside arms t (start false) later (ahead n last later) (ahead_by (trail n inside t last) later) (x.ahead later);
+            reached = arms_reached inside arms t (start false) (trail n inside t last).reached
+                ∙ ap (λ b. (false || (t.reached && arms_pass arms)) || b) x.reached
+                ∙ either t.reached (arms_pass arms) (passes last)
+                ∙ ap (λ b. t.reached && b) (sym (is_or (arms_pass arms) (passes last)));
+            found = λ later.
+                met_found (trail_arms n inside t (start false) arms) (trail n inside t last) later
+                ∙ arms_found inside arms t (start false) later (loops inside last) (again last later)
+                (ahead n last later) (twice_by (trail n inside t last) later) (x.found later);
+            ahead = λ later.
+                met_ahead (trail_arms n inside t (start false) arms) (trail n inside t last) later
+                ∙ arms_go_ahead inside arms t (start false) later (ahead n last later)
+                (ahead_by (trail n inside t last) later) (x.ahead later);
           }
         where
           either : (r p q : Bool) → ((false || (r && p)) || (r && q)) ≡ (r && (p || q))
           either r p q = grind arith
-      form_goes inside (repeat test body) t = loop_goes body t (trail n true (turning t) body) (statements_go true body (turning t))
+      form_goes inside (repeat test body) t =
+          loop_goes body t (trail n true (turning t) body) (statements_go true body (turning t))
       form_goes inside (call w args) t = args_go inside args t
       form_goes inside (return e) t = value_goes inside e t
       form_goes inside (fork w args) t = args_go inside args t
@@ -398,45 +483,71 @@ module _ (last_place last_rank : ℕ) where
       form_goes inside (print items) t = stays t
       form_goes inside (assert test) t = stays t
 
-      arms_reached : (inside : Bool) (arms : Arms) (t u : Trail) (other : Bool) → ((trail_arms n inside t u arms).reached || other) ≡ ((u.reached || (t.reached && arms_pass arms)) || other)
+      arms_reached : (inside : Bool) (arms : Arms) (t u : Trail) (other : Bool)
+          → ((trail_arms n inside t u arms).reached || other) ≡ ((u.reached || (t.reached && arms_pass arms)) || other)
       arms_reached inside no_arms t u other = none u.reached t.reached other
         where
           none : (a r b : Bool) → (a || b) ≡ ((a || (r && false)) || b)
           none a r b = grind arith
       arms_reached inside (arm test body rest) t u other =
           arms_reached inside rest t (met u (trail n inside t body)) other
-          ∙ ap (λ b. ((u.reached || b) || (t.reached && arms_pass rest)) || other) ((statements_go inside body t).reached)
-          ∙ ap (λ b. b || other) (more u.reached t.reached (passes body) (arms_pass rest) ∙ ap (λ b. u.reached || (t.reached && b)) (sym (is_or (passes body) (arms_pass rest))))
+          ∙ ap (λ b. ((u.reached || b) || (t.reached && arms_pass rest)) || other)
+          ((statements_go inside body t).reached)
+          ∙ ap (λ b. b || other) (more u.reached t.reached (passes body) (arms_pass rest)
+          ∙ ap (λ b. u.reached || (t.reached && b)) (sym (is_or (passes body) (arms_pass rest))))
         where
           more : (a r p q : Bool) → ((a || (r && p)) || (r && q)) ≡ (a || (r && (p || q)))
           more a r p q = grind arith
 
-      arms_found : (inside : Bool) (arms : Arms) (t u : Trail) (later : List ℕ) (loop again : Bool) (others : List ℕ) (other : Bool) → other ≡ found_from t loop again others
-          → (twice_by (trail_arms n inside t u arms) later || other) ≡ (twice_by u later || found_from t (loops_arms inside arms loop) (again_arms arms again later) (arms_ahead n arms others later))
+      arms_found : (inside : Bool) (arms : Arms) (t u : Trail) (later : List ℕ) (loop again : Bool) (others : List ℕ)
+          (other : Bool)
+          → other ≡ found_from t loop again others
+          → (twice_by (trail_arms n inside t u arms) later || other)
+          ≡ (twice_by u later
+          || found_from t (loops_arms inside arms loop) (again_arms arms again later) (arms_ahead n arms others later))
       arms_found inside no_arms t u later loop again others other e = ap (λ b. twice_by u later || b) e
       arms_found inside (arm test body rest) t u later loop again_ others other e =
           arms_found inside rest t (met u (trail n inside t body)) later loop again_ others other e
-          ∙ ap (λ b. b || found_from t (loops_arms inside rest loop) (again_arms rest again_ later) (arms_ahead n rest others later)) (met_found u (trail n inside t body) later ∙ ap (λ b. twice_by u later || b) ((statements_go inside body t).found later))
-          ∙ or-assoc (twice_by u later) (found_from t (loops inside body) (again body later) (ahead n body later)) (found_from t (loops_arms inside rest loop) (again_arms rest again_ later) (arms_ahead n rest others later))
+          ∙ ap (λ b.
+          b
+          || found_from t (loops_arms inside rest loop) (again_arms rest again_ later) (arms_ahead n rest others later))
+          (met_found u (trail n inside t body) later
+          ∙ ap (λ b. twice_by u later || b) ((statements_go inside body t).found later))
+          ∙ or-assoc (twice_by u later) (found_from t (loops inside body) (again body later) (ahead n body later))
+          (found_from t (loops_arms inside rest loop) (again_arms rest again_ later) (arms_ahead n rest others later))
           ∙ ap (λ b. twice_by u later || b)
-          (arm_found (found_at t.found) (loops inside body) (loops_arms inside rest loop) t.reached (again body later) (again_arms rest again_ later) t.used (second (ahead n body later)) (second (arms_ahead n rest others later))
-          ∙ ap (λ b. (found_at t.found || (loops inside body || loops_arms inside rest loop)) || ((t.reached && (again body later || again_arms rest again_ later)) || (t.used && b))) (sym (second-append (ahead n body later) (arms_ahead n rest others later))))
+          (arm_found (found_at t.found) (loops inside body) (loops_arms inside rest loop) t.reached (again body later)
+          (again_arms rest again_ later) t.used (second (ahead n body later)) (second (arms_ahead n rest others later))
+          ∙ ap (λ b.
+          (found_at t.found || (loops inside body || loops_arms inside rest loop))
+          || ((t.reached && (again body later || again_arms rest again_ later)) || (t.used && b)))
+          (sym (second-append (ahead n body later) (arms_ahead n rest others later))))
 
-      arms_go_ahead : (inside : Bool) (arms : Arms) (t u : Trail) (later others : List ℕ) (other : Bool) → other ≡ ahead_from t others
-          → (ahead_by (trail_arms n inside t u arms) later || other) ≡ (ahead_by u later || ahead_from t (arms_ahead n arms others later))
+      arms_go_ahead : (inside : Bool) (arms : Arms) (t u : Trail) (later others : List ℕ) (other : Bool)
+          → other ≡ ahead_from t others
+          → (ahead_by (trail_arms n inside t u arms) later || other)
+          ≡ (ahead_by u later || ahead_from t (arms_ahead n arms others later))
       arms_go_ahead inside no_arms t u later others other e = ap (λ b. ahead_by u later || b) e
       arms_go_ahead inside (arm test body rest) t u later others other e =
           arms_go_ahead inside rest t (met u (trail n inside t body)) later others other e
-          ∙ ap (λ b. b || ahead_from t (arms_ahead n rest others later)) (met_ahead u (trail n inside t body) later ∙ ap (λ b. ahead_by u later || b) ((statements_go inside body t).ahead later))
-          ∙ or-assoc (ahead_by u later) (ahead_from t (ahead n body later)) (ahead_from t (arms_ahead n rest others later))
+          ∙ ap (λ b. b || ahead_from t (arms_ahead n rest others later))
+          (met_ahead u (trail n inside t body) later
+          ∙ ap (λ b. ahead_by u later || b) ((statements_go inside body t).ahead later))
+          ∙ or-assoc (ahead_by u later) (ahead_from t (ahead n body later))
+          (ahead_from t (arms_ahead n rest others later))
           ∙ ap (λ b. ahead_by u later || b)
-          (arm_ahead (found_at t.ahead) t.unchanged (second (ahead n body later)) (second (arms_ahead n rest others later))
-          ∙ ap (λ b. found_at t.ahead || (t.unchanged && b)) (sym (second-append (ahead n body later) (arms_ahead n rest others later))))
+          (arm_ahead (found_at t.ahead) t.unchanged (second (ahead n body later))
+          (second (arms_ahead n rest others later))
+          ∙ ap (λ b. found_at t.ahead || (t.unchanged && b))
+          (sym (second-append (ahead n body later) (arms_ahead n rest others later))))
 
     -- from a handle's first value, to which a path comes or none, to the end of its block, with no use behind it
-    pub misuse : (first : Bool) (xs : Statements) (later : List ℕ) → second later ≡ false → found_at (trail n false (start first) xs).found ≡ (loops false xs || (first && again xs later))
+    pub misuse : (first : Bool) (xs : Statements) (later : List ℕ) → second later ≡ false
+        → found_at (trail n false (start first) xs).found ≡ (loops false xs || (first && again xs later))
     misuse first xs later none =
-        rest_none (found_at (trail n false (start first) xs).found) (trail n false (start first) xs).used (second later) none ∙ (statements_go false xs (start first)).found later ∙ last (loops false xs) (first && again xs later)
+        rest_none (found_at (trail n false (start first) xs).found) (trail n false (start first) xs).used (second later)
+        none
+        ∙ (statements_go false xs (start first)).found later ∙ last (loops false xs) (first && again xs later)
       where
         rest_none : (f used l : Bool) → l ≡ false → f ≡ (f || (used && l))
         rest_none f used l h = grind arith

@@ -6,7 +6,7 @@ use Rattle.revision_calculus.specs.Program.{Setting}
 use Rattle.revision_calculus.specs.Kinded.{IsAccepted}
 use Rattle.rev_affine.specs.Affine.{IsAffine}
 use Rattle.rev_affine.specs.Laws.{NeverTwice}
-use Rattle.join_agreement.specs.Related.{run_of}
+use Rattle.program_meaning.specs.Related.{run_of}
 use Rattle.main_texts.specs.Texts.{NeverJoinsTwice}
 
 abbrev pub CodeOfNever : Type 0

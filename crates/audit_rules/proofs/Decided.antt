@@ -24,11 +24,15 @@ unfolding children_below
 child_in f zero k h = absurd (omega arith)
 child_in f (suc n) k h = go (child_in f n k) (cases_lt k n)
   where
-    go : (k < n → IsIn (child f k) (children_below f n)) → (k < n) ⊎ (n ≤ k) → IsIn (child f k) (child f n ∷ children_below f n)
+    go : (k < n → IsIn (child f k) (children_below f n)) → (k < n) ⊎ (n ≤ k)
+        → IsIn (child f k) (child f n ∷ children_below f n)
     go later (inl less) = inr (later less)
     go later (inr more) = let is : k ≡ n = omega arith in inl (ap (child f) is)
 
-module _ (M : Machine) (T : Telling M) (P : Path → M.Local → Type 0) (of : M.Local → ℕ) (most : ℕ) (counts : Counts M) (tells : Tells M T P of most) (weight : M.Local → ℕ) (spends : Spends M 1 weight) (main : M.Local) (stated : PathMap T.Part) (all : List Path) (covers : (q : Path) (p : T.Part) → stated q ≡ Some p → IsIn q all) (same_text : (x y : T.Text) → (x ≡ y) ⊎ (x ≢ y)) where
+module _ (M : Machine) (T : Telling M) (P : Path → M.Local → Type 0) (of : M.Local → ℕ) (most : ℕ) (counts : Counts M)
+    (tells : Tells M T P of most) (weight : M.Local → ℕ) (spends : Spends M 1 weight) (main : M.Local)
+    (stated : PathMap T.Part) (all : List Path) (covers : (q : Path) (p : T.Part) → stated q ≡ Some p → IsIn q all)
+    (same_text : (x y : T.Text) → (x ≡ y) ⊎ (x ≢ y)) where
   abbrev Fine : Path → Type 0
   Fine r = Justified M T main stated r
 
@@ -38,7 +42,8 @@ module _ (M : Machine) (T : Telling M) (P : Path → M.Local → Type 0) (of : M
   what_begins : (r : Path) → Begun M T P of most counts tells weight spends main stated all covers r
   what_begins = begun M T P of most counts tells weight spends main stated all covers
 
-  decide_same : (o : Option T.Part) (c : Computed T.Part) → IsSame M T main stated o c ⊎ (IsSame M T main stated o c → ⊥)
+  decide_same : (o : Option T.Part) (c : Computed T.Part)
+      → IsSame M T main stated o c ⊎ (IsSame M T main stated o c → ⊥)
   decide_same None absent = inl tt
   decide_same None (made c) = inr (λ h. h)
   decide_same None joined_twice = inr (λ h. h)
@@ -57,7 +62,8 @@ module _ (M : Machine) (T : Telling M) (P : Path → M.Local → Type 0) (of : M
   decide : (r : Path) → Fine r ⊎ Differs r
   decide r = let h = part_of_run r in go h.0 h.1 (decide_same (stated r) h.0)
     where
-      go : (c : Computed T.Part) → IsComputed M T main stated r c → IsSame M T main stated (stated r) c ⊎ (IsSame M T main stated (stated r) c → ⊥) → Fine r ⊎ Differs r
+      go : (c : Computed T.Part) → IsComputed M T main stated r c
+          → IsSame M T main stated (stated r) c ⊎ (IsSame M T main stated (stated r) c → ⊥) → Fine r ⊎ Differs r
       go c h (inl same) = inl (record { computed = c; is = h; same = same })
       go c h (inr not_same) = inr (record { part = c; is = h; differs = not_same })
 
@@ -71,11 +77,20 @@ module _ (M : Machine) (T : Telling M) (P : Path → M.Local → Type 0) (of : M
 
   last : (r : Path) (a : M.Local) (c : Computed T.Part) → Computes M T stated r a c → Last r a
   last r a c (ends _ e) = record { state = a; passes = at_first; stops = λ l' s. step_goes M T stated r a l' s e }
-  last r a c (at_twice _ q e t) = record { state = a; passes = at_first; stops = λ l' s. (step_takes M T stated r a l' q s e).once t }
-  last r a c (at_missing _ q e n t) = record { state = a; passes = at_first; stops = λ l' s. none_some (sym t ∙ (step_takes M T stated r a l' q s e).is) }
+  last r a c (at_twice _ q e t) =
+      record { state = a; passes = at_first; stops = λ l' s. (step_takes M T stated r a l' q s e).once t }
+  last r a c (at_missing _ q e n t) = record {
+    state = a;
+    passes = at_first;
+    stops = λ l' s. none_some (sym t ∙ (step_takes M T stated r a l' q s e).is);
+  }
   last r a c (goes _ b _ s rest) =
       let h = last r b c rest in
-      record { state = h.state; passes = passes_from M T P of most counts tells weight spends main stated all covers r a b h.state s h.passes; stops = h.stops }
+      record {
+        state = h.state;
+        passes = passes_from M T P of most counts tells weight spends main stated all covers r a b h.state s h.passes;
+        stops = h.stops;
+      }
 
   forks_of : (f : Path) → Begun M T P of most counts tells weight spends main stated all covers f → List Path
   forks_of f (inr none) = []
@@ -91,13 +106,17 @@ module _ (M : Machine) (T : Telling M) (P : Path → M.Local → Type 0) (of : M
   candidates : List Path
   candidates = [] ∷ all ++ all_forks all
 
-  forked_in : (f : Path) (fs : List Path) (r : Path) → IsIn f fs → IsIn r (forks_of f (what_begins f)) → IsIn r (all_forks fs)
+  forked_in : (f : Path) (fs : List Path) (r : Path) → IsIn f fs → IsIn r (forks_of f (what_begins f))
+      → IsIn r (all_forks fs)
   unfolding all_forks
   forked_in f [] r i j = absurd i
-  forked_in f (g ∷ fs) r (inl is) j = in_front r (forks_of g (what_begins g)) (all_forks fs) (subst (λ v. IsIn r (forks_of v (what_begins v))) is j)
+  forked_in f (g ∷ fs) r (inl is) j =
+      in_front r (forks_of g (what_begins g)) (all_forks fs) (subst (λ v. IsIn r (forks_of v (what_begins v))) is j)
   forked_in f (g ∷ fs) r (inr i) j = in_back r (forks_of g (what_begins g)) (all_forks fs) (forked_in f fs r i j)
 
-  fork_known : (f : Path) (first l l' a : M.Local) → Begins M T main stated f first → Passes M T stated f first l → M.next f l ≡ Forks l' a → (b : Begun M T P of most counts tells weight spends main stated all covers f) → IsIn (child f (M.forks l)) (forks_of f b)
+  fork_known : (f : Path) (first l l' a : M.Local) → Begins M T main stated f first → Passes M T stated f first l
+      → M.next f l ≡ Forks l' a → (b : Begun M T P of most counts tells weight spends main stated all covers f)
+      → IsIn (child f (M.forks l)) (forks_of f b)
   unfolding forks_of
   fork_known f first l l' a bg pg does (inr none) = absurd (none first bg)
   fork_known f first l l' a bg pg does (inl b) = child_in f (suc (M.forks end.state)) (M.forks l) few
@@ -109,7 +128,8 @@ module _ (M : Machine) (T : Telling M) (P : Path → M.Local → Type 0) (of : M
       end = last f b.0 run.0 run.1
 
       passes : Passes M T stated f b.0 l
-      passes = subst (λ v. Passes M T stated f v l) (begins_one M T P of most counts tells stated main f first b.0 bg b.1) pg
+      passes = subst (λ v. Passes M T stated f v l)
+          (begins_one M T P of most counts tells stated main f first b.0 bg b.1) pg
 
       few : M.forks l < suc (M.forks end.state)
       few = go (either_way M T stated f b.0 l end.state passes end.passes)
@@ -126,19 +146,23 @@ module _ (M : Machine) (T : Telling M) (P : Path → M.Local → Type 0) (of : M
   unfolding candidates
   begun_in r a (of_main _ _ e is) = inl e
   begun_in r a (of_fork _ _ f first l l' p bg so pg does at) =
-      let here : IsIn (child f (M.forks l)) (forks_of f (what_begins f)) = fork_known f first l l' a bg pg does (what_begins f) in
-      let there : IsIn r (forks_of f (what_begins f)) = subst (λ v. IsIn v (forks_of f (what_begins f))) (sym at) here in
+      let here : IsIn (child f (M.forks l)) (forks_of f (what_begins f)) =
+      fork_known f first l l' a bg pg does (what_begins f) in
+      let there : IsIn r (forks_of f (what_begins f)) =
+      subst (λ v. IsIn v (forks_of f (what_begins f))) (sym at) here in
       inr (in_back r all (all_forks all) (forked_in f all r (covers f p so) there))
 
   differs_in : (r : Path) → Differs r → IsIn r candidates
   unfolding candidates
   differs_in r d = go (stated r) refl d.part d.is d.differs
     where
-      at : (c : Computed T.Part) → stated r ≡ None → IsComputed M T main stated r c → (IsSame M T main stated None c → ⊥) → IsIn r candidates
+      at : (c : Computed T.Part) → stated r ≡ None → IsComputed M T main stated r c
+          → (IsSame M T main stated None c → ⊥) → IsIn r candidates
       at c so (of_run a b x) n = begun_in r a b
       at c so (of_none m e) n = absurd (n (subst (IsSame M T main stated None) (sym e) tt))
 
-      go : (o : Option T.Part) → stated r ≡ o → (c : Computed T.Part) → IsComputed M T main stated r c → (IsSame M T main stated (stated r) c → ⊥) → IsIn r candidates
+      go : (o : Option T.Part) → stated r ≡ o → (c : Computed T.Part) → IsComputed M T main stated r c
+          → (IsSame M T main stated (stated r) c → ⊥) → IsIn r candidates
       go (Some p) so c h n = inr (in_front r all (all_forks all) (covers r p so))
       go None so c h n = at c so h (λ same. n (subst (λ v. IsSame M T main stated v c) (sym so) same))
 
@@ -153,7 +177,8 @@ module _ (M : Machine) (T : Telling M) (P : Path → M.Local → Type 0) (of : M
   first_among [] = inl (λ q i. absurd i)
   first_among (p ∷ ps) = go (first_among ps) (decide p)
     where
-      go : ((q : Path) → IsIn q ps → Fine q) ⊎ First ps → Fine p ⊎ Differs p → ((q : Path) → IsIn q (p ∷ ps) → Fine q) ⊎ First (p ∷ ps)
+      go : ((q : Path) → IsIn q ps → Fine q) ⊎ First ps → Fine p ⊎ Differs p
+          → ((q : Path) → IsIn q (p ∷ ps) → Fine q) ⊎ First (p ∷ ps)
       go (inl fine) (inl ok) = inl each
         where
           each : (q : Path) → IsIn q (p ∷ ps) → Fine q
@@ -171,7 +196,8 @@ module _ (M : Machine) (T : Telling M) (P : Path → M.Local → Type 0) (of : M
           each q (inr i) b = f.first q i b
       go (inr f) (inr d) = by (cases_Bool (before p f.at))
         where
-          by : (before p f.at ≡ true) ⊎ (before p f.at ≡ false) → ((q : Path) → IsIn q (p ∷ ps) → Fine q) ⊎ First (p ∷ ps)
+          by : (before p f.at ≡ true) ⊎ (before p f.at ≡ false)
+              → ((q : Path) → IsIn q (p ∷ ps) → Fine q) ⊎ First (p ∷ ps)
           by (inl sooner) = inr (record { at = p; differs = d; first = each })
             where
               each : (q : Path) → IsIn q (p ∷ ps) → before q p ≡ true → Fine q
@@ -194,6 +220,16 @@ module _ (M : Machine) (T : Telling M) (P : Path → M.Local → Type 0) (of : M
   pub verdict : IsYes M T main stated ⊎ ((r : Path) × (c : Computed T.Part) × IsNo M T main stated r (stated r) c)
   verdict = go (first_among candidates)
     where
-      go : ((q : Path) → IsIn q candidates → Fine q) ⊎ First candidates → IsYes M T main stated ⊎ ((r : Path) × (c : Computed T.Part) × IsNo M T main stated r (stated r) c)
+      go : ((q : Path) → IsIn q candidates → Fine q) ⊎ First candidates
+          → IsYes M T main stated ⊎ ((r : Path) × (c : Computed T.Part) × IsNo M T main stated r (stated r) c)
       go (inl fine) = inl (λ q. settled q (fine q))
-      go (inr f) = inr (f.at, f.differs.part, record { states = refl; is = f.differs.is; differs = f.differs.differs; first = λ q b. settled q (λ i. f.first q i b) })
+      go (inr f) = inr (
+        f.at,
+        f.differs.part,
+        record {
+          states = refl;
+          is = f.differs.is;
+          differs = f.differs.differs;
+          first = λ q b. settled q (λ i. f.first q i b);
+        },
+      )

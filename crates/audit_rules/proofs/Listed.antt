@@ -31,7 +31,8 @@ put_among p [] x (inl e) = inl e
 put_among p [] x (inr i) = absurd i
 put_among p (q ∷ ps) x i = go (before q.path p.path) i (put_among p ps x)
   where
-    go : (b : Bool) → Among (cond b (q ∷ put p ps) (p ∷ q ∷ ps)) x → (Among (put p ps) x → (p ≡ x) ⊎ Among ps x) → (p ≡ x) ⊎ Among (q ∷ ps) x
+    go : (b : Bool) → Among (cond b (q ∷ put p ps) (p ∷ q ∷ ps)) x → (Among (put p ps) x → (p ≡ x) ⊎ Among ps x)
+        → (p ≡ x) ⊎ Among (q ∷ ps) x
     go true (inl e) later = inr (inl e)
     go true (inr j) later = by (later j)
       where
@@ -48,7 +49,8 @@ pub put_order : (p : Part) (ps : List Part) → IsNew p ps → InPostOrder ps �
 put_order p [] new order = (λ x i. absurd i, tt)
 put_order p (q ∷ ps) new order = go (before q.path p.path) refl (put_order p ps (λ x i. new x (inr i)) order.1)
   where
-    go : (b : Bool) → before q.path p.path ≡ b → InPostOrder (put p ps) → InPostOrder (cond b (q ∷ put p ps) (p ∷ q ∷ ps))
+    go : (b : Bool) → before q.path p.path ≡ b → InPostOrder (put p ps)
+        → InPostOrder (cond b (q ∷ put p ps) (p ∷ q ∷ ps))
     go true first later = (behind, later)
       where
         behind : (x : Part) → Among (put p ps) x → before q.path x.path ≡ true
@@ -75,14 +77,16 @@ put_here p [] new = ap (λ b. cond b (Some p) None) (same_refl p.path)
 put_here p (q ∷ ps) new = go (before q.path p.path) (put_here p ps (λ x i. new x (inr i)))
   where
     go : (b : Bool) → part_at (put p ps) p.path ≡ Some p → part_at (cond b (q ∷ put p ps) (p ∷ q ∷ ps)) p.path ≡ Some p
-    go true later = ap (λ b. cond b (Some q) (part_at (put p ps) p.path)) (apart-same q.path p.path (new q (inl refl))) ∙ later
+    go true later =
+        ap (λ b. cond b (Some q) (part_at (put p ps) p.path)) (apart-same q.path p.path (new q (inl refl))) ∙ later
     go false later = ap (λ b. cond b (Some p) (part_at (q ∷ ps) p.path)) (same_refl p.path)
 
 put_other : (p : Part) (ps : List Part) (r : Path) → p.path ≢ r → part_at (put p ps) r ≡ part_at ps r
 put_other p [] r apart = ap (λ b. cond b (Some p) None) (apart-same p.path r apart)
 put_other p (q ∷ ps) r apart = go (before q.path p.path) (put_other p ps r apart)
   where
-    go : (b : Bool) → part_at (put p ps) r ≡ part_at ps r → part_at (cond b (q ∷ put p ps) (p ∷ q ∷ ps)) r ≡ part_at (q ∷ ps) r
+    go : (b : Bool) → part_at (put p ps) r ≡ part_at ps r
+        → part_at (cond b (q ∷ put p ps) (p ∷ q ∷ ps)) r ≡ part_at (q ∷ ps) r
     go true later = ap (λ o. cond (same q.path r) (Some q) o) later
     go false later = ap (λ b. cond b (Some p) (part_at (q ∷ ps) r)) (apart-same p.path r apart)
 
@@ -101,7 +105,8 @@ module _ (s : Setting) (revs : PathMap (Entry Local)) where
   of_part r [] x i = absurd i
   of_part r (q ∷ rs) x i = go (revs q) i (of_part r rs x)
     where
-      go : (o : Option (Entry Local)) → Among (with_part q o (parts rs)) x → (Among (parts rs) x → IsIn x.path rs) → IsIn x.path (q ∷ rs)
+      go : (o : Option (Entry Local)) → Among (with_part q o (parts rs)) x → (Among (parts rs) x → IsIn x.path rs)
+          → IsIn x.path (q ∷ rs)
       go None j later = inr (later j)
       go (Some e) j later = by (put_among (part_of s q (local_of e)) (parts rs) x j)
         where
@@ -109,7 +114,8 @@ module _ (s : Setting) (revs : PathMap (Entry Local)) where
           by (inl is) = inl (sym (ap (λ v. v.path) is))
           by (inr k) = inr (later k)
 
-  not_there : (q : Path) (rs : List Path) → (IsIn q rs → ⊥) → (e : Entry Local) → IsNew (part_of s q (local_of e)) (parts rs)
+  not_there : (q : Path) (rs : List Path) → (IsIn q rs → ⊥) → (e : Entry Local)
+      → IsNew (part_of s q (local_of e)) (parts rs)
   not_there q rs none e x i is = none (subst (λ v. IsIn v rs) is (of_part q rs x i))
 
   parts_order : (rs : List Path) → IsDistinct rs → InPostOrder (parts rs)
@@ -135,16 +141,19 @@ module _ (s : Setting) (revs : PathMap (Entry Local)) where
 
   parts_in : (rs : List Path) → IsDistinct rs → (r : Path) → IsIn r rs → part_at (parts rs) r ≡ shown r (revs r)
   parts_in [] d r i = absurd i
-  parts_in (q ∷ rs) d r (inl is) = subst (λ v. part_at (parts (q ∷ rs)) v ≡ shown v (revs v)) (sym is) (go (revs q) refl)
+  parts_in (q ∷ rs) d r (inl is) =
+      subst (λ v. part_at (parts (q ∷ rs)) v ≡ shown v (revs v)) (sym is) (go (revs q) refl)
     where
       go : (o : Option (Entry Local)) → revs q ≡ o → part_at (with_part q o (parts rs)) q ≡ shown q o
       go None here = parts_out rs d.1 q d.0
       go (Some e) here = put_here (part_of s q (local_of e)) (parts rs) (not_there q rs d.0 e)
   parts_in (q ∷ rs) d r (inr i) = go (revs q) (parts_in rs d.1 r i)
     where
-      go : (o : Option (Entry Local)) → part_at (parts rs) r ≡ shown r (revs r) → part_at (with_part q o (parts rs)) r ≡ shown r (revs r)
+      go : (o : Option (Entry Local)) → part_at (parts rs) r ≡ shown r (revs r)
+          → part_at (with_part q o (parts rs)) r ≡ shown r (revs r)
       go None later = later
-      go (Some e) later = put_other (part_of s q (local_of e)) (parts rs) r (λ is. d.0 (subst (λ v. IsIn v rs) (sym is) i)) ∙ later
+      go (Some e) later =
+          put_other (part_of s q (local_of e)) (parts rs) r (λ is. d.0 (subst (λ v. IsIn v rs) (sym is) i)) ∙ later
 
   is_part : (r : Path) (o : Option (Entry Local)) → IsPartOf s r (shown r o) o
   is_part r None = tt
@@ -166,7 +175,9 @@ module _ (s : Setting) (revs : PathMap (Entry Local)) where
 -- ---- final states
 
 pub end_has_trace : (s : Setting) (fuel : ℕ) → EndHasTrace s fuel
-end_has_trace s fuel rs g complete live = go g live (count_law (calculus s) (main s fuel) (λ l. l.fuel) (counts s) (pays_forks s) g (record { by = rs; runs = complete.runs }))
+end_has_trace s fuel rs g complete live =
+    go g live (count_law (calculus s) (main s fuel) (λ l. l.fuel) (counts s) (pays_forks s) g
+    (record { by = rs; runs = complete.runs }))
   where
     go : (g : Global Local) → (g ≡ Twice → ⊥) → HasAtMost (calculus s) (1 + fuel) g → (ps : List Part) × IsTrace s g ps
     go Twice live many = absurd (live refl)

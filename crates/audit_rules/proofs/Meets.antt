@@ -67,8 +67,11 @@ module _ (s : Setting) where
     T = calculus_parts s fuel
 
     -- what was taken
-    taken_is : (r q : Path) (l l' : Local) (p : Part) → takes s fuel r l q p ≡ Some l' → (j : Local) × (l' ≡ join s r l q j)
-    taken_is r q l l' p e = go (told_phase (places s) p.end) (changes_fit (places s) (location_kinds s) p.written && nat_le (p.fuel + l.fuel + l.forks) fuel) e
+    taken_is : (r q : Path) (l l' : Local) (p : Part) → takes s fuel r l q p ≡ Some l'
+        → (j : Local) × (l' ≡ join s r l q j)
+    taken_is r q l l' p e =
+        go (told_phase (places s) p.end)
+        (changes_fit (places s) (location_kinds s) p.written && nat_le (p.fuel + l.fuel + l.forks) fuel) e
       where
         go : (o : Option Phase) (b : Bool) → takes_in s r l q p o b ≡ Some l' → (j : Local) × (l' ≡ join s r l q j)
         go None b e = none_some e
@@ -82,18 +85,27 @@ module _ (s : Setting) where
       apart : IsApart (places s)
       apart = places_apart s well
 
-      part_taken : (r q : Path) (l lq : Local) → IsFit r l → IsFit q lq → next s r l ≡ Joins q → next s q lq ≡ Ended → (l.fuel + l.forks) + (lq.fuel + lq.forks) ≤ fuel → takes s fuel r l q (part_of s q lq) ≡ Some (join s r l q lq)
+      part_taken : (r q : Path) (l lq : Local) → IsFit r l → IsFit q lq → next s r l ≡ Joins q → next s q lq ≡ Ended
+          → (l.fuel + l.forks) + (lq.fuel + lq.forks) ≤ fuel
+          → takes s fuel r l q (part_of s q lq) ≡ Some (join s r l q lq)
       part_taken r q l lq h hq does ended room =
           (λ i. takes_in s r l q (part_of s q lq) (phase i) (fits i))
-          ∙ ap Some (join_same s r q l lq (told s (part_of s q lq) lq.phase) (told_same (places s) (location_kinds s) lq.locations apart (hq.1.locations ∙ sym places_length) hq.0.locations) refl refl refl)
+          ∙ ap Some (join_same s r q l lq (told s (part_of s q lq) lq.phase)
+          (told_same (places s) (location_kinds s) lq.locations apart (hq.1.locations ∙ sym places_length)
+          hq.0.locations)
+          refl refl refl)
         where
           phase : told_phase (places s) (end_at (places s) lq.phase) ≡ Some lq.phase
-          phase = told_ended (places s) lq.phase apart (subst (λ n. IsTrapBelow n lq.phase) (sym places_length) hq.1.trap) (ended_phase s q lq ended q None).0 (λ k left. (ended_phase s q lq ended k left).1)
+          phase = told_ended (places s) lq.phase apart
+              (subst (λ n. IsTrapBelow n lq.phase) (sym places_length) hq.1.trap) (ended_phase s q lq ended q None).0
+              (λ k left. (ended_phase s q lq ended k left).1)
 
           few : nat_le (lq.fuel + l.fuel + l.forks) fuel ≡ true
           few = le-leb (lq.fuel + l.fuel + l.forks) fuel (omega arith)
 
-          fits : (changes_fit (places s) (location_kinds s) (changes (places s) lq.locations) && nat_le (lq.fuel + l.fuel + l.forks) fuel) ≡ true
+          fits : (changes_fit (places s) (location_kinds s) (changes (places s) lq.locations)
+              && nat_le (lq.fuel + l.fuel + l.forks) fuel)
+              ≡ true
           fits = and_from _ _ (true_fits (places s) (location_kinds s) lq.locations apart hq.0.locations) few
 
       pub tells : Tells (calculus s) T IsFit (λ l. l.fuel + l.forks) fuel
@@ -102,9 +114,12 @@ module _ (s : Setting) where
         forker = λ r l l' c e. forker_of r l l' c (event_lists s r l e);
         forked = λ r l l' c e. ap joined_by (forked_of r l l' c (event_lists s r l e));
         joins = λ r q l lq e f. join_lists r q l lq;
-        takes-lists = λ r q l l' p e t. (let is = taken_is r q l l' p t in ap (λ v. joined_by v.noted) is.1 ∙ join_lists r q l is.0);
-        takes-forks = λ r q l l' p e t. (let is = taken_is r q l l' p t in ap (λ v. v.forks) is.1 ∙ join_forks s r l q is.0);
-        takes-same = λ r q l p p' e. takes_shown s fuel r q l p ∙ ap (takes s fuel r l q) e ∙ sym (takes_shown s fuel r q l p');
+        takes-lists = λ r q l l' p e t.
+            (let is = taken_is r q l l' p t in ap (λ v. joined_by v.noted) is.1 ∙ join_lists r q l is.0);
+        takes-forks =
+            λ r q l l' p e t. (let is = taken_is r q l l' p t in ap (λ v. v.forks) is.1 ∙ join_forks s r l q is.0);
+        takes-same = λ r q l p p' e.
+            takes_shown s fuel r q l p ∙ ap (takes s fuel r l q) e ∙ sym (takes_shown s fuel r q l p');
         joins-same = λ p p' e. ap (λ v. joins_of v.events) e;
         part-joins = λ r l. events_join l.noted;
         true-part = part_taken;
@@ -113,7 +128,8 @@ module _ (s : Setting) where
           moves_of : (r : Path) (l l' : Local) → Lists r l.noted (Moves l') → l'.noted ≡ l.noted
           moves_of r l l' h = h
 
-          forker_of : (r : Path) (l l' c : Local) → Lists r l.noted (Forks l' c) → joined_by l'.noted ≡ joined_by l.noted
+          forker_of : (r : Path) (l l' c : Local) → Lists r l.noted (Forks l' c)
+              → joined_by l'.noted ≡ joined_by l.noted
           forker_of r l l' c h = ap joined_by h.0.2 ∙ fork_joins l.noted _ h.0.1
 
           forked_of : (r : Path) (l l' c : Local) → Lists r l.noted (Forks l' c) → c.noted ≡ []

@@ -48,7 +48,8 @@ module _ (s : Setting) (r : Path) (l : Local) where
   abbrev Ok_here : Event Local → Type 0
   Ok_here e = Lists r l.noted e
 
-  answer_lists : {A : Type 0} (a : Result A Cause) (go : A → Event Local) → ((x : A) → Ok_here (go x)) → Ok_here (with_answer r l a go)
+  answer_lists : {A : Type 0} (a : Result A Cause) (go : A → Event Local) → ((x : A) → Ok_here (go x))
+      → Ok_here (with_answer r l a go)
   answer_lists (Ok x) go k = k x
   answer_lists (Err c) go k = refl
 
@@ -62,10 +63,13 @@ module _ (s : Setting) (r : Path) (l : Local) where
 
   calls_lists : (left : Option Name) (name : Name) (args : List Value) → Ok_here (calls s r l left name args)
   calls_lists left name args =
-      cond_lists (nat_le most_frames (length l.frames)) (traps r l cause.CallDepth) (Moves (record l { frames = frame_of (procedure_named (procedures s.program) name) args left ∷ l.frames })) refl refl
+      cond_lists (nat_le most_frames (length l.frames)) (traps r l cause.CallDepth)
+      (Moves (record l { frames = frame_of (procedure_named (procedures s.program) name) args left ∷ l.frames })) refl
+      refl
 
   forks_lists : (left : Option Name) (name : Name) (args : List Value) → Ok_here (spec.forks s r l left name args)
-  forks_lists left name args = ((l.forks, l.line, give_noted s (forker s r l) left (Some (v.Rev (Some (child r l.forks))))), refl)
+  forks_lists left name args =
+      ((l.forks, l.line, give_noted s (forker s r l) left (Some (v.Rev (Some (child r l.forks))))), refl)
 
   joins_lists : (left : Option Name) (x : Value) → Ok_here (joins r l left x)
   joins_lists left (v.Rev (Some q)) = refl
@@ -75,35 +79,51 @@ module _ (s : Setting) (r : Path) (l : Local) where
 
   right_lists : (name : Name) (right : RightSide) → Ok_here (by_right s r l name right)
   right_lists name (plain e) = answer_lists (eval s l e) (λ x. Moves (set s l name x)) (λ x. set_noted s l name x)
-  right_lists name (called at p args) = answer_lists (evals s l args) (calls s r l (Some name) p.text) (calls_lists (Some name) p.text)
-  right_lists name (t.forked at p args) = answer_lists (evals s l args) (spec.forks s r l (Some name) p.text) (forks_lists (Some name) p.text)
+  right_lists name (called at p args) =
+      answer_lists (evals s l args) (calls s r l (Some name) p.text) (calls_lists (Some name) p.text)
+  right_lists name (t.forked at p args) =
+      answer_lists (evals s l args) (spec.forks s r l (Some name) p.text) (forks_lists (Some name) p.text)
   right_lists name (tried at handle) = answer_lists (eval s l handle) (joins r l (Some name)) (joins_lists (Some name))
 
   does_lists : (x : Statement) → Ok_here (does s r l x)
   does_lists (statement at line (bind x right)) = right_lists x.text right
   does_lists (statement at line (assign x right)) = right_lists x.text right
   does_lists (statement at line (assign_cell a index e)) =
-      answer_lists (and_then (eval s l index) (λ i. cell_location s a.text (number_of i))) (λ n. with_answer r l (eval s l e) (λ x. Moves (record l { locations = write_at l.locations n x })))
+      answer_lists (and_then (eval s l index) (λ i. cell_location s a.text (number_of i)))
+      (λ n. with_answer r l (eval s l e) (λ x. Moves (record l { locations = write_at l.locations n x })))
       (λ n. answer_lists (eval s l e) (λ x. Moves (record l { locations = write_at l.locations n x })) (λ x. refl))
-  does_lists (statement at line (choose arms)) = answer_lists (select s l arms no_statements) (λ block. Moves (enter block l)) (λ block. refl)
-  does_lists (statement at line (choose_or arms last)) = answer_lists (select s l arms last) (λ block. Moves (enter block l)) (λ block. refl)
+  does_lists (statement at line (choose arms)) =
+      answer_lists (select s l arms no_statements) (λ block. Moves (enter block l)) (λ block. refl)
+  does_lists (statement at line (choose_or arms last)) =
+      answer_lists (select s l arms last) (λ block. Moves (enter block l)) (λ block. refl)
   does_lists (statement at line (repeat test block)) =
-      answer_lists (eval s l test) (λ x. Moves (if truth_of x then enter block (enter (statements (statement at line (repeat test block)) no_statements) l) else l))
-      (λ x. cond_same (truth_of x) (enter block (enter (statements (statement at line (repeat test block)) no_statements) l)) l refl refl)
-  does_lists (statement at line (call p args)) = answer_lists (evals s l args) (calls s r l None p.text) (calls_lists None p.text)
+      answer_lists (eval s l test)
+      (λ x. Moves (if truth_of x
+      then enter block (enter (statements (statement at line (repeat test block)) no_statements) l) else l))
+      (λ x. cond_same (truth_of x)
+      (enter block (enter (statements (statement at line (repeat test block)) no_statements) l)) l refl refl)
+  does_lists (statement at line (call p args)) =
+      answer_lists (evals s l args) (calls s r l None p.text) (calls_lists None p.text)
   does_lists (statement at line (return None)) = returned_noted s l l.frames None
-  does_lists (statement at line (return (Some e))) = answer_lists (eval s l e) (λ x. Moves (end_frame s l l.frames (Some x))) (λ x. returned_noted s l l.frames (Some x))
-  does_lists (statement at line (fork p args)) = answer_lists (evals s l args) (spec.forks s r l None p.text) (forks_lists None p.text)
+  does_lists (statement at line (return (Some e))) =
+      answer_lists (eval s l e) (λ x. Moves (end_frame s l l.frames (Some x)))
+      (λ x. returned_noted s l l.frames (Some x))
+  does_lists (statement at line (fork p args)) =
+      answer_lists (evals s l args) (spec.forks s r l None p.text) (forks_lists None p.text)
   does_lists (statement at line (join handle)) = answer_lists (eval s l handle) (joins r l None) (joins_lists None)
-  does_lists (statement at line (print items)) = answer_lists (item_texts s l items) (λ xs. Moves (record l { text = l.text ++ line_of xs })) (λ xs. refl)
+  does_lists (statement at line (print items)) =
+      answer_lists (item_texts s l items) (λ xs. Moves (record l { text = l.text ++ line_of xs })) (λ xs. refl)
   does_lists (statement at line (assert test)) =
-      answer_lists (eval s l test) (λ x. if truth_of x then Moves l else traps r l cause.Assert) (λ x. cond_lists (truth_of x) (Moves l) (traps r l cause.Assert) refl refl)
+      answer_lists (eval s l test) (λ x. if truth_of x then Moves l else traps r l cause.Assert)
+      (λ x. cond_lists (truth_of x) (Moves l) (traps r l cause.Assert) refl refl)
 
 module _ (s : Setting) (r : Path) (l : Local) where
-  begins_lists : (fuel : ℕ) (f : Frame) (fs : List Frame) (x : Statement) (rest : Statements) → Lists r l.noted (begins s r l fuel f fs x rest)
+  begins_lists : (fuel : ℕ) (f : Frame) (fs : List Frame) (x : Statement) (rest : Statements)
+      → Lists r l.noted (begins s r l fuel f fs x rest)
   begins_lists zero f fs (statement at line act) rest = refl
   begins_lists (suc fuel) f fs (statement at line act) rest =
-      does_lists s r (record l { fuel = fuel; line = line; frames = record f { rest = rest } ∷ fs }) (statement at line act)
+      does_lists s r (record l { fuel = fuel; line = line; frames = record f { rest = rest } ∷ fs })
+      (statement at line act)
 
   rest_lists : (f : Frame) (fs : List Frame) (rest : Statements) → Lists r l.noted (by_rest s r l f fs rest)
   rest_lists f fs no_statements = returned_noted s l (f ∷ fs) None
@@ -126,10 +146,16 @@ module _ (s : Setting) (r : Path) (l : Local) where
   pub join_noted : (q : Path) (j : Local) → (whole.join s r l q j).noted ≡ l.noted ++ joined q l.line ∷ []
   join_noted q j = go j.phase
     where
-      by_compose : (c : Composition) → (absorb s r (note q l) (left_side l.phase) j c).noted ≡ l.noted ++ joined q l.line ∷ []
+      by_compose : (c : Composition)
+          → (absorb s r (note q l) (left_side l.phase) j c).noted ≡ l.noted ++ joined q l.line ∷ []
       by_compose (faults n f) = refl
       by_compose (merged locations) =
-          give_noted s (record (note q l) { locations = locations; text = l.text ++ j.text; fuel = l.fuel + j.fuel; phase = running }) (left_side l.phase) (Some (v.Bool true))
+          give_noted s (record (note q l) {
+            locations = locations;
+            text = l.text ++ j.text;
+            fuel = l.fuel + j.fuel;
+            phase = running;
+          }) (left_side l.phase) (Some (v.Bool true))
 
       by_drop : (left : Option Name) (p : Phase) → (inherit s (note q l) left p).noted ≡ l.noted ++ joined q l.line ∷ []
       by_drop None p = refl

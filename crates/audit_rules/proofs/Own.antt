@@ -89,37 +89,47 @@ module _ (M : Machine) (T : Telling M) (stated : PathMap T.Part) where
   step_takes r l a q (by_fork c e) f = fork_join M e f
   step_takes r l a q (by_join p e n t) f =
       let pq : p ≡ q = same_join M e f in
-      record { once = subst (λ v. IsTwice M T stated r l v → ⊥) pq n; is = subst (λ v. taken M T stated r l v (stated v) ≡ Some a) pq t }
+      record {
+        once = subst (λ v. IsTwice M T stated r l v → ⊥) pq n;
+        is = subst (λ v. taken M T stated r l v (stated v) ≡ Some a) pq t;
+      }
 
-  pub computes_on : (r : Path) (l a : M.Local) (c : Computed T.Part) → Alone M T stated r l a → Computes M T stated r l c → Computes M T stated r a c
+  pub computes_on : (r : Path) (l a : M.Local) (c : Computed T.Part) → Alone M T stated r l a
+      → Computes M T stated r l c → Computes M T stated r a c
   computes_on r l a c s (ends _ e) = absurd (step_goes r l a s e)
   computes_on r l a c s (at_twice _ q e t) = absurd ((step_takes r l a q s e).once t)
   computes_on r l a c s (at_missing _ q e n t) = none_some (sym t ∙ (step_takes r l a q s e).is)
   computes_on r l a c s (goes _ b _ s' rest) = subst (λ v. Computes M T stated r v c) (one_step r l b a s' s) rest
 
-  pub passes_computes : (r : Path) (a l : M.Local) (c : Computed T.Part) → Passes M T stated r a l → Computes M T stated r a c → Computes M T stated r l c
+  pub passes_computes : (r : Path) (a l : M.Local) (c : Computed T.Part) → Passes M T stated r a l
+      → Computes M T stated r a c → Computes M T stated r l c
   passes_computes r a l c at_first x = x
   passes_computes r a l c (then_by k _ p s) x = computes_on r k l c s (passes_computes r a k c p x)
 
-  pub computes_since : (r : Path) (a l : M.Local) (c : Computed T.Part) → Passes M T stated r a l → Computes M T stated r l c → Computes M T stated r a c
+  pub computes_since : (r : Path) (a l : M.Local) (c : Computed T.Part) → Passes M T stated r a l
+      → Computes M T stated r l c → Computes M T stated r a c
   computes_since r a l c at_first x = x
   computes_since r a l c (then_by k _ p s) x = computes_since r a k c p (goes k l c s x)
 
   -- what comes of a run that has ended
-  pub computes_end : (r : Path) (l : M.Local) (c : Computed T.Part) → M.next r l ≡ Ended → Computes M T stated r l c → c ≡ made (T.part r l)
+  pub computes_end : (r : Path) (l : M.Local) (c : Computed T.Part) → M.next r l ≡ Ended → Computes M T stated r l c
+      → c ≡ made (T.part r l)
   computes_end r l c f (ends _ e) = refl
   computes_end r l c f (at_twice _ q e t) = join_end M e f
   computes_end r l c f (at_missing _ q e n t) = join_end M e f
   computes_end r l c f (goes _ b _ s rest) = absurd (step_goes r l b s f)
 
-  pub one_result : (r : Path) (l : M.Local) (c d : Computed T.Part) → Computes M T stated r l c → Computes M T stated r l d → c ≡ d
+  pub one_result : (r : Path) (l : M.Local) (c d : Computed T.Part) → Computes M T stated r l c
+      → Computes M T stated r l d → c ≡ d
   one_result r l c d (ends _ e) y = sym (computes_end r l d e y)
   one_result r l c d (at_twice _ q e t) (ends _ f) = join_end M e f
   one_result r l c d (at_twice _ q e t) (at_twice _ p f u) = refl
-  one_result r l c d (at_twice _ q e t) (at_missing _ p f n u) = absurd (n (subst (IsTwice M T stated r l) (same_join M e f) t))
+  one_result r l c d (at_twice _ q e t) (at_missing _ p f n u) =
+      absurd (n (subst (IsTwice M T stated r l) (same_join M e f) t))
   one_result r l c d (at_twice _ q e t) (goes _ b _ s rest) = absurd ((step_takes r l b q s e).once t)
   one_result r l c d (at_missing _ q e n t) (ends _ f) = join_end M e f
-  one_result r l c d (at_missing _ q e n t) (at_twice _ p f u) = absurd (n (subst (IsTwice M T stated r l) (same_join M f e) u))
+  one_result r l c d (at_missing _ q e n t) (at_twice _ p f u) =
+      absurd (n (subst (IsTwice M T stated r l) (same_join M f e) u))
   one_result r l c d (at_missing _ q e n t) (at_missing _ p f m u) = refl
   one_result r l c d (at_missing _ q e n t) (goes _ b _ s rest) = none_some (sym t ∙ (step_takes r l b q s e).is)
   one_result r l c d (goes _ a _ s rest) y = one_result r a c d rest (computes_on r l a d s y)
@@ -131,7 +141,8 @@ module _ (M : Machine) (T : Telling M) (stated : PathMap T.Part) where
     pub takes : Takes r l q after
     pub rest : Computes M T stated r after c
 
-  pub made_goes : (r : Path) (l : M.Local) (q : Path) (c : T.Part) → M.next r l ≡ Joins q → Computes M T stated r l (made c) → Goes r l q (made c)
+  pub made_goes : (r : Path) (l : M.Local) (q : Path) (c : T.Part) → M.next r l ≡ Joins q
+      → Computes M T stated r l (made c) → Goes r l q (made c)
   made_goes r l q c f x = by (made c) refl x
     where
       by : (d : Computed T.Part) → d ≡ made c → Computes M T stated r l d → Goes r l q d
@@ -154,7 +165,8 @@ module _ (M : Machine) (T : Telling M) (stated : PathMap T.Part) where
       go (steps b t q) = steps b t (then_by k l q s)
 
   -- of two states on one way, one leads to the other
-  pub either_way : (r : Path) (a l m : M.Local) → Passes M T stated r a l → Passes M T stated r a m → Passes M T stated r l m ⊎ Passes M T stated r m l
+  pub either_way : (r : Path) (a l m : M.Local) → Passes M T stated r a l → Passes M T stated r a m
+      → Passes M T stated r l m ⊎ Passes M T stated r m l
   either_way r a l m p at_first = inr p
   either_way r a l m p (then_by k _ q s) = go (either_way r a l k p q)
     where
@@ -166,7 +178,8 @@ module _ (M : Machine) (T : Telling M) (stated : PathMap T.Part) where
           by (stands e) = inl (then_by l m at_first (subst (λ v. Alone M T stated r v m) e s))
           by (steps b t w') = inr (subst (λ v. Passes M T stated r v l) (one_step r k b m t s) w')
 
-module _ (M : Machine) (T : Telling M) (P : Path → M.Local → Type 0) (of : M.Local → ℕ) (most : ℕ) (counts : Counts M) (tells : Tells M T P of most) (stated : PathMap T.Part) where
+module _ (M : Machine) (T : Telling M) (P : Path → M.Local → Type 0) (of : M.Local → ℕ) (most : ℕ) (counts : Counts M)
+    (tells : Tells M T P of most) (stated : PathMap T.Part) where
   pub step_forks : (r : Path) (l a : M.Local) → Alone M T stated r l a → M.forks l ≤ M.forks a
   step_forks r l a (by_move e) = let h = counts.moves r l a e in omega arith
   step_forks r l a (by_fork c e) = let h = counts.forker r l a c e in omega arith
@@ -181,7 +194,8 @@ module _ (M : Machine) (T : Telling M) (P : Path → M.Local → Type 0) (of : M
   passes_forks r a l (then_by k _ p s) = let h = passes_forks r a k p in let g = step_forks r k l s in omega arith
 
   -- what was forked was counted
-  pub forked_since : (r : Path) (l l' c m : M.Local) → M.next r l ≡ Forks l' c → Passes M T stated r l m → (l ≡ m) ⊎ (M.forks l < M.forks m)
+  pub forked_since : (r : Path) (l l' c m : M.Local) → M.next r l ≡ Forks l' c → Passes M T stated r l m
+      → (l ≡ m) ⊎ (M.forks l < M.forks m)
   forked_since r l l' c m e p = go (headed M T stated r l m p)
     where
       go : Headed M T stated r l m → (l ≡ m) ⊎ (M.forks l < M.forks m)
@@ -193,7 +207,8 @@ module _ (M : Machine) (T : Telling M) (P : Path → M.Local → Type 0) (of : M
           let g = passes_forks r b m q in
           inr (omega arith)
 
-  step_lists : (r : Path) (l a : M.Local) (t : Path) → Alone M T stated r l a → IsIn t (T.joined l) → IsIn t (T.joined a)
+  step_lists : (r : Path) (l a : M.Local) (t : Path) → Alone M T stated r l a → IsIn t (T.joined l)
+      → IsIn t (T.joined a)
   step_lists r l a t (by_move e) i = subst (IsIn t) (sym (tells.moves r l a e)) i
   step_lists r l a t (by_fork c e) i = subst (IsIn t) (sym (tells.forker r l a c e)) i
   step_lists r l a t (by_join q e n x) i = by (stated q) x
@@ -203,7 +218,8 @@ module _ (M : Machine) (T : Telling M) (P : Path → M.Local → Type 0) (of : M
       by (Some p) x = subst (IsIn t) (sym (tells.takes-lists r q l a p e x)) (in_front t (T.joined l) (q ∷ []) i)
 
   -- a join is listed
-  pub takes_lists : (r : Path) (l a : M.Local) (q : Path) → M.next r l ≡ Joins q → Takes M T stated r l q a → IsIn q (T.joined a)
+  pub takes_lists : (r : Path) (l a : M.Local) (q : Path) → M.next r l ≡ Joins q → Takes M T stated r l q a
+      → IsIn q (T.joined a)
   takes_lists r l a q e x = by (stated q) x.is
     where
       by : (o : Option T.Part) → taken M T stated r l q o ≡ Some a → IsIn q (T.joined a)
@@ -211,7 +227,8 @@ module _ (M : Machine) (T : Telling M) (P : Path → M.Local → Type 0) (of : M
       by (Some p) y = subst (IsIn q) (sym (tells.takes-lists r q l a p e y)) (in_last q (T.joined l))
 
   -- what is listed stays so up to the computed part
-  pub computed_lists : (r : Path) (l : M.Local) (c : Computed T.Part) (d : T.Part) (t : Path) → c ≡ made d → Computes M T stated r l c → IsIn t (T.joined l) → IsIn t (T.joins d)
+  pub computed_lists : (r : Path) (l : M.Local) (c : Computed T.Part) (d : T.Part) (t : Path) → c ≡ made d
+      → Computes M T stated r l c → IsIn t (T.joined l) → IsIn t (T.joins d)
   computed_lists r l c d t e (ends _ f) i =
       let is : T.part r l ≡ d = cc in
       subst (λ v. IsIn t (T.joins v)) is (subst (IsIn t) (sym (tells.part-joins r l)) i)
@@ -220,7 +237,8 @@ module _ (M : Machine) (T : Telling M) (P : Path → M.Local → Type 0) (of : M
   computed_lists r l c d t e (goes _ b _ s rest) i = computed_lists r b c d t e rest (step_lists r l b t s i)
 
   -- what a run has listed, no stated part of an earlier revision lists
-  pub passes_once : (r : Path) (a l : M.Local) (q : Path) → T.joined a ≡ [] → Passes M T stated r a l → IsIn q (T.joined l) → JoinedEarlier M T stated r q → ⊥
+  pub passes_once : (r : Path) (a l : M.Local) (q : Path) → T.joined a ≡ [] → Passes M T stated r a l
+      → IsIn q (T.joined l) → JoinedEarlier M T stated r q → ⊥
   passes_once r a l q none at_first i j = subst (IsIn q) none i
   passes_once r a l q none (then_by k _ p s) i j = by (λ h. passes_once r a k q none p h j) s
     where
@@ -240,22 +258,27 @@ module _ (M : Machine) (T : Telling M) (P : Path → M.Local → Type 0) (of : M
   module _ (main : M.Local) where
     pub begins_one : (r : Path) (a b : M.Local) → Begins M T main stated r a → Begins M T main stated r b → a ≡ b
     begins_one r a b (of_main _ _ e f) (of_main _ _ e' f') = f ∙ sym f'
-    begins_one r a b (of_main _ _ e f) (of_fork _ _ g first l l' p bg sg pg fg at) = absurd (not_root g (M.forks l) (sym e ∙ at))
-    begins_one r a b (of_fork _ _ g first l l' p bg sg pg fg at) (of_main _ _ e f) = absurd (not_root g (M.forks l) (sym e ∙ at))
+    begins_one r a b (of_main _ _ e f) (of_fork _ _ g first l l' p bg sg pg fg at) =
+        absurd (not_root g (M.forks l) (sym e ∙ at))
+    begins_one r a b (of_fork _ _ g first l l' p bg sg pg fg at) (of_main _ _ e f) =
+        absurd (not_root g (M.forks l) (sym e ∙ at))
     begins_one r a b (of_fork _ _ g first l l' p bg sg pg fg at) (of_fork _ _ h first' m m' p' bh sh ph fh at') =
         go (λ x. begins_one g first first' bg x) (child-same g h (M.forks l) (M.forks m) (sym at ∙ at'))
       where
         go : (Begins M T main stated g first' → first ≡ first') → (g ≡ h) × (M.forks l ≡ M.forks m) → a ≡ b
         go later both =
             let firsts : first ≡ first' = later (subst (λ v. Begins M T main stated v first') (sym both.0) bh) in
-            let pm : Passes M T stated g first m = subst (λ v. Passes M T stated g v m) (sym firsts) (subst (λ v. Passes M T stated v first' m) (sym both.0) ph) in
+            let pm : Passes M T stated g first m =
+            subst (λ v. Passes M T stated g v m) (sym firsts)
+            (subst (λ v. Passes M T stated v first' m) (sym both.0) ph) in
             let fm : M.next g m ≡ Forks m' b = subst (λ v. M.next v m ≡ Forks m' b) (sym both.0) fh in
             by fm both.1 (either_way M T stated g first l m pg pm)
           where
             same : M.next g m ≡ Forks m' b → l ≡ m → a ≡ b
             same fm e = (same_fork M fg (ap (M.next g) e ∙ fm)).1
 
-            by : M.next g m ≡ Forks m' b → M.forks l ≡ M.forks m → Passes M T stated g l m ⊎ Passes M T stated g m l → a ≡ b
+            by : M.next g m ≡ Forks m' b → M.forks l ≡ M.forks m → Passes M T stated g l m ⊎ Passes M T stated g m l
+                → a ≡ b
             by fm k (inl w) = from (forked_since g l l' a m fg w)
               where
                 from : (l ≡ m) ⊎ (M.forks l < M.forks m) → a ≡ b

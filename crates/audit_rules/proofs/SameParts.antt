@@ -139,7 +139,8 @@ module _ {A : Type 0} (same : (x y : A) → Same x y) where
   same_lists [] (y ∷ ys) = inr (λ e. cc)
   same_lists (x ∷ xs) [] = inr (λ e. cc)
   same_lists (x ∷ xs) (y ∷ ys) =
-      by_parts (λ h. let hd : x ≡ y = h.0 in let tl : xs ≡ ys = h.1 in λ i. hd i ∷ tl i) (λ e. (cc, cc)) (both (same x y) (same_lists xs ys))
+      by_parts (λ h. let hd : x ≡ y = h.0 in let tl : xs ≡ ys = h.1 in λ i. hd i ∷ tl i) (λ e. (cc, cc))
+      (both (same x y) (same_lists xs ys))
 
 same_change : (x y : Change) → Same x y
 same_change x y =
@@ -160,11 +161,14 @@ same_end part_end.Done part_end.Done = inl refl
 same_end part_end.Done (part_end.Trapped t p) = inr (λ e. cc)
 same_end (part_end.Trapped t p) part_end.Done = inr (λ e. cc)
 same_end (part_end.Trapped t p) (part_end.Trapped u q) =
-    by_parts {P = (t ≡ u) × (p ≡ q)} (λ h. let a = h.0 in let b = h.1 in λ i. part_end.Trapped (a i) (b i)) (λ e. (cc, cc)) (both (same_trap t u) (decide_same p q))
+    by_parts {P = (t ≡ u) × (p ≡ q)} (λ h. let a = h.0 in let b = h.1 in λ i. part_end.Trapped (a i) (b i))
+    (λ e. (cc, cc)) (both (same_trap t u) (decide_same p q))
 
 pub same_part : (x y : Part) → Same x y
 same_part x y =
-    by_parts {P = (x.path ≡ y.path) × ((x.events ≡ y.events) × ((x.end ≡ y.end) × ((x.fuel ≡ y.fuel) × ((x.written ≡ y.written) × (x.text ≡ y.text)))))}
+    by_parts {P =
+    (x.path ≡ y.path)
+    × ((x.events ≡ y.events) × ((x.end ≡ y.end) × ((x.fuel ≡ y.fuel) × ((x.written ≡ y.written) × (x.text ≡ y.text)))))}
     (λ h.
     let a = h.0 in
     let b = h.1.0 in
@@ -173,5 +177,12 @@ same_part x y =
     let f = h.1.1.1.1.0 in
     let g = h.1.1.1.1.1 in
     λ i. record { path = a i; events = b i; end = c i; fuel = d i; written = f i; text = g i })
-    (λ e. (ap (λ z. z.path) e, (ap (λ z. z.events) e, (ap (λ z. z.end) e, (ap (λ z. z.fuel) e, (ap (λ z. z.written) e, ap (λ z. z.text) e))))))
-    (both (decide_same x.path y.path) (both (same_lists same_event x.events y.events) (both (same_end x.end y.end) (both (same_number x.fuel y.fuel) (both (same_lists same_change x.written y.written) (decide_same x.text y.text))))))
+    (λ e. (
+      ap (λ z. z.path) e,
+      (ap (λ z. z.events) e, (ap (λ z. z.end) e, (ap (λ z. z.fuel) e, (ap (λ z. z.written) e, ap (λ z. z.text) e)))),
+    ))
+    (both (decide_same x.path y.path)
+    (both (same_lists same_event x.events y.events)
+    (both (same_end x.end y.end)
+    (both (same_number x.fuel y.fuel)
+    (both (same_lists same_change x.written y.written) (decide_same x.text y.text))))))

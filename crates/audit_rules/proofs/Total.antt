@@ -24,16 +24,19 @@ one_less : (p t : Path) (js : List Path) → one_if (decide_in p (js ++ t ∷ []
 unfolding one_if
 one_less p t js = go (decide_in p js) (decide_in p (js ++ t ∷ []))
   where
-    go : (a : IsIn p js ⊎ (IsIn p js → ⊥)) (b : IsIn p (js ++ t ∷ []) ⊎ (IsIn p (js ++ t ∷ []) → ⊥)) → one_if b ≤ one_if a
+    go : (a : IsIn p js ⊎ (IsIn p js → ⊥)) (b : IsIn p (js ++ t ∷ []) ⊎ (IsIn p (js ++ t ∷ []) → ⊥))
+        → one_if b ≤ one_if a
     go a (inl i) = omega arith
     go (inl i) (inr n) = absurd (n (in_front p js (t ∷ []) i))
     go (inr m) (inr n) = omega arith
 
-one_gone : (t : Path) (js : List Path) → (IsIn t js → ⊥) → one_if (decide_in t (js ++ t ∷ [])) + 1 ≤ one_if (decide_in t js)
+one_gone : (t : Path) (js : List Path) → (IsIn t js → ⊥)
+    → one_if (decide_in t (js ++ t ∷ [])) + 1 ≤ one_if (decide_in t js)
 unfolding one_if
 one_gone t js fresh = go (decide_in t js) (decide_in t (js ++ t ∷ []))
   where
-    go : (a : IsIn t js ⊎ (IsIn t js → ⊥)) (b : IsIn t (js ++ t ∷ []) ⊎ (IsIn t (js ++ t ∷ []) → ⊥)) → one_if b + 1 ≤ one_if a
+    go : (a : IsIn t js ⊎ (IsIn t js → ⊥)) (b : IsIn t (js ++ t ∷ []) ⊎ (IsIn t (js ++ t ∷ []) → ⊥))
+        → one_if b + 1 ≤ one_if a
     go (inl i) b = absurd (fresh i)
     go (inr m) (inl i) = omega arith
     go (inr m) (inr n) = absurd (n (in_last t js))
@@ -43,7 +46,8 @@ unfolding left
 left_less [] t js = omega arith
 left_less (p ∷ ps) t js = let a = one_less p t js in let b = left_less ps t js in omega arith
 
-pub left_gone : (ps : List Path) (t : Path) (js : List Path) → IsIn t ps → (IsIn t js → ⊥) → left ps (js ++ t ∷ []) + 1 ≤ left ps js
+pub left_gone : (ps : List Path) (t : Path) (js : List Path) → IsIn t ps → (IsIn t js → ⊥)
+    → left ps (js ++ t ∷ []) + 1 ≤ left ps js
 unfolding left
 left_gone [] t js i fresh = absurd i
 left_gone (p ∷ ps) t js (inl e) fresh =
@@ -52,17 +56,23 @@ left_gone (p ∷ ps) t js (inl e) fresh =
     omega arith
 left_gone (p ∷ ps) t js (inr i) fresh = let a = one_less p t js in let b = left_gone ps t js i fresh in omega arith
 
-module _ (M : Machine) (T : Telling M) (P : Path → M.Local → Type 0) (of : M.Local → ℕ) (most : ℕ) (counts : Counts M) (tells : Tells M T P of most) (weight : M.Local → ℕ) (spends : Spends M 1 weight) (main : M.Local) (stated : PathMap T.Part) (all : List Path) (covers : (q : Path) (p : T.Part) → stated q ≡ Some p → IsIn q all) where
+module _ (M : Machine) (T : Telling M) (P : Path → M.Local → Type 0) (of : M.Local → ℕ) (most : ℕ) (counts : Counts M)
+    (tells : Tells M T P of most) (weight : M.Local → ℕ) (spends : Spends M 1 weight) (main : M.Local)
+    (stated : PathMap T.Part) (all : List Path)
+    (covers : (q : Path) (p : T.Part) → stated q ≡ Some p → IsIn q all) where
   abbrev pub Ends : Path → M.Local → Type 0
   Ends r l = (c : Computed T.Part) × Computes M T stated r l c
 
   -- ---- whether a stated part before r joins q
 
-  earlier_among : (r q : Path) (ps : List Path) → JoinedEarlier M T stated r q ⊎ ((j : JoinedEarlier M T stated r q) → IsIn j.joiner ps → ⊥)
+  earlier_among : (r q : Path) (ps : List Path)
+      → JoinedEarlier M T stated r q ⊎ ((j : JoinedEarlier M T stated r q) → IsIn j.joiner ps → ⊥)
   earlier_among r q [] = inr (λ j i. i)
   earlier_among r q (s ∷ ps) = go (earlier_among r q ps) (stated s) refl (cases_Bool (before s r))
     where
-      go : JoinedEarlier M T stated r q ⊎ ((j : JoinedEarlier M T stated r q) → IsIn j.joiner ps → ⊥) → (o : Option T.Part) → stated s ≡ o → (before s r ≡ true) ⊎ (before s r ≡ false) → JoinedEarlier M T stated r q ⊎ ((j : JoinedEarlier M T stated r q) → IsIn j.joiner (s ∷ ps) → ⊥)
+      go : JoinedEarlier M T stated r q ⊎ ((j : JoinedEarlier M T stated r q) → IsIn j.joiner ps → ⊥)
+          → (o : Option T.Part) → stated s ≡ o → (before s r ≡ true) ⊎ (before s r ≡ false)
+          → JoinedEarlier M T stated r q ⊎ ((j : JoinedEarlier M T stated r q) → IsIn j.joiner (s ∷ ps) → ⊥)
       go (inl j) o e b = inl j
       go (inr none) None e b = inr not_one
         where
@@ -76,7 +86,8 @@ module _ (M : Machine) (T : Telling M) (P : Path → M.Local → Type 0) (of : M
           not_one j (inr i) = none j i
       go (inr none) (Some p) e (inl sooner) = by (decide_in q (T.joins p))
         where
-          by : IsIn q (T.joins p) ⊎ (IsIn q (T.joins p) → ⊥) → JoinedEarlier M T stated r q ⊎ ((j : JoinedEarlier M T stated r q) → IsIn j.joiner (s ∷ ps) → ⊥)
+          by : IsIn q (T.joins p) ⊎ (IsIn q (T.joins p) → ⊥)
+              → JoinedEarlier M T stated r q ⊎ ((j : JoinedEarlier M T stated r q) → IsIn j.joiner (s ∷ ps) → ⊥)
           by (inl i) = inl (record { joiner = s; part = p; states = e; earlier = sooner; lists = i })
           by (inr n) = inr not_one
             where
@@ -89,7 +100,9 @@ module _ (M : Machine) (T : Telling M) (P : Path → M.Local → Type 0) (of : M
   decide_twice : (r : Path) (l : M.Local) (q : Path) → IsTwice M T stated r l q ⊎ (IsTwice M T stated r l q → ⊥)
   decide_twice r l q = go (decide_in q (T.joined l)) (earlier_among r q all)
     where
-      go : IsIn q (T.joined l) ⊎ (IsIn q (T.joined l) → ⊥) → JoinedEarlier M T stated r q ⊎ ((j : JoinedEarlier M T stated r q) → IsIn j.joiner all → ⊥) → IsTwice M T stated r l q ⊎ (IsTwice M T stated r l q → ⊥)
+      go : IsIn q (T.joined l) ⊎ (IsIn q (T.joined l) → ⊥)
+          → JoinedEarlier M T stated r q ⊎ ((j : JoinedEarlier M T stated r q) → IsIn j.joiner all → ⊥)
+          → IsTwice M T stated r l q ⊎ (IsTwice M T stated r l q → ⊥)
       go (inl i) e = inl (inl i)
       go (inr n) (inl j) = inl (inr j)
       go (inr n) (inr none) = inr neither
@@ -104,7 +117,9 @@ module _ (M : Machine) (T : Telling M) (P : Path → M.Local → Type 0) (of : M
   rest l = left all (T.joined l)
 
   -- an own run ends where it does after a step of less weight, and after a join
-  by_next : (r : Path) (n : ℕ) → ((l : M.Local) → rest l + 1 ≤ n → Ends r l) → (l : M.Local) → rest l ≤ n → ((l' : M.Local) → Alone M T stated r l l' → weight l' + 1 ≤ weight l → T.joined l' ≡ T.joined l → Ends r l') → Ends r l
+  by_next : (r : Path) (n : ℕ) → ((l : M.Local) → rest l + 1 ≤ n → Ends r l) → (l : M.Local) → rest l ≤ n
+      → ((l' : M.Local) → Alone M T stated r l l' → weight l' + 1 ≤ weight l → T.joined l' ≡ T.joined l → Ends r l')
+      → Ends r l
   by_next r n after l few on = go (M.next r l) refl on
     where
       On : Type 0
@@ -136,14 +151,19 @@ module _ (M : Machine) (T : Telling M) (P : Path → M.Local → Type 0) (of : M
                   with_it (Some l') f =
                       let s : Alone M T stated r l l' = by_join q e once (ap (taken M T stated r l q) so ∙ f) in
                       let gone = left_gone all q (T.joined l) (covers q p so) (λ i. once (inl i)) in
-                      let less : rest l' + 1 ≤ rest l = subst (λ js. left all js + 1 ≤ left all (T.joined l)) (sym (tells.takes-lists r q l l' p e f)) gone in
+                      let less : rest l' + 1 ≤ rest l =
+                      subst (λ js. left all js + 1 ≤ left all (T.joined l)) (sym (tells.takes-lists r q l l' p e f))
+                      gone in
                       let h = after l' (omega arith) in
                       (h.0, goes l l' h.0 s h.1)
 
   -- up to its next join, by its weight
-  to_join : (r : Path) (n : ℕ) → ((l : M.Local) → rest l + 1 ≤ n → Ends r l) → (w : ℕ) (l : M.Local) → weight l ≤ w → rest l ≤ n → Ends r l
+  to_join : (r : Path) (n : ℕ) → ((l : M.Local) → rest l + 1 ≤ n → Ends r l) → (w : ℕ) (l : M.Local) → weight l ≤ w
+      → rest l ≤ n → Ends r l
   to_join r n after zero l heavy few = by_next r n after l few (λ l' s less same. absurd (omega arith))
-  to_join r n after (suc v) l heavy few = by_next r n after l few (λ l' s less same. to_join r n after v l' (omega arith) (subst (λ js. left all js ≤ n) (sym same) few))
+  to_join r n after (suc v) l heavy few =
+      by_next r n after l few
+      (λ l' s less same. to_join r n after v l' (omega arith) (subst (λ js. left all js ≤ n) (sym same) few))
 
   own_ends : (r : Path) (n : ℕ) (l : M.Local) → rest l ≤ n → Ends r l
   own_ends r zero l few = to_join r zero (λ l' none. absurd (omega arith)) (weight l) l (omega arith) few
@@ -166,7 +186,8 @@ module _ (M : Machine) (T : Telling M) (P : Path → M.Local → Type 0) (of : M
   NeverForks : Path → M.Local → ℕ → Type 0
   NeverForks r l k = (m m' c : M.Local) → Passes M T stated r l m → M.next r m ≡ Forks m' c → M.forks m ≢ k
 
-  pub passes_from : (r : Path) (a b l : M.Local) → Alone M T stated r a b → Passes M T stated r b l → Passes M T stated r a l
+  pub passes_from : (r : Path) (a b l : M.Local) → Alone M T stated r a b → Passes M T stated r b l
+      → Passes M T stated r a l
   passes_from r a b l s at_first = then_by a b at_first s
   passes_from r a b l s (then_by k _ p t) = then_by k l (passes_from r a b k s p) t
 
@@ -182,15 +203,26 @@ module _ (M : Machine) (T : Telling M) (P : Path → M.Local → Type 0) (of : M
       go (stands is) = stop.1 m' c (ap (M.next r) is ∙ does)
       go (steps b s w) = stop.0 b s
 
-  find_fork : (r : Path) (l : M.Local) (c : Computed T.Part) (k : ℕ) → Computes M T stated r l c → ForksAt r l k ⊎ NeverForks r l k
+  find_fork : (r : Path) (l : M.Local) (c : Computed T.Part) (k : ℕ) → Computes M T stated r l c
+      → ForksAt r l k ⊎ NeverForks r l k
   unfolding NeverForks
-  find_fork r l c k (ends _ e) = inr (stops_never r l k (λ l' s. step_goes M T stated r l l' s e, λ l' d f. fork_end M f e))
-  find_fork r l c k (at_twice _ q e t) = inr (stops_never r l k (λ l' s. (step_takes M T stated r l l' q s e).once t, λ l' d f. fork_join M f e))
-  find_fork r l c k (at_missing _ q e n t) = inr (stops_never r l k (λ l' s. none_some (sym t ∙ (step_takes M T stated r l l' q s e).is), λ l' d f. fork_join M f e))
+  find_fork r l c k (ends _ e) =
+      inr (stops_never r l k (λ l' s. step_goes M T stated r l l' s e, λ l' d f. fork_end M f e))
+  find_fork r l c k (at_twice _ q e t) =
+      inr (stops_never r l k (λ l' s. (step_takes M T stated r l l' q s e).once t, λ l' d f. fork_join M f e))
+  find_fork r l c k (at_missing _ q e n t) = inr (stops_never r l k
+      (λ l' s. none_some (sym t ∙ (step_takes M T stated r l l' q s e).is), λ l' d f. fork_join M f e))
   find_fork r l c k (goes _ b _ s more) = go (find_fork r b c k more) (M.next r l) refl
     where
       go : ForksAt r b k ⊎ NeverForks r b k → (e : Event M.Local) → M.next r l ≡ e → ForksAt r l k ⊎ NeverForks r l k
-      go (inl f) v e = inl (record { at = f.at; after = f.after; child_state = f.child_state; passes = passes_from r l b f.at s f.passes; does = f.does; number = f.number })
+      go (inl f) v e = inl (record {
+        at = f.at;
+        after = f.after;
+        child_state = f.child_state;
+        passes = passes_from r l b f.at s f.passes;
+        does = f.does;
+        number = f.number;
+      })
       go (inr none) v e = here v e
         where
           later : ((m' c : M.Local) → M.next r l ≡ Forks m' c → M.forks l ≢ k) → NeverForks r l k
@@ -198,7 +230,8 @@ module _ (M : Machine) (T : Telling M) (P : Path → M.Local → Type 0) (of : M
             where
               by : Headed M T stated r l m → ⊥
               by (stands same) = first m' c (ap (M.next r) same ∙ does) (ap M.forks same ∙ is)
-              by (steps d t w) = none m m' c (subst (λ v. Passes M T stated r v m) (one_step M T stated r l d b t s) w) does is
+              by (steps d t w) =
+                  none m m' c (subst (λ v. Passes M T stated r v m) (one_step M T stated r l d b t s) w) does is
 
           here : (v : Event M.Local) → M.next r l ≡ v → ForksAt r l k ⊎ NeverForks r l k
           here (Moves l') e = inr (later (λ m' c f is. move_fork M e f))
@@ -207,7 +240,8 @@ module _ (M : Machine) (T : Telling M) (P : Path → M.Local → Type 0) (of : M
           here (Forks l' c) e = which (cases_order (M.forks l) k)
             where
               which : (M.forks l ≡ k) ⊎ ((M.forks l < k) ⊎ (k < M.forks l)) → ForksAt r l k ⊎ NeverForks r l k
-              which (inl is) = inl (record { at = l; after = l'; child_state = c; passes = at_first; does = e; number = is })
+              which (inl is) =
+                  inl (record { at = l; after = l'; child_state = c; passes = at_first; does = e; number = is })
               which (inr (inl less)) = inr (later (λ m' d f is. omega arith))
               which (inr (inr more)) = inr (later (λ m' d f is. omega arith))
 
@@ -234,7 +268,10 @@ module _ (M : Machine) (T : Telling M) (P : Path → M.Local → Type 0) (of : M
       run = own_run_ends f b.0
 
       by : (o : Option T.Part) → stated f ≡ o → ForksAt f b.0 k ⊎ NeverForks f b.0 k → Begun (child f k)
-      by (Some p) so (inl h) = inl (h.child_state, of_fork (child f k) h.child_state f b.0 h.at h.after p b.1 so h.passes h.does (ap (child f) (sym h.number)))
+      by (Some p) so (inl h) = inl (
+        h.child_state,
+        of_fork (child f k) h.child_state f b.0 h.at h.after p b.1 so h.passes h.does (ap (child f) (sym h.number)),
+      )
       by None so h = inr no_child
         where
           no_child : (a : M.Local) → Begins M T main stated (child f k) a → ⊥
@@ -248,9 +285,11 @@ module _ (M : Machine) (T : Telling M) (P : Path → M.Local → Type 0) (of : M
           no_child a (of_main _ _ e is) = not_main f k e
           no_child a (of_fork _ _ g first l l' p' bg sg pg does at) =
               let both = child-same f g k (M.forks l) at in
-              let begins : Begins M T main stated f first = subst (λ v. Begins M T main stated v first) (sym both.0) bg in
+              let begins : Begins M T main stated f first =
+              subst (λ v. Begins M T main stated v first) (sym both.0) bg in
               let same : first ≡ b.0 = begins_one M T P of most counts tells stated main f first b.0 begins b.1 in
-              let passes : Passes M T stated f b.0 l = subst (λ v. Passes M T stated f v l) same (subst (λ v. Passes M T stated v first l) (sym both.0) pg) in
+              let passes : Passes M T stated f b.0 l =
+              subst (λ v. Passes M T stated f v l) same (subst (λ v. Passes M T stated v first l) (sym both.0) pg) in
               never l l' a passes (subst (λ v. M.next v l ≡ Forks l' a) (sym both.0) does) (sym both.1)
 
   walk : (f rest : Path) → Begun f → Begun (f ++ rest)

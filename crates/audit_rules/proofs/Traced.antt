@@ -40,7 +40,8 @@ pub found : (ps : List Part) (r : Path) (p : Part) → part_at ps r ≡ Some p �
 found [] r p e = none_some e
 found (q ∷ ps) r p e = go (same q.path r) refl (λ f. found ps r p f) e
   where
-    go : (b : Bool) → same q.path r ≡ b → (part_at ps r ≡ Some p → Among ps p × (p.path ≡ r)) → cond b (Some q) (part_at ps r) ≡ Some p → Among (q ∷ ps) p × (p.path ≡ r)
+    go : (b : Bool) → same q.path r ≡ b → (part_at ps r ≡ Some p → Among ps p × (p.path ≡ r))
+        → cond b (Some q) (part_at ps r) ≡ Some p → Among (q ∷ ps) p × (p.path ≡ r)
     go true f later e = let is : q ≡ p = cc in (inl is, subst (λ v. v.path ≡ r) is (same-eq q.path r f))
     go false f later e = let h = later e in (inr h.0, h.1)
 
@@ -55,14 +56,16 @@ none_behind p ps order = go (part_at ps p.path) refl
         absurd (before_irrefl p.path (subst (λ v. before p.path v ≡ true) h.1 (order.0 q h.0)))
 
 -- a part that the other list has behind its first comes after that first
-behind : (p q : Part) (ps qs : List Part) → AllAlike (p ∷ ps) (q ∷ qs) → InPostOrder (q ∷ qs) → p.path ≢ q.path → before q.path p.path ≡ true
+behind : (p q : Part) (ps qs : List Part) → AllAlike (p ∷ ps) (q ∷ qs) → InPostOrder (q ∷ qs) → p.path ≢ q.path
+    → before q.path p.path ≡ true
 behind p q ps qs alike order apart = go (part_at qs p.path) refl
   where
     there : part_at (q ∷ qs) p.path ≡ part_at qs p.path
     there = at_tail q qs p.path (λ e. apart (sym e))
 
     both : SameStated (Some p) (part_at qs p.path)
-    both = subst (λ v. SameStated v (part_at qs p.path)) (at_head p ps) (subst (SameStated (part_at (p ∷ ps) p.path)) there (alike p.path))
+    both = subst (λ v. SameStated v (part_at qs p.path)) (at_head p ps)
+        (subst (SameStated (part_at (p ∷ ps) p.path)) there (alike p.path))
 
     go : (o : Option Part) → part_at qs p.path ≡ o → before q.path p.path ≡ true
     go None e = absurd (subst (SameStated (Some p)) e both)
@@ -83,11 +86,14 @@ same_list (p ∷ ps) (q ∷ qs) a b h = go (λ k. same_list ps qs a.1 b.1 k) (de
     go : (AllAlike ps qs → SameTrace ps qs) → (p.path ≡ q.path) ⊎ (p.path ≢ q.path) → SameTrace (p ∷ ps) (q ∷ qs)
     go later (inr apart) =
         let one = behind p q ps qs h b apart in
-        let two = behind q p qs ps (λ r. alike_sym (part_at (p ∷ ps) r) (part_at (q ∷ qs) r) (h r)) a (λ e. apart (sym e)) in
+        let two =
+        behind q p qs ps (λ r. alike_sym (part_at (p ∷ ps) r) (part_at (q ∷ qs) r) (h r)) a (λ e. apart (sym e)) in
         absurd (before_irrefl p.path (before_trans p.path q.path p.path two one))
     go later (inl e) =
         let here : part_at (q ∷ qs) p.path ≡ Some q = ap (part_at (q ∷ qs)) e ∙ at_head q qs in
-        let first : shown_part p ≡ shown_part q = subst (λ v. SameStated v (Some q)) (at_head p ps) (subst (SameStated (part_at (p ∷ ps) p.path)) here (h p.path)) in
+        let first : shown_part p ≡ shown_part q =
+        subst (λ v. SameStated v (Some q)) (at_head p ps)
+        (subst (SameStated (part_at (p ∷ ps) p.path)) here (h p.path)) in
         let rest : SameTrace ps qs = later (λ r. tails r (decide_same p.path r)) in
         λ i. first i ∷ rest i
       where
@@ -97,14 +103,16 @@ same_list (p ∷ ps) (q ∷ qs) a b h = go (λ k. same_list ps qs a.1 b.1 k) (de
             let none_q : part_at qs r ≡ None = ap (part_at qs) (sym pr ∙ e) ∙ none_behind q qs b in
             subst (λ v. SameStated v (part_at qs r)) (sym none_p) (subst (SameStated None) (sym none_q) tt)
         tails r (inr apart) =
-            subst (λ v. SameStated v (part_at qs r)) (at_tail p ps r apart) (subst (SameStated (part_at (p ∷ ps) r)) (at_tail q qs r (λ f. apart (e ∙ f))) (h r))
+            subst (λ v. SameStated v (part_at qs r)) (at_tail p ps r apart)
+            (subst (SameStated (part_at (p ∷ ps) r)) (at_tail q qs r (λ f. apart (e ∙ f))) (h r))
 
 -- lists with one text have alike parts
 pub lists_alike : (ps qs : List Part) → SameTrace ps qs → AllAlike ps qs
 lists_alike [] [] e r = tt
 lists_alike [] (q ∷ qs) e r = absurd cc
 lists_alike (p ∷ ps) [] e r = absurd cc
-lists_alike (p ∷ ps) (q ∷ qs) e r = go (same p.path r) (same q.path r) (ap (λ v. same v r) paths) (lists_alike ps qs rest r)
+lists_alike (p ∷ ps) (q ∷ qs) e r =
+    go (same p.path r) (same q.path r) (ap (λ v. same v r) paths) (lists_alike ps qs rest r)
   where
     first : shown_part p ≡ shown_part q
     first = cc
@@ -115,14 +123,16 @@ lists_alike (p ∷ ps) (q ∷ qs) e r = go (same p.path r) (same q.path r) (ap (
     paths : p.path ≡ q.path
     paths = ap (λ v. v.path) first
 
-    go : (b c : Bool) → b ≡ c → SameStated (part_at ps r) (part_at qs r) → SameStated (cond b (Some p) (part_at ps r)) (cond c (Some q) (part_at qs r))
+    go : (b c : Bool) → b ≡ c → SameStated (part_at ps r) (part_at qs r)
+        → SameStated (cond b (Some p) (part_at ps r)) (cond c (Some q) (part_at qs r))
     go true true f later = first
     go true false f later = absurd (true≢false f)
     go false true f later = absurd (true≢false (sym f))
     go false false f later = later
 
 module _ (s : Setting) (fuel : ℕ) where
-  shows_alike : (r : Path) (o u : Option Part) (e : Option (Entry Local)) → Shows (calculus s) (calculus_parts s fuel) (main s fuel) (λ p. None) r o e → IsPartOf s r u e → SameStated o u
+  shows_alike : (r : Path) (o u : Option Part) (e : Option (Entry Local))
+      → Shows (calculus s) (calculus_parts s fuel) (main s fuel) (λ p. None) r o e → IsPartOf s r u e → SameStated o u
   shows_alike r None None None a b = tt
   shows_alike r None (Some q) None a b = absurd b
   shows_alike r None u (Some e) a b = absurd a
@@ -130,7 +140,8 @@ module _ (s : Setting) (fuel : ℕ) where
   shows_alike r (Some p) None (Some e) a b = absurd b
   shows_alike r (Some p) (Some q) (Some e) a b = a ∙ sym (ap shown_part b)
 
-  alike_shows : (r : Path) (o u : Option Part) (e : Option (Entry Local)) → SameStated o u → IsPartOf s r u e → Shows (calculus s) (calculus_parts s fuel) (main s fuel) (λ p. None) r o e
+  alike_shows : (r : Path) (o u : Option Part) (e : Option (Entry Local)) → SameStated o u → IsPartOf s r u e
+      → Shows (calculus s) (calculus_parts s fuel) (main s fuel) (λ p. None) r o e
   alike_shows r None None None a b = tt
   alike_shows r None None (Some e) a b = absurd b
   alike_shows r None (Some q) e a b = absurd a
@@ -142,13 +153,16 @@ pub covers : (ps : List Part) (q : Path) (p : Part) → part_at ps q ≡ Some p 
 covers [] q p e = none_some e
 covers (x ∷ ps) q p e = go (same x.path q) refl (λ f. covers ps q p f) e
   where
-    go : (b : Bool) → same x.path q ≡ b → (part_at ps q ≡ Some p → IsIn q (paths_of ps)) → cond b (Some x) (part_at ps q) ≡ Some p → IsIn q (paths_of (x ∷ ps))
+    go : (b : Bool) → same x.path q ≡ b → (part_at ps q ≡ Some p → IsIn q (paths_of ps))
+        → cond b (Some x) (part_at ps q) ≡ Some p → IsIn q (paths_of (x ∷ ps))
     go true f later e = inl (sym (same-eq x.path q f))
     go false f later e = inr (later e)
 
-total : (s : Setting) (fuel : ℕ) → IsAccepted s.program → (stated : List Part) (r : Path) → (c : Computed Part) × IsComputed (calculus s) (calculus_parts s fuel) (main s fuel) (part_at stated) r c
+total : (s : Setting) (fuel : ℕ) → IsAccepted s.program → (stated : List Part) (r : Path)
+    → (c : Computed Part) × IsComputed (calculus s) (calculus_parts s fuel) (main s fuel) (part_at stated) r c
 total s fuel well stated r =
-    computed (calculus s) (calculus_parts s fuel) (IsFit s) (λ l. l.fuel + l.forks) fuel (counts s) (tells s fuel well) weight (spends_weight s) (main s fuel) (part_at stated) (paths_of stated) (covers stated) r
+    computed (calculus s) (calculus_parts s fuel) (IsFit s) (λ l. l.fuel + l.forks) fuel (counts s) (tells s fuel well)
+    weight (spends_weight s) (main s fuel) (part_at stated) (paths_of stated) (covers stated) r
 
 -- ---- the true parts of the revisions of a list
 
@@ -179,9 +193,12 @@ module _ (s : Setting) (revs : PathMap (Entry Local)) where
   true_at : (ps : List Part) (r : Path) → part_at (true_parts ps) r ≡ true_if (part_at ps r)
   unfolding true_parts
   true_at [] r = refl
-  true_at (p ∷ ps) r = ap (λ v. cond (same v r) (Some (true_part p)) (part_at (true_parts ps) r)) (true_path p) ∙ go (same p.path r) (true_at ps r)
+  true_at (p ∷ ps) r =
+      ap (λ v. cond (same v r) (Some (true_part p)) (part_at (true_parts ps) r)) (true_path p)
+      ∙ go (same p.path r) (true_at ps r)
     where
-      go : (b : Bool) → part_at (true_parts ps) r ≡ true_if (part_at ps r) → cond b (Some (true_part p)) (part_at (true_parts ps) r) ≡ true_if (cond b (Some p) (part_at ps r))
+      go : (b : Bool) → part_at (true_parts ps) r ≡ true_if (part_at ps r)
+          → cond b (Some (true_part p)) (part_at (true_parts ps) r) ≡ true_if (cond b (Some p) (part_at ps r))
       go true later = refl
       go false later = later
 
@@ -202,15 +219,20 @@ module _ (s : Setting) (revs : PathMap (Entry Local)) where
           let xs : x.path ≡ h.0.path = ap (λ v. v.path) (sym h.2) ∙ true_path h.0 in
           ap (λ v. before v x.path) (true_path p) ∙ ap (before p.path) xs ∙ order.0 h.0 h.1
 
-  true_here : (p : Part) {r : Path} → p.path ≡ r → (e : Entry Local) → revs r ≡ Some e → true_part p ≡ part_of s r (local_of e)
+  true_here : (p : Part) {r : Path} → p.path ≡ r → (e : Entry Local) → revs r ≡ Some e
+      → true_part p ≡ part_of s r (local_of e)
   unfolding true_part true_in
   true_here p path e here = ap (true_in p) (ap revs path ∙ here) ∙ ap (λ v. part_of s v (local_of e)) path
 
-  module _ (fuel : ℕ) (ps : List Part) (shows : (r : Path) → Shows (calculus s) (calculus_parts s fuel) (main s fuel) (part_at ps) r (part_at ps r) (revs r)) where
+  module _ (fuel : ℕ) (ps : List Part)
+      (shows : (r : Path)
+      → Shows (calculus s) (calculus_parts s fuel) (main s fuel) (part_at ps) r (part_at ps r) (revs r)) where
     true_is : (r : Path) → IsPartOf s r (part_at (true_parts ps) r) (revs r)
-    true_is r = subst (λ v. IsPartOf s r v (revs r)) (sym (true_at ps r)) (go (part_at ps r) refl (revs r) refl (shows r))
+    true_is r = subst (λ v. IsPartOf s r v (revs r)) (sym (true_at ps r))
+        (go (part_at ps r) refl (revs r) refl (shows r))
       where
-        go : (o : Option Part) → part_at ps r ≡ o → (e : Option (Entry Local)) → revs r ≡ e → Shows (calculus s) (calculus_parts s fuel) (main s fuel) (part_at ps) r o e → IsPartOf s r (true_if o) e
+        go : (o : Option Part) → part_at ps r ≡ o → (e : Option (Entry Local)) → revs r ≡ e
+            → Shows (calculus s) (calculus_parts s fuel) (main s fuel) (part_at ps) r o e → IsPartOf s r (true_if o) e
         go None so None here h = tt
         go None so (Some e) here h = absurd h
         go (Some p) so None here h = absurd h
@@ -221,11 +243,13 @@ module _ (s : Setting) (revs : PathMap (Entry Local)) where
     true_trace : InPostOrder ps → IsTrace s (Live revs) (true_parts ps)
     true_trace order = (true_order ps order, true_is)
 
-not_twice : (s : Setting) (fuel : ℕ) (g : Global Local) (stated : List Part) → IsTraceOf (calculus s) (calculus_parts s fuel) (main s fuel) (part_at stated) g → g ≡ Twice → ⊥
+not_twice : (s : Setting) (fuel : ℕ) (g : Global Local) (stated : List Part)
+    → IsTraceOf (calculus s) (calculus_parts s fuel) (main s fuel) (part_at stated) g → g ≡ Twice → ⊥
 not_twice s fuel Twice stated is e = is
 not_twice s fuel (Live revs) stated is e = absurd cc
 
-told : (s : Setting) (fuel : ℕ) (g : Global Local) (stated : List Part) → InPostOrder stated → IsTraceOf (calculus s) (calculus_parts s fuel) (main s fuel) (part_at stated) g → IsTold s stated g
+told : (s : Setting) (fuel : ℕ) (g : Global Local) (stated : List Part) → InPostOrder stated
+    → IsTraceOf (calculus s) (calculus_parts s fuel) (main s fuel) (part_at stated) g → IsTold s stated g
 told s fuel Twice stated order is = absurd is
 told s fuel (Live revs) stated order is =
     let traced = true_trace s revs fuel stated is order in
@@ -238,11 +262,15 @@ told s fuel (Live revs) stated order is =
     }
   where
     by : (ps : List Part) → IsTrace s (Live revs) ps → SameTrace stated ps
-    by ps traced = same_list stated ps order traced.0 (λ r. shows_alike s fuel r (part_at stated r) (part_at ps r) (revs r) (is r) (traced.1 r))
+    by ps traced =
+        same_list stated ps order traced.0
+        (λ r. shows_alike s fuel r (part_at stated r) (part_at ps r) (revs r) (is r) (traced.1 r))
 
-shown : (s : Setting) (fuel : ℕ) (g : Global Local) (ps stated : List Part) → IsTrace s g ps → SameTrace stated ps → IsTraceOf (calculus s) (calculus_parts s fuel) (main s fuel) (part_at stated) g
+shown : (s : Setting) (fuel : ℕ) (g : Global Local) (ps stated : List Part) → IsTrace s g ps → SameTrace stated ps
+    → IsTraceOf (calculus s) (calculus_parts s fuel) (main s fuel) (part_at stated) g
 shown s fuel Twice ps stated traced same = absurd traced
-shown s fuel (Live revs) ps stated traced same = λ r. alike_shows s fuel r (part_at stated r) (part_at ps r) (revs r) (lists_alike stated ps same r) (traced.1 r)
+shown s fuel (Live revs) ps stated traced same =
+    λ r. alike_shows s fuel r (part_at stated r) (part_at ps r) (revs r) (lists_alike stated ps same r) (traced.1 r)
 
 pub yes_tells : Always YesTells
 yes_tells s fuel well stated order says rs g complete =
@@ -262,4 +290,5 @@ verdict_is_one s fuel well stated = one_verdict s fuel well (part_at stated)
 
 pub has_verdict : Always HasVerdict
 has_verdict s fuel well stated =
-    verdict (calculus s) (calculus_parts s fuel) (IsFit s) (λ l. l.fuel + l.forks) fuel (counts s) (tells s fuel well) weight (spends_weight s) (main s fuel) (part_at stated) (paths_of stated) (covers stated) same_part
+    verdict (calculus s) (calculus_parts s fuel) (IsFit s) (λ l. l.fuel + l.forks) fuel (counts s) (tells s fuel well)
+    weight (spends_weight s) (main s fuel) (part_at stated) (paths_of stated) (covers stated) same_part

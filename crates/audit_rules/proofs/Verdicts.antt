@@ -27,7 +27,8 @@ in_post_order (p ∷ q ∷ ps) h = go (in_post_order (q ∷ ps) h.1)
         behind x (inr i) = before_trans p.path q.path x.path h.0 (later.0 x i)
 
 pub yes_is_true : Always YesIsTrue
-yes_is_true s fuel well t form says rs g complete = yes_tells s fuel well t.parts (in_post_order t.parts form.order) says rs g complete
+yes_is_true s fuel well t form says rs g complete =
+    yes_tells s fuel well t.parts (in_post_order t.parts form.order) says rs g complete
 
 -- each computed part is that of a value
 value_of : Computed Part → computed.the_data
@@ -55,8 +56,10 @@ same_value c d e = sym (is_value c) ∙ ap value_of e ∙ is_value d
 
 one : Always (λ s fuel. (t : Trace) (v w : Verdict) → Audits s fuel t v → Audits s fuel t w → v ≡ w)
 one s fuel well t verdict.Yes verdict.Yes a b = refl
-one s fuel well t verdict.Yes (verdict.No r p c) a b = absurd ((verdict_is_one s fuel well t.parts).not_both a r p (computed_part c) b)
-one s fuel well t (verdict.No r p c) verdict.Yes a b = absurd ((verdict_is_one s fuel well t.parts).not_both b r p (computed_part c) a)
+one s fuel well t verdict.Yes (verdict.No r p c) a b =
+    absurd ((verdict_is_one s fuel well t.parts).not_both a r p (computed_part c) b)
+one s fuel well t (verdict.No r p c) verdict.Yes a b =
+    absurd ((verdict_is_one s fuel well t.parts).not_both b r p (computed_part c) a)
 one s fuel well t (verdict.No r p c) (verdict.No q o d) a b =
     let h = (verdict_is_one s fuel well t.parts).one_no r q p o (computed_part c) (computed_part d) a b in
     let x = h.0 in
@@ -67,8 +70,10 @@ one s fuel well t (verdict.No r p c) (verdict.No q o d) a b =
 pub each_has_one : Always EachHasOne
 each_has_one s fuel well t = go (has_verdict s fuel well t.parts)
   where
-    go : SaysYes s fuel t.parts ⊎ ((r : Path) × (c : Computed Part) × SaysNo s fuel t.parts r (part_at t.parts r) c) → HasOneVerdict s fuel t
-    go (inl yes_is) = record { verdict_is = verdict.Yes; is = yes_is; only = λ v h. one s fuel well t v verdict.Yes h yes_is }
+    go : SaysYes s fuel t.parts ⊎ ((r : Path) × (c : Computed Part) × SaysNo s fuel t.parts r (part_at t.parts r) c)
+        → HasOneVerdict s fuel t
+    go (inl yes_is) =
+        record { verdict_is = verdict.Yes; is = yes_is; only = λ v h. one s fuel well t v verdict.Yes h yes_is }
     go (inr h) =
         let v : Verdict = verdict.No h.0 (part_at t.parts h.0) (value_of h.1) in
         let is : Audits s fuel t v = subst (SaysNo s fuel t.parts h.0 (part_at t.parts h.0)) (sym (value_is h.1)) h.2 in

@@ -2,8 +2,8 @@
 //! stated part of the joinee, tells whether the stated parts are the trace of the run.
 //!
 //! `specs/Audited.antt` says it of any machine of revisions, `specs/Parts.antt` has the parts of
-//! the calculus, `specs/Traces.antt` the trace of a final state and its laws, and
-//! `specs/Verdicts.antt` what an audit answers.
+//! the calculus, `specs/Traces.antt` the trace of a final state and its laws, `specs/Traced.antt`
+//! the trace of a program, and `specs/Verdicts.antt` what an audit answers.
 #![tactic(auto)]
 
 mod laws;

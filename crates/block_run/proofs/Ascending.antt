@@ -49,11 +49,15 @@ module _ (seen : ℕ → ℕ) (root : ℕ → Option ℕ) where
           → IsAscending (written_below seen root n ++ written_there n (seen n) o)
       by None rec = subst IsAscending (sym (append-nil (written_below seen root n))) rec
       by (Some r) rec = λ i j v w lt ei ej.
-          split i j v w lt (last_or_before (written_below seen root n) (one_at n (seen n) r) i v ei) (last_or_before (written_below seen root n) (one_at n (seen n) r) j w ej)
+          split i j v w lt (last_or_before (written_below seen root n) (one_at n (seen n) r) i v ei)
+          (last_or_before (written_below seen root n) (one_at n (seen n) r) j w ej)
         where
           split : (i j : ℕ) (v w : Written) → i < j
-              → (slice_get (written_below seen root n) i ≡ Some v) ⊎ ((i ≡ length (written_below seen root n)) × (one_at n (seen n) r ≡ v))
-              → (slice_get (written_below seen root n) j ≡ Some w) ⊎ ((j ≡ length (written_below seen root n)) × (one_at n (seen n) r ≡ w)) → v.location < w.location
+              → (slice_get (written_below seen root n) i ≡ Some v)
+              ⊎ ((i ≡ length (written_below seen root n)) × (one_at n (seen n) r ≡ v))
+              → (slice_get (written_below seen root n) j ≡ Some w)
+              ⊎ ((j ≡ length (written_below seen root n)) × (one_at n (seen n) r ≡ w))
+              → v.location < w.location
           split i j v w lt (inl a) (inl b) = rec i j v w lt a b
           split i j v w lt (inl a) (inr b) =
               let less = below n i v a in

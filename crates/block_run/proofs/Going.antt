@@ -111,7 +111,8 @@ module _ (x : Instr) (q : Run) (unpaid : q.fuel + flag (is_charge (Some x)) ≡ 
   from_input_leads inputs (w ∷ ws) = input_leads ws (input_at inputs (int_of w))
   from_input_leads inputs [] = tt
 
-  either : (d : Bool) (u v : ℕ) → ((u ≡ suc q.at) ⊎ (target x ≡ Some u)) → ((v ≡ suc q.at) ⊎ (target x ≡ Some v)) → (((if d then u else v) ≡ suc q.at) ⊎ (target x ≡ Some (if d then u else v)))
+  either : (d : Bool) (u v : ℕ) → ((u ≡ suc q.at) ⊎ (target x ≡ Some u)) → ((v ≡ suc q.at) ⊎ (target x ≡ Some v))
+      → (((if d then u else v) ≡ suc q.at) ⊎ (target x ≡ Some (if d then u else v)))
   either true u v g h = g
   either false u v g h = h
 
@@ -121,7 +122,8 @@ module _ (x : Instr) (q : Run) (unpaid : q.fuel + flag (is_charge (Some x)) ≡ 
   jump_leads true to e [] = tt
   jump_leads false to e [] = tt
 
-  assert_if : (d : Bool) (ws : List ℕ) (e : Rattle.rev_num.specs.declared.outcome.Cause.Cause) → L (if d then faults q e else p.on q ws)
+  assert_if : (d : Bool) (ws : List ℕ) (e : Rattle.rev_num.specs.declared.outcome.Cause.Cause)
+      → L (if d then faults q e else p.on q ws)
   assert_if true ws e = tt
   assert_if false ws e = on_leads ws
 
@@ -143,16 +145,22 @@ same_fuel n = omega arith
 no_leaving : true ≡ false → ⊥
 no_leaving h = true≢false h
 
-pub leads : (vars : List CodeVar) (inputs : List ℤ) (read : ℕ → ℕ) (q : Run) (x : Instr) → leaves_block x ≡ false → Leads x q (plain vars inputs read q x)
+pub leads : (vars : List CodeVar) (inputs : List ℤ) (read : ℕ → ℕ) (q : Run) (x : Instr) → leaves_block x ≡ false
+    → Leads x q (plain vars inputs read q x)
 leads vars inputs read q (i.PushInt n) h = (inl refl, same_fuel q.fuel)
 leads vars inputs read q (i.PushBool v) h = (inl refl, same_fuel q.fuel)
 leads vars inputs read q i.PushNone h = (inl refl, same_fuel q.fuel)
-leads vars inputs read q (i.LoadLocal n) h = push_leads (i.LoadLocal n) q (same_fuel q.fuel) q.stack (slice_get q.locals n)
+leads vars inputs read q (i.LoadLocal n) h =
+    push_leads (i.LoadLocal n) q (same_fuel q.fuel) q.stack (slice_get q.locals n)
 leads vars inputs read q (i.StoreLocal n) h = store_leads (i.StoreLocal n) q (same_fuel q.fuel) n q.stack
-leads vars inputs read q (i.LoadShared v) h = from_scalar_leads (i.LoadShared v) q (same_fuel q.fuel) read (scalar vars v)
-leads vars inputs read q (i.StoreShared v) h = into_scalar_leads (i.StoreShared v) q (same_fuel q.fuel) refl (scalar vars v) q.stack
-leads vars inputs read q (i.LoadCell v) h = from_cell_leads (i.LoadCell v) q (same_fuel q.fuel) read (array vars v) q.stack
-leads vars inputs read q (i.StoreCell v) h = into_cell_leads (i.StoreCell v) q (same_fuel q.fuel) refl (array vars v) q.stack
+leads vars inputs read q (i.LoadShared v) h =
+    from_scalar_leads (i.LoadShared v) q (same_fuel q.fuel) read (scalar vars v)
+leads vars inputs read q (i.StoreShared v) h =
+    into_scalar_leads (i.StoreShared v) q (same_fuel q.fuel) refl (scalar vars v) q.stack
+leads vars inputs read q (i.LoadCell v) h =
+    from_cell_leads (i.LoadCell v) q (same_fuel q.fuel) read (array vars v) q.stack
+leads vars inputs read q (i.StoreCell v) h =
+    into_cell_leads (i.StoreCell v) q (same_fuel q.fuel) refl (array vars v) q.stack
 leads vars inputs read q (i.CheckCell v) h = over_cell_leads (i.CheckCell v) q (same_fuel q.fuel) (array vars v) q.stack
 leads vars inputs read q i.LoadInput h = from_input_leads i.LoadInput q (same_fuel q.fuel) inputs q.stack
 leads vars inputs read q i.CountInput h = (inl refl, same_fuel q.fuel)
@@ -197,26 +205,41 @@ at_most false n = omega arith
 once_more : (f m : ℕ) → suc f * m ≡ f * m + m
 once_more f m = omega arith
 
-paid_less : (xs : List Instr) (at fuel fuel' : ℕ) → fuel' + 1 ≡ fuel → at < length xs → weight xs (suc at) fuel' < fuel * (2 * length xs + 2) + (length xs - at) + 0
+paid_less : (xs : List Instr) (at fuel fuel' : ℕ) → fuel' + 1 ≡ fuel → at < length xs
+    → weight xs (suc at) fuel' < fuel * (2 * length xs + 2) + (length xs - at) + 0
 paid_less xs at fuel fuel' e h =
     let m = 2 * length xs + 2 in
     let g : suc fuel' ≡ fuel = omega (arith, e) in
     let k : fuel * m ≡ fuel' * m + m = subst (λ f. f * m ≡ fuel' * m + m) g (once_more fuel' m) in
     let l = at_most (is_charge (slice_get xs (suc at))) (length xs + 1) in
-    let total : fuel' * m + (length xs - suc at) + unless (is_charge (slice_get xs (suc at))) (length xs + 1) < fuel' * m + m + (length xs - at) = omega (arith, l, h) in
+    let total : fuel' * m + (length xs - suc at) + unless (is_charge (slice_get xs (suc at))) (length xs + 1)
+    < fuel' * m + m + (length xs - at) = omega (arith, l, h) in
     omega (arith, total, k)
 
-on_less : (xs : List Instr) (at at' fuel : ℕ) → at < length xs → IsWay xs at at' → weight xs at' fuel < fuel * (2 * length xs + 2) + (length xs - at) + (length xs + 1)
+on_less : (xs : List Instr) (at at' fuel : ℕ) → at < length xs → IsWay xs at at'
+    → weight xs at' fuel < fuel * (2 * length xs + 2) + (length xs - at) + (length xs + 1)
 on_less xs at at' fuel h w = elim w.back [
-  | inl l ↦ (let k = at_most (is_charge (slice_get xs at')) (length xs + 1) in let n = w.inside in omega (arith, k, l, n, h))
-  | inr c ↦ (let k : unless (is_charge (slice_get xs at')) (length xs + 1) ≡ 0 = ap (λ d. unless d (length xs + 1)) c in omega (arith, k, h))
+  | inl l ↦ (let k = at_most (is_charge (slice_get xs at')) (length xs + 1) in
+      let n = w.inside in
+      omega (arith, k, l, n, h))
+  | inr c ↦ (let k : unless (is_charge (slice_get xs at')) (length xs + 1) ≡ 0 = ap (λ d. unless d (length xs + 1)) c in
+      omega (arith, k, h))
 ]
 
-pub less : (xs : List Instr) (at at' fuel fuel' : ℕ) (x : Instr) → slice_get xs at ≡ Some x → at < length xs → fuel' + flag (is_charge (Some x)) ≡ fuel
+pub less : (xs : List Instr) (at at' fuel fuel' : ℕ) (x : Instr) → slice_get xs at ≡ Some x → at < length xs
+    → fuel' + flag (is_charge (Some x)) ≡ fuel
     → (is_charge (Some x) ≡ true → at' ≡ suc at) → IsWay xs at at' → weight xs at' fuel' < weight xs at fuel
 less xs at at' fuel fuel' x e h f charged w =
-    subst (λ o. weight xs at' fuel' < fuel * (2 * length xs + 2) + (length xs - at) + unless (is_charge o) (length xs + 1)) (sym e) (by (is_charge (Some x)) f charged)
+    subst
+    (λ o. weight xs at' fuel' < fuel * (2 * length xs + 2) + (length xs - at) + unless (is_charge o) (length xs + 1))
+    (sym e) (by (is_charge (Some x)) f charged)
   where
-    by : (d : Bool) → fuel' + flag d ≡ fuel → (d ≡ true → at' ≡ suc at) → weight xs at' fuel' < fuel * (2 * length xs + 2) + (length xs - at) + unless d (length xs + 1)
-    by true f g = subst (λ a. weight xs a fuel' < fuel * (2 * length xs + 2) + (length xs - at) + 0) (sym (g refl)) (paid_less xs at fuel fuel' f h)
-    by false f g = (let s : fuel ≡ fuel' = omega (arith, f) in subst (λ z. weight xs at' z < fuel * (2 * length xs + 2) + (length xs - at) + (length xs + 1)) s (on_less xs at at' fuel h w))
+    by : (d : Bool) → fuel' + flag d ≡ fuel → (d ≡ true → at' ≡ suc at)
+        → weight xs at' fuel' < fuel * (2 * length xs + 2) + (length xs - at) + unless d (length xs + 1)
+    by true f g =
+        subst (λ a. weight xs a fuel' < fuel * (2 * length xs + 2) + (length xs - at) + 0) (sym (g refl))
+        (paid_less xs at fuel fuel' f h)
+    by false f g =
+        (let s : fuel ≡ fuel' = omega (arith, f) in
+        subst (λ z. weight xs at' z < fuel * (2 * length xs + 2) + (length xs - at) + (length xs + 1)) s
+        (on_less xs at at' fuel h w))

@@ -13,7 +13,7 @@ use Rattle.rev_code.specs.Variables.{Place, scalar, array}
 use Rattle.rev_code.specs.Step as s
 use Rattle.rev_code.specs.Step.{Comes, stuck, act}
 use Rattle.block_run.specs.Area.{taken, pushes, IsOperand}
-use Rattle.code_certificate.proofs.Basics.{some_within}
+use Rattle.code_soundness.proofs.Basics.{some_within}
 
 -- an instruction with a step found the words that it takes
 module _ (c : State ℕ) where
@@ -128,11 +128,13 @@ module _ (c : State ℕ) where
 
   -- ---- and what its operand names
 
-  a_local : (n : ℕ) (o : Option (Word ℕ)) → slice_get c.locals n ≡ o → s.pushes c c.stack o ≢ stuck → n < length c.locals
+  a_local : (n : ℕ) (o : Option (Word ℕ)) → slice_get c.locals n ≡ o → s.pushes c c.stack o ≢ stuck
+      → n < length c.locals
   a_local n None e h = absurd (h refl)
   a_local n (Some w) e h = some_within c.locals n w e
 
-  kept_local : (b : CodeBlock) (n : ℕ) (o : Option ValueKind) → slice_get b.locals n ≡ o → s.into_local c n o c.stack ≢ stuck → n < length b.locals
+  kept_local : (b : CodeBlock) (n : ℕ) (o : Option ValueKind) → slice_get b.locals n ≡ o
+      → s.into_local c n o c.stack ≢ stuck → n < length b.locals
   kept_local b n None e h = absurd (h refl)
   kept_local b n (Some k) e h = some_within b.locals n k e
 
@@ -156,7 +158,8 @@ module _ (c : State ℕ) where
   over_an_array None h = absurd (h refl)
   over_an_array (Some p) h = (p, refl)
 
-  pub operand : (t : Setting ℕ) (b : CodeBlock) (x : Instr) → length c.locals ≡ length b.locals → act t b c x ≢ stuck → IsOperand t.code.vars b x
+  pub operand : (t : Setting ℕ) (b : CodeBlock) (x : Instr) → length c.locals ≡ length b.locals → act t b c x ≢ stuck
+      → IsOperand t.code.vars b x
   operand t b (i.LoadLocal n) same h = let k = a_local n (slice_get c.locals n) refl h in omega (arith, k, same)
   operand t b (i.StoreLocal n) same h = kept_local b n (slice_get b.locals n) refl h
   operand t b (i.LoadShared v) same h = from_a_scalar (scalar t.code.vars v) h
@@ -198,11 +201,13 @@ module _ (c : State ℕ) where
 
   -- ---- a further word of the area is a word of the stack behind it
 
-  pushing : (o : Option (Word ℕ)) → s.pushes c c.stack o ≢ stuck → (w : Word ℕ) × (s.pushes c c.stack o ≡ s.on c (w ∷ c.stack))
+  pushing : (o : Option (Word ℕ)) → s.pushes c c.stack o ≢ stuck
+      → (w : Word ℕ) × (s.pushes c c.stack o ≡ s.on c (w ∷ c.stack))
   pushing None h = absurd (h refl)
   pushing (Some w) h = (w, refl)
 
-  scalar_pushed : (o : Option Place) → s.from_scalar c o ≢ stuck → (w : Word ℕ) × (s.from_scalar c o ≡ s.on c (w ∷ c.stack))
+  scalar_pushed : (o : Option Place) → s.from_scalar c o ≢ stuck
+      → (w : Word ℕ) × (s.from_scalar c o ≡ s.on c (w ∷ c.stack))
   scalar_pushed None h = absurd (h refl)
   scalar_pushed (Some p) h = pushing (seen_at c.locations p.first) h
 

@@ -6,7 +6,7 @@ use Rattle.rev_num.specs.declared.outcome.Cause.{Cause}
 use Rattle.rev_code.specs.Words.{Word}
 use Rattle.rev_code.specs.State.{Location, State, seen_at, written_at, seen}
 use Rattle.rev_code.specs.Step.{Comes, goes, traps, forks, joins, ends, stuck}
-use Rattle.code_certificate.proofs.Basics.{some_eq, some_within}
+use Rattle.code_soundness.proofs.Basics.{some_eq, some_within}
 use Rattle.version_map.specs.Overlay.{word_or}
 use Rattle.plain_words.specs.Plain.{Run, Plain, moves, writes, faults, leaves, lacks}
 use Rattle.plain_words.specs.Agreement.{IsWord, AreWords, IsRun, IsMoved, Agrees}
@@ -28,7 +28,8 @@ stack_length ws l (suc k) = ap suc (stack_length ws l k)
 
 -- ---- locations
 
-pub seen_is : (ls : List (Location ℕ)) (l : ℕ) (x : Word ℕ) → seen_at ls l ≡ Some x → (y : Location ℕ) × (slice_get ls l ≡ Some y) × (seen y ≡ x)
+pub seen_is : (ls : List (Location ℕ)) (l : ℕ) (x : Word ℕ) → seen_at ls l ≡ Some x
+    → (y : Location ℕ) × (slice_get ls l ≡ Some y) × (seen y ≡ x)
 seen_is [] l x e = absurd (none_no e)
   where
     none_no : {x : Word ℕ} → None ≡ Some x → ⊥
@@ -43,7 +44,8 @@ pub word_seen : (y : Location ℕ) (w : ℕ) (root : Option ℕ) → IsSeen y w 
 word_seen y w None h = subst (λ o. IsWord (elim o [ None ↦ y.snapshot | Some v ↦ v ]) w) (sym h.0) h.1
 word_seen y w (Some v) h = subst (λ o. IsWord (elim o [ None ↦ y.snapshot | Some v ↦ v ]) w) (sym h.1) h.2
 
-pub reads_seen : (ls : List (Location ℕ)) (sees : ℕ → ℕ) (root : ℕ → Option ℕ) → AreSeen ls sees root → (l : ℕ) (x : Word ℕ) → seen_at ls l ≡ Some x → IsWord x (sees l)
+pub reads_seen : (ls : List (Location ℕ)) (sees : ℕ → ℕ) (root : ℕ → Option ℕ) → AreSeen ls sees root
+    → (l : ℕ) (x : Word ℕ) → seen_at ls l ≡ Some x → IsWord x (sees l)
 reads_seen ls sees root h l x e =
     let q = seen_is ls l x e in
     subst (λ z. IsWord z (sees l)) q.2 (word_seen q.0 (sees l) (root l) (h l q.0 q.1))
@@ -62,7 +64,8 @@ written_here [] l x y e = absurd (none_no e)
 written_here (z ∷ ls) zero x y e = (z, refl, sym (some_eq e))
 written_here (z ∷ ls) (suc l) x y e = written_here ls l x y e
 
-written_other : (ls : List (Location ℕ)) (l k : ℕ) (x : Word ℕ) → k ≢ l → slice_get (written_at ls l x) k ≡ slice_get ls k
+written_other : (ls : List (Location ℕ)) (l k : ℕ) (x : Word ℕ) → k ≢ l
+    → slice_get (written_at ls l x) k ≡ slice_get ls k
 written_other [] l k x h = refl
 written_other (y ∷ ls) zero zero x h = absurd (h refl)
 written_other (y ∷ ls) zero (suc k) x h = refl
@@ -80,26 +83,31 @@ module _ (ls : List (Location ℕ)) (sees sees' : ℕ → ℕ) (root root' : ℕ
   pub kept_seen : (size : ℕ) → length ls ≤ size → Kept size sees sees' root root' → AreSeen ls sees' root'
   kept_seen size few k l x e =
       let small = within l size x e few in
-      subst (λ w. IsSeen x w (root' l)) (sym (k.words l small)) (subst (λ o. IsSeen x (sees l) o) (sym (k.roots l small)) (h l x e))
+      subst (λ w. IsSeen x w (root' l)) (sym (k.words l small))
+      (subst (λ o. IsSeen x (sees l) o) (sym (k.roots l small)) (h l x e))
 
-  seen_written : (size at word : ℕ) (x : Word ℕ) → IsWord x word → (z : Location ℕ) → slice_get ls at ≡ Some z → Wrote size sees sees' root root' at word
+  seen_written : (size at word : ℕ) (x : Word ℕ) → IsWord x word → (z : Location ℕ) → slice_get ls at ≡ Some z
+      → Wrote size sees sees' root root' at word
       → IsSeen (record { snapshot = z.snapshot; written = Some x }) (sees' at) (root' at)
   seen_written size at word x fits z e w =
       subst (λ v. IsSeen (record { snapshot = z.snapshot; written = Some x }) v (root' at)) (sym w.here)
       (subst (λ o. IsSeen (record { snapshot = z.snapshot; written = Some x }) word o) (sym w.root_here)
       (x, refl, fits, snapshot_word z (sees at) (root at) (h at z e)))
 
-  pub wrote_seen : (size : ℕ) → length ls ≤ size → (at word : ℕ) (x : Word ℕ) → IsWord x word → Wrote size sees sees' root root' at word → AreSeen (written_at ls at x) sees' root'
+  pub wrote_seen : (size : ℕ) → length ls ≤ size → (at word : ℕ) (x : Word ℕ) → IsWord x word
+      → Wrote size sees sees' root root' at word → AreSeen (written_at ls at x) sees' root'
   wrote_seen size few at word x fits w l y e = by (nat_eq l at) refl
     where
       by : (d : Bool) → nat_eq l at ≡ d → IsSeen y (sees' l) (root' l)
       by true d = (let same : l ≡ at = grind (arith, nat_tests, d) in
           let q = written_here ls at x y (subst (λ k. slice_get (written_at ls at x) k ≡ Some y) same e) in
-          subst (λ k. IsSeen y (sees' k) (root' k)) (sym same) (subst (λ t. IsSeen t (sees' at) (root' at)) (sym q.2) (seen_written size at word x fits q.0 q.1 w)))
+          subst (λ k. IsSeen y (sees' k) (root' k)) (sym same)
+          (subst (λ t. IsSeen t (sees' at) (root' at)) (sym q.2) (seen_written size at word x fits q.0 q.1 w)))
       by false d = (let other : l ≢ at = grind (arith, nat_tests, d) in
           let is : slice_get ls l ≡ Some y = sym (written_other ls at l x other) ∙ e in
           let small = within l size y is few in
-          subst (λ v. IsSeen y v (root' l)) (sym (w.others l small other)) (subst (λ o. IsSeen y (sees l) o) (sym (w.root_others l small other)) (h l y is)))
+          subst (λ v. IsSeen y v (root' l)) (sym (w.others l small other))
+          (subst (λ o. IsSeen y (sees l) o) (sym (w.root_others l small other)) (h l y is)))
 
 -- ---- what an instruction came to
 
@@ -109,7 +117,8 @@ pub record Gone (c : State ℕ) (o : Comes ℕ) (q : Run) (kept : Type 0) (wrote
   pub is : o ≡ goes next
   pub run : IsRun next q
   pub same : SameElse c next
-  pub locations : (kept × (next.locations ≡ c.locations)) ⊎ ((l w : ℕ) × (x : Word ℕ) × IsWord x w × wrote l w × (next.locations ≡ written_at c.locations l x))
+  pub locations : (kept × (next.locations ≡ c.locations))
+      ⊎ ((l w : ℕ) × (x : Word ℕ) × IsWord x w × wrote l w × (next.locations ≡ written_at c.locations l x))
 
 same_else : (c c' : State ℕ) (r : Run) (ls : List (Location ℕ)) → IsMoved c c' r ls → SameElse c c'
 same_else c c' r ls m = record {
@@ -120,7 +129,8 @@ same_else c c' r ls m = record {
   text = ap (λ z. z.text) m.others;
 }
 
-pub gone : (c : State ℕ) (o : Comes ℕ) → o ≢ stuck → (p : Plain) → Agrees c o p → (q : Run) (kept : Type 0) (wrote : ℕ → ℕ → Type 0) → Ran p q kept wrote → Gone c o q kept wrote
+pub gone : (c : State ℕ) (o : Comes ℕ) → o ≢ stuck → (p : Plain) → Agrees c o p
+    → (q : Run) (kept : Type 0) (wrote : ℕ → ℕ → Type 0) → Ran p q kept wrote → Gone c o q kept wrote
 gone c (goes c') h (moves r) a q kept wrote d = record {
   next = c';
   is = refl;

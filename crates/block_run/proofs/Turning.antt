@@ -13,7 +13,7 @@ use Rattle.rev_code.specs.Step as s
 use Rattle.rev_code.specs.Step.{goes, stuck, act, act_in, act_at, step, Steps}
 use Rattle.rev_code.specs.Funs.{setting_of_fun, values}
 use Rattle.code_rules.specs.Pass.{target, is_charge, is_value_class, is_pure, bad_jump}
-use Rattle.code_certificate.proofs.Basics.{or_parts, not_false, and_false, some_eq, some_within}
+use Rattle.code_soundness.proofs.Basics.{or_parts, not_false, and_false, some_eq, some_within}
 use Rattle.code_soundness.specs.Typed.{IsTyped}
 use Rattle.code_soundness.specs.Funs.{IsFunStep}
 use Rattle.code_soundness.proofs.Evaluating.{fun_step}
@@ -41,14 +41,16 @@ module _ (code : Code) (ok : IsAccepted code (notes_of code)) (inputs : List ℤ
   good_typed (program share) c g = g.typed
   good_typed (value n) c g = g.0
 
-  value_step : (n : ℕ) (c : State ℕ) (g : IsGood code (value n) c) → IsFunStep code (notes_of code) g.2.0 c (step (setting_of_fun code (take n (values code))) c)
+  value_step : (n : ℕ) (c : State ℕ) (g : IsGood code (value n) c)
+      → IsFunStep code (notes_of code) g.2.0 c (step (setting_of_fun code (take n (values code))) c)
   value_step n c g = fun_step code (notes_of code) ok n g.2.0 g.2.1 g.2.2 c g.0 g.1
 
   pub good_event : (m : Mode) (c : State ℕ) → IsGood code m c → step (setting_in code inputs m) c ≢ stuck
   good_event (program share) c g e = (has_step ℕ code (notes_of code) ok inputs share c g).event e
   good_event (value n) c g e = subst (IsFunStep code (notes_of code) g.2.0 c) e (value_step n c g)
 
-  pub good_next : (m : Mode) (c c' : State ℕ) → IsGood code m c → step (setting_in code inputs m) c ≡ goes c' → IsGood code m c'
+  pub good_next : (m : Mode) (c c' : State ℕ) → IsGood code m c → step (setting_in code inputs m) c ≡ goes c'
+      → IsGood code m c'
   good_next (program share) c c' g e = (is_safe ℕ code (notes_of code) ok inputs share c g).goes c' e
   good_next (value n) c c' g e =
       let l = subst (IsFunStep code (notes_of code) g.2.0 c) e (value_step n c g) in
@@ -76,7 +78,9 @@ same_still c c' c'' a b = record {
 pub all_same : (c : State ℕ) → SameElse c c
 all_same c = record { block = refl; below = refl; forks = refl; listed = refl; text = refl }
 
-pub inside_now : (code : Code) (ok : IsAccepted code (notes_of code)) (inputs : List ℤ) (m : Mode) (b : CodeBlock) (c : State ℕ) (ws : List ℕ) (r : Registers) (sees : ℕ → ℕ) (root : ℕ → Option ℕ) → Here code inputs m b c ws r sees root
+pub inside_now : (code : Code) (ok : IsAccepted code (notes_of code)) (inputs : List ℤ) (m : Mode) (b : CodeBlock)
+    (c : State ℕ) (ws : List ℕ) (r : Registers) (sees : ℕ → ℕ) (root : ℕ → Option ℕ)
+    → Here code inputs m b c ws r sees root
     → slice_get code.blocks r.block ≡ Some b → (instrs : List Instr) → instrs ≡ b.instrs → r.at < length instrs
 inside_now code ok inputs m b c ws r sees root here is instrs e =
     let f = (good_typed code ok inputs m c here.good).frame in
@@ -101,8 +105,10 @@ module _ (b : CodeBlock) (at to : ℕ) where
           let r = and_false (not (nat_lt at to)) _ q (ap not e) in
           inr (not_false (is_charge (slice_get b.instrs to)) (or_parts _ _ r).1))
 
-module _ (code : Code) (ok : IsAccepted code (notes_of code)) (inputs : List ℤ) (fits : AreInputs inputs) (m : Mode) (b : CodeBlock) (c : State ℕ)
-    (ws : List ℕ) (r : Registers) (sees : ℕ → ℕ) (root : ℕ → Option ℕ) (here : Here code inputs m b c ws r sees root) (is : slice_get code.blocks r.block ≡ Some b)
+module _ (code : Code) (ok : IsAccepted code (notes_of code)) (inputs : List ℤ) (fits : AreInputs inputs) (m : Mode)
+    (b : CodeBlock) (c : State ℕ)
+    (ws : List ℕ) (r : Registers) (sees : ℕ → ℕ) (root : ℕ → Option ℕ) (here : Here code inputs m b c ws r sees root)
+    (is : slice_get code.blocks r.block ≡ Some b)
     (x : Instr) (at : slice_get b.instrs r.at ≡ Some x) where
   abbrev t : Setting ℕ
   t = setting_in code inputs m
@@ -117,7 +123,9 @@ module _ (code : Code) (ok : IsAccepted code (notes_of code)) (inputs : List ℤ
   instr_is = ap (slice_get b.instrs) (sym here.run.at) ∙ at
 
   step_is : step (setting_in code inputs m) c ≡ act (setting_in code inputs m) b c x
-  step_is = ap (λ (k : Code). act_in (setting_in code inputs m) c (slice_get k.blocks c.block)) (code_in code ok inputs m) ∙ ap (act_in (setting_in code inputs m) c) block_is ∙ ap (act_at (setting_in code inputs m) b c) instr_is
+  step_is = ap (λ (k : Code). act_in (setting_in code inputs m) c (slice_get k.blocks c.block))
+      (code_in code ok inputs m)
+      ∙ ap (act_in (setting_in code inputs m) c) block_is ∙ ap (act_at (setting_in code inputs m) b c) instr_is
 
   has : act (setting_in code inputs m) b c x ≢ stuck
   has e = good_event code ok inputs m c here.good (step_is ∙ e)
@@ -129,16 +137,21 @@ module _ (code : Code) (ok : IsAccepted code (notes_of code)) (inputs : List ℤ
       sym (kinds_length c.locals) ∙ ap length f.kinds ∙ ap (λ (y : CodeBlock). length y.locals) same
 
   height : length c.stack ≡ r.top - low b r
-  height = words_length c.stack (stack_of ws (low b r) (r.top - low b r)) here.run.stack ∙ stack_length ws (low b r) (r.top - low b r)
+  height = words_length c.stack (stack_of ws (low b r) (r.top - low b r)) here.run.stack
+      ∙ stack_length ws (low b r) (r.top - low b r)
 
   few_still : (n k size : ℕ) → n ≡ k → k ≤ size → n ≤ size
   few_still n k size e h = omega (arith, e, h)
 
   pub found_operand : IsOperand code.vars b x
-  found_operand = subst (λ (k : Code). IsOperand k.vars b x) (code_in code ok inputs m) (operand c (setting_in code inputs m) b x locals_same has)
+  found_operand =
+      subst (λ (k : Code). IsOperand k.vars b x) (code_in code ok inputs m)
+      (operand c (setting_in code inputs m) b x locals_same has)
 
-  deep : (c' : State ℕ) → IsTyped code (notes_of code) c' → c'.block ≡ c.block → length c'.stack ≡ length (notes_of code r.block c'.at).shape
-  deep c' k e = sym (kinds_length c'.stack) ∙ ap length k.stack ∙ ap (λ n. length (notes_of code n c'.at).shape) (e ∙ here.block)
+  deep : (c' : State ℕ) → IsTyped code (notes_of code) c' → c'.block ≡ c.block
+      → length c'.stack ≡ length (notes_of code r.block c'.at).shape
+  deep c' k e =
+      sym (kinds_length c'.stack) ∙ ap length k.stack ∙ ap (λ n. length (notes_of code n c'.at).shape) (e ∙ here.block)
 
   inside_at : (c' : State ℕ) → IsTyped code (notes_of code) c' → c'.block ≡ c.block → c'.at < length b.instrs
   inside_at c' k e =
@@ -149,15 +162,24 @@ module _ (code : Code) (ok : IsAccepted code (notes_of code)) (inputs : List ℤ
     pub placed : IsPlaced b r (length ws) (taken x)
     placed =
         let a = found c (setting_in code inputs m) b x has in
-        let h = height in let d = deep c typed refl in let u = roomy c.at (inside_at c typed refl) in let o = here.top in
+        let h = height in
+        let d = deep c typed refl in
+        let u = roomy c.at (inside_at c typed refl) in
+        let o = here.top in
         let inside = some_within b.instrs r.at x at in
         record { found = omega (arith, a, h, o); within = omega (arith, h, d, o, u); at = omega (arith, inside, few) }
 
     pub room : r.top + pushes x ≤ length ws
     room = by (pushed c (setting_in code inputs m) b x has)
       where
-        by : ((pushes x ≡ 0) ⊎ ((w : Word ℕ) × (act (setting_in code inputs m) b c x ≡ s.on c (w ∷ c.stack)) × (pushes x ≡ 1))) → r.top + pushes x ≤ length ws
-        by (inl e) = (let h = height in let d = deep c typed refl in let u = roomy c.at (inside_at c typed refl) in let o = here.top in omega (arith, h, d, o, u, e))
+        by : ((pushes x ≡ 0)
+            ⊎ ((w : Word ℕ) × (act (setting_in code inputs m) b c x ≡ s.on c (w ∷ c.stack)) × (pushes x ≡ 1)))
+            → r.top + pushes x ≤ length ws
+        by (inl e) = (let h = height in
+            let d = deep c typed refl in
+            let u = roomy c.at (inside_at c typed refl) in
+            let o = here.top in
+            omega (arith, h, d, o, u, e))
         by (inr q) = (let h = height in let o = here.top in
             let k = good_typed code ok inputs m _ (good_next code ok inputs m c _ here.good (step_is ∙ q.1)) in
             let d = deep _ k refl in let u = roomy (suc c.at) (inside_at _ k refl) in
@@ -165,18 +187,29 @@ module _ (code : Code) (ok : IsAccepted code (notes_of code)) (inputs : List ℤ
 
   agrees : PushesInt x → Agrees c (act (setting_in code inputs m) b c x) (plain code.vars inputs sees (run_of b ws r) x)
   agrees small =
-      subst (λ k. Agrees c (act (setting_in code inputs m) b c x) (plain code.vars k sees (run_of b ws r) x)) here.inputs_are
-      (subst (λ (k : Code). Agrees c (act (setting_in code inputs m) b c x) (plain k.vars (setting_in code inputs m).inputs sees (run_of b ws r) x)) (code_in code ok inputs m)
-      (rows c (run_of b ws r) sees (record { run = here.run; locations = reads_seen c.locations sees root here.locations }) (setting_in code inputs m) b (subst AreInputs (sym here.inputs_are) fits) x small))
+      subst (λ k. Agrees c (act (setting_in code inputs m) b c x) (plain code.vars k sees (run_of b ws r) x))
+      here.inputs_are
+      (subst (λ (k : Code).
+      Agrees c (act (setting_in code inputs m) b c x)
+      (plain k.vars (setting_in code inputs m).inputs sees (run_of b ws r) x))
+      (code_in code ok inputs m)
+      (rows c (run_of b ws r) sees
+      (record { run = here.run; locations = reads_seen c.locations sees root here.locations })
+      (setting_in code inputs m) b (subst AreInputs (sym here.inputs_are) fits) x small))
 
-  module _ (ws' : List ℕ) (r' : Registers) (sees' : ℕ → ℕ) (root' : ℕ → Option ℕ) (size : ℕ) (sized : length c.locations ≤ size) (small : PushesInt x) where
+  module _ (ws' : List ℕ) (r' : Registers) (sees' : ℕ → ℕ) (root' : ℕ → Option ℕ) (size : ℕ)
+      (sized : length c.locations ≤ size) (small : PushesInt x) where
     abbrev D : Stop → Type 0
-    D v = Does (plain code.vars inputs sees (run_of b ws r) x) (run_of b ws r) (run_of b ws' r') v (Kept size sees sees' root root') (Wrote size sees sees' root root')
+    D v = Does (plain code.vars inputs sees (run_of b ws r) x) (run_of b ws r) (run_of b ws' r') v
+        (Kept size sees sees' root root') (Wrote size sees sees' root root')
 
     abbrev R : Plain → Type 0
     R o = Ran o (run_of b ws' r') (Kept size sees sees' root root') (Wrote size sees sees' root root')
 
-    leaving_goes : (y : Instr) → leaves_block y ≡ true → Ran (plain code.vars inputs sees (run_of b ws r) y) (run_of b ws' r') (Kept size sees sees' root root') (Wrote size sees sees' root root') → ⊥
+    leaving_goes : (y : Instr) → leaves_block y ≡ true
+        → Ran (plain code.vars inputs sees (run_of b ws r) y) (run_of b ws' r') (Kept size sees sees' root root')
+        (Wrote size sees sees' root root')
+        → ⊥
     leaving_goes (i.Apply n) e h = h
     leaving_goes (i.Call n) e h = h
     leaving_goes (i.Fork n) e h = h
@@ -187,7 +220,8 @@ module _ (code : Code) (ok : IsAccepted code (notes_of code)) (inputs : List ℤ
     leaving_goes _ e h = absurd (true≢false (sym e))
 
     module _ (d : D stop.Goes) (stays : StaysIn b ws ws' r r') where
-      pub went : Gone c (act (setting_in code inputs m) b c x) (run_of b ws' r') (Kept size sees sees' root root') (Wrote size sees sees' root root')
+      pub went : Gone c (act (setting_in code inputs m) b c x) (run_of b ws' r') (Kept size sees sees' root root')
+          (Wrote size sees sees' root root')
       went = gone c _ has _ (agrees small) (run_of b ws' r') _ _ d
 
       abbrev next_state : State ℕ
@@ -196,11 +230,13 @@ module _ (code : Code) (ok : IsAccepted code (notes_of code)) (inputs : List ℤ
       locations_on : (AreSeen went.next.locations sees' root') × (length went.next.locations ≤ count code.vars)
       locations_on = elim went.locations [
         | inl k ↦ (
-          subst (λ ls. AreSeen ls sees' root') (sym k.1) (kept_seen c.locations sees sees' root root' here.locations size sized k.0),
+          subst (λ ls. AreSeen ls sees' root') (sym k.1)
+              (kept_seen c.locations sees sees' root root' here.locations size sized k.0),
           few_still _ _ _ (ap length k.1) here.many,
         )
         | inr q ↦ (
-          subst (λ ls. AreSeen ls sees' root') (sym q.5) (wrote_seen c.locations sees sees' root root' here.locations size sized q.0 q.1 q.2 q.3 q.4),
+          subst (λ ls. AreSeen ls sees' root') (sym q.5)
+              (wrote_seen c.locations sees sees' root root' here.locations size sized q.0 q.1 q.2 q.3 q.4),
           few_still _ _ _ (ap length q.5 ∙ written_length c.locations q.0 q.2) here.many,
         )
       ]
@@ -220,7 +256,8 @@ module _ (code : Code) (ok : IsAccepted code (notes_of code)) (inputs : List ℤ
       }
 
       -- onward from where a run began
-      pub onward : (c0 : State ℕ) → Steps (setting_in code inputs m) c0 c → SameElse c0 c → Ahead code inputs m b c0 ws' r' sees' root'
+      pub onward : (c0 : State ℕ) → Steps (setting_in code inputs m) c0 c → SameElse c0 c
+          → Ahead code inputs m b c0 ws' r' sees' root'
       onward c0 steps same = record {
         now = went.next;
         steps = one_more_step (setting_in code inputs m) c0 c went.next steps goes_to;
@@ -228,7 +265,9 @@ module _ (code : Code) (ok : IsAccepted code (notes_of code)) (inputs : List ℤ
         same = same_still c0 c went.next same went.same;
       }
 
-      way : (o : Plain) → Leads x (run_of b ws r) o → Ran o (run_of b ws' r') (Kept size sees sees' root root') (Wrote size sees sees' root root') → Goes x (run_of b ws r) (run_of b ws' r')
+      way : (o : Plain) → Leads x (run_of b ws r) o
+          → Ran o (run_of b ws' r') (Kept size sees sees' root root') (Wrote size sees sees' root root')
+          → Goes x (run_of b ws r) (run_of b ws' r')
       way (moves q) l k = subst (Goes x (run_of b ws r)) k.0 l
       way (writes q n w) l k = subst (Goes x (run_of b ws r)) k.0 l.0
       way (faults q e) l k = absurd k
@@ -251,7 +290,8 @@ module _ (code : Code) (ok : IsAccepted code (notes_of code)) (inputs : List ℤ
       back = elim goes_on.0 [
         | inl e ↦ inl (omega (arith, e))
         | inr e ↦ (let certified = ((ok.certified c.block b block_is).each c.at x instr_is).target in
-            way_back b r.at r'.at (subst (λ n. bad_jump b n (Some r'.at) ≡ false) (sym here.run.at) (subst (λ o. bad_jump b c.at o ≡ false) e certified)))
+            way_back b r.at r'.at (subst (λ n. bad_jump b n (Some r'.at) ≡ false) (sym here.run.at)
+            (subst (λ o. bad_jump b c.at o ≡ false) e certified)))
       ]
 
       charged : is_charge (Some x) ≡ true → r'.at ≡ suc r.at
@@ -264,7 +304,8 @@ module _ (code : Code) (ok : IsAccepted code (notes_of code)) (inputs : List ℤ
           some_no h = cc
 
       pub smaller : weight b.instrs r'.at r'.fuel < weight b.instrs r.at r.fuel
-      smaller = less b.instrs r.at r'.at r.fuel r'.fuel x at (some_within b.instrs r.at x at) goes_on.1 charged (record { inside = inside; back = back })
+      smaller = less b.instrs r.at r'.at r.fuel r'.fuel x at (some_within b.instrs r.at x at) goes_on.1 charged
+          (record { inside = inside; back = back })
 
     -- what a fun or merge does leaves all locations as they were
     pure_here : is_value_class b.class ≡ true → is_pure x ≡ false → ⊥
@@ -272,15 +313,18 @@ module _ (code : Code) (ok : IsAccepted code (notes_of code)) (inputs : List ℤ
         let certified = ((ok.certified c.block b block_is).each c.at x instr_is).operand in
         true≢false (sym v ∙ (operand_good code c.block b x certified).1 e)
 
-    no_write : is_value_class b.class ≡ true → (o : Plain) → (leaves_block x ≡ false → Leads x (run_of b ws r) o) → leaves_block x ≡ false
-        → Ran o (run_of b ws' r') (Kept size sees sees' root root') (Wrote size sees sees' root root') → Kept size sees sees' root root'
+    no_write : is_value_class b.class ≡ true → (o : Plain) → (leaves_block x ≡ false → Leads x (run_of b ws r) o)
+        → leaves_block x ≡ false
+        → Ran o (run_of b ws' r') (Kept size sees sees' root root') (Wrote size sees sees' root root')
+        → Kept size sees sees' root root'
     no_write v (moves q) l e k = k.1
     no_write v (writes q n w) l e k = absurd (pure_here v (l e).1)
     no_write v (faults q e') l e k = absurd k
     no_write v leaves l e k = absurd k
     no_write v lacks l e k = absurd k
 
-    pub quiet : is_value_class b.class ≡ true → (w : Stop) → D w → StaysIn b ws ws' r r' → Kept size sees sees' root root'
+    pub quiet : is_value_class b.class ≡ true → (w : Stop) → D w → StaysIn b ws ws' r r'
+        → Kept size sees sees' root root'
     quiet v stop.Goes d stays = by (leaves_block x) refl
       where
         by : (e : Bool) → leaves_block x ≡ e → Kept size sees sees' root root'
@@ -289,7 +333,8 @@ module _ (code : Code) (ok : IsAccepted code (notes_of code)) (inputs : List ℤ
     quiet v (stop.Traps e) d stays = d.1
     quiet v stop.Leaves d stays = d.2
 
-    pub trapped : (e : Cause) → D (stop.Traps e) → (c0 : State ℕ) → Steps (setting_in code inputs m) c0 c → SameElse c0 c
+    pub trapped : (e : Cause) → D (stop.Traps e) → (c0 : State ℕ) → Steps (setting_in code inputs m) c0 c
+        → SameElse c0 c
         → IsTrapped code inputs m b c0 e ws' r' sees' root'
     trapped e d c0 steps same =
         let a = subst (Agrees c (act (setting_in code inputs m) b c x)) d.0 (agrees small) in
@@ -300,11 +345,13 @@ module _ (code : Code) (ok : IsAccepted code (notes_of code)) (inputs : List ℤ
           trapped = h.next;
           trap = step_is ∙ h.is;
           run = h.run;
-          locations = subst (λ ls. AreSeen ls sees' root') (sym h.locations) (kept_seen c.locations sees sees' root root' here.locations size sized d.1);
+          locations = subst (λ ls. AreSeen ls sees' root') (sym h.locations)
+              (kept_seen c.locations sees sees' root root' here.locations size sized d.1);
           same = same_still c0 c h.next same h.same;
         }
 
-    leaving_is : (d : Bool) → leaves_block x ≡ d → plain code.vars inputs sees (run_of b ws r) x ≡ leaves → leaves_block x ≡ true
+    leaving_is : (d : Bool) → leaves_block x ≡ d → plain code.vars inputs sees (run_of b ws r) x ≡ leaves
+        → leaves_block x ≡ true
     leaving_is true e h = e
     leaving_is false e h = absurd (subst (Leads x (run_of b ws r)) h (leads code.vars inputs sees (run_of b ws r) x e))
 
@@ -312,7 +359,8 @@ module _ (code : Code) (ok : IsAccepted code (notes_of code)) (inputs : List ℤ
     leaving d = leaving_is (leaves_block x) refl d.0
 
     -- at an instruction that leaves the block, nothing has changed
-    pub still_here : (same : run_of b ws' r' ≡ run_of b ws r) → StaysIn b ws ws' r r' → Kept size sees sees' root root' → Here code inputs m b c ws' r' sees' root'
+    pub still_here : (same : run_of b ws' r' ≡ run_of b ws r) → StaysIn b ws ws' r r' → Kept size sees sees' root root'
+        → Here code inputs m b c ws' r' sees' root'
     still_here same stays k = record {
       good = here.good;
       inputs_are = here.inputs_are;
@@ -323,7 +371,8 @@ module _ (code : Code) (ok : IsAccepted code (notes_of code)) (inputs : List ℤ
       many = here.many;
     }
 
-    pub ended : (v : Stop) → D v → StaysIn b ws ws' r r' → v ≢ stop.Goes → (c0 : State ℕ) → Steps (setting_in code inputs m) c0 c → SameElse c0 c
+    pub ended : (v : Stop) → D v → StaysIn b ws ws' r r' → v ≢ stop.Goes → (c0 : State ℕ)
+        → Steps (setting_in code inputs m) c0 c → SameElse c0 c
         → Ends code inputs m b c0 v ws' r' sees' root'
     ended stop.Goes d stays other c0 steps same = absurd (other refl)
     ended (stop.Traps e) d stays other c0 steps same = trapped e d c0 steps same
@@ -334,10 +383,12 @@ module _ (code : Code) (ok : IsAccepted code (notes_of code)) (inputs : List ℤ
       leaves = leaving d;
     }
 
-pub below_still : (base base' : ℕ) (ws ws' ws'' : List ℕ) → base' ≡ base → take base' ws'' ≡ take base' ws' → take base ws' ≡ take base ws → take base ws'' ≡ take base ws
+pub below_still : (base base' : ℕ) (ws ws' ws'' : List ℕ) → base' ≡ base → take base' ws'' ≡ take base' ws'
+    → take base ws' ≡ take base ws → take base ws'' ≡ take base ws
 below_still base base' ws ws' ws'' e f g = subst (λ n. take n ws'' ≡ take n ws') e f ∙ g
 
-pub kept_on : (size size' : ℕ) (sees sees' sees'' : ℕ → ℕ) (root root' root'' : ℕ → Option ℕ) → size' ≡ size → Kept size sees sees' root root' → Kept size' sees' sees'' root' root'' → Kept size sees sees'' root root''
+pub kept_on : (size size' : ℕ) (sees sees' sees'' : ℕ → ℕ) (root root' root'' : ℕ → Option ℕ) → size' ≡ size
+    → Kept size sees sees' root root' → Kept size' sees' sees'' root' root'' → Kept size sees sees'' root root''
 kept_on size size' sees sees' sees'' root root' root'' e f g = record {
   words = λ l h. (g.words l (subst (λ n. l < n) (sym e) h) ∙ f.words l h);
   roots = λ l h. (g.roots l (subst (λ n. l < n) (sym e) h) ∙ f.roots l h);

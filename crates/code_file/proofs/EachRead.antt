@@ -36,7 +36,8 @@ same_told : {A : Type 0} (f e : ReadFault) → IsTold f → failed A f ≡ faile
 same_told f e told is = let same : f ≡ e = cc in subst (λ (x : ReadFault). IsTold x) same told
 
 -- a value where the test holds, and a fault where it does not
-if_tells : {A : Type 0} (b : Bool) (a : A) (rest : List ℕ) (f e : ReadFault) → IsTold f → (if b then Got a rest else Failed f) ≡ Failed e → IsTold e
+if_tells : {A : Type 0} (b : Bool) (a : A) (rest : List ℕ) (f e : ReadFault) → IsTold f
+    → (if b then Got a rest else Failed f) ≡ Failed e → IsTold e
 if_tells true a rest f e told is = absurd (cc)
 if_tells false a rest f e told is = same_told f e told is
 
@@ -44,20 +45,24 @@ give_tells : {A : Type 0} (a : A) → Tells (give a)
 give_tells a whole bytes e is = absurd (cc)
 
 bytes_tell : (n : ℕ) → Tells (bytes_of n)
-bytes_tell n whole bytes e is = if_tells (nat_le n (length bytes)) (take n bytes) (drop n bytes) (fault.Truncated whole) e tt is
+bytes_tell n whole bytes e is =
+    if_tells (nat_le n (length bytes)) (take n bytes) (drop n bytes) (fault.Truncated whole) e tt is
 
 number_8_tells : Tells number_8
 number_8_tells whole [] e is = same_told (fault.Truncated whole) e tt is
 number_8_tells whole (b ∷ rest) e is = absurd (cc)
 
 number_16_tells : Tells number_16
-number_16_tells whole bytes e is = if_tells (nat_le 2 (length bytes)) (from_be_bytes w16 (take 2 bytes)) (drop 2 bytes) (fault.Truncated whole) e tt is
+number_16_tells whole bytes e is =
+    if_tells (nat_le 2 (length bytes)) (from_be_bytes w16 (take 2 bytes)) (drop 2 bytes) (fault.Truncated whole) e tt is
 
 number_32_tells : Tells number_32
-number_32_tells whole bytes e is = if_tells (nat_le 4 (length bytes)) (from_be_bytes w32 (take 4 bytes)) (drop 4 bytes) (fault.Truncated whole) e tt is
+number_32_tells whole bytes e is =
+    if_tells (nat_le 4 (length bytes)) (from_be_bytes w32 (take 4 bytes)) (drop 4 bytes) (fault.Truncated whole) e tt is
 
 number_64_tells : Tells number_64
-number_64_tells whole bytes e is = if_tells (nat_le 8 (length bytes)) (from_be_bytes w64 (take 8 bytes)) (drop 8 bytes) (fault.Truncated whole) e tt is
+number_64_tells whole bytes e is =
+    if_tells (nat_le 8 (length bytes)) (from_be_bytes w64 (take 8 bytes)) (drop 8 bytes) (fault.Truncated whole) e tt is
 
 then_tells : {A B : Type 0} (r : Field A) (k : A → Field B) → Tells r → ((a : A) → Tells (k a)) → Tells (and_then r k)
 unfolding and_then
@@ -75,11 +80,13 @@ tested_tells {A = A} {B = B} test r first whole bytes e is = go (r whole bytes) 
     of_test (Some b) rest y = absurd (cc)
     of_test None rest y = same_told (fault.BadField (whole - length bytes)) e tt y
 
-    go : (x : Reading A) → ((e : ReadFault) → x ≡ Failed e → IsTold e) → test_by test (whole - length bytes) x ≡ Failed e → IsTold e
+    go : (x : Reading A) → ((e : ReadFault) → x ≡ Failed e → IsTold e)
+        → test_by test (whole - length bytes) x ≡ Failed e → IsTold e
     go (Got a rest) told y = of_test (test a) rest y
     go (Failed f) told y = same_told f e (told f refl) y
 
-more_tells : {A : Type 0} (n : ℕ) (part : List A → Field A) → ((done : List A) → Tells (part done)) → (done : List A) → Tells (more n part done)
+more_tells : {A : Type 0} (n : ℕ) (part : List A → Field A) → ((done : List A) → Tells (part done)) → (done : List A)
+    → Tells (more n part done)
 unfolding more
 more_tells {A = A} zero part tell done whole bytes e is = absurd (cc)
 more_tells {A = A} (suc n) part tell done whole bytes e is =
@@ -95,7 +102,10 @@ more_tells {A = A} (suc n) part tell done whole bytes e is =
 magic_tells : Tells magic
 magic_tells whole bytes e is = go (starts_with nat_eq bytes (codes "REVC")) (starts_with nat_eq (codes "REVC") bytes) is
   where
-    go : (a b : Bool) → (if a then Got passed (drop 4 bytes) else if b then Failed (fault.Truncated whole) else Failed fault.BadMagic) ≡ Failed e → IsTold e
+    go : (a b : Bool)
+        → (if a then Got passed (drop 4 bytes) else if b then Failed (fault.Truncated whole) else Failed fault.BadMagic)
+        ≡ Failed e
+        → IsTold e
     go true b y = absurd (cc)
     go false true y = same_told (fault.Truncated whole) e tt y
     go false false y = same_told fault.BadMagic e tt y
@@ -129,7 +139,9 @@ var_tells wide before =
 
 vars_tell : (wide : Bool) → Tells (vars wide)
 unfolding vars
-vars_tell wide = then_tells number_16 _ number_16_tells (λ n. more_tells n (λ done. var wide (locations done)) (λ done. var_tells wide (locations done)) [])
+vars_tell wide =
+    then_tells number_16 _ number_16_tells
+    (λ n. more_tells n (λ done. var wide (locations done)) (λ done. var_tells wide (locations done)) [])
 
 location_count_tells : (wide : Bool) (sum : ℕ) → Tells (location_count wide sum)
 unfolding location_count
@@ -148,7 +160,9 @@ layout_item_tells : Tells layout_item
 unfolding layout_item
 layout_item_tells = then_tells _ _ (tested_tells _ _ number_8_tells) (λ sort. go (nat_eq sort 0) (nat_eq sort 1))
   where
-    go : (a b : Bool) → Tells (if a then give item.Int else if b then give item.Bool else and_then number_32 (λ n. give (item.Text n)))
+    go : (a b : Bool)
+        → Tells
+        (if a then give item.Int else if b then give item.Bool else and_then number_32 (λ n. give (item.Text n)))
     go true b = give_tells item.Int
     go false true = give_tells item.Bool
     go false false = then_tells number_32 _ number_32_tells (λ n. give_tells (item.Text n))
@@ -175,7 +189,8 @@ instr_tells may_try = then_tells _ _ (tested_tells _ _ number_8_tells) operand_t
 
 instrs_tell : (may_try : Bool) → Tells (instrs may_try)
 unfolding instrs
-instrs_tell may_try = then_tells number_32 _ number_32_tells (λ n. more_tells n (λ _. instr may_try) (λ _. instr_tells may_try) [])
+instrs_tell may_try =
+    then_tells number_32 _ number_32_tells (λ n. more_tells n (λ _. instr may_try) (λ _. instr_tells may_try) [])
 
 locals_tell : Tells locals
 unfolding locals
@@ -193,7 +208,8 @@ block_tells may_try =
 
 blocks_tell : (may_try : Bool) → Tells (blocks may_try)
 unfolding blocks
-blocks_tell may_try = then_tells number_16 _ number_16_tells (λ n. more_tells n (λ _. block may_try) (λ _. block_tells may_try) [])
+blocks_tell may_try =
+    then_tells number_16 _ number_16_tells (λ n. more_tells n (λ _. block may_try) (λ _. block_tells may_try) [])
 
 try_total_tells : (may_try wide : Bool) (sum : ℕ) → Tells (try_total may_try wide sum)
 unfolding try_total
@@ -229,7 +245,8 @@ file_tells =
 abbrev LeavesNone : {A : Type 0} → Field A → Type 0
 LeavesNone {A = A} f = (whole : ℕ) (bytes : List ℕ) (a : A) (rest : List ℕ) → f whole bytes ≡ Got a rest → rest ≡ []
 
-then_leaves_none : {A B : Type 0} (r : Field A) (k : A → Field B) → ((a : A) → LeavesNone (k a)) → LeavesNone (and_then r k)
+then_leaves_none : {A B : Type 0} (r : Field A) (k : A → Field B) → ((a : A) → LeavesNone (k a))
+    → LeavesNone (and_then r k)
 unfolding and_then
 then_leaves_none {A = A} {B = B} r k next whole bytes b rest is = go (r whole bytes) is
   where
@@ -253,6 +270,11 @@ file_leaves_none =
 pub each_read : EachIsRead
 each_read bytes = go (reading bytes) refl
   where
-    go : (x : Reading Code) → reading bytes ≡ x → ((code : Code) × (reading bytes ≡ Got code [])) ⊎ ((f : ReadFault) × (reading bytes ≡ Failed f) × (f ≢ fault.OutOfMemory))
-    go (Got code rest) is = inl (code, subst (λ (r : List ℕ). reading bytes ≡ Got code r) (file_leaves_none (length bytes) bytes code rest is) is)
+    go : (x : Reading Code) → reading bytes ≡ x
+        → ((code : Code) × (reading bytes ≡ Got code []))
+        ⊎ ((f : ReadFault) × (reading bytes ≡ Failed f) × (f ≢ fault.OutOfMemory))
+    go (Got code rest) is = inl (
+      code,
+      subst (λ (r : List ℕ). reading bytes ≡ Got code r) (file_leaves_none (length bytes) bytes code rest is) is,
+    )
     go (Failed f) is = inr (f, is, not_memory f (file_tells (length bytes) bytes f is))

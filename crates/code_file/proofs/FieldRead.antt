@@ -79,15 +79,20 @@ record And {A : Type 0} (Good : A → Type 0) (test : A → Bool) (a : A) : Type
   good : Good a
   passes : test a ≡ true
 
-only_takes : {A : Type 0} (test : A → Bool) (r : Field A) (bytes_of' : A → List ℕ) (Good : A → Type 0) → Takes r (Spelled bytes_of' Good) →
+only_takes : {A : Type 0} (test : A → Bool) (r : Field A) (bytes_of' : A → List ℕ) (Good : A → Type 0)
+    → Takes r (Spelled bytes_of' Good) →
     Takes (tested (only test) r) (Spelled bytes_of' (And Good test))
 only_takes test r bytes_of' Good h =
     weaken (tested (only test) r) (tested_takes (only test) r h)
     (λ a used t.
     let p = only_forth test t.value a t.passes in
-    record { same = t.of_value.same ∙ ap bytes_of' p.0; good = record { good = subst Good p.0 t.of_value.good; passes = p.1 } })
+    record {
+      same = t.of_value.same ∙ ap bytes_of' p.0;
+      good = record { good = subst Good p.0 t.of_value.good; passes = p.1 };
+    })
 
-pub join : (used front behind front' behind' : List ℕ) → used ≡ front ++ behind → front ≡ front' → behind ≡ behind' → used ≡ front' ++ behind'
+pub join : (used front behind front' behind' : List ℕ) → used ≡ front ++ behind → front ≡ front' → behind ≡ behind'
+    → used ≡ front' ++ behind'
 join used front behind front' behind' a b c = cc
 
 -- ---- names, texts, variables
@@ -96,15 +101,20 @@ pub record LongText (test : List ℕ → Bool) (text' : List ℕ) : Type 0 where
   pub passes : test text' ≡ true
   pub short : length text' < 4294967296
 
-long_takes : (test : List ℕ → Bool) → Takes (and_then number_32 (λ count. tested (only test) (bytes_of count))) (Spelled text_bytes (LongText test))
+long_takes : (test : List ℕ → Bool)
+    → Takes (and_then number_32 (λ count. tested (only test) (bytes_of count))) (Spelled text_bytes (LongText test))
 unfolding text_bytes
 long_takes test =
     weaken (and_then number_32 (λ count. tested (only test) (bytes_of count)))
     (then_takes number_32 (λ count. tested (only test) (bytes_of count)) number_32_takes
     (λ n. only_takes test (bytes_of n) (λ x. x) (λ x. length x ≡ n) (bytes_takes n)))
     (λ t used h. record {
-      same = join used h.front h.behind (to_be_bytes w32 (length t)) t h.cut (h.of_first.same ∙ ap (λ n. to_be_bytes w32 n) (sym h.of_rest.good.good)) h.of_rest.same;
-      good = record { passes = h.of_rest.good.passes; short = subst (λ n. n < 4294967296) (sym h.of_rest.good.good) h.of_first.good };
+      same = join used h.front h.behind (to_be_bytes w32 (length t)) t h.cut
+          (h.of_first.same ∙ ap (λ n. to_be_bytes w32 n) (sym h.of_rest.good.good)) h.of_rest.same;
+      good = record {
+        passes = h.of_rest.good.passes;
+        short = subst (λ n. n < 4294967296) (sym h.of_rest.good.good) h.of_first.good;
+      };
     })
 
 name_takes : Takes name (Spelled text_bytes (LongText is_name))
@@ -120,14 +130,17 @@ record VarGood (wide : Bool) (before : ℕ) (v : CodeVar) : Type 0 where
   short : HasShortName v
   room : wide ≡ false → before + v.cells ≤ 64
 
-room_of : (wide array : Bool) (before cells : ℕ) → are_cells wide array before cells ≡ true → (has_cells array cells ≡ true) × (wide ≡ false → before + cells ≤ 64)
-room_of wide array before cells e = (left (has_cells array cells) (wide || nat_le (before + cells) 64) e, λ no_wide. right wide no_wide e)
+room_of : (wide array : Bool) (before cells : ℕ) → are_cells wide array before cells ≡ true
+    → (has_cells array cells ≡ true) × (wide ≡ false → before + cells ≤ 64)
+room_of wide array before cells e =
+    (left (has_cells array cells) (wide || nat_le (before + cells) 64) e, λ no_wide. right wide no_wide e)
   where
     left : (a b : Bool) → (a && b) ≡ true → a ≡ true
     left true b h = refl
     left false b h = absurd (cc)
 
-    right : (w : Bool) → w ≡ false → (has_cells array cells && (w || nat_le (before + cells) 64)) ≡ true → before + cells ≤ 64
+    right : (w : Bool) → w ≡ false → (has_cells array cells && (w || nat_le (before + cells) 64)) ≡ true
+        → before + cells ≤ 64
     right w narrow h = grind (arith, common_steps)
 
 var_takes : (wide : Bool) (before : ℕ) → Takes (var wide before) (Spelled var_bytes (VarGood wide before))
@@ -138,10 +151,21 @@ var_takes wide before =
     then_takes (tested flag_of number_8) _ (byte_takes flag_of flag_byte flag_forth) (λ cumulative.
     then_takes (tested kind_of number_8) _ (byte_takes kind_of kind_byte kind_forth) (λ kind'.
     then_takes (tested flag_of number_8) _ (byte_takes flag_of flag_byte flag_forth) (λ array.
-    then_takes (tested (only (are_cells wide array before)) number_32) _ (only_takes (are_cells wide array before) number_32 (λ x. to_be_bytes w32 x) Is32 number_32_takes) (λ cells.
-    then_takes (tested (only (is_start kind')) number_64) _ (only_takes (is_start kind') number_64 (λ x. to_be_bytes w64 x) Is64 number_64_takes) (λ start.
-    then_takes (tested (only (is_merge cumulative)) number_16) _ (only_takes (is_merge cumulative) number_16 (λ x. to_be_bytes w16 x) Is16 number_16_takes) (λ merge.
-    give_takes (record { name = name'; cumulative = cumulative; kind = kind'; array = array; cells = cells; start = start; merge = merge })))))))))
+    then_takes (tested (only (are_cells wide array before)) number_32) _
+    (only_takes (are_cells wide array before) number_32 (λ x. to_be_bytes w32 x) Is32 number_32_takes) (λ cells.
+    then_takes (tested (only (is_start kind')) number_64) _
+    (only_takes (is_start kind') number_64 (λ x. to_be_bytes w64 x) Is64 number_64_takes) (λ start.
+    then_takes (tested (only (is_merge cumulative)) number_16) _
+    (only_takes (is_merge cumulative) number_16 (λ x. to_be_bytes w16 x) Is16 number_16_takes) (λ merge.
+    give_takes (record {
+      name = name';
+      cumulative = cumulative;
+      kind = kind';
+      array = array;
+      cells = cells;
+      start = start;
+      merge = merge;
+    })))))))))
     (λ v used a.
     let b = a.of_rest in
     let c = b.of_rest in
@@ -180,14 +204,18 @@ var_takes wide before =
 none_kept : {A : Type 0} → List A → Type 0
 none_kept done = Unit {0}
 
-pub record Counts {A : Type 0} (number_bytes : ℕ → List ℕ) (Small : ℕ → Type 0) (bytes_of' : A → List ℕ) (P : A → Type 0) (Inv : List A → Type 0) (xs : List A) (used : List ℕ) : Type 0 where
+pub record Counts {A : Type 0} (number_bytes : ℕ → List ℕ) (Small : ℕ → Type 0) (bytes_of' : A → List ℕ)
+    (P : A → Type 0) (Inv : List A → Type 0) (xs : List A) (used : List ℕ) : Type 0 where
   pub same : used ≡ number_bytes (length xs) ++ flat_map bytes_of' xs
   pub few : Small (length xs)
   pub good : All P xs
   pub kept : Inv xs
 
-pub counted_takes : {A : Type 0} (number : Field ℕ) (number_bytes : ℕ → List ℕ) (Small : ℕ → Type 0) (bytes_of' : A → List ℕ) (P : A → Type 0) (Inv : List A → Type 0) (part : List A → Field A) →
-    Takes number (Spelled number_bytes Small) → Inv [] → ((pre : List A) → Inv pre → Takes (part pre) (Part bytes_of' P Inv pre)) →
+pub counted_takes : {A : Type 0} (number : Field ℕ) (number_bytes : ℕ → List ℕ) (Small : ℕ → Type 0)
+    (bytes_of' : A → List ℕ) (P : A → Type 0) (Inv : List A → Type 0) (part : List A → Field A)
+    →
+    Takes number (Spelled number_bytes Small) → Inv []
+    → ((pre : List A) → Inv pre → Takes (part pre) (Part bytes_of' P Inv pre)) →
     Takes (and_then number (λ count. more count part [])) (Counts number_bytes Small bytes_of' P Inv)
 counted_takes number number_bytes Small bytes_of' P Inv part head kept each =
     weaken (and_then number (λ count. more count part []))
@@ -196,14 +224,17 @@ counted_takes number number_bytes Small bytes_of' P Inv part head kept each =
     let r = t.of_rest in
     let l : length xs ≡ t.first = ap length r.all_of ∙ r.many in
     record {
-      same = join used t.front t.behind _ _ t.cut (t.of_first.same ∙ ap number_bytes (sym l)) (r.same ∙ ap (flat_map bytes_of') (sym r.all_of));
+      same = join used t.front t.behind _ _ t.cut (t.of_first.same ∙ ap number_bytes (sym l))
+          (r.same ∙ ap (flat_map bytes_of') (sym r.all_of));
       few = subst Small (sym l) t.of_first.good;
       good = subst (All P) (sym r.all_of) r.good;
       kept = r.kept;
     })
 
 -- parts of one form
-pub plain_takes : {A : Type 0} (number : Field ℕ) (number_bytes : ℕ → List ℕ) (Small : ℕ → Type 0) (bytes_of' : A → List ℕ) (P : A → Type 0) (part : Field A) →
+pub plain_takes : {A : Type 0} (number : Field ℕ) (number_bytes : ℕ → List ℕ) (Small : ℕ → Type 0)
+    (bytes_of' : A → List ℕ) (P : A → Type 0) (part : Field A)
+    →
     Takes number (Spelled number_bytes Small) → Takes part (Spelled bytes_of' P) →
     Takes (and_then number (λ count. more count (λ _. part) [])) (Counts number_bytes Small bytes_of' P (λ _. Unit {0}))
 plain_takes number number_bytes Small bytes_of' P part head each =
@@ -212,7 +243,8 @@ plain_takes number number_bytes Small bytes_of' P part head each =
 
 pub texts_takes : Takes texts (Counts (λ n. to_be_bytes w32 n) Is32 text_bytes (LongText is_text) (λ _. Unit {0}))
 unfolding texts
-texts_takes = plain_takes number_32 (λ n. to_be_bytes w32 n) Is32 text_bytes (LongText is_text) text number_32_takes text_takes
+texts_takes =
+    plain_takes number_32 (λ n. to_be_bytes w32 n) Is32 text_bytes (LongText is_text) text number_32_takes text_takes
 
 unfoldable pub room_kept : (wide : Bool) → List CodeVar → Type 0
 room_kept wide done = wide ≡ false → locations done ≤ 64
@@ -223,7 +255,8 @@ VarParts wide = Counts (λ n. to_be_bytes w16 n) Is16 var_bytes (λ v. IsVar v �
 pub vars_takes : (wide : Bool) → Takes (vars wide) (VarParts wide)
 unfolding vars VarParts room_kept
 vars_takes wide =
-    counted_takes number_16 (λ n. to_be_bytes w16 n) Is16 var_bytes (λ v. IsVar v × HasShortName v) (λ done. wide ≡ false → locations done ≤ 64) (λ done. var wide (locations done)) number_16_takes (λ e. omega arith)
+    counted_takes number_16 (λ n. to_be_bytes w16 n) Is16 var_bytes (λ v. IsVar v × HasShortName v)
+    (λ done. wide ≡ false → locations done ≤ 64) (λ done. var wide (locations done)) number_16_takes (λ e. omega arith)
     (λ pre kept. weaken (var wide (locations pre)) (var_takes wide (locations pre)) (λ v used t. record {
       same = t.same;
       good = (t.good.is, t.good.short);
@@ -240,19 +273,26 @@ third_sort : (k : ℕ) → item_of (suc (suc k)) ≡ and_then number_32 (λ n. g
 third_sort k =
     let zeroth : nat_eq (suc (suc k)) 0 ≡ false = grind (arith, common_steps) in
     let first : nat_eq (suc (suc k)) 1 ≡ false = grind (arith, common_steps) in
-    ap (λ b. if b then give item.Int else if nat_eq (suc (suc k)) 1 then give item.Bool else and_then number_32 (λ n. give (item.Text n))) zeroth
+    ap (λ b. if b then give item.Int else if nat_eq (suc (suc k)) 1 then give item.Bool
+    else and_then number_32 (λ n. give (item.Text n)))
+    zeroth
     ∙ ap (λ b. if b then give item.Bool else and_then number_32 (λ n. give (item.Text n))) first
 
 sort_takes : (sort : ℕ) → Takes (item_of sort) (λ item' used. sort < 3 → ItemAt sort item' used)
-sort_takes zero = weaken (give item.Int) (give_takes item.Int) (λ a used t below. record { same = ap (λ l. 0 ∷ l) t.none ∙ ap item_bytes (sym t.same); good = subst IsItem (sym t.same) tt })
-sort_takes (suc zero) = weaken (give item.Bool) (give_takes item.Bool) (λ a used t below. record { same = ap (λ l. 1 ∷ l) t.none ∙ ap item_bytes (sym t.same); good = subst IsItem (sym t.same) tt })
+sort_takes zero = weaken (give item.Int) (give_takes item.Int) (λ a used t below.
+    record { same = ap (λ l. 0 ∷ l) t.none ∙ ap item_bytes (sym t.same); good = subst IsItem (sym t.same) tt })
+sort_takes (suc zero) = weaken (give item.Bool) (give_takes item.Bool) (λ a used t below.
+    record { same = ap (λ l. 1 ∷ l) t.none ∙ ap item_bytes (sym t.same); good = subst IsItem (sym t.same) tt })
 sort_takes (suc (suc k)) =
     subst (λ f. Takes f (λ item' used. suc (suc k) < 3 → ItemAt (suc (suc k)) item' used)) (sym (third_sort k))
-    (weaken (and_then number_32 (λ n. give (item.Text n))) (then_takes number_32 (λ n. give (item.Text n)) number_32_takes (λ n. give_takes (item.Text n)))
+    (weaken (and_then number_32 (λ n. give (item.Text n)))
+    (then_takes number_32 (λ n. give (item.Text n)) number_32_takes (λ n. give_takes (item.Text n)))
     (λ a used t below. record {
       same =
-          ap (λ l. suc (suc k) ∷ l) (t.cut ∙ ap (λ l. t.front ++ l) t.of_rest.none ∙ append-nil t.front ∙ t.of_first.same)
-          ∙ ap (λ n. n ∷ to_be_bytes w32 t.first) (let two : suc (suc k) ≡ 2 = omega arith in two) ∙ ap item_bytes (sym t.of_rest.same);
+          ap (λ l. suc (suc k) ∷ l)
+          (t.cut ∙ ap (λ l. t.front ++ l) t.of_rest.none ∙ append-nil t.front ∙ t.of_first.same)
+          ∙ ap (λ n. n ∷ to_be_bytes w32 t.first) (let two : suc (suc k) ≡ 2 = omega arith in two)
+          ∙ ap item_bytes (sym t.of_rest.same);
       good = subst IsItem (sym t.of_rest.same) t.of_first.good;
     }))
 
@@ -260,7 +300,8 @@ item_takes : Takes layout_item (Spelled item_bytes IsItem)
 unfolding layout_item
 item_takes =
     weaken (and_then (tested (only (λ n. nat_lt n 3)) number_8) item_of)
-    (then_takes (tested (only (λ n. nat_lt n 3)) number_8) item_of (only_takes (λ n. nat_lt n 3) number_8 (λ n. n ∷ []) Is8 number_8_takes) sort_takes)
+    (then_takes (tested (only (λ n. nat_lt n 3)) number_8) item_of
+    (only_takes (λ n. nat_lt n 3) number_8 (λ n. n ∷ []) Is8 number_8_takes) sort_takes)
     (λ a used t.
     let low : nat_lt t.first 3 ≡ true = t.of_first.good.passes in
     let at = t.of_rest (let below : t.first < 3 = grind (arith, common_steps) in below) in
@@ -273,22 +314,26 @@ pub record LayoutGood (items : List LayoutItem) : Type 0 where
 layout_takes : Takes layout (Spelled layout_bytes LayoutGood)
 unfolding layout layout_bytes
 layout_takes =
-    weaken (and_then number_8 (λ count. more count (λ _. layout_item) [])) (plain_takes number_8 (λ n. n ∷ []) Is8 item_bytes IsItem layout_item number_8_takes item_takes)
+    weaken (and_then number_8 (λ count. more count (λ _. layout_item) []))
+    (plain_takes number_8 (λ n. n ∷ []) Is8 item_bytes IsItem layout_item number_8_takes item_takes)
     (λ a used t. record { same = t.same; good = record { is = t.good; short = t.few } })
 
 pub layouts_takes : Takes layouts (Counts (λ n. to_be_bytes w32 n) Is32 layout_bytes LayoutGood (λ _. Unit {0}))
 unfolding layouts
-layouts_takes = plain_takes number_32 (λ n. to_be_bytes w32 n) Is32 layout_bytes LayoutGood layout number_32_takes layout_takes
+layouts_takes =
+    plain_takes number_32 (λ n. to_be_bytes w32 n) Is32 layout_bytes LayoutGood layout number_32_takes layout_takes
 
 -- ---- instructions
 
-record MadeOf {A : Type 0} (make : A → Instr) (bytes_of' : A → List ℕ) (Good : A → Type 0) (x : Instr) (used : List ℕ) : Type 0 where
+record MadeOf {A : Type 0} (make : A → Instr) (bytes_of' : A → List ℕ) (Good : A → Type 0) (x : Instr)
+    (used : List ℕ) : Type 0 where
   value : A
   is : x ≡ make value
   same : used ≡ bytes_of' value
   good : Good value
 
-made_takes : {A : Type 0} (r : Field A) (make : A → Instr) (bytes_of' : A → List ℕ) (Good : A → Type 0) → Takes r (Spelled bytes_of' Good) →
+made_takes : {A : Type 0} (r : Field A) (make : A → Instr) (bytes_of' : A → List ℕ) (Good : A → Type 0)
+    → Takes r (Spelled bytes_of' Good) →
     Takes (and_then r (λ a. give (make a))) (MadeOf make bytes_of' Good)
 made_takes r make bytes_of' Good h =
     weaken (and_then r (λ a. give (make a))) (then_takes r (λ a. give (make a)) h (λ a. give_takes (make a)))
@@ -309,7 +354,9 @@ Made (Word make) = MadeOf make (λ n. to_be_bytes w64 n) Is64
 
 operand_takes : (o : Operand) → Takes (with_operand o) (Made o)
 operand_takes (Plain x) = give_takes x
-operand_takes (Truth make) = made_takes (tested flag_of number_8) make (λ b. flag_byte b ∷ []) (λ _. Unit {0}) (byte_takes flag_of flag_byte flag_forth)
+operand_takes (Truth make) =
+    made_takes (tested flag_of number_8) make (λ b. flag_byte b ∷ []) (λ _. Unit {0})
+    (byte_takes flag_of flag_byte flag_forth)
 operand_takes (Byte make) = made_takes number_8 make (λ n. n ∷ []) Is8 number_8_takes
 operand_takes (Short make) = made_takes number_16 make (λ n. to_be_bytes w16 n) Is16 number_16_takes
 operand_takes (Long make) = made_takes number_32 make (λ n. to_be_bytes w32 n) Is32 number_32_takes
@@ -406,12 +453,19 @@ all_rows words = (
                                                                 (
                                                                   record { same = refl; is = tt; none = refl },
                                                                   (
-                                                                    (λ n h. record { same = refl; is = h; none = refl }),
+                                                                    (λ n h. record {
+                                                                      same = refl;
+                                                                      is = h;
+                                                                      none = refl;
+                                                                    }),
                                                                     (
                                                                       record { same = refl; is = tt; none = refl },
                                                                       (
                                                                         record { same = refl; is = tt; none = refl },
-                                                                        (record { same = refl; is = tt; none = refl }, tt),
+                                                                        (
+                                                                          record { same = refl; is = tt; none = refl },
+                                                                          tt,
+                                                                        ),
                                                                       ),
                                                                     ),
                                                                   ),
@@ -451,26 +505,36 @@ all_rows words = (
 
 row_at : (c : ℕ) (os : List Operand) (n : ℕ) (o : Operand) → Rows c os → slice_get os n ≡ Some o → Row (c + n) o
 row_at c [] n o rows e = absurd (cc)
-row_at c (p ∷ os) zero o rows e = subst (λ m. Row m o) (let z : c ≡ c + 0 = omega arith in z) (subst (Row c) (let z : p ≡ o = cc in z) rows.0)
-row_at c (p ∷ os) (suc n) o rows e = subst (λ m. Row m o) (let z : suc c + n ≡ c + suc n = omega arith in z) (row_at (suc c) os n o rows.1 e)
+row_at c (p ∷ os) zero o rows e =
+    subst (λ m. Row m o) (let z : c ≡ c + 0 = omega arith in z) (subst (Row c) (let z : p ≡ o = cc in z) rows.0)
+row_at c (p ∷ os) (suc n) o rows e =
+    subst (λ m. Row m o) (let z : suc c + n ≡ c + suc n = omega arith in z) (row_at (suc c) os n o rows.1 e)
 
 at_row : (c : ℕ) (o : Operand) (x : Instr) (used : List ℕ) → Row c o → Made o x used → At c used x
 at_row c (Plain y) x used row made = subst (λ u. At c u x) (sym made.none) (subst (At c []) (sym made.same) row)
-at_row c (Truth make) x used row made = subst (λ u. At c u x) (sym made.same) (subst (At c _) (sym made.is) (row made.value))
-at_row c (Byte make) x used row made = subst (λ u. At c u x) (sym made.same) (subst (At c _) (sym made.is) (row made.value made.good))
-at_row c (Short make) x used row made = subst (λ u. At c u x) (sym made.same) (subst (At c _) (sym made.is) (row made.value made.good))
-at_row c (Long make) x used row made = subst (λ u. At c u x) (sym made.same) (subst (At c _) (sym made.is) (row made.value made.good))
-at_row c (Word make) x used row made = subst (λ u. At c u x) (sym made.same) (subst (At c _) (sym made.is) (row made.value made.good))
+at_row c (Truth make) x used row made =
+    subst (λ u. At c u x) (sym made.same) (subst (At c _) (sym made.is) (row made.value))
+at_row c (Byte make) x used row made =
+    subst (λ u. At c u x) (sym made.same) (subst (At c _) (sym made.is) (row made.value made.good))
+at_row c (Short make) x used row made =
+    subst (λ u. At c u x) (sym made.same) (subst (At c _) (sym made.is) (row made.value made.good))
+at_row c (Long make) x used row made =
+    subst (λ u. At c u x) (sym made.same) (subst (At c _) (sym made.is) (row made.value made.good))
+at_row c (Word make) x used row made =
+    subst (λ u. At c u x) (sym made.same) (subst (At c _) (sym made.is) (row made.value made.good))
 
 record InstrGood (tries' : Bool) (x : Instr) : Type 0 where
   is : IsInstr x
   may : tries' ≡ false → try_count x ≡ 0
 
 -- byte 37, and the others
-instr_at : WordsAndNumbersAreInverse → (tries' : Bool) (n : ℕ) (o : Operand) (x : Instr) (used : List ℕ) (b : Bool) → nat_eq n 37 ≡ b → operand_of tries' n ≡ Some o →
-    (if b then (if tries' then Some (Plain i.TryJoin) else None) else slice_get operands n) ≡ Some o → Made o x used → Spelled instr_bytes (InstrGood tries') x (n ∷ used)
+instr_at : WordsAndNumbersAreInverse → (tries' : Bool) (n : ℕ) (o : Operand) (x : Instr) (used : List ℕ) (b : Bool)
+    → nat_eq n 37 ≡ b → operand_of tries' n ≡ Some o →
+    (if b then (if tries' then Some (Plain i.TryJoin) else None) else slice_get operands n) ≡ Some o → Made o x used
+    → Spelled instr_bytes (InstrGood tries') x (n ∷ used)
 instr_at words tries' n o x used false is_37 e f made =
-    let at = at_row n o x used (subst (λ m. Row m o) (let z : 0 + n ≡ n = omega arith in z) (row_at 0 operands n o (all_rows words) f)) made in
+    let at = at_row n o x used
+    (subst (λ m. Row m o) (let z : 0 + n ≡ n = omega arith in z) (row_at 0 operands n o (all_rows words) f)) made in
     record { same = at.same; good = record { is = at.is; may = λ without. at.none } }
 instr_at words true n o x used true is_37 e f made =
     let z : Plain i.TryJoin ≡ o = cc in
@@ -482,23 +546,28 @@ instr_at words true n o x used true is_37 e f made =
     }
 instr_at words false n o x used true is_37 e f made = absurd (cc)
 
-instr_takes : WordsAndNumbersAreInverse → (tries' : Bool) → Takes (instr tries') (Spelled instr_bytes (InstrGood tries'))
+instr_takes : WordsAndNumbersAreInverse → (tries' : Bool)
+    → Takes (instr tries') (Spelled instr_bytes (InstrGood tries'))
 unfolding instr
 instr_takes words tries' =
     weaken (and_then (tested (operand_of tries') number_8) with_operand)
-    (then_takes (tested (operand_of tries') number_8) with_operand (tested_takes (operand_of tries') number_8 number_8_takes) operand_takes)
+    (then_takes (tested (operand_of tries') number_8) with_operand
+    (tested_takes (operand_of tries') number_8 number_8_takes) operand_takes)
     (λ x used t.
     let n = t.of_first.value in
-    let at = instr_at words tries' n t.first x t.behind (nat_eq n 37) refl t.of_first.passes t.of_first.passes t.of_rest in
+    let at = instr_at words tries' n t.first x t.behind (nat_eq n 37) refl t.of_first.passes t.of_first.passes
+    t.of_rest in
     record { same = t.cut ∙ ap (λ l. l ++ t.behind) t.of_first.of_value.same ∙ at.same; good = at.good })
 
 unfoldable pub InstrParts : (tries' : Bool) → List Instr → List ℕ → Type 0
-InstrParts tries' = Counts (λ n. to_be_bytes w32 n) Is32 instr_bytes IsInstr (λ done. tries' ≡ false → tries_in done ≡ 0)
+InstrParts tries' =
+    Counts (λ n. to_be_bytes w32 n) Is32 instr_bytes IsInstr (λ done. tries' ≡ false → tries_in done ≡ 0)
 
 pub instrs_takes : WordsAndNumbersAreInverse → (tries' : Bool) → Takes (instrs tries') (InstrParts tries')
 unfolding instrs InstrParts
 instrs_takes words tries' =
-    counted_takes number_32 (λ n. to_be_bytes w32 n) Is32 instr_bytes IsInstr (λ done. tries' ≡ false → tries_in done ≡ 0) (λ _. instr tries') number_32_takes (λ without. refl)
+    counted_takes number_32 (λ n. to_be_bytes w32 n) Is32 instr_bytes IsInstr
+    (λ done. tries' ≡ false → tries_in done ≡ 0) (λ _. instr tries') number_32_takes (λ without. refl)
     (λ pre kept. weaken (instr tries') (instr_takes words tries') (λ x used t. record {
       same = t.same;
       good = t.good.is;

@@ -42,7 +42,8 @@ locals_takes : Takes locals (Spelled (λ kinds. length kinds ∷ map kind_byte k
 unfolding locals
 locals_takes =
     weaken (and_then number_8 (λ count. more count (λ _. tested kind_of number_8) []))
-    (plain_takes number_8 (λ n. n ∷ []) Is8 (λ k. kind_byte k ∷ []) (λ _. Unit {0}) (tested kind_of number_8) number_8_takes (byte_takes kind_of kind_byte kind_forth))
+    (plain_takes number_8 (λ n. n ∷ []) Is8 (λ k. kind_byte k ∷ []) (λ _. Unit {0}) (tested kind_of number_8)
+    number_8_takes (byte_takes kind_of kind_byte kind_forth))
     (λ a used t. record { same = t.same ∙ ap (λ l. length a ∷ l) (one_byte a); good = record { few = t.few } })
 
 record BlockGood (tries' : Bool) (b : CodeBlock) : Type 0 where
@@ -50,7 +51,8 @@ record BlockGood (tries' : Bool) (b : CodeBlock) : Type 0 where
   short : IsShortBlock b
   may : tries' ≡ false → tries_in b.instrs ≡ 0
 
-block_takes : WordsAndNumbersAreInverse → (tries' : Bool) → Takes (block tries') (Spelled block_bytes (BlockGood tries'))
+block_takes : WordsAndNumbersAreInverse → (tries' : Bool)
+    → Takes (block tries') (Spelled block_bytes (BlockGood tries'))
 unfolding block block_bytes InstrParts
 block_takes words tries' =
     weaken (block tries')
@@ -81,12 +83,15 @@ block_takes words tries' =
     }))
 
 BlockParts : (tries' : Bool) → List CodeBlock → List ℕ → Type 0
-BlockParts tries' = Counts (λ n. to_be_bytes w16 n) Is16 block_bytes (λ b. IsBlock b × IsShortBlock b) (λ done. tries' ≡ false → tries done ≡ 0)
+BlockParts tries' =
+    Counts (λ n. to_be_bytes w16 n) Is16 block_bytes (λ b. IsBlock b × IsShortBlock b)
+    (λ done. tries' ≡ false → tries done ≡ 0)
 
 blocks_takes : WordsAndNumbersAreInverse → (tries' : Bool) → Takes (blocks tries') (BlockParts tries')
 unfolding blocks BlockParts
 blocks_takes words tries' =
-    counted_takes number_16 (λ n. to_be_bytes w16 n) Is16 block_bytes (λ b. IsBlock b × IsShortBlock b) (λ done. tries' ≡ false → tries done ≡ 0) (λ _. block tries') number_16_takes (λ without. refl)
+    counted_takes number_16 (λ n. to_be_bytes w16 n) Is16 block_bytes (λ b. IsBlock b × IsShortBlock b)
+    (λ done. tries' ≡ false → tries done ≡ 0) (λ _. block tries') number_16_takes (λ without. refl)
     (λ pre kept. weaken (block tries') (block_takes words tries') (λ x used t. record {
       same = t.same;
       good = (t.good.is, t.good.short);
@@ -119,32 +124,46 @@ location_test n sum e = (same, let z = same in grind (arith, common_steps))
 location_takes : (wide : Bool) (sum : ℕ) → Takes (location_count wide sum) (λ u used. LocationRead wide sum used)
 unfolding location_count
 location_takes true sum =
-    weaken (tested (when (λ n. nat_eq n sum && nat_lt 64 n)) number_32) (tested_takes (when (λ n. nat_eq n sum && nat_lt 64 n)) number_32 number_32_takes)
+    weaken (tested (when (λ n. nat_eq n sum && nat_lt 64 n)) number_32)
+    (tested_takes (when (λ n. nat_eq n sum && nat_lt 64 n)) number_32 number_32_takes)
     (λ u used t.
     let p = location_test t.value sum (when_if (nat_eq t.value sum && nat_lt 64 t.value) u t.passes) in
-    record { same = t.of_value.same ∙ ap (λ n. to_be_bytes w32 n) p.0; many = λ w. p.1; fits = λ w. subst (λ n. n < 4294967296) p.0 t.of_value.good })
-location_takes false sum = weaken (give tt) (give_takes tt) (λ u used t. record { same = t.none; many = λ w. absurd (cc); fits = λ w. absurd (cc) })
+    record {
+      same = t.of_value.same ∙ ap (λ n. to_be_bytes w32 n) p.0;
+      many = λ w. p.1;
+      fits = λ w. subst (λ n. n < 4294967296) p.0 t.of_value.good;
+    })
+location_takes false sum = weaken (give tt) (give_takes tt)
+    (λ u used t. record { same = t.none; many = λ w. absurd (cc); fits = λ w. absurd (cc) })
 
 record TriesRead (tries' wide : Bool) (sum : ℕ) (used : List ℕ) : Type 0 where
   same : used ≡ try_bytes tries' sum
   some : tries' ≡ true → wide ≡ false → 0 < sum
   fits : tries' ≡ true → sum < 4294967296
 
-tries_test : (wide : Bool) (n sum : ℕ) → (nat_eq n sum && (wide || nat_lt 0 n)) ≡ true → (n ≡ sum) × (wide ≡ false → 0 < sum)
+tries_test : (wide : Bool) (n sum : ℕ) → (nat_eq n sum && (wide || nat_lt 0 n)) ≡ true
+    → (n ≡ sum) × (wide ≡ false → 0 < sum)
 tries_test true n sum e = (let same : n ≡ sum = grind (arith, common_steps) in same, λ w. absurd (cc))
 tries_test false n sum e = (same, λ w. let z = same in grind (arith, common_steps))
   where
     same : n ≡ sum
     same = grind (arith, common_steps)
 
-try_takes : (tries' wide : Bool) (sum : ℕ) → Takes (try_total tries' wide sum) (λ u used. TriesRead tries' wide sum used)
+try_takes : (tries' wide : Bool) (sum : ℕ)
+    → Takes (try_total tries' wide sum) (λ u used. TriesRead tries' wide sum used)
 unfolding try_total
 try_takes true wide sum =
-    weaken (tested (when (λ n. nat_eq n sum && (wide || nat_lt 0 n))) number_32) (tested_takes (when (λ n. nat_eq n sum && (wide || nat_lt 0 n))) number_32 number_32_takes)
+    weaken (tested (when (λ n. nat_eq n sum && (wide || nat_lt 0 n))) number_32)
+    (tested_takes (when (λ n. nat_eq n sum && (wide || nat_lt 0 n))) number_32 number_32_takes)
     (λ u used t.
     let p = tries_test wide t.value sum (when_if (nat_eq t.value sum && (wide || nat_lt 0 t.value)) u t.passes) in
-    record { same = t.of_value.same ∙ ap (λ n. to_be_bytes w32 n) p.0; some = λ yes. p.1; fits = λ yes. subst (λ n. n < 4294967296) p.0 t.of_value.good })
-try_takes false wide sum = weaken (give tt) (give_takes tt) (λ u used t. record { same = t.none; some = λ w. absurd (cc); fits = λ w. absurd (cc) })
+    record {
+      same = t.of_value.same ∙ ap (λ n. to_be_bytes w32 n) p.0;
+      some = λ yes. p.1;
+      fits = λ yes. subst (λ n. n < 4294967296) p.0 t.of_value.good;
+    })
+try_takes false wide sum = weaken (give tt) (give_takes tt)
+    (λ u used t. record { same = t.none; some = λ w. absurd (cc); fits = λ w. absurd (cc) })
 
 record CodeRead (wide tries' : Bool) (code : Code) (used : List ℕ) : Type 0 where
   same : used ≡ body_bytes wide tries' code
@@ -194,14 +213,16 @@ code_takes words wide tries' =
       has = record {
         counted = record {
           vars = a.of_first.few;
-          names = all_both (λ v. IsVar v × HasShortName v) HasShortName HasShortName a.first (λ x p. p.1) a.of_first.good;
+          names = all_both (λ v. IsVar v × HasShortName v) HasShortName HasShortName a.first (λ x p. p.1)
+              a.of_first.good;
           locations = by_cases wide (locations a.first) a.of_first.kept b.of_first.fits;
           texts = c.of_first.few;
           each_text = all_both (LongText is_text) IsShort IsShort c.first (λ x p. p.short) c.of_first.good;
           layouts = d.of_first.few;
           each_layout = all_both LayoutGood IsShortLayout IsShortLayout d.first (λ x p. p.short) d.of_first.good;
           blocks = e.of_first.few;
-          each_block = all_both (λ b. IsBlock b × IsShortBlock b) IsShortBlock IsShortBlock e.first (λ x p. p.1) e.of_first.good;
+          each_block = all_both (λ b. IsBlock b × IsShortBlock b) IsShortBlock IsShortBlock e.first (λ x p. p.1)
+              e.of_first.good;
           tries = by_tries tries' (tries e.first) e.of_first.kept f.of_first.fits;
         };
         vars = all_both (λ v. IsVar v × HasShortName v) IsVar IsVar a.first (λ x p. p.0) a.of_first.good;
@@ -217,7 +238,8 @@ code_takes words wide tries' =
 
 -- ---- the head and the end
 
-same_cons : (x y : ℕ) (xs ys : List ℕ) (a b : Bool) → nat_eq x y ≡ a → (a && b) ≡ true → (b ≡ true → xs ≡ ys) → x ∷ xs ≡ y ∷ ys
+same_cons : (x y : ℕ) (xs ys : List ℕ) (a b : Bool) → nat_eq x y ≡ a → (a && b) ≡ true → (b ≡ true → xs ≡ ys)
+    → x ∷ xs ≡ y ∷ ys
 same_cons x y xs ys true b f h tail =
     let z : x ≡ y = grind (arith, common_steps) in
     let w : xs ≡ ys = tail h in
@@ -231,7 +253,8 @@ same_list (x ∷ xs) [] e = absurd (cc)
 same_list (x ∷ xs) (y ∷ ys) e = same_cons x y xs ys (nat_eq x y) (pointwise nat_eq xs ys) refl e (same_list xs ys)
 
 pub magic_if : (b c : Bool) (whole : ℕ) (bytes : List ℕ) (u : Unit {0}) (rest : List ℕ) →
-    (if b then Got tt bytes else if c then Failed (fault.Truncated whole) else Failed fault.BadMagic) ≡ Got u rest → (b ≡ true) × (bytes ≡ rest)
+    (if b then Got tt bytes else if c then Failed (fault.Truncated whole) else Failed fault.BadMagic) ≡ Got u rest
+    → (b ≡ true) × (bytes ≡ rest)
 magic_if true c whole bytes u rest e = (refl, (cc))
 magic_if false true whole bytes u rest e = absurd (cc)
 magic_if false false whole bytes u rest e = absurd (cc)
@@ -239,8 +262,13 @@ magic_if false false whole bytes u rest e = absurd (cc)
 magic_takes : Takes magic (λ u used. used ≡ codes "REVC")
 magic_takes = record {
   taken = λ whole bytes u rest h e.
-      let p = magic_if (starts_with nat_eq bytes (codes "REVC")) (starts_with nat_eq (codes "REVC") bytes) whole (drop 4 bytes) u rest e in
-      record { used = take 4 bytes; cut = sym (take-append-drop 4 bytes) ∙ ap (λ l. take 4 bytes ++ l) p.1; means = sym (same_list (codes "REVC") (take 4 bytes) p.0) };
+      let p = magic_if (starts_with nat_eq bytes (codes "REVC")) (starts_with nat_eq (codes "REVC") bytes) whole
+      (drop 4 bytes) u rest e in
+      record {
+        used = take 4 bytes;
+        cut = sym (take-append-drop 4 bytes) ∙ ap (λ l. take 4 bytes ++ l) p.1;
+        means = sym (same_list (codes "REVC") (take 4 bytes) p.0);
+      };
 }
 
 record VersionRead (x : Reading ℕ) (v : Version) (rest : List ℕ) : Type 0 where
@@ -248,7 +276,8 @@ record VersionRead (x : Reading ℕ) (v : Version) (rest : List ℕ) : Type 0 wh
   got : x ≡ Got n rest
   is : n ≡ version_number v
 
-version_or : (n : ℕ) (o : Option Version) (v : Version) (mid rest : List ℕ) → version_of n ≡ o → or_bad_version o mid ≡ Got v rest → VersionRead (Got n mid) v rest
+version_or : (n : ℕ) (o : Option Version) (v : Version) (mid rest : List ℕ) → version_of n ≡ o
+    → or_bad_version o mid ≡ Got v rest → VersionRead (Got n mid) v rest
 version_or n (Some w) v mid rest e f =
     let x : w ≡ v = cc in
     let y : mid ≡ rest = cc in
@@ -270,11 +299,13 @@ version_takes = record {
 end_takes : Takes at_end (λ u used. used ≡ [])
 end_takes = record { taken = taken }
   where
-    taken : (whole : ℕ) (bytes : List ℕ) (u : Unit {0}) (rest : List ℕ) → AreBytes bytes → at_end whole bytes ≡ Got u rest → Taken (λ u used. used ≡ []) u bytes rest
+    taken : (whole : ℕ) (bytes : List ℕ) (u : Unit {0}) (rest : List ℕ) → AreBytes bytes
+        → at_end whole bytes ≡ Got u rest → Taken (λ u used. used ≡ []) u bytes rest
     taken whole [] u rest h e = let y : [] ≡ rest = cc in record { used = []; cut = y; means = refl }
     taken whole (b ∷ bytes) u rest h e = absurd (cc)
 
-the_version : (sum total : ℕ) (v : Version) → (is_wide v ≡ false → sum ≤ 64) → (is_wide v ≡ true → 64 < sum) → (has_tries v ≡ false → total ≡ 0) → (has_tries v ≡ true → is_wide v ≡ false → 0 < total) →
+the_version : (sum total : ℕ) (v : Version) → (is_wide v ≡ false → sum ≤ 64) → (is_wide v ≡ true → 64 < sum)
+    → (has_tries v ≡ false → total ≡ 0) → (has_tries v ≡ true → is_wide v ≡ false → 0 < total) →
     (if nat_lt 64 sum then version.Three else if nat_lt 0 total then version.Two else version.One) ≡ v
 the_version sum total version.One a b c d = let x = a refl in let y = c refl in grind (arith, common_steps)
 the_version sum total version.Two a b c d = let x = a refl in let y = d refl refl in grind (arith, common_steps)
@@ -294,25 +325,32 @@ file_takes words =
     let c = b.of_rest in
     let d = c.of_rest in
     let v = b.first in
-    let is = the_version (locations c.first.vars) (tries c.first.blocks) v c.of_first.small c.of_first.many c.of_first.without c.of_first.some in
+    let is = the_version (locations c.first.vars) (tries c.first.blocks) v c.of_first.small c.of_first.many
+    c.of_first.without c.of_first.some in
     subst (λ x. IsFile x used) (sym d.of_rest.same)
     (record {
       has = c.of_first.has;
       spelled =
           join used a.front a.behind _ _ a.cut a.of_first
           (join a.behind b.front b.behind _ _ b.cut b.of_first
-          (c.cut ∙ ap (λ l. c.front ++ l) (d.cut ∙ ap (λ l. l ++ d.behind) d.of_first ∙ d.of_rest.none) ∙ append-nil c.front ∙ c.of_first.same))
-          ∙ ap (λ w. codes "REVC" ++ (to_be_bytes w16 (version_number w) ++ body_bytes (is_wide w) (has_tries w) c.first)) (sym is);
+          (c.cut ∙ ap (λ l. c.front ++ l) (d.cut ∙ ap (λ l. l ++ d.behind) d.of_first ∙ d.of_rest.none)
+          ∙ append-nil c.front ∙ c.of_first.same))
+          ∙ ap
+          (λ w. codes "REVC" ++ (to_be_bytes w16 (version_number w) ++ body_bytes (is_wide w) (has_tries w) c.first))
+          (sym is);
     }))
 
-pub file_read : WordsAndNumbersAreInverse → (bytes : List ℕ) (code : Code) → AreBytes bytes → reading bytes ≡ Got code [] → IsFile code bytes
+pub file_read : WordsAndNumbersAreInverse → (bytes : List ℕ) (code : Code) → AreBytes bytes
+    → reading bytes ≡ Got code [] → IsFile code bytes
 file_read words bytes code h e =
     let t = (file_takes words).taken (length bytes) bytes code [] h e in
     subst (λ l. IsFile code l) (sym (t.cut ∙ append-nil t.used)) t.means
 
 -- the answer of a reader of a whole file
-pub file_or_fault : WordsAndNumbersAreInverse → (bytes : List ℕ) (result : Result Code ReadFault) (whole : ℕ) (rest left : List ℕ) → AreBytes bytes →
-    whole ≡ length bytes → rest ≡ bytes → Follows (file whole rest) result left → OnOk result (left ≡ []) → IfOk result (λ code. IsFile code bytes)
+pub file_or_fault : WordsAndNumbersAreInverse
+    → (bytes : List ℕ) (result : Result Code ReadFault) (whole : ℕ) (rest left : List ℕ) → AreBytes bytes →
+    whole ≡ length bytes → rest ≡ bytes → Follows (file whole rest) result left → OnOk result (left ≡ [])
+    → IfOk result (λ code. IsFile code bytes)
 file_or_fault words bytes (Ok code) whole rest left fit a b follows end =
     file_read words bytes code fit
     (ap (λ w. file w bytes) (sym a) ∙ ap (λ r. file whole r) (sym b) ∙ follows ∙ ap (λ l. Got code l) end)

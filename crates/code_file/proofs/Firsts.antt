@@ -19,7 +19,7 @@ use Rattle.code_file.specs.Fields.{Reading, Got, Failed, Field, and_then, bytes_
 use Rattle.code_file.specs.Parts.{Operand, Plain, Truth, Byte, Short, Long, Word, has_tries, is_wide, tries, version_of}
 use Rattle.code_file.specs.Files.{file_of}
 use Rattle.code_file.specs.Reads.{as_version, at_end, block, blocks, code_of, file, instr, instrs, layout, layout_item, layouts, locals, location_count, magic, name, or_bad_version, reading, text, texts, try_total, var, vars, version as version_field, with_operand}
-use Rattle.code_file.specs.Laws.{BadFieldIsFirst, CutIsTruncated, HasFile, IsBadField, MoreIsTrailing, ReadsBack}
+use Rattle.code_file.specs.Laws.{BadFieldIsFirst, CutIsTruncated, HasFile, MoreIsTrailing, ReadsBack}
 use Rattle.code_file.proofs.Written.{decoded}
 use Rattle.code_file.proofs.FileRead.{magic_if, same_list}
 
@@ -40,7 +40,8 @@ record Broke {A : Type 0} (r : Field A) (start : ℕ) (bytes : List ℕ) (at : �
 
 record Steady {A : Type 0} (r : Field A) : Type 0 where
   took : (whole : ℕ) (bytes : List ℕ) (a : A) (rest : List ℕ) → r whole bytes ≡ Got a rest → Took r a bytes rest
-  broke : (start : ℕ) (bytes : List ℕ) (at : ℕ) → r (start + length bytes) bytes ≡ Failed (fault.BadField at) → Broke r start bytes at
+  broke : (start : ℕ) (bytes : List ℕ) (at : ℕ) → r (start + length bytes) bytes ≡ Failed (fault.BadField at)
+      → Broke r start bytes at
 
 -- ---- one field
 
@@ -49,24 +50,36 @@ give_steady a = record {
   took = λ whole bytes b rest e.
       let same : a ≡ b = cc in
       let left : bytes ≡ rest = cc in
-      record { used = []; split = left; again = λ whole' behind. ap (λ x. Got x behind) same; cut = λ whole' n lt. absurd (omega (arith, lt)) };
+      record {
+        used = [];
+        split = left;
+        again = λ whole' behind. ap (λ x. Got x behind) same;
+        cut = λ whole' n lt. absurd (omega (arith, lt));
+      };
   broke = λ start bytes at e. absurd (cc);
 }
 
 -- so many bytes, which are decoded
 abbrev sized : {A : Type 0} → ℕ → (List ℕ → A) → Field A
-sized n f whole bytes = if nat_le n (length bytes) then Got (f (take n bytes)) (drop n bytes) else Failed (fault.Truncated whole)
+sized n f whole bytes =
+    if nat_le n (length bytes) then Got (f (take n bytes)) (drop n bytes) else Failed (fault.Truncated whole)
 
-too_few : {A : Type 0} (n m : ℕ) (f : List ℕ → A) (whole : ℕ) (bytes : List ℕ) → m < n → sized n f whole (take m bytes) ≡ Failed (fault.Truncated whole)
+too_few : {A : Type 0} (n m : ℕ) (f : List ℕ → A) (whole : ℕ) (bytes : List ℕ) → m < n
+    → sized n f whole (take m bytes) ≡ Failed (fault.Truncated whole)
 too_few n m f whole bytes lt =
     let short = length-take m bytes in
     let not : nat_le n (length (take m bytes)) ≡ false = grind (arith, nat_tests) in
-    ap (λ (b : Bool). if b then Got (f (take n (take m bytes))) (drop n (take m bytes)) else Failed (fault.Truncated whole)) not
+    ap (λ (b : Bool).
+    if b then Got (f (take n (take m bytes))) (drop n (take m bytes)) else Failed (fault.Truncated whole))
+    not
 
-sized_took : {A : Type 0} (n : ℕ) (f : List ℕ → A) (whole : ℕ) (bytes : List ℕ) (a : A) (rest : List ℕ) → sized n f whole bytes ≡ Got a rest → Took (sized n f) a bytes rest
+sized_took : {A : Type 0} (n : ℕ) (f : List ℕ → A) (whole : ℕ) (bytes : List ℕ) (a : A) (rest : List ℕ)
+    → sized n f whole bytes ≡ Got a rest → Took (sized n f) a bytes rest
 sized_took {A = A} n f whole bytes a rest e = go (nat_le n (length bytes)) refl e
   where
-    go : (b : Bool) → nat_le n (length bytes) ≡ b → (if b then Got (f (take n bytes)) (drop n bytes) else Failed (fault.Truncated whole)) ≡ Got a rest → Took (sized n f) a bytes rest
+    go : (b : Bool) → nat_le n (length bytes) ≡ b
+        → (if b then Got (f (take n bytes)) (drop n bytes) else Failed (fault.Truncated whole)) ≡ Got a rest
+        → Took (sized n f) a bytes rest
     go false t y = absurd (cc)
     go true t y =
         let enough : n ≤ length bytes = grind (arith, nat_tests) in
@@ -76,14 +89,19 @@ sized_took {A = A} n f whole bytes a rest e = go (nat_le n (length bytes)) refl 
         record {
           used = take n bytes;
           split = sym (take-append-drop n bytes) ∙ ap (λ l. take n bytes ++ l) left;
-          again = λ whole' behind. decoded f (Failed (fault.Truncated whole')) (take n bytes) behind n long ∙ ap (λ x. Got x behind) same;
+          again = λ whole' behind.
+              decoded f (Failed (fault.Truncated whole')) (take n bytes) behind n long ∙ ap (λ x. Got x behind) same;
           cut = λ whole' m lt. too_few n m f whole' (take n bytes) (omega (arith, lt, long));
         }
 
-sized_sound : {A : Type 0} (n : ℕ) (f : List ℕ → A) (whole : ℕ) (bytes : List ℕ) (at : ℕ) → sized n f whole bytes ≡ Failed (fault.BadField at) → ⊥
+sized_sound : {A : Type 0} (n : ℕ) (f : List ℕ → A) (whole : ℕ) (bytes : List ℕ) (at : ℕ)
+    → sized n f whole bytes ≡ Failed (fault.BadField at) → ⊥
 sized_sound {A = A} n f whole bytes at e = go (nat_le n (length bytes)) e
   where
-    go : (b : Bool) → (if b then Got (f (take n bytes)) (drop n bytes) else Failed (fault.Truncated whole)) ≡ Failed (fault.BadField at) → ⊥
+    go : (b : Bool)
+        → (if b then Got (f (take n bytes)) (drop n bytes) else Failed (fault.Truncated whole))
+        ≡ Failed (fault.BadField at)
+        → ⊥
     go true y = absurd (cc)
     go false y = absurd (cc)
 
@@ -109,7 +127,8 @@ none_of_one : (b whole n : ℕ) → n < 1 → number_8 whole (take n (b ∷ []))
 none_of_one b whole zero lt = refl
 none_of_one b whole (suc n) lt = absurd (omega (arith, lt))
 
-number_8_took : (whole : ℕ) (bytes : List ℕ) (a : ℕ) (rest : List ℕ) → number_8 whole bytes ≡ Got a rest → Took number_8 a bytes rest
+number_8_took : (whole : ℕ) (bytes : List ℕ) (a : ℕ) (rest : List ℕ) → number_8 whole bytes ≡ Got a rest
+    → Took number_8 a bytes rest
 number_8_took whole [] a rest e = absurd (cc)
 number_8_took whole (b ∷ bytes) a rest e =
     let same : b ≡ a = cc in
@@ -135,7 +154,9 @@ number_8_steady = record {
 
 -- fewer bytes than two lists have: fewer than the first, or the first and fewer than the second
 abbrev Fewer : (xs ys : List ℕ) (n : ℕ) → Type 0
-Fewer xs ys n = ((n < length xs) × (take n (xs ++ ys) ≡ take n xs)) ⊎ ((m : ℕ) × (m < length ys) × (take n (xs ++ ys) ≡ xs ++ take m ys))
+Fewer xs ys n =
+    ((n < length xs) × (take n (xs ++ ys) ≡ take n xs))
+    ⊎ ((m : ℕ) × (m < length ys) × (take n (xs ++ ys) ≡ xs ++ take m ys))
 
 fewer_more : (x : ℕ) (xs ys : List ℕ) (n : ℕ) → Fewer xs ys n → Fewer (x ∷ xs) ys (suc n)
 fewer_more x xs ys n (inl p) = (let lt = p.0 in inl (omega (arith, lt), ap (λ l. x ∷ l) p.1))
@@ -148,16 +169,19 @@ fewer (x ∷ xs) ys (suc n) h = fewer_more x xs ys n (fewer xs ys n (omega (arit
 
 module _ {A B : Type 0} (r : Field A) (k : A → Field B) where
   then_cut : (a : A) (u v : List ℕ) → ((whole : ℕ) (behind : List ℕ) → r whole (u ++ behind) ≡ Got a behind)
-      → ((whole n : ℕ) → n < length u → r whole (take n u) ≡ Failed (fault.Truncated whole)) → ((whole n : ℕ) → n < length v → k a whole (take n v) ≡ Failed (fault.Truncated whole))
+      → ((whole n : ℕ) → n < length u → r whole (take n u) ≡ Failed (fault.Truncated whole))
+      → ((whole n : ℕ) → n < length v → k a whole (take n v) ≡ Failed (fault.Truncated whole))
       → (whole n : ℕ) → n < length (u ++ v) → and_then r k whole (take n (u ++ v)) ≡ Failed (fault.Truncated whole)
   unfolding and_then
   then_cut a u v again first second whole n lt = go (fewer u v n lt)
     where
       go : Fewer u v n → go_on (r whole (take n (u ++ v))) k whole ≡ Failed (fault.Truncated whole)
       go (inl p) = ap (λ l. go_on (r whole l) k whole) p.1 ∙ ap (λ x. go_on x k whole) (first whole n p.0)
-      go (inr p) = ap (λ l. go_on (r whole l) k whole) p.2 ∙ ap (λ x. go_on x k whole) (again whole (take p.0 v)) ∙ second whole p.0 p.1
+      go (inr p) = ap (λ l. go_on (r whole l) k whole) p.2 ∙ ap (λ x. go_on x k whole) (again whole (take p.0 v))
+          ∙ second whole p.0 p.1
 
-  both_took : (a : A) (b : B) (bytes mid rest : List ℕ) → Took r a bytes mid → Took (k a) b mid rest → Took (and_then r k) b bytes rest
+  both_took : (a : A) (b : B) (bytes mid rest : List ℕ) → Took r a bytes mid → Took (k a) b mid rest
+      → Took (and_then r k) b bytes rest
   unfolding and_then
   both_took a b bytes mid rest p q = record {
     used = p.used ++ q.used;
@@ -185,7 +209,8 @@ module _ {A B : Type 0} (r : Field A) (k : A → Field B) where
   behind_at : (start : ℕ) (u v : List ℕ) → start + length (u ++ v) ≡ (start + length u) + length v
   behind_at start u v = let l = length-append u v in omega (arith, l)
 
-  second_broke : (a : A) (start : ℕ) (bytes mid : List ℕ) (at : ℕ) → (p : Took r a bytes mid) → Broke (k a) (start + length p.used) mid at → Broke (and_then r k) start bytes at
+  second_broke : (a : A) (start : ℕ) (bytes mid : List ℕ) (at : ℕ) → (p : Took r a bytes mid)
+      → Broke (k a) (start + length p.used) mid at → Broke (and_then r k) start bytes at
   unfolding and_then
   second_broke a start bytes mid at p q =
       let from = q.from in
@@ -201,7 +226,8 @@ module _ {A B : Type 0} (r : Field A) (k : A → Field B) where
             let whole = start + length ((p.used ++ q.used) ++ behind) in
             ap (λ l. go_on (r whole l) k whole) (append_assoc p.used q.used behind)
             ∙ ap (λ x. go_on x k whole) (p.again whole (q.used ++ behind))
-            ∙ ap (λ w. k a w (q.used ++ behind)) (ap (λ l. start + length l) (append_assoc p.used q.used behind) ∙ behind_at start p.used (q.used ++ behind))
+            ∙ ap (λ w. k a w (q.used ++ behind))
+            (ap (λ l. start + length l) (append_assoc p.used q.used behind) ∙ behind_at start p.used (q.used ++ behind))
             ∙ q.again behind;
         cut = then_cut a p.used q.used p.again p.cut q.cut;
       }
@@ -210,27 +236,38 @@ module _ {A B : Type 0} (r : Field A) (k : A → Field B) where
   unfolding and_then
   then_steady first next = record { took = took; broke = broke }
     where
-      took : (whole : ℕ) (bytes : List ℕ) (b : B) (rest : List ℕ) → go_on (r whole bytes) k whole ≡ Got b rest → Took (and_then r k) b bytes rest
+      took : (whole : ℕ) (bytes : List ℕ) (b : B) (rest : List ℕ) → go_on (r whole bytes) k whole ≡ Got b rest
+          → Took (and_then r k) b bytes rest
       took whole bytes b rest e = go (r whole bytes) refl e
         where
           go : (x : Reading A) → r whole bytes ≡ x → go_on x k whole ≡ Got b rest → Took (and_then r k) b bytes rest
-          go (Got a mid) t y = both_took a b bytes mid rest (first.took whole bytes a mid t) ((next a).took whole mid b rest y)
+          go (Got a mid) t y =
+              both_took a b bytes mid rest (first.took whole bytes a mid t) ((next a).took whole mid b rest y)
           go (Failed f) t y = absurd (cc)
 
-      broke : (start : ℕ) (bytes : List ℕ) (at : ℕ) → go_on (r (start + length bytes) bytes) k (start + length bytes) ≡ Failed (fault.BadField at) → Broke (and_then r k) start bytes at
+      broke : (start : ℕ) (bytes : List ℕ) (at : ℕ)
+          → go_on (r (start + length bytes) bytes) k (start + length bytes) ≡ Failed (fault.BadField at)
+          → Broke (and_then r k) start bytes at
       broke start bytes at e = go (r (start + length bytes) bytes) refl e
         where
-          go : (x : Reading A) → r (start + length bytes) bytes ≡ x → go_on x k (start + length bytes) ≡ Failed (fault.BadField at) → Broke (and_then r k) start bytes at
+          go : (x : Reading A) → r (start + length bytes) bytes ≡ x
+              → go_on x k (start + length bytes) ≡ Failed (fault.BadField at) → Broke (and_then r k) start bytes at
           go (Got a mid) t y =
               let p = first.took (start + length bytes) bytes a mid t in
-              let whole : start + length bytes ≡ (start + length p.used) + length mid = ap (λ l. start + length l) p.split ∙ behind_at start p.used mid in
-              second_broke a start bytes mid at p ((next a).broke (start + length p.used) mid at (ap (λ w. k a w mid) (sym whole) ∙ y))
-          go (Failed f) t y = first_broke start bytes at (first.broke start bytes at (let same : f ≡ fault.BadField at = cc in t ∙ ap (λ (g : ReadFault). Failed g) same))
+              let whole : start + length bytes ≡ (start + length p.used) + length mid =
+              ap (λ l. start + length l) p.split ∙ behind_at start p.used mid in
+              second_broke a start bytes mid at p
+              ((next a).broke (start + length p.used) mid at (ap (λ w. k a w mid) (sym whole) ∙ y))
+          go (Failed f) t y =
+              first_broke start bytes at
+              (first.broke start bytes at
+              (let same : f ≡ fault.BadField at = cc in t ∙ ap (λ (g : ReadFault). Failed g) same))
 
 -- ---- a field whose value is tested
 
 module _ {A B : Type 0} (test : A → Option B) (r : Field A) where
-  tested_took : (a : A) (b : B) (bytes rest : List ℕ) → test a ≡ Some b → Took r a bytes rest → Took (tested test r) b bytes rest
+  tested_took : (a : A) (b : B) (bytes rest : List ℕ) → test a ≡ Some b → Took r a bytes rest
+      → Took (tested test r) b bytes rest
   unfolding tested
   tested_took a b bytes rest e p = record {
     used = p.used;
@@ -249,14 +286,16 @@ module _ {A B : Type 0} (test : A → Option B) (r : Field A) where
     split = p.split;
     from = p.from;
     upto = p.upto;
-    again = λ behind. ap (test_by test ((start + length (p.used ++ behind)) - length (p.used ++ behind))) (p.again behind);
+    again = λ behind.
+        ap (test_by test ((start + length (p.used ++ behind)) - length (p.used ++ behind))) (p.again behind);
     cut = λ whole n lt. ap (test_by test (whole - length (take n p.used))) (p.cut whole n lt);
   }
 
   at_start : (start n : ℕ) → (start + n) - n ≡ start
   at_start start n = omega arith
 
-  test_broke : (a : A) (start : ℕ) (bytes rest : List ℕ) (at : ℕ) → test a ≡ None → Took r a bytes rest → at ≡ start → Broke (tested test r) start bytes at
+  test_broke : (a : A) (start : ℕ) (bytes rest : List ℕ) (at : ℕ) → test a ≡ None → Took r a bytes rest → at ≡ start
+      → Broke (tested test r) start bytes at
   unfolding tested
   test_broke a start bytes rest at e p same = record {
     used = p.used;
@@ -276,45 +315,63 @@ module _ {A B : Type 0} (test : A → Option B) (r : Field A) where
   unfolding tested
   tested_steady first = record { took = took; broke = broke }
     where
-      took : (whole : ℕ) (bytes : List ℕ) (b : B) (rest : List ℕ) → test_by test (whole - length bytes) (r whole bytes) ≡ Got b rest → Took (tested test r) b bytes rest
+      took : (whole : ℕ) (bytes : List ℕ) (b : B) (rest : List ℕ)
+          → test_by test (whole - length bytes) (r whole bytes) ≡ Got b rest → Took (tested test r) b bytes rest
       took whole bytes b rest e = go (r whole bytes) refl e
         where
-          of_test : (a : A) (mid : List ℕ) (o : Option B) → test a ≡ o → r whole bytes ≡ Got a mid → or_bad (whole - length bytes) o mid ≡ Got b rest → Took (tested test r) b bytes rest
+          of_test : (a : A) (mid : List ℕ) (o : Option B) → test a ≡ o → r whole bytes ≡ Got a mid
+              → or_bad (whole - length bytes) o mid ≡ Got b rest → Took (tested test r) b bytes rest
           of_test a mid (Some c) s t y =
               let same : c ≡ b = cc in
               let left : mid ≡ rest = cc in
-              tested_took a b bytes rest (s ∙ ap (λ z. Some z) same) (first.took whole bytes a rest (t ∙ ap (λ l. Got a l) left))
+              tested_took a b bytes rest (s ∙ ap (λ z. Some z) same)
+              (first.took whole bytes a rest (t ∙ ap (λ l. Got a l) left))
           of_test a mid None s t y = absurd (cc)
 
-          go : (x : Reading A) → r whole bytes ≡ x → test_by test (whole - length bytes) x ≡ Got b rest → Took (tested test r) b bytes rest
+          go : (x : Reading A) → r whole bytes ≡ x → test_by test (whole - length bytes) x ≡ Got b rest
+              → Took (tested test r) b bytes rest
           go (Got a mid) t y = of_test a mid (test a) refl t y
           go (Failed f) t y = absurd (cc)
 
-      broke : (start : ℕ) (bytes : List ℕ) (at : ℕ) → test_by test ((start + length bytes) - length bytes) (r (start + length bytes) bytes) ≡ Failed (fault.BadField at) → Broke (tested test r) start bytes at
+      broke : (start : ℕ) (bytes : List ℕ) (at : ℕ)
+          → test_by test ((start + length bytes) - length bytes) (r (start + length bytes) bytes)
+          ≡ Failed (fault.BadField at)
+          → Broke (tested test r) start bytes at
       broke start bytes at e = go (r (start + length bytes) bytes) refl e
         where
-          of_test : (a : A) (mid : List ℕ) (o : Option B) → test a ≡ o → r (start + length bytes) bytes ≡ Got a mid → or_bad ((start + length bytes) - length bytes) o mid ≡ Failed (fault.BadField at) → Broke (tested test r) start bytes at
+          of_test : (a : A) (mid : List ℕ) (o : Option B) → test a ≡ o → r (start + length bytes) bytes ≡ Got a mid
+              → or_bad ((start + length bytes) - length bytes) o mid ≡ Failed (fault.BadField at)
+              → Broke (tested test r) start bytes at
           of_test a mid (Some c) s t y = absurd (cc)
           of_test a mid None s t y =
               let same : (start + length bytes) - length bytes ≡ at = cc in
-              test_broke a start bytes mid at s (first.took (start + length bytes) bytes a mid t) (sym same ∙ at_start start (length bytes))
+              test_broke a start bytes mid at s (first.took (start + length bytes) bytes a mid t)
+              (sym same ∙ at_start start (length bytes))
 
-          go : (x : Reading A) → r (start + length bytes) bytes ≡ x → test_by test ((start + length bytes) - length bytes) x ≡ Failed (fault.BadField at) → Broke (tested test r) start bytes at
+          go : (x : Reading A) → r (start + length bytes) bytes ≡ x
+              → test_by test ((start + length bytes) - length bytes) x ≡ Failed (fault.BadField at)
+              → Broke (tested test r) start bytes at
           go (Got a mid) t y = of_test a mid (test a) refl t y
-          go (Failed f) t y = within_broke start bytes at (first.broke start bytes at (let same : f ≡ fault.BadField at = cc in t ∙ ap (λ (g : ReadFault). Failed g) same))
+          go (Failed f) t y =
+              within_broke start bytes at
+              (first.broke start bytes at
+              (let same : f ≡ fault.BadField at = cc in t ∙ ap (λ (g : ReadFault). Failed g) same))
 
 -- ---- several parts
 
 -- fields that say the same
-alike : {A : Type 0} (r s : Field A) → ((whole : ℕ) (bytes : List ℕ) → s whole bytes ≡ r whole bytes) → Steady s → Steady r
+alike : {A : Type 0} (r s : Field A) → ((whole : ℕ) (bytes : List ℕ) → s whole bytes ≡ r whole bytes) → Steady s
+    → Steady r
 alike r s same h = subst Steady (λ j whole bytes. same whole bytes j) h
 
-more_steady : {A : Type 0} (n : ℕ) (part : List A → Field A) → ((done : List A) → Steady (part done)) → (done : List A) → Steady (more n part done)
+more_steady : {A : Type 0} (n : ℕ) (part : List A → Field A) → ((done : List A) → Steady (part done)) → (done : List A)
+    → Steady (more n part done)
 unfolding more and_then
 more_steady zero part steady done = alike (more zero part done) (give done) (λ whole bytes. refl) (give_steady done)
 more_steady (suc n) part steady done =
     alike (more (suc n) part done) (and_then (part done) (λ a. more n part (done ++ (a ∷ [])))) (λ whole bytes. refl)
-    (then_steady (part done) (λ a. more n part (done ++ (a ∷ []))) (steady done) (λ a. more_steady n part steady (done ++ (a ∷ []))))
+    (then_steady (part done) (λ a. more n part (done ++ (a ∷ []))) (steady done)
+    (λ a. more_steady n part steady (done ++ (a ∷ []))))
 
 -- ---- field by field
 
@@ -325,12 +382,16 @@ magic_cut whole (suc (suc zero)) lt = refl
 magic_cut whole (suc (suc (suc zero))) lt = refl
 magic_cut whole (suc (suc (suc (suc n)))) lt = absurd (omega (arith, lt))
 
-magic_took : (whole : ℕ) (bytes : List ℕ) (u : Unit {0}) (rest : List ℕ) → magic whole bytes ≡ Got u rest → Took magic u bytes rest
+magic_took : (whole : ℕ) (bytes : List ℕ) (u : Unit {0}) (rest : List ℕ) → magic whole bytes ≡ Got u rest
+    → Took magic u bytes rest
 magic_took whole bytes u rest e =
-    let p = magic_if (starts_with nat_eq bytes (codes "REVC")) (starts_with nat_eq (codes "REVC") bytes) whole (drop 4 bytes) u rest e in
+    let p = magic_if (starts_with nat_eq bytes (codes "REVC")) (starts_with nat_eq (codes "REVC") bytes) whole
+    (drop 4 bytes) u rest e in
     record {
       used = codes "REVC";
-      split = sym (take-append-drop 4 bytes) ∙ ap (λ l. l ++ drop 4 bytes) (sym (same_list (codes "REVC") (take 4 bytes) p.0)) ∙ ap (λ l. codes "REVC" ++ l) p.1;
+      split = sym (take-append-drop 4 bytes)
+          ∙ ap (λ l. l ++ drop 4 bytes) (sym (same_list (codes "REVC") (take 4 bytes) p.0))
+          ∙ ap (λ l. codes "REVC" ++ l) p.1;
       again = λ whole' behind. refl;
       cut = magic_cut;
     }
@@ -341,7 +402,10 @@ passed = tt
 magic_sound : (whole : ℕ) (bytes : List ℕ) (at : ℕ) → magic whole bytes ≡ Failed (fault.BadField at) → ⊥
 magic_sound whole bytes at e = go (starts_with nat_eq bytes (codes "REVC")) (starts_with nat_eq (codes "REVC") bytes) e
   where
-    go : (b c : Bool) → (if b then Got passed (drop 4 bytes) else if c then Failed (fault.Truncated whole) else Failed fault.BadMagic) ≡ Failed (fault.BadField at) → ⊥
+    go : (b c : Bool)
+        → (if b then Got passed (drop 4 bytes) else if c then Failed (fault.Truncated whole) else Failed fault.BadMagic)
+        ≡ Failed (fault.BadField at)
+        → ⊥
     go true c y = absurd (cc)
     go false true y = absurd (cc)
     go false false y = absurd (cc)
@@ -352,10 +416,12 @@ magic_steady = record {
   broke = λ start bytes at e. absurd (magic_sound (start + length bytes) bytes at e);
 }
 
-version_took : (whole : ℕ) (bytes : List ℕ) (v : Version) (rest : List ℕ) → version_field whole bytes ≡ Got v rest → Took version_field v bytes rest
+version_took : (whole : ℕ) (bytes : List ℕ) (v : Version) (rest : List ℕ) → version_field whole bytes ≡ Got v rest
+    → Took version_field v bytes rest
 version_took whole bytes v rest e = go (number_16 whole bytes) refl e
   where
-    of_number : (n : ℕ) (mid : List ℕ) (o : Option Version) → version_of n ≡ o → number_16 whole bytes ≡ Got n mid → or_bad_version o mid ≡ Got v rest → Took version_field v bytes rest
+    of_number : (n : ℕ) (mid : List ℕ) (o : Option Version) → version_of n ≡ o → number_16 whole bytes ≡ Got n mid
+        → or_bad_version o mid ≡ Got v rest → Took version_field v bytes rest
     of_number n mid (Some w) s t y =
         let same : w ≡ v = cc in
         let left : mid ≡ rest = cc in
@@ -363,7 +429,8 @@ version_took whole bytes v rest e = go (number_16 whole bytes) refl e
         record {
           used = p.used;
           split = p.split;
-          again = λ whole' behind. ap as_version (p.again whole' behind) ∙ ap (λ o. or_bad_version o behind) (s ∙ ap (λ z. Some z) same);
+          again = λ whole' behind.
+              ap as_version (p.again whole' behind) ∙ ap (λ o. or_bad_version o behind) (s ∙ ap (λ z. Some z) same);
           cut = λ whole' m lt. ap as_version (p.cut whole' m lt);
         }
     of_number n mid None s t y = absurd (cc)
@@ -381,7 +448,9 @@ version_sound whole bytes at e = go (number_16 whole bytes) refl e
 
     go : (x : Reading ℕ) → number_16 whole bytes ≡ x → as_version x ≡ Failed (fault.BadField at) → ⊥
     go (Got n mid) t y = of_number (version_of n) mid y
-    go (Failed f) t y = sized_sound 2 (from_be_bytes w16) whole bytes at (let same : f ≡ fault.BadField at = cc in t ∙ ap (λ (g : ReadFault). Failed g) same)
+    go (Failed f) t y =
+        sized_sound 2 (from_be_bytes w16) whole bytes at
+        (let same : f ≡ fault.BadField at = cc in t ∙ ap (λ (g : ReadFault). Failed g) same)
 
 version_steady : Steady version_field
 version_steady = record {
@@ -407,7 +476,9 @@ var_steady wide before =
 
 vars_steady : (wide : Bool) → Steady (vars wide)
 unfolding vars
-vars_steady wide = then_steady number_16 _ number_16_steady (λ n. more_steady n (λ done. var wide (locations done)) (λ done. var_steady wide (locations done)) [])
+vars_steady wide =
+    then_steady number_16 _ number_16_steady
+    (λ n. more_steady n (λ done. var wide (locations done)) (λ done. var_steady wide (locations done)) [])
 
 location_count_steady : (wide : Bool) (sum : ℕ) → Steady (location_count wide sum)
 unfolding location_count
@@ -426,14 +497,17 @@ layout_item_steady : Steady layout_item
 unfolding layout_item
 layout_item_steady = then_steady _ _ (tested_steady _ _ number_8_steady) (λ sort. go (nat_eq sort 0) (nat_eq sort 1))
   where
-    go : (a b : Bool) → Steady (if a then give item.Int else if b then give item.Bool else and_then number_32 (λ n. give (item.Text n)))
+    go : (a b : Bool)
+        → Steady
+        (if a then give item.Int else if b then give item.Bool else and_then number_32 (λ n. give (item.Text n)))
     go true b = give_steady item.Int
     go false true = give_steady item.Bool
     go false false = then_steady number_32 _ number_32_steady (λ n. give_steady (item.Text n))
 
 layout_steady : Steady layout
 unfolding layout
-layout_steady = then_steady number_8 _ number_8_steady (λ n. more_steady n (λ _. layout_item) (λ _. layout_item_steady) [])
+layout_steady =
+    then_steady number_8 _ number_8_steady (λ n. more_steady n (λ _. layout_item) (λ _. layout_item_steady) [])
 
 layouts_steady : Steady layouts
 unfolding layouts
@@ -453,11 +527,13 @@ instr_steady may_try = then_steady _ _ (tested_steady _ _ number_8_steady) opera
 
 instrs_steady : (may_try : Bool) → Steady (instrs may_try)
 unfolding instrs
-instrs_steady may_try = then_steady number_32 _ number_32_steady (λ n. more_steady n (λ _. instr may_try) (λ _. instr_steady may_try) [])
+instrs_steady may_try =
+    then_steady number_32 _ number_32_steady (λ n. more_steady n (λ _. instr may_try) (λ _. instr_steady may_try) [])
 
 locals_steady : Steady locals
 unfolding locals
-locals_steady = then_steady number_8 _ number_8_steady (λ n. more_steady n _ (λ _. tested_steady _ _ number_8_steady) [])
+locals_steady =
+    then_steady number_8 _ number_8_steady (λ n. more_steady n _ (λ _. tested_steady _ _ number_8_steady) [])
 
 block_steady : (may_try : Bool) → Steady (block may_try)
 unfolding block
@@ -471,7 +547,8 @@ block_steady may_try =
 
 blocks_steady : (may_try : Bool) → Steady (blocks may_try)
 unfolding blocks
-blocks_steady may_try = then_steady number_16 _ number_16_steady (λ n. more_steady n (λ _. block may_try) (λ _. block_steady may_try) [])
+blocks_steady may_try =
+    then_steady number_16 _ number_16_steady (λ n. more_steady n (λ _. block may_try) (λ _. block_steady may_try) [])
 
 try_total_steady : (may_try wide : Bool) (sum : ℕ) → Steady (try_total may_try wide sum)
 unfolding try_total
@@ -498,9 +575,12 @@ abbrev ended : Code → Field Code
 ended code = and_then at_end (λ _. give code)
 
 fields_steady : Steady fields
-fields_steady = then_steady magic _ magic_steady (λ _. then_steady version_field _ version_steady (λ v. code_steady (is_wide v) (has_tries v)))
+fields_steady =
+    then_steady magic _ magic_steady
+    (λ _. then_steady version_field _ version_steady (λ v. code_steady (is_wide v) (has_tries v)))
 
-in_turn : {A B C : Type 0} (x : Reading A) (k : A → Field B) (l : B → Field C) (whole : ℕ) → go_on x (λ a. and_then (k a) l) whole ≡ go_on (go_on x k whole) l whole
+in_turn : {A B C : Type 0} (x : Reading A) (k : A → Field B) (l : B → Field C) (whole : ℕ)
+    → go_on x (λ a. and_then (k a) l) whole ≡ go_on (go_on x k whole) l whole
 unfolding and_then
 in_turn (Got a rest) k l whole = refl
 in_turn (Failed f) k l whole = refl
@@ -508,7 +588,8 @@ in_turn (Failed f) k l whole = refl
 file_is : (whole : ℕ) (bytes : List ℕ) → file whole bytes ≡ go_on (fields whole bytes) ended whole
 unfolding file and_then
 file_is whole bytes =
-    ap (λ (k : Unit {0} → Field Code). go_on (magic whole bytes) k whole) (λ j u w l. in_turn (version_field w l) (λ v. code_of (is_wide v) (has_tries v)) ended w j)
+    ap (λ (k : Unit {0} → Field Code). go_on (magic whole bytes) k whole)
+    (λ j u w l. in_turn (version_field w l) (λ v. code_of (is_wide v) (has_tries v)) ended w j)
     ∙ in_turn (magic whole bytes) (λ _. and_then version_field (λ v. code_of (is_wide v) (has_tries v))) ended whole
 
 end_got : (whole : ℕ) (code c : Code) (mid : List ℕ) → ended c whole mid ≡ Got code [] → Got c mid ≡ Got code []
@@ -521,21 +602,26 @@ unfolding and_then
 end_sound whole c [] at e = absurd (cc)
 end_sound whole c (b ∷ mid) at e = absurd (cc)
 
-end_behind : (whole : ℕ) (c : Code) (b : ℕ) (mid : List ℕ) → ended c whole (b ∷ mid) ≡ Failed (fault.Trailing (whole - length (b ∷ mid)))
+end_behind : (whole : ℕ) (c : Code) (b : ℕ) (mid : List ℕ)
+    → ended c whole (b ∷ mid) ≡ Failed (fault.Trailing (whole - length (b ∷ mid)))
 unfolding and_then
 end_behind whole c b mid = refl
 
-fields_got : (whole : ℕ) (bytes : List ℕ) (code : Code) → file whole bytes ≡ Got code [] → fields whole bytes ≡ Got code []
+fields_got : (whole : ℕ) (bytes : List ℕ) (code : Code) → file whole bytes ≡ Got code []
+    → fields whole bytes ≡ Got code []
 fields_got whole bytes code e = go (fields whole bytes) refl (sym (file_is whole bytes) ∙ e)
   where
-    go : (x : Reading Code) → fields whole bytes ≡ x → go_on x ended whole ≡ Got code [] → fields whole bytes ≡ Got code []
+    go : (x : Reading Code) → fields whole bytes ≡ x → go_on x ended whole ≡ Got code []
+        → fields whole bytes ≡ Got code []
     go (Got c mid) t y = t ∙ end_got whole code c mid y
     go (Failed f) t y = absurd (cc)
 
-fields_bad : (whole : ℕ) (bytes : List ℕ) (at : ℕ) → file whole bytes ≡ Failed (fault.BadField at) → fields whole bytes ≡ Failed (fault.BadField at)
+fields_bad : (whole : ℕ) (bytes : List ℕ) (at : ℕ) → file whole bytes ≡ Failed (fault.BadField at)
+    → fields whole bytes ≡ Failed (fault.BadField at)
 fields_bad whole bytes at e = go (fields whole bytes) refl (sym (file_is whole bytes) ∙ e)
   where
-    go : (x : Reading Code) → fields whole bytes ≡ x → go_on x ended whole ≡ Failed (fault.BadField at) → fields whole bytes ≡ Failed (fault.BadField at)
+    go : (x : Reading Code) → fields whole bytes ≡ x → go_on x ended whole ≡ Failed (fault.BadField at)
+        → fields whole bytes ≡ Failed (fault.BadField at)
     go (Got c mid) t y = absurd (end_sound whole c mid at y)
     go (Failed f) t y = t ∙ ap (λ (g : ReadFault). Failed g) (let same : f ≡ fault.BadField at = cc in same)
 
@@ -545,7 +631,9 @@ whole_is bytes n e = ap (λ w. file w bytes) e ∙ file_is n bytes
 -- ---- the laws
 
 took_file : ReadsBack → (code : Code) → HasFile code → Took fields code (file_of code) []
-took_file back code has = fields_steady.took (length (file_of code)) (file_of code) code [] (fields_got (length (file_of code)) (file_of code) code (back code has))
+took_file back code has =
+    fields_steady.took (length (file_of code)) (file_of code) code []
+    (fields_got (length (file_of code)) (file_of code) code (back code has))
 
 pub cut_is_truncated : ReadsBack → CutIsTruncated
 cut_is_truncated back code n has lt =
@@ -566,12 +654,14 @@ more_is_trailing back code b rest has =
     ∙ ap (λ l. go_on (fields whole (l ++ b ∷ rest)) ended whole) all
     ∙ ap (λ x. go_on x ended whole) (t.again whole (b ∷ rest))
     ∙ end_behind whole code b rest
-    ∙ ap (λ n. Failed (fault.Trailing n)) (let z : whole - length (b ∷ rest) ≡ length (file_of code) = omega (arith, long) in z)
+    ∙ ap (λ n. Failed (fault.Trailing n))
+    (let z : whole - length (b ∷ rest) ≡ length (file_of code) = omega (arith, long) in z)
 
 pub bad_field_is_first : ReadsBack → BadFieldIsFirst
 bad_field_is_first back bytes at e =
     let zero_more : (n : ℕ) → 0 + n ≡ n = λ n. (let z : 0 + n ≡ n = omega arith in z) in
-    let q = fields_steady.broke 0 bytes at (ap (λ w. fields w bytes) (zero_more (length bytes)) ∙ fields_bad (length bytes) bytes at e) in
+    let q = fields_steady.broke 0 bytes at
+    (ap (λ w. fields w bytes) (zero_more (length bytes)) ∙ fields_bad (length bytes) bytes at e) in
     let end = length q.used in
     let upto = q.upto in
     let long = ap length q.split ∙ length-append q.used q.rest in

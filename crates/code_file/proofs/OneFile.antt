@@ -15,7 +15,8 @@ same_got : (a b : Code) → Got a [] ≡ Got b [] → a ≡ b
 same_got a b e = cc
 
 pub one_code : ReadsBack → OneCode
-one_code back code code' bytes is is' = same_got code code' (sym (of_file back code bytes is) ∙ of_file back code' bytes is')
+one_code back code code' bytes is is' =
+    same_got code code' (sym (of_file back code bytes is) ∙ of_file back code' bytes is')
 
 pub no_code : ReadsBack → FaultsHaveNoCode
 no_code back bytes f code fault is =
@@ -24,7 +25,8 @@ no_code back bytes f code fault is =
 
 -- ---- what a reader of a whole file answers, where the bytes are the file of a code
 
-pub that_code : ReadsBack → (bytes : List ℕ) (result : Result Code ReadFault) → IfOk result (λ c. IsFile c bytes) → (code : Code) → IsFile code bytes → IfOk result (λ c. c ≡ code)
+pub that_code : ReadsBack → (bytes : List ℕ) (result : Result Code ReadFault) → IfOk result (λ c. IsFile c bytes)
+    → (code : Code) → IsFile code bytes → IfOk result (λ c. c ≡ code)
 that_code back bytes (Ok c) each code is = one_code back c code bytes each is
 that_code back bytes (Err f) each code is = tt
 
@@ -36,8 +38,11 @@ is_memory (fault.Truncated at) h = absurd (h (λ e. absurd (cc)))
 is_memory (fault.BadField at) h = absurd (h (λ e. absurd (cc)))
 is_memory (fault.Trailing at) h = absurd (h (λ e. absurd (cc)))
 
-pub no_fault_but_memory : ReadsBack → (bytes : List ℕ) (result : Result Code ReadFault) (whole : ℕ) (rest left : List ℕ) →
-    whole ≡ length bytes → rest ≡ bytes → Follows (file whole rest) result left → (code : Code) → IsFile code bytes → IfErr result (λ f. f ≡ fault.OutOfMemory)
+pub no_fault_but_memory : ReadsBack → (bytes : List ℕ) (result : Result Code ReadFault) (whole : ℕ) (rest left : List ℕ)
+    →
+    whole ≡ length bytes → rest ≡ bytes → Follows (file whole rest) result left → (code : Code) → IsFile code bytes
+    → IfErr result (λ f. f ≡ fault.OutOfMemory)
 no_fault_but_memory back bytes (Ok c) whole rest left a b follows code is = tt
 no_fault_but_memory back bytes (Err f) whole rest left a b follows code is =
-    is_memory f (λ other. no_code back bytes f code (ap (λ w. file w bytes) (sym a) ∙ ap (λ r. file whole r) (sym b) ∙ follows other) is)
+    is_memory f (λ other.
+    no_code back bytes f code (ap (λ w. file w bytes) (sym a) ∙ ap (λ r. file whole r) (sym b) ∙ follows other) is)

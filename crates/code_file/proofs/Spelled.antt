@@ -17,7 +17,8 @@ pub record Taken {A : Type 0} (W : A → List ℕ → Type 0) (a : A) (bytes res
   pub means : W a used
 
 pub record Takes {A : Type 0} (r : Field A) (W : A → List ℕ → Type 0) : Type 0 where
-  pub taken : (whole : ℕ) (bytes : List ℕ) (a : A) (rest : List ℕ) → AreBytes bytes → r whole bytes ≡ Got a rest → Taken W a bytes rest
+  pub taken : (whole : ℕ) (bytes : List ℕ) (a : A) (rest : List ℕ) → AreBytes bytes → r whole bytes ≡ Got a rest
+      → Taken W a bytes rest
 
 -- the bytes that were used are those of the value, which is good
 pub record Spelled {A : Type 0} (bytes_of : A → List ℕ) (Good : A → Type 0) (a : A) (used : List ℕ) : Type 0 where
@@ -38,7 +39,8 @@ pub front_bytes : (used rest : List ℕ) → AreBytes (used ++ rest) → AreByte
 front_bytes [] rest h = λ i. omega arith
 front_bytes (u ∷ used) rest h = first_byte u used (h zero) (front_bytes used rest (λ i. h (suc i)))
 
-inv_if : {A : Type 0} (b : Bool) (x : A) (y : List ℕ) (f : ReadFault) (a : A) (rest : List ℕ) → (if b then Got x y else Failed f) ≡ Got a rest → (b ≡ true) × (x ≡ a) × (y ≡ rest)
+inv_if : {A : Type 0} (b : Bool) (x : A) (y : List ℕ) (f : ReadFault) (a : A) (rest : List ℕ)
+    → (if b then Got x y else Failed f) ≡ Got a rest → (b ≡ true) × (x ≡ a) × (y ≡ rest)
 inv_if true x y f a rest e = (refl, (cc), (cc))
 inv_if false x y f a rest e = absurd (cc)
 
@@ -91,17 +93,23 @@ bound_64 (x0 ∷ x1 ∷ x2 ∷ x3 ∷ x4 ∷ x5 ∷ x6 ∷ x7 ∷ y ∷ ys) e h 
 pub number_8_takes : Takes number_8 (λ n used. Spelled (λ x. x ∷ []) Is8 n used)
 number_8_takes = record { taken = taken }
   where
-    taken : (whole : ℕ) (bytes : List ℕ) (n : ℕ) (rest : List ℕ) → AreBytes bytes → number_8 whole bytes ≡ Got n rest → Taken (λ m used. Spelled (λ x. x ∷ []) Is8 m used) n bytes rest
+    taken : (whole : ℕ) (bytes : List ℕ) (n : ℕ) (rest : List ℕ) → AreBytes bytes → number_8 whole bytes ≡ Got n rest
+        → Taken (λ m used. Spelled (λ x. x ∷ []) Is8 m used) n bytes rest
     taken whole [] n rest h e = absurd (cc)
     taken whole (b ∷ bytes) n rest h e =
         let x : b ≡ n = cc in
         let y : bytes ≡ rest = cc in
-        record { used = b ∷ []; cut = ap (λ l. b ∷ l) y; means = record { same = ap (λ k. k ∷ []) x; good = subst (λ k. k < 256) x (h 0) } }
+        record {
+          used = b ∷ [];
+          cut = ap (λ l. b ∷ l) y;
+          means = record { same = ap (λ k. k ∷ []) x; good = subst (λ k. k < 256) x (h 0) };
+        }
 
 pub number_16_takes : Takes number_16 (λ n used. Spelled (λ x. to_be_bytes w16 x) Is16 n used)
 number_16_takes = record {
   taken = λ whole bytes n rest h e.
-      let p = inv_if (nat_le 2 (length bytes)) (from_be_bytes w16 (take 2 bytes)) (drop 2 bytes) (fault.Truncated whole) n rest e in
+      let p = inv_if (nat_le 2 (length bytes)) (from_be_bytes w16 (take 2 bytes)) (drop 2 bytes) (fault.Truncated whole)
+      n rest e in
       let le : 2 ≤ length bytes = long bytes 2 p.0 in
       let cut : bytes ≡ take 2 bytes ++ rest = sym (take-append-drop 2 bytes) ∙ ap (λ r. take 2 bytes ++ r) p.2 in
       let front : AreBytes (take 2 bytes) = front_bytes (take 2 bytes) rest (subst AreBytes cut h) in
@@ -118,7 +126,8 @@ number_16_takes = record {
 pub number_32_takes : Takes number_32 (λ n used. Spelled (λ x. to_be_bytes w32 x) Is32 n used)
 number_32_takes = record {
   taken = λ whole bytes n rest h e.
-      let p = inv_if (nat_le 4 (length bytes)) (from_be_bytes w32 (take 4 bytes)) (drop 4 bytes) (fault.Truncated whole) n rest e in
+      let p = inv_if (nat_le 4 (length bytes)) (from_be_bytes w32 (take 4 bytes)) (drop 4 bytes) (fault.Truncated whole)
+      n rest e in
       let le : 4 ≤ length bytes = long bytes 4 p.0 in
       let cut : bytes ≡ take 4 bytes ++ rest = sym (take-append-drop 4 bytes) ∙ ap (λ r. take 4 bytes ++ r) p.2 in
       let front : AreBytes (take 4 bytes) = front_bytes (take 4 bytes) rest (subst AreBytes cut h) in
@@ -135,7 +144,8 @@ number_32_takes = record {
 pub number_64_takes : Takes number_64 (λ n used. Spelled (λ x. to_be_bytes w64 x) Is64 n used)
 number_64_takes = record {
   taken = λ whole bytes n rest h e.
-      let p = inv_if (nat_le 8 (length bytes)) (from_be_bytes w64 (take 8 bytes)) (drop 8 bytes) (fault.Truncated whole) n rest e in
+      let p = inv_if (nat_le 8 (length bytes)) (from_be_bytes w64 (take 8 bytes)) (drop 8 bytes) (fault.Truncated whole)
+      n rest e in
       let le : 8 ≤ length bytes = long bytes 8 p.0 in
       let cut : bytes ≡ take 8 bytes ++ rest = sym (take-append-drop 8 bytes) ∙ ap (λ r. take 8 bytes ++ r) p.2 in
       let front : AreBytes (take 8 bytes) = front_bytes (take 8 bytes) rest (subst AreBytes cut h) in
@@ -162,7 +172,8 @@ bytes_takes n = record {
 
 -- ---- one after another
 
-pub record Then {A B : Type 0} (W : A → List ℕ → Type 0) (V : A → B → List ℕ → Type 0) (b : B) (used : List ℕ) : Type 0 where
+pub record Then {A B : Type 0} (W : A → List ℕ → Type 0) (V : A → B → List ℕ → Type 0) (b : B)
+    (used : List ℕ) : Type 0 where
   pub first : A
   pub front : List ℕ
   pub behind : List ℕ
@@ -176,11 +187,13 @@ record Went {A B : Type 0} (x : Reading A) (k : A → Field B) (whole : ℕ) (b 
   got : x ≡ Got a mid
   on : k a whole mid ≡ Got b rest
 
-went : {A B : Type 0} (x : Reading A) (k : A → Field B) (whole : ℕ) (b : B) (rest : List ℕ) → go_on x k whole ≡ Got b rest → Went x k whole b rest
+went : {A B : Type 0} (x : Reading A) (k : A → Field B) (whole : ℕ) (b : B) (rest : List ℕ)
+    → go_on x k whole ≡ Got b rest → Went x k whole b rest
 went (Got a mid) k whole b rest e = record { a = a; mid = mid; got = refl; on = e }
 went (Failed f) k whole b rest e = absurd (cc)
 
-pub then_takes : {A B : Type 0} {W : A → List ℕ → Type 0} {V : A → B → List ℕ → Type 0} (r : Field A) (k : A → Field B) →
+pub then_takes : {A B : Type 0} {W : A → List ℕ → Type 0} {V : A → B → List ℕ → Type 0} (r : Field A) (k : A → Field B)
+    →
     Takes r W → ((a : A) → Takes (k a) (V a)) → Takes (and_then r k) (Then W V)
 unfolding and_then
 then_takes r k first rest' = record {
@@ -191,7 +204,14 @@ then_takes r k first rest' = record {
       record {
         used = t.used ++ u.used;
         cut = t.cut ∙ ap (λ l. t.used ++ l) u.cut ∙ sym (append_assoc t.used u.used rest);
-        means = record { first = w.a; front = t.used; behind = u.used; cut = refl; of_first = t.means; of_rest = u.means };
+        means = record {
+          first = w.a;
+          front = t.used;
+          behind = u.used;
+          cut = refl;
+          of_first = t.means;
+          of_rest = u.means;
+        };
       };
 }
 
@@ -217,18 +237,21 @@ record Passed {A B : Type 0} (test : A → Option B) (x : Reading A) (b : B) (re
   got : x ≡ Got a rest
   passes : test a ≡ Some b
 
-passed_or : {A B : Type 0} (test : A → Option B) (a : A) (o : Option B) (at : ℕ) (b : B) (mid rest : List ℕ) → test a ≡ o → or_bad at o mid ≡ Got b rest → Passed test (Got a mid) b rest
+passed_or : {A B : Type 0} (test : A → Option B) (a : A) (o : Option B) (at : ℕ) (b : B) (mid rest : List ℕ)
+    → test a ≡ o → or_bad at o mid ≡ Got b rest → Passed test (Got a mid) b rest
 passed_or test a (Some c) at b mid rest e f =
     let x : c ≡ b = cc in
     let y : mid ≡ rest = cc in
     record { a = a; got = ap (Got a) y; passes = e ∙ ap (λ v. Some v) x }
 passed_or test a None at b mid rest e f = absurd (cc)
 
-passed : {A B : Type 0} (test : A → Option B) (x : Reading A) (at : ℕ) (b : B) (rest : List ℕ) → test_by test at x ≡ Got b rest → Passed test x b rest
+passed : {A B : Type 0} (test : A → Option B) (x : Reading A) (at : ℕ) (b : B) (rest : List ℕ)
+    → test_by test at x ≡ Got b rest → Passed test x b rest
 passed test (Got a mid) at b rest e = passed_or test a (test a) at b mid rest refl e
 passed test (Failed f) at b rest e = absurd (cc)
 
-pub tested_takes : {A B : Type 0} {W : A → List ℕ → Type 0} (test : A → Option B) (r : Field A) → Takes r W → Takes (tested test r) (Tested test W)
+pub tested_takes : {A B : Type 0} {W : A → List ℕ → Type 0} (test : A → Option B) (r : Field A) → Takes r W
+    → Takes (tested test r) (Tested test W)
 unfolding tested
 tested_takes test r h = record {
   taken = λ whole bytes b rest g e.
@@ -237,7 +260,8 @@ tested_takes test r h = record {
       record { used = t.used; cut = t.cut; means = record { value = p.a; passes = p.passes; of_value = t.means } };
 }
 
-pub weaken : {A : Type 0} {W V : A → List ℕ → Type 0} (r : Field A) → Takes r W → ((a : A) (used : List ℕ) → W a used → V a used) → Takes r V
+pub weaken : {A : Type 0} {W V : A → List ℕ → Type 0} (r : Field A) → Takes r W
+    → ((a : A) (used : List ℕ) → W a used → V a used) → Takes r V
 weaken r h f = record {
   taken = λ whole bytes a rest g e.
       let t = h.taken whole bytes a rest g e in
@@ -247,12 +271,14 @@ weaken r h f = record {
 -- ---- lists
 
 -- one of several parts, and what holds behind it
-pub record Part {A : Type 0} (bytes_of : A → List ℕ) (P : A → Type 0) (Inv : List A → Type 0) (pre : List A) (a : A) (used : List ℕ) : Type 0 where
+pub record Part {A : Type 0} (bytes_of : A → List ℕ) (P : A → Type 0) (Inv : List A → Type 0) (pre : List A) (a : A)
+    (used : List ℕ) : Type 0 where
   pub same : used ≡ bytes_of a
   pub good : P a
   pub next : Inv (pre ++ (a ∷ []))
 
-pub record Parts {A : Type 0} (bytes_of : A → List ℕ) (P : A → Type 0) (Inv : List A → Type 0) (n : ℕ) (done all : List A) (used : List ℕ) : Type 0 where
+pub record Parts {A : Type 0} (bytes_of : A → List ℕ) (P : A → Type 0) (Inv : List A → Type 0) (n : ℕ)
+    (done all : List A) (used : List ℕ) : Type 0 where
   pub xs : List A
   pub all_of : all ≡ done ++ xs
   pub many : length xs ≡ n
@@ -264,7 +290,8 @@ all_more : {A : Type 0} (P : A → Type 0) (x : A) (xs : List A) → P x → All
 all_more P x xs p ps zero d h = p
 all_more P x xs p ps (suc k) d h = ps k d (omega arith)
 
-pub more_takes : {A : Type 0} (bytes_of : A → List ℕ) (P : A → Type 0) (Inv : List A → Type 0) (part : List A → Field A) →
+pub more_takes : {A : Type 0} (bytes_of : A → List ℕ) (P : A → Type 0) (Inv : List A → Type 0) (part : List A → Field A)
+    →
     ((pre : List A) → Inv pre → Takes (part pre) (Part bytes_of P Inv pre)) → (n : ℕ) (done : List A) → Inv done →
     Takes (more n part done) (Parts bytes_of P Inv n done)
 unfolding more
@@ -272,13 +299,25 @@ more_takes bytes_of P Inv part each zero done kept = record {
   taken = λ whole bytes all rest h e.
       let x : all ≡ done = cc in
       let y : bytes ≡ rest = cc in
-      record { used = []; cut = y; means = record { xs = []; all_of = x ∙ sym (append-nil done); many = refl; same = refl; good = λ k d lt. absurd (omega arith); kept = subst Inv (sym x) kept } };
+      record {
+        used = [];
+        cut = y;
+        means = record {
+          xs = [];
+          all_of = x ∙ sym (append-nil done);
+          many = refl;
+          same = refl;
+          good = λ k d lt. absurd (omega arith);
+          kept = subst Inv (sym x) kept;
+        };
+      };
 }
 more_takes bytes_of P Inv part each (suc n) done kept = record {
   taken = λ whole bytes all rest h e.
       let w = went (part done whole bytes) (λ a. more n part (done ++ (a ∷ []))) whole all rest e in
       let t = (each done kept).taken whole bytes w.a w.mid h w.got in
-      let u = (more_takes bytes_of P Inv part each n (done ++ (w.a ∷ [])) t.means.next).taken whole w.mid all rest (rest_bytes t.used w.mid (subst AreBytes t.cut h)) w.on in
+      let u = (more_takes bytes_of P Inv part each n (done ++ (w.a ∷ [])) t.means.next).taken whole w.mid all rest
+      (rest_bytes t.used w.mid (subst AreBytes t.cut h)) w.on in
       record {
         used = t.used ++ u.used;
         cut = t.cut ∙ ap (λ l. t.used ++ l) u.cut ∙ sym (append_assoc t.used u.used rest);

@@ -25,15 +25,21 @@ long_enough bytes rest = grind (arith, common_steps)
 
 -- a field of so many bytes that are decoded
 pub decoded : {A : Type 0} (decode : List ℕ → A) (cut : Reading A) (bytes rest : List ℕ) (w : ℕ) → length bytes ≡ w →
-    (if nat_le w (length (bytes ++ rest)) then Got (decode (take w (bytes ++ rest))) (drop w (bytes ++ rest)) else cut) ≡ Got (decode bytes) rest
+    (if nat_le w (length (bytes ++ rest)) then Got (decode (take w (bytes ++ rest))) (drop w (bytes ++ rest)) else cut)
+    ≡ Got (decode bytes) rest
 decoded decode cut bytes rest w e =
-    ap (λ n. if nat_le n (length (bytes ++ rest)) then Got (decode (take n (bytes ++ rest))) (drop n (bytes ++ rest)) else cut) (sym e)
-    ∙ ap (λ b. if b then Got (decode (take (length bytes) (bytes ++ rest))) (drop (length bytes) (bytes ++ rest)) else cut) (long_enough bytes rest)
+    ap (λ n. if nat_le n (length (bytes ++ rest)) then Got (decode (take n (bytes ++ rest))) (drop n (bytes ++ rest))
+    else cut)
+    (sym e)
+    ∙ ap
+    (λ b. if b then Got (decode (take (length bytes) (bytes ++ rest))) (drop (length bytes) (bytes ++ rest)) else cut)
+    (long_enough bytes rest)
     ∙ ap (λ x. Got (decode x) (drop (length bytes) (bytes ++ rest))) (take_front bytes rest)
     ∙ ap (λ x. Got (decode bytes) x) (drop_front bytes rest)
 
 pub bytes_read : (bytes : List ℕ) → Reads (bytes_of (length bytes)) bytes bytes
-bytes_read bytes = record { back = λ whole rest. decoded (λ x. x) (Failed (fault.Truncated whole)) bytes rest (length bytes) refl }
+bytes_read bytes =
+    record { back = λ whole rest. decoded (λ x. x) (Failed (fault.Truncated whole)) bytes rest (length bytes) refl }
 
 pub read_8 : (n : ℕ) → Reads number_8 n (n ∷ [])
 read_8 n = record { back = λ whole rest. refl }
@@ -95,10 +101,13 @@ pub more_read : {A : Type 0} (part : List A → Field A) (bytes : A → List ℕ
     ((pre : List A) (x : A) (post : List A) → all ≡ pre ++ (x ∷ post) → Reads (part pre) x (bytes x)) →
     Reads (more (length xs) part done) all (flat_map bytes xs)
 unfolding more
-more_read part bytes all done [] e each = record { back = λ whole rest. ap (λ x. Got x rest) (sym (e ∙ append-nil done)) }
+more_read part bytes all done [] e each =
+    record { back = λ whole rest. ap (λ x. Got x rest) (sym (e ∙ append-nil done)) }
 more_read part bytes all done (x ∷ xs) e each = record {
   back = λ whole rest.
-      ap (λ y. go_on (part done whole y) (λ a. more (length xs) part (done ++ (a ∷ []))) whole) (append_assoc (bytes x) (flat_map bytes xs) rest)
-      ∙ ap (λ y. go_on y (λ a. more (length xs) part (done ++ (a ∷ []))) whole) ((each done x xs e).back whole (flat_map bytes xs ++ rest))
+      ap (λ y. go_on (part done whole y) (λ a. more (length xs) part (done ++ (a ∷ []))) whole)
+      (append_assoc (bytes x) (flat_map bytes xs) rest)
+      ∙ ap (λ y. go_on y (λ a. more (length xs) part (done ++ (a ∷ []))) whole)
+      ((each done x xs e).back whole (flat_map bytes xs ++ rest))
       ∙ (more_read part bytes all (done ++ (x ∷ [])) xs (e ∙ sym (append_assoc done (x ∷ []) xs)) each).back whole rest;
 }

@@ -13,14 +13,17 @@ counted None m h = absurd (let z : None ≡ Some m = h in cc)
 counted (Some j) m h = (j, refl, (let z : Some (1 + j) ≡ Some m = h in let q : 1 + j ≡ m = cc in omega (arith, q)))
 
 -- a merge that is declared is found
-pub merge_known : (before : List Declaration) (name : Name) (e : Declaration) → Among before e → IsMergeOf name e → (m : ℕ) × (merge_at name before ≡ Some m)
+pub merge_known : (before : List Declaration) (name : Name) (e : Declaration) → Among before e → IsMergeOf name e
+    → (m : ℕ) × (merge_at name before ≡ Some m)
 merge_known [] name e h is = absurd h
 merge_known (merge w m j r body ∷ es) name e h is = by (same name w.text) refl h (λ g. merge_known es name e g is)
   where
     some : (o : Option ℕ) → ((q : ℕ) × (o ≡ Some q)) → (q : ℕ) × (option_map (λ n. 1 + n) o ≡ Some q)
     some o f = (1 + f.0, ap (option_map (λ n. 1 + n)) f.1)
 
-    by : (d : Bool) → same name w.text ≡ d → (merge w m j r body ≡ e) ⊎ Among es e → (Among es e → (q : ℕ) × (merge_at name es ≡ Some q)) → (q : ℕ) × ((if d then Some 0 else option_map (λ n. 1 + n) (merge_at name es)) ≡ Some q)
+    by : (d : Bool) → same name w.text ≡ d → (merge w m j r body ≡ e) ⊎ Among es e
+        → (Among es e → (q : ℕ) × (merge_at name es ≡ Some q))
+        → (q : ℕ) × ((if d then Some 0 else option_map (λ n. 1 + n) (merge_at name es)) ≡ Some q)
     by true q g rec = (0, refl)
     by false q (inl g) rec =
         let z : IsMergeOf name (merge w m j r body) = subst (IsMergeOf name) (sym g) is in

@@ -10,5 +10,6 @@ numbered_more lines xs n d h =
     ap (numbered lines n) (drop-cons xs n d h)
     ∙ ap (λ k. lines n (get_or xs n d) ++ numbered lines (n + 1) (drop k xs)) (let z : suc n ≡ n + 1 = omega arith in z)
 
-pub numbered_end : {A : Type 0} (lines : ℕ → A → List ℕ) (xs : List A) (n : ℕ) → length xs ≤ n → numbered lines n (drop n xs) ≡ []
+pub numbered_end : {A : Type 0} (lines : ℕ → A → List ℕ) (xs : List A) (n : ℕ) → length xs ≤ n
+    → numbered lines n (drop n xs) ≡ []
 numbered_end lines xs n h = ap (numbered lines n) (past xs n h)

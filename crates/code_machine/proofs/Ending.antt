@@ -18,9 +18,12 @@ none_blocked g ok n m fuel ns w h over = by w (worlds_proper g ok n m fuel ns w 
   where
     ended : MatchesEnd (machine g) (numbered g) IsNumbered (start_in g n m.body fuel) (start_in g n m.body fuel) w
     ended =
-        complete_schedule_agrees (machine g) (numbered g) IsNumbered (start_in g n m.body fuel) (start_in g n m.body fuel) (named_counts g ok) (simulates g ok)
-        (λ t i. first_numbered g n m.body fuel t) Holds (counts g ok) (holding g) (first_none g n m.body fuel) ns w h over
+        complete_schedule_agrees (machine g) (numbered g) IsNumbered (start_in g n m.body fuel)
+        (start_in g n m.body fuel) (named_counts g ok) (simulates g ok)
+        (λ t i. first_numbered g n m.body fuel t) Holds (counts g ok) (holding g) (first_none g n m.body fuel) ns w h
+        over
 
-    by : (w : World (Local ℕ)) → EachEntry (λ l. IsProper g l) w → AllStop (numbered g) (start_in g n m.body fuel) w → EachEntry (λ l. IsOver l) w
+    by : (w : World (Local ℕ)) → EachEntry (λ l. IsProper g l) w → AllStop (numbered g) (start_in g n m.body fuel) w
+        → EachEntry (λ l. IsOver l) w
     by Both p s = tt
     by (Listing v) p s = λ k r e there. stops_over g ok (local_of e) (p k r e there) (s k r e there)

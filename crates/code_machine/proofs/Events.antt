@@ -78,7 +78,9 @@ module _ {H : Type 0} (s : Setting H) (own : (n : ℕ) → Own (slice_get s.funs
   e_pushes rest (Some w) = tt
 
   e_local : (n : ℕ) (o : Option ValueKind) (ws : List (Word H)) → Up (r.into_local c n o ws)
-  e_local n (Some k) (w ∷ rest) = e_if (same_kind k (kind_of w)) (goes (record c { at = suc c.at; stack = rest; locals = slice_set c.locals n w })) stuck tt tt
+  e_local n (Some k) (w ∷ rest) =
+      e_if (same_kind k (kind_of w)) (goes (record c { at = suc c.at; stack = rest; locals = slice_set c.locals n w }))
+      stuck tt tt
   e_local n (Some k) [] = tt
   e_local n None ws = tt
 
@@ -87,7 +89,8 @@ module _ {H : Type 0} (s : Setting H) (own : (n : ℕ) → Own (slice_get s.funs
   e_from_scalar (Some q) = e_pushes c.stack (seen_at c.locations q.first)
 
   e_into_scalar : (o : Option Place) (ws : List (Word H)) → Up (r.into_scalar c o ws)
-  e_into_scalar (Some q) (w ∷ rest) = e_if (same_kind q.var.kind (kind_of w)) (r.after_write c rest q.first w) stuck tt tt
+  e_into_scalar (Some q) (w ∷ rest) =
+      e_if (same_kind q.var.kind (kind_of w)) (r.after_write c rest q.first w) stuck tt tt
   e_into_scalar (Some q) [] = tt
   e_into_scalar None ws = tt
 
@@ -104,7 +107,9 @@ module _ {H : Type 0} (s : Setting H) (own : (n : ℕ) → Own (slice_get s.funs
   e_write rest w (Some l) = tt
 
   e_into_cell : (o : Option Place) (ws : List (Word H)) → Up (r.into_cell c o ws)
-  e_into_cell (Some q) (w ∷ int n ∷ rest) = e_if (same_kind q.var.kind (kind_of w)) (r.write_cell c rest w (cell_at q n)) stuck (e_write rest w (cell_at q n)) tt
+  e_into_cell (Some q) (w ∷ int n ∷ rest) =
+      e_if (same_kind q.var.kind (kind_of w)) (r.write_cell c rest w (cell_at q n)) stuck (e_write rest w (cell_at q n))
+      tt
   e_into_cell _ _ = tt
 
   e_test : (o : Option ℕ) → Up (r.test_cell c o)
@@ -133,14 +138,16 @@ module _ {H : Type 0} (s : Setting H) (own : (n : ℕ) → Own (slice_get s.funs
   e_jump_if false to (int n ∷ rest) = tt
   e_jump_if false to (rev n ∷ rest) = tt
 
-  e_value : (rest : List (Word H)) (o : Option (Result (Word H) Cause)) → ((e : Cause) → o ≡ Some (Err e) → of_merge e ≡ false) → Up (r.value_or_trap c rest o)
+  e_value : (rest : List (Word H)) (o : Option (Result (Word H) Cause))
+      → ((e : Cause) → o ≡ Some (Err e) → of_merge e ≡ false) → Up (r.value_or_trap c rest o)
   e_value rest None h = tt
   e_value rest (Some (Ok w)) h = tt
   e_value rest (Some (Err e)) h = (refl, h e refl)
 
   e_apply_to : (x : Option (Fun H)) → Own x → (o : Option (List (Word H))) → Up (r.apply_to c x o)
   e_apply_to x h None = tt
-  e_apply_to x h (Some args) = e_value (Rattle.std.specs.Prelude.drop (length args) c.stack) (r.value_at x args) (h args)
+  e_apply_to x h (Some args) =
+      e_value (Rattle.std.specs.Prelude.drop (length args) c.stack) (r.value_at x args) (h args)
 
   e_apply : (o : Option CodeBlock) (x : Option (Fun H)) → Own x → Up (r.apply c o x)
   e_apply None x h = tt
@@ -152,7 +159,9 @@ module _ {H : Type 0} (s : Setting H) (own : (n : ℕ) → Own (slice_get s.funs
 
   e_call_with : (n : ℕ) (b : CodeBlock) (o : Option (List (Word H))) → Up (r.call_with c n b o)
   e_call_with n b None = tt
-  e_call_with n b (Some args) = e_if (nat_lt (suc (length c.below)) r.most_frames) (goes (r.enter c n b args)) (traps c cause.CallDepth) tt (refl, refl)
+  e_call_with n b (Some args) =
+      e_if (nat_lt (suc (length c.below)) r.most_frames) (goes (r.enter c n b args)) (traps c cause.CallDepth) tt
+      (refl, refl)
 
   e_call : (n : ℕ) (o : Option CodeBlock) → Up (r.call c n o)
   e_call n None = tt
@@ -178,9 +187,11 @@ module _ {H : Type 0} (s : Setting H) (own : (n : ℕ) → Own (slice_get s.funs
   e_return : (o : Option ValueKind) (ws : List (Word H)) → Up (r.return c o ws)
   e_return None ws = e_leave c.below None
   e_return (Some x) [] = tt
-  e_return (Some x) (w ∷ rest) = e_if (same_kind x (kind_of w)) (r.leave c c.below (Some w)) stuck (e_leave c.below (Some w)) tt
+  e_return (Some x) (w ∷ rest) =
+      e_if (same_kind x (kind_of w)) (r.leave c c.below (Some w)) stuck (e_leave c.below (Some w)) tt
 
-  e_print_with : (texts : List (List ℕ)) (items : List LayoutItem) (o : Option (List (Word H))) → Up (r.print_with texts c items o)
+  e_print_with : (texts : List (List ℕ)) (items : List LayoutItem) (o : Option (List (Word H)))
+      → Up (r.print_with texts c items o)
   e_print_with texts items None = tt
   e_print_with texts items (Some ws) = tt
 
@@ -263,7 +274,8 @@ module _ {H : Type 0} where
   append_own [] x h o = (o, tt)
   append_own (y ∷ xs) x h o = (h.0, append_own xs x h.1 o)
 
-  trap_own : (s : Setting H) (c : State H) (o : Comes H) → IsAt c o → (d : State H) (e : Cause) → o ≡ traps d e → of_merge e ≡ false
+  trap_own : (s : Setting H) (c : State H) (o : Comes H) → IsAt c o → (d : State H) (e : Cause) → o ≡ traps d e
+      → of_merge e ≡ false
   trap_own s c (traps d' e') at d e q = (let z : e' ≡ e = cc in ap of_merge (sym z) ∙ at.1)
   trap_own s c (goes d') at d e q = absurd (let z : goes d' ≡ traps d e = q in cc)
   trap_own s c (forks d' n args) at d e q = absurd (let z : forks d' n args ≡ traps d e = q in cc)
@@ -271,11 +283,13 @@ module _ {H : Type 0} where
   trap_own s c (ends d' w) at d e q = absurd (let z : ends d' w ≡ traps d e = q in cc)
   trap_own s c stuck at d e q = absurd (let z : stuck ≡ traps d e = q in cc)
 
-  reach_own : (s : Setting H) → ((n : ℕ) → Own (slice_get s.funs n)) → (k : ℕ) (c d : State H) (e : Cause) → reach s k c ≡ traps d e → of_merge e ≡ false
+  reach_own : (s : Setting H) → ((n : ℕ) → Own (slice_get s.funs n)) → (k : ℕ) (c d : State H) (e : Cause)
+      → reach s k c ≡ traps d e → of_merge e ≡ false
   reach_own s own zero c d e q = trap_own s c (step s c) (at_step s own c) d e q
   reach_own s own (suc k) c d e q = by (step s c) (at_step s own c) q (λ x z. reach_own s own k x d e z)
     where
-      by : (o : Comes H) → IsAt c o → onward (λ x. reach s k x) o ≡ traps d e → ((x : State H) → reach s k x ≡ traps d e → of_merge e ≡ false) → of_merge e ≡ false
+      by : (o : Comes H) → IsAt c o → onward (λ x. reach s k x) o ≡ traps d e
+          → ((x : State H) → reach s k x ≡ traps d e → of_merge e ≡ false) → of_merge e ≡ false
       by (goes x) at q rec = rec x q
       by (traps x y) at q rec = trap_own s c (traps x y) at d e q
       by (forks x n args) at q rec = trap_own s c (forks x n args) at d e q
@@ -283,8 +297,10 @@ module _ {H : Type 0} where
       by (ends x w) at q rec = trap_own s c (ends x w) at d e q
       by stuck at q rec = trap_own s c stuck at d e q
 
-  answer_own : (o : Comes H) (e : Cause) → funs.answer o ≡ Some (Err e) → ((d : State H) → o ≡ traps d e → of_merge e ≡ false) → of_merge e ≡ false
-  answer_own (traps d x) e q h = (let z : x ≡ e = (let y : Some (Err x) ≡ Some (Err e) = q in cc) in h d (ap (traps d) z))
+  answer_own : (o : Comes H) (e : Cause) → funs.answer o ≡ Some (Err e)
+      → ((d : State H) → o ≡ traps d e → of_merge e ≡ false) → of_merge e ≡ false
+  answer_own (traps d x) e q h =
+      (let z : x ≡ e = (let y : Some (Err x) ≡ Some (Err e) = q in cc) in h d (ap (traps d) z))
   answer_own (ends d (Some w)) e q h = absurd (let y : Some (Ok w) ≡ Some (Err e) = q in cc)
   answer_own (ends d None) e q h = absurd (let y : None ≡ Some (Err e) = q in cc)
   answer_own (goes d) e q h = absurd (let y : None ≡ Some (Err e) = q in cc)
@@ -292,16 +308,25 @@ module _ {H : Type 0} where
   answer_own (joins d try k) e q h = absurd (let y : None ≡ Some (Err e) = q in cc)
   answer_own stuck e q h = absurd (let y : None ≡ Some (Err e) = q in cc)
 
-  value_own : (code : Code) (xs : List (Fun H)) → AllOwn xs → (n : ℕ) (b : CodeBlock) → Own (Some (funs.value_of code xs n b))
+  value_own : (code : Code) (xs : List (Fun H)) → AllOwn xs → (n : ℕ) (b : CodeBlock)
+      → Own (Some (funs.value_of code xs n b))
   value_own code xs h n b args e q = by (Rattle.rev_code.specs.Words.fits (r.params b) args) q
     where
-      by : (d : Bool) → cond d (funs.answer (reach (funs.setting_of_fun code xs) (length b.instrs) (funs.fun_start n b args))) None ≡ Some (Err e) → of_merge e ≡ false
-      by true q = answer_own (reach (funs.setting_of_fun code xs) (length b.instrs) (funs.fun_start n b args)) e q (λ d z. reach_own (funs.setting_of_fun code xs) (get_own xs h) (length b.instrs) (funs.fun_start n b args) d e z)
+      by : (d : Bool)
+          → cond d (funs.answer (reach (funs.setting_of_fun code xs) (length b.instrs) (funs.fun_start n b args))) None
+          ≡ Some (Err e)
+          → of_merge e ≡ false
+      by true q = answer_own (reach (funs.setting_of_fun code xs) (length b.instrs) (funs.fun_start n b args)) e q
+          (λ d z. reach_own (funs.setting_of_fun code xs) (get_own xs h) (length b.instrs) (funs.fun_start n b args) d e
+          z)
       by false q = absurd (let y : None ≡ Some (Err e) = q in cc)
 
-  values_own : (code : Code) (xs : List (Fun H)) (n : ℕ) (bs : List CodeBlock) → AllOwn xs → AllOwn (funs.values_from code xs n bs)
+  values_own : (code : Code) (xs : List (Fun H)) (n : ℕ) (bs : List CodeBlock) → AllOwn xs
+      → AllOwn (funs.values_from code xs n bs)
   values_own code xs n [] h = h
-  values_own code xs n (b ∷ bs) h = values_own code (xs ++ funs.value_of code xs n b ∷ []) (suc n) bs (append_own xs (funs.value_of code xs n b) h (value_own code xs h n b))
+  values_own code xs n (b ∷ bs) h =
+      values_own code (xs ++ funs.value_of code xs n b ∷ []) (suc n) bs
+      (append_own xs (funs.value_of code xs n b) h (value_own code xs h n b))
 
   funs_own : (g : CodeRun) (n : ℕ) → Own (slice_get (funs.values {H = H} g.code) n)
   funs_own g n = get_own (funs.values g.code) (values_own g.code [] 0 g.code.blocks tt) n

@@ -23,27 +23,40 @@ use Rattle.code_machine.proofs.Typing.{goes_act, bears_act, wants_act}
 
 -- ---- two revisions of one world have no more fuel than all
 
-one_fuel : (w : Entries (Local ℕ)) (n : ℕ) (r : Path) (l : Local ℕ) → at_number w n ≡ Some (r, Plain l) → l.state.fuel ≤ fuels w
+one_fuel : (w : Entries (Local ℕ)) (n : ℕ) (r : Path) (l : Local ℕ) → at_number w n ≡ Some (r, Plain l)
+    → l.state.fuel ≤ fuels w
 one_fuel [] n r l e = none_some e
 one_fuel ((q, Plain k) ∷ w) zero r l e =
-    let same : k ≡ l = (let x : ◌≡◌ {A = Path × Entry (Local ℕ)} (q, Plain k) (r, Plain l) = some_inj e in let y : ◌≡◌ {A = Entry (Local ℕ)} (Plain k) (Plain l) = ap (λ z. z.1) x in cc) in
+    let same : k ≡ l =
+    (let x : ◌≡◌ {A = Path × Entry (Local ℕ)} (q, Plain k) (r, Plain l) = some_inj e in
+    let y : ◌≡◌ {A = Entry (Local ℕ)} (Plain k) (Plain l) = ap (λ z. z.1) x in
+    cc) in
     let f = ap (λ z. z.state.fuel) same in omega (arith, f)
-one_fuel ((q, Joined k) ∷ w) zero r l e = absurd (let x : ◌≡◌ {A = Path × Entry (Local ℕ)} (q, Joined k) (r, Plain l) = some_inj e in let y : ◌≡◌ {A = Entry (Local ℕ)} (Joined k) (Plain l) = ap (λ z. z.1) x in cc)
+one_fuel ((q, Joined k) ∷ w) zero r l e =
+    absurd (let x : ◌≡◌ {A = Path × Entry (Local ℕ)} (q, Joined k) (r, Plain l) = some_inj e in
+    let y : ◌≡◌ {A = Entry (Local ℕ)} (Joined k) (Plain l) = ap (λ z. z.1) x in
+    cc)
 one_fuel ((q, Plain k) ∷ w) (suc n) r l e = let f = one_fuel w n r l e in omega (arith, f)
 one_fuel ((q, Joined k) ∷ w) (suc n) r l e = one_fuel w n r l e
 
-plain_here : (q r : Path) (x : Entry (Local ℕ)) (l : Local ℕ) (w : Entries (Local ℕ)) → ◌≡◌ {A = Option (Path × Entry (Local ℕ))} (Some (q, x)) (Some (r, Plain l)) → fuels ((q, x) ∷ w) ≡ l.state.fuel + fuels w
+plain_here : (q r : Path) (x : Entry (Local ℕ)) (l : Local ℕ) (w : Entries (Local ℕ))
+    → ◌≡◌ {A = Option (Path × Entry (Local ℕ))} (Some (q, x)) (Some (r, Plain l))
+    → fuels ((q, x) ∷ w) ≡ l.state.fuel + fuels w
 plain_here q r x l w e =
     let y : x ≡ Plain l = ap (λ z. z.1) (some_inj e) in
     ap (λ z. fuels ((q, z) ∷ w)) y
 
-pub two_fuels : (w : Entries (Local ℕ)) (n m : ℕ) (r q : Path) (l k : Local ℕ) → n ≢ m → at_number w n ≡ Some (r, Plain l) → at_number w m ≡ Some (q, Plain k)
+pub two_fuels : (w : Entries (Local ℕ)) (n m : ℕ) (r q : Path) (l k : Local ℕ) → n ≢ m
+    → at_number w n ≡ Some (r, Plain l) → at_number w m ≡ Some (q, Plain k)
     → l.state.fuel + k.state.fuel ≤ fuels w
 two_fuels [] n m r q l k apart a b = none_some a
 two_fuels ((p, x) ∷ w) zero zero r q l k apart a b = absurd (apart refl)
-two_fuels ((p, x) ∷ w) zero (suc m) r q l k apart a b = let f = plain_here p r x l w a in let h = one_fuel w m q k b in omega (arith, f, h)
-two_fuels ((p, x) ∷ w) (suc n) zero r q l k apart a b = let f = plain_here p q x k w b in let h = one_fuel w n r l a in omega (arith, f, h)
-two_fuels ((p, Plain x) ∷ w) (suc n) (suc m) r q l k apart a b = let h = two_fuels w n m r q l k (λ e. apart (ap suc e)) a b in omega (arith, h)
+two_fuels ((p, x) ∷ w) zero (suc m) r q l k apart a b =
+    let f = plain_here p r x l w a in let h = one_fuel w m q k b in omega (arith, f, h)
+two_fuels ((p, x) ∷ w) (suc n) zero r q l k apart a b =
+    let f = plain_here p q x k w b in let h = one_fuel w n r l a in omega (arith, f, h)
+two_fuels ((p, Plain x) ∷ w) (suc n) (suc m) r q l k apart a b =
+    let h = two_fuels w n m r q l k (λ e. apart (ap suc e)) a b in omega (arith, h)
 two_fuels ((p, Joined x) ∷ w) (suc n) (suc m) r q l k apart a b = two_fuels w n m r q l k (λ e. apart (ap suc e)) a b
 
 -- ---- by paths
@@ -62,17 +75,22 @@ module _ (g : CodeRun) (ok : IsVerified g) where
   amount_less (Some (Joined l)) = omega arith
   amount_less (Some (Plain l)) = some_pay g ok l
 
-  total_less : (revs : PathMap (Entry (Local Path))) (ps : List Path) → total (λ l. l.state.fuel) revs ps ≤ total (λ l. pay g l) revs ps
+  total_less : (revs : PathMap (Entry (Local Path))) (ps : List Path)
+      → total (λ l. l.state.fuel) revs ps ≤ total (λ l. pay g l) revs ps
   total_less revs [] = omega arith
   total_less revs (p ∷ ps) = let a = amount_less (revs p) in let b = total_less revs ps in omega (arith, a, b)
 
-  pub fuel_spent : (n : ℕ) (m : IsMain g n) (fuel : ℕ) → SpendingLaw (machine g) (start_in g n m.body fuel) 0 (λ l. l.state.fuel)
+  pub fuel_spent : (n : ℕ) (m : IsMain g n) (fuel : ℕ)
+      → SpendingLaw (machine g) (start_in g n m.body fuel) 0 (λ l. l.state.fuel)
   fuel_spent n m fuel h rs runs =
-      let s = spending_law (machine g) (start_in g n m.body fuel) 0 (λ l. pay g l) (counts g ok) pays_nothing h rs runs in
+      let s = spending_law (machine g) (start_in g n m.body fuel) 0 (λ l. pay g l) (counts g ok) pays_nothing h rs
+      runs in
       let b = first_pay g ok n m fuel Path in
       by h s.0 s.1 s.2 b
     where
-      by : (h : Global (Local Path)) (k : ℕ) → Amounts (machine g) (λ l. pay g l) h k → k + length rs * 0 ≤ pay g (start_in {H = Path} g n m.body fuel) → pay g (start_in {H = Path} g n m.body fuel) ≤ fuel
+      by : (h : Global (Local Path)) (k : ℕ) → Amounts (machine g) (λ l. pay g l) h k
+          → k + length rs * 0 ≤ pay g (start_in {H = Path} g n m.body fuel)
+          → pay g (start_in {H = Path} g n m.body fuel) ≤ fuel
           → (j : ℕ) × Amounts (machine g) (λ l. l.state.fuel) h j × (j + length rs * 0 ≤ fuel)
       by Twice k e a b = (0, refl, omega (arith, a, b))
       by (Live revs) k (ps, census, e) a b =
@@ -93,17 +111,27 @@ module _ (g : CodeRun) (ok : IsVerified g) where
   covers ((r, Plain l) ∷ w) = let a = some_pay g ok l in let b = covers w in omega (arith, a, b)
   covers ((r, Joined l) ∷ w) = covers w
 
-  put_plain : (w : Entries (Local ℕ)) (n : ℕ) (r q : Path) (l k : Local ℕ) → at_number w n ≡ Some (r, Plain l) → all (put_number w n (q, Plain k)) + pay g l ≡ all w + pay g k
+  put_plain : (w : Entries (Local ℕ)) (n : ℕ) (r q : Path) (l k : Local ℕ) → at_number w n ≡ Some (r, Plain l)
+      → all (put_number w n (q, Plain k)) + pay g l ≡ all w + pay g k
   unfolding all
-  put_plain [] n r q l k e = absurd (let z : ◌≡◌ {A = Option (Path × Entry (Local ℕ))} None (Some (r, Plain l)) = e in cc)
-  put_plain ((p, x) ∷ w) zero r q l k e = subst (λ y. pay g k + all w + pay g l ≡ all ((y.0, y.1) ∷ w) + pay g k) (let z : ◌≡◌ {A = Path × Entry (Local ℕ)} (p, x) (r, Plain l) = cc in sym z) (let h : pay g k + all w + pay g l ≡ pay g l + all w + pay g k = omega arith in h)
+  put_plain [] n r q l k e =
+      absurd (let z : ◌≡◌ {A = Option (Path × Entry (Local ℕ))} None (Some (r, Plain l)) = e in cc)
+  put_plain ((p, x) ∷ w) zero r q l k e =
+      subst (λ y. pay g k + all w + pay g l ≡ all ((y.0, y.1) ∷ w) + pay g k)
+      (let z : ◌≡◌ {A = Path × Entry (Local ℕ)} (p, x) (r, Plain l) = cc in sym z)
+      (let h : pay g k + all w + pay g l ≡ pay g l + all w + pay g k = omega arith in h)
   put_plain ((p, Plain x) ∷ w) (suc n) r q l k e = let h = put_plain w n r q l k e in omega (arith, h)
   put_plain ((p, Joined x) ∷ w) (suc n) r q l k e = put_plain w n r q l k e
 
-  put_joined : (w : Entries (Local ℕ)) (n : ℕ) (r q : Path) (l k : Local ℕ) → at_number w n ≡ Some (r, Plain l) → all (put_number w n (q, Joined k)) + pay g l ≡ all w
+  put_joined : (w : Entries (Local ℕ)) (n : ℕ) (r q : Path) (l k : Local ℕ) → at_number w n ≡ Some (r, Plain l)
+      → all (put_number w n (q, Joined k)) + pay g l ≡ all w
   unfolding all
-  put_joined [] n r q l k e = absurd (let z : ◌≡◌ {A = Option (Path × Entry (Local ℕ))} None (Some (r, Plain l)) = e in cc)
-  put_joined ((p, x) ∷ w) zero r q l k e = subst (λ y. all w + pay g l ≡ all ((y.0, y.1) ∷ w)) (let z : ◌≡◌ {A = Path × Entry (Local ℕ)} (p, x) (r, Plain l) = cc in sym z) (let h : all w + pay g l ≡ pay g l + all w = omega arith in h)
+  put_joined [] n r q l k e =
+      absurd (let z : ◌≡◌ {A = Option (Path × Entry (Local ℕ))} None (Some (r, Plain l)) = e in cc)
+  put_joined ((p, x) ∷ w) zero r q l k e =
+      subst (λ y. all w + pay g l ≡ all ((y.0, y.1) ∷ w))
+      (let z : ◌≡◌ {A = Path × Entry (Local ℕ)} (p, x) (r, Plain l) = cc in sym z)
+      (let h : all w + pay g l ≡ pay g l + all w = omega arith in h)
   put_joined ((p, Plain x) ∷ w) (suc n) r q l k e = let h = put_joined w n r q l k e in omega (arith, h)
   put_joined ((p, Joined x) ∷ w) (suc n) r q l k e = put_joined w n r q l k e
 
@@ -117,7 +145,8 @@ module _ (g : CodeRun) (ok : IsVerified g) where
   within most Both = Unit {0}
   within most (Listing w) = all w ≤ most
 
-  step_within : (most : ℕ) (w : Entries (Local ℕ)) (n : ℕ) (u : World (Local ℕ)) → all w ≤ most → LegOf (numbered g) w n u → within most u
+  step_within : (most : ℕ) (w : Entries (Local ℕ)) (n : ℕ) (u : World (Local ℕ)) → all w ≤ most
+      → LegOf (numbered g) w n u → within most u
   unfolding within
   step_within most w n u h (went r l l' at is z) =
       let a : MoveOk g l l' = subst (ActOk g l) (goes_act g ok (act g l) l' is) (act_ok g ok l) in
@@ -134,15 +163,19 @@ module _ (g : CodeRun) (ok : IsVerified g) where
       let a : WantOk g l = subst (ActOk g l) (wants_act g ok (act g l) m is) (act_ok g ok l) in
       let b = (join_ok g ok l lq a.works).pay in
       let s = put_plain w n r r l (join g l lq) at in
-      let t = put_joined (put_number w n (r, Plain (join g l lq))) m q q lq lq (joinee_stays (numbered g) w n m r q l lq (Plain (join g l lq)) at is there stops) in
+      let t = put_joined (put_number w n (r, Plain (join g l lq))) m q q lq lq
+      (joinee_stays (numbered g) w n m r q l lq (Plain (join g l lq)) at is there stops) in
       subst (within most) (sym z) (omega (arith, b, s, t, h))
   step_within most w n u h (twice r l m at is z) = subst (within most) (sym z) tt
 
-  kept_within : (most : ℕ) (ns : List ℕ) (v w : World (Local ℕ)) → within most v → Replays (numbered g) v ns w → within most w
+  kept_within : (most : ℕ) (ns : List ℕ) (v w : World (Local ℕ)) → within most v → Replays (numbered g) v ns w
+      → within most w
   unfolding within
-  kept_within most = replays_keep (numbered g) (within most) (λ x n u h e. step_within most x n u h (leg_ways (numbered g) x n u e))
+  kept_within most =
+      replays_keep (numbered g) (within most) (λ x n u h e. step_within most x n u h (leg_ways (numbered g) x n u e))
 
-  pub fuel_of : (n : ℕ) (m : IsMain g n) (fuel : ℕ) (ns : List ℕ) (w : Entries (Local ℕ)) → Replays (numbered g) (begin (numbered g) (start_in g n m.body fuel)) ns (Listing w) → fuels w ≤ fuel
+  pub fuel_of : (n : ℕ) (m : IsMain g n) (fuel : ℕ) (ns : List ℕ) (w : Entries (Local ℕ))
+      → Replays (numbered g) (begin (numbered g) (start_in g n m.body fuel)) ns (Listing w) → fuels w ≤ fuel
   unfolding within all
   fuel_of n m fuel ns w h =
       let a = first_pay g ok n m fuel ℕ in

@@ -47,7 +47,8 @@ of_moves r k (Bears u c) l' e = absurd (let w : revisions.Forks (u (child r k)) 
 of_moves r k (Wants q) l' e = absurd (let w : revisions.Joins q ≡ revisions.Moves l' = e in cc)
 of_moves r k Stops l' e = absurd (let w : revisions.Ended ≡ revisions.Moves l' = e in cc)
 
-pub of_forks : (r : Path) (k : ℕ) (a : Act Path) (l' c : Local Path) → event_of r k a ≡ revisions.Forks l' c → (u : Path → Local Path) × (a ≡ Bears u c) × (u (child r k) ≡ l')
+pub of_forks : (r : Path) (k : ℕ) (a : Act Path) (l' c : Local Path) → event_of r k a ≡ revisions.Forks l' c
+    → (u : Path → Local Path) × (a ≡ Bears u c) × (u (child r k) ≡ l')
 of_forks r k (Bears u d) l' c e =
     let z : d ≡ c = (let w : revisions.Forks (u (child r k)) d ≡ revisions.Forks l' c = e in cc) in
     let y : u (child r k) ≡ l' = (let w : revisions.Forks (u (child r k)) d ≡ revisions.Forks l' c = e in cc) in
@@ -109,7 +110,8 @@ module _ (q : Path) where
             let y : l' ≡ renamed (away q) l' = (let w : Goes l' ≡ Goes (renamed (away q) l') = sym e ∙ z in cc) in
             absurd (not_held l' y i)
 
-    pub forker_held : (u : Path → Local Path) (c : Local Path) (h : Path) → act g l ≡ Bears u c → Holds (u h) q → Holds l q ⊎ (q ≡ h)
+    pub forker_held : (u : Path → Local Path) (c : Local Path) (h : Path) → act g l ≡ Bears u c → Holds (u h) q
+        → Holds l q ⊎ (q ≡ h)
     forker_held u c h e i = by (decide_in q (handles l)) (decide_same q h)
       where
         by : Holds l q ⊎ (Holds l q → ⊥) → (q ≡ h) ⊎ (q ≢ h) → Holds l q ⊎ (q ≡ h)
@@ -118,7 +120,8 @@ module _ (q : Path) where
         by (inr n) (inr apart) =
             let b = as_bear (away q) (act g l) (act g l) (same_again n) u c e in
             let z : u ≡ b.0 = (let w : Bears u c ≡ Bears b.0 (renamed (away q) c) = sym e ∙ b.1 in cc) in
-            let y : u h ≡ renamed (away q) (u h) = ap (λ v. v h) z ∙ ap b.0 (sym (left h (λ k. apart (sym k)))) ∙ b.2 h in
+            let y : u h ≡ renamed (away q) (u h) =
+            ap (λ v. v h) z ∙ ap b.0 (sym (left h (λ k. apart (sym k)))) ∙ b.2 h in
             absurd (not_held (u h) y i)
 
     pub forked_held : (u : Path → Local Path) (c : Local Path) → act g l ≡ Bears u c → Holds c q → Holds l q
@@ -150,7 +153,8 @@ module _ (q : Path) where
         by (inr n) (inr m) =
             let a = unmoved l n in
             let b = unmoved j m in
-            let y : join g l j ≡ renamed (away q) (join g l j) = (λ x. join g (sym a x) (sym b x)) ∙ join_same (away q) g l j in
+            let y : join g l j ≡ renamed (away q) (join g l j) =
+            (λ x. join g (sym a x) (sym b x)) ∙ join_same (away q) g l j in
             absurd (not_held (join g l j) y i)
 
 pub holding : (g : CodeRun) → Handles (machine g) Holds

@@ -5,13 +5,13 @@ use Rattle.rev_code.specs.declared.code.CodeBlock.{CodeBlock}
 use Rattle.rev_code.specs.State.{State}
 use Rattle.rev_code.specs.Step as code
 use Rattle.rev_code.specs.Step.{Comes, goes, traps, forks, joins, ends, stuck, step, Steps, onward, reach}
-use Rattle.code_prices.specs.Prices.{leg_prices}
-use Rattle.code_prices.specs.Uses.{UsesUp}
-use Rattle.code_prices.proofs.Stepping.{uses}
-use Rattle.code_prices.proofs.Priced.{leg_bears}
+use Rattle.code_soundness.specs.Prices.{leg_prices}
+use Rattle.code_soundness.specs.Paid.{UsesUp}
+use Rattle.code_soundness.proofs.Stepping.{uses}
+use Rattle.code_soundness.proofs.Priced.{leg_bears}
 use Rattle.code_soundness.specs.Whole.{IsAccepted, notes_of}
 use Rattle.code_soundness.specs.Typed.{IsRevision}
-use Rattle.code_soundness.proofs.Accepting.{no_fault_accepted}
+pub use Rattle.code_soundness.proofs.Accepting.{no_fault_accepted}
 use Rattle.code_soundness.proofs.Reaching.{has_step, is_safe}
 use Rattle.code_machine.specs.Local.{CodeRun, IsVerified, under}
 use Rattle.code_machine.specs.Leg.{IsEvent, IsLeg, longest, clock, leg, HasLeg}
@@ -33,7 +33,8 @@ module _ (g : CodeRun) (ok : IsVerified g) where
         let most = longest g.code.blocks in
         let h : clock g c' + 1 ≤ clock g c =
         subst (UsesUp g.code (notes_of g.code) (leg_prices most) c) e
-        (uses (under g) (notes_of g.code) accepted.certified (leg_prices most) most (leg_bears most) (λ n b. no_longer g.code.blocks n b) c) in
+        (uses (under g) (notes_of g.code) accepted.certified (leg_prices most) most (leg_bears most)
+        (λ n b. no_longer g.code.blocks n b) c) in
         omega (arith, h)
 
     event_on : (k : ℕ) (o : Comes H) → IsEvent o → onward (λ c. reach (under g) k c) o ≡ o
@@ -48,7 +49,8 @@ module _ (g : CodeRun) (ok : IsVerified g) where
     at_event zero c o i e = e
     at_event (suc k) c o i e = ap (onward (λ d. reach (under g) k d)) e ∙ event_on k o i
 
-    reaches : (k : ℕ) (a c : State H) (o : Comes H) → clock g a ≤ k → Steps (under g) a c → IsEvent o → step (under g) c ≡ o → reach (under g) k a ≡ o
+    reaches : (k : ℕ) (a c : State H) (o : Comes H) → clock g a ≤ k → Steps (under g) a c → IsEvent o
+        → step (under g) c ≡ o → reach (under g) k a ≡ o
     reaches k a c o small code.none i e = at_event k c o i e
     reaches zero a c o small (code.more {c' = m} h t) i e = absurd (let d = bounded a m h in omega (arith, d, small))
     reaches (suc k) a c o small (code.more {c' = m} h t) i e =
@@ -64,31 +66,48 @@ module _ (g : CodeRun) (ok : IsVerified g) where
       is : IsLeg (under g) c event
       revision : IsRevision g.code (notes_of g.code) is.last
 
-    here : (c : State H) (o : Comes H) → IsRevision g.code (notes_of g.code) c → step (under g) c ≡ o → IsEvent o → Leads c
+    here : (c : State H) (o : Comes H) → IsRevision g.code (notes_of g.code) c → step (under g) c ≡ o → IsEvent o
+        → Leads c
     here c o t e i = record { event = o; is = record { last = c; steps = code.none; comes = e; is = i }; revision = t }
 
-    from_step : (k : ℕ) (c : State H) → clock g c ≤ k → IsRevision g.code (notes_of g.code) c → (o : Comes H) → step (under g) c ≡ o → ((c' : State H) → step (under g) c ≡ goes c' → clock g c' < clock g c → Leads c') → Leads c
+    from_step : (k : ℕ) (c : State H) → clock g c ≤ k → IsRevision g.code (notes_of g.code) c → (o : Comes H)
+        → step (under g) c ≡ o → ((c' : State H) → step (under g) c ≡ goes c' → clock g c' < clock g c → Leads c')
+        → Leads c
     from_step k c small t (goes c') e rec =
         let l = rec c' e (bounded c c' e) in
-        record { event = l.event; is = record { last = l.is.last; steps = code.more e l.is.steps; comes = l.is.comes; is = l.is.is }; revision = l.revision }
+        record {
+          event = l.event;
+          is = record { last = l.is.last; steps = code.more e l.is.steps; comes = l.is.comes; is = l.is.is };
+          revision = l.revision;
+        }
     from_step k c small t (traps c' x) e rec = here c (traps c' x) t e tt
     from_step k c small t (forks c' n args) e rec = here c (forks c' n args) t e tt
     from_step k c small t (joins c' try h) e rec = here c (joins c' try h) t e tt
     from_step k c small t (ends c' w) e rec = here c (ends c' w) t e tt
-    from_step k c small t stuck e rec = absurd ((has_step H g.code (notes_of g.code) accepted g.inputs g.share c t).event e)
+    from_step k c small t stuck e rec =
+        absurd ((has_step H g.code (notes_of g.code) accepted g.inputs g.share c t).event e)
 
-    after : (c c' : State H) → IsRevision g.code (notes_of g.code) c → step (under g) c ≡ goes c' → IsRevision g.code (notes_of g.code) c'
+    after : (c c' : State H) → IsRevision g.code (notes_of g.code) c → step (under g) c ≡ goes c'
+        → IsRevision g.code (notes_of g.code) c'
     after c c' t e = (is_safe H g.code (notes_of g.code) accepted g.inputs g.share c t).goes c' e
 
     from : (k : ℕ) (c : State H) → clock g c ≤ k → IsRevision g.code (notes_of g.code) c → Leads c
-    from zero c small t = from_step zero c small t (step (under g) c) refl (λ c' e less. absurd (omega (arith, less, small)))
-    from (suc k) c small t = from_step (suc k) c small t (step (under g) c) refl (λ c' e less. from k c' (omega (arith, less, small)) (after c c' t e))
+    from zero c small t =
+        from_step zero c small t (step (under g) c) refl (λ c' e less. absurd (omega (arith, less, small)))
+    from (suc k) c small t =
+        from_step (suc k) c small t (step (under g) c) refl
+        (λ c' e less. from k c' (omega (arith, less, small)) (after c c' t e))
 
     pub has_leg : (c : State H) → IsRevision g.code (notes_of g.code) c → HasLeg g c
     has_leg c t =
         let l = from (clock g c) c (le_refl (clock g c)) t in
         let e : leg g c ≡ l.event = leg_is c l.event l.is in
         record {
-          is = record { last = l.is.last; steps = l.is.steps; comes = l.is.comes ∙ sym e; is = subst IsEvent (sym e) l.is.is };
+          is = record {
+            last = l.is.last;
+            steps = l.is.steps;
+            comes = l.is.comes ∙ sym e;
+            is = subst IsEvent (sym e) l.is.is;
+          };
           revision = l.revision;
         }

@@ -62,12 +62,15 @@ module _ {H : Type 0} (f : H → H) where
   phase_fixed : (x : Phase H) → AllFixed (of_phase x) → renamed_phase f x ≡ x
   phase_fixed running a = refl
   phase_fixed done a = refl
-  phase_fixed (trapped t) a = let e = handle_fixed t.origin a in λ j. trapped (record { cause = t.cause; line = t.line; origin = e j })
+  phase_fixed (trapped t) a =
+      let e = handle_fixed t.origin a in λ j. trapped (record { cause = t.cause; line = t.line; origin = e j })
 
   pub state_fixed : (c : State H) → AllFixed (of_state c) → renamed_as f c.forks c ≡ c
   state_fixed c a =
-      let p = fixed_parts (of_words c.stack) (of_words c.locals ++ (of_frames c.below ++ (of_locations c.locations ++ of_listed c.listed))) a in
-      let q = fixed_parts (of_words c.locals) (of_frames c.below ++ (of_locations c.locations ++ of_listed c.listed)) p.1 in
+      let p = fixed_parts (of_words c.stack)
+      (of_words c.locals ++ (of_frames c.below ++ (of_locations c.locations ++ of_listed c.listed))) a in
+      let q = fixed_parts (of_words c.locals) (of_frames c.below ++ (of_locations c.locations ++ of_listed c.listed))
+      p.1 in
       let r = fixed_parts (of_frames c.below) (of_locations c.locations ++ of_listed c.listed) q.1 in
       let s = fixed_parts (of_locations c.locations) (of_listed c.listed) r.1 in
       let stack = words_fixed c.stack p.0 in
@@ -113,7 +116,8 @@ module _ {H K : Type 0} (f : H → K) where
   locations_named [] = refl
   locations_named (l ∷ ls) =
       joint (of_word l.snapshot ++ of_written l.written) (of_locations ls) _ _
-      (joint (of_word l.snapshot) (of_written l.written) _ _ (word_named l.snapshot) (written_named l.written)) (locations_named ls)
+      (joint (of_word l.snapshot) (of_written l.written) _ _ (word_named l.snapshot) (written_named l.written))
+      (locations_named ls)
 
   frames_named : (fs : List (Frame H)) → of_frames (map (renamed_frame f) fs) ≡ map f (of_frames fs)
   frames_named [] = refl
@@ -134,10 +138,15 @@ module _ {H K : Type 0} (f : H → K) where
 
   state_named : (c : State H) (m : ℕ) → of_state (renamed_as f m c) ≡ map f (of_state c)
   state_named c m =
-      joint (of_words c.stack) (of_words c.locals ++ (of_frames c.below ++ (of_locations c.locations ++ of_listed c.listed))) _ _ (words_named c.stack)
-      (joint (of_words c.locals) (of_frames c.below ++ (of_locations c.locations ++ of_listed c.listed)) _ _ (words_named c.locals)
+      joint (of_words c.stack)
+      (of_words c.locals ++ (of_frames c.below ++ (of_locations c.locations ++ of_listed c.listed))) _ _
+      (words_named c.stack)
+      (joint (of_words c.locals) (of_frames c.below ++ (of_locations c.locations ++ of_listed c.listed)) _ _
+      (words_named c.locals)
       (joint (of_frames c.below) (of_locations c.locations ++ of_listed c.listed) _ _ (frames_named c.below)
-      (joint (of_locations c.locations) (of_listed c.listed) _ _ (locations_named c.locations) (listed_named c.listed))))
+      (joint (of_locations c.locations) (of_listed c.listed) _ _ (locations_named c.locations)
+      (listed_named c.listed))))
 
   pub local_named : (l : Local H) → handles (renamed f l) ≡ map f (handles l)
-  local_named l = joint (of_state l.state) (of_phase l.phase) _ _ (state_named l.state l.state.forks) (phase_named l.phase)
+  local_named l =
+      joint (of_state l.state) (of_phase l.phase) _ _ (state_named l.state l.state.forks) (phase_named l.phase)

@@ -25,8 +25,10 @@ use Rattle.code_machine.proofs.Holding.{goes_held, forker_held, forked_held, wan
 use Rattle.code_machine.proofs.Meeting.{by_moves, by_forks}
 
 module _ {H K : Type 0} (f : H → K) where
-  from_go : (x : Act H) (y : Act K) → SameAct f x y → (m : Local K) → y ≡ Goes m → (l : Local H) × (x ≡ Goes l) × (m ≡ renamed f l)
-  from_go x y (both_go l) m e = (l, refl, (let w : Goes (renamed f l) ≡ Goes m = e in let z : renamed f l ≡ m = cc in sym z))
+  from_go : (x : Act H) (y : Act K) → SameAct f x y → (m : Local K) → y ≡ Goes m
+      → (l : Local H) × (x ≡ Goes l) × (m ≡ renamed f l)
+  from_go x y (both_go l) m e =
+      (l, refl, (let w : Goes (renamed f l) ≡ Goes m = e in let z : renamed f l ≡ m = cc in sym z))
   from_go x y (both_bear u v c h) m e = absurd (let w : Bears v (renamed f c) ≡ Goes m = e in cc)
   from_go x y (both_want q) m e = absurd (let w : Wants (f q) ≡ Goes m = e in cc)
   from_go x y both_stop m e = absurd (let w : Stops ≡ Goes m = e in cc)
@@ -54,16 +56,25 @@ module _ {H K : Type 0} (f : H → K) where
   from_stop x y (both_want q) e = absurd (let w : Wants (f q) ≡ Stops = e in cc)
 
 module _ (g : CodeRun) (ok : IsVerified g) (t : List Path) where
-  by_wants : (r : Path) (n : ℕ) (a : Act ℕ) (q : Path) → event_by t r n (wish_of a) ≡ revisions.Joins q → (m : ℕ) × (a ≡ Wants m) × (q ≡ or_path (at_number t m) r)
-  by_wants r n (Wants m) q e = (m, refl, (let w : revisions.Joins (or_path (at_number t m) r) ≡ revisions.Joins q = e in let z : or_path (at_number t m) r ≡ q = cc in sym z))
+  by_wants : (r : Path) (n : ℕ) (a : Act ℕ) (q : Path) → event_by t r n (wish_of a) ≡ revisions.Joins q
+      → (m : ℕ) × (a ≡ Wants m) × (q ≡ or_path (at_number t m) r)
+  by_wants r n (Wants m) q e = (
+    m,
+    refl,
+    (let w : revisions.Joins (or_path (at_number t m) r) ≡ revisions.Joins q = e in
+        let z : or_path (at_number t m) r ≡ q = cc in
+        sym z),
+  )
   by_wants r n (Goes l) q e = absurd (let w : revisions.Moves l ≡ revisions.Joins q = e in cc)
-  by_wants r n (Bears u c) q e = absurd (let w : revisions.Forks (u (number_of t (child r n))) c ≡ revisions.Joins q = e in cc)
+  by_wants r n (Bears u c) q e =
+      absurd (let w : revisions.Forks (u (number_of t (child r n))) c ≡ revisions.Joins q = e in cc)
   by_wants r n Stops q e = absurd (let w : revisions.Ended ≡ revisions.Joins q = e in cc)
 
   by_ended : (r : Path) (n : ℕ) (a : Act ℕ) → event_by t r n (wish_of a) ≡ revisions.Ended → a ≡ Stops
   by_ended r n Stops e = refl
   by_ended r n (Goes l) e = absurd (let w : revisions.Moves l ≡ revisions.Ended = e in cc)
-  by_ended r n (Bears u c) e = absurd (let w : revisions.Forks (u (number_of t (child r n))) c ≡ revisions.Ended = e in cc)
+  by_ended r n (Bears u c) e =
+      absurd (let w : revisions.Forks (u (number_of t (child r n))) c ≡ revisions.Ended = e in cc)
   by_ended r n (Wants m) e = absurd (let w : revisions.Joins (or_path (at_number t m) r) ≡ revisions.Ended = e in cc)
 
   abbrev number : Path → ℕ
@@ -72,23 +83,29 @@ module _ (g : CodeRun) (ok : IsVerified g) (t : List Path) where
   same_acts : (a : Local Path) (b : Local ℕ) → b ≡ renamed (number_of t) a → SameAct (number_of t) (act g a) (act g b)
   same_acts a b is = subst (λ z. SameAct (number_of t) (act g a) (act g z)) (sym is) (act_same (number_of t) g a)
 
-  moves : (r : Path) (a : Local Path) (b b' : Local ℕ) → IsNumbered t r a b → (machine_by (numbered g) t).next r b ≡ revisions.Moves b' → DoesMove (machine g) (machine_by (numbered g) t) (IsNumbered t) r a b'
+  moves : (r : Path) (a : Local Path) (b b' : Local ℕ) → IsNumbered t r a b
+      → (machine_by (numbered g) t).next r b ≡ revisions.Moves b'
+      → DoesMove (machine g) (machine_by (numbered g) t) (IsNumbered t) r a b'
   moves r a b b' rel does =
-      let x = from_go (number_of t) (act g a) (act g b) (same_acts a b rel.is) b' (by_moves g ok t r b.state.forks (act g b) b' does) in
+      let x = from_go (number_of t) (act g a) (act g b) (same_acts a b rel.is) b'
+      (by_moves g ok t r b.state.forks (act g b) b' does) in
       record {
         after = x.0;
         quiet = more (ap (event_of r a.state.forks) x.1) stay;
         related = record { is = x.2; known = λ q i. rel.known q (goes_held q g a x.0 x.1 i) };
       }
 
-  forks : (r : Path) (a : Local Path) (b b' c' : Local ℕ) → IsNumbered t r a b → (machine_by (numbered g) t).next r b ≡ revisions.Forks b' c' → IsIn (child r b.state.forks) t → DoesFork (machine g) (machine_by (numbered g) t) (IsNumbered t) r a b b' c'
+  forks : (r : Path) (a : Local Path) (b b' c' : Local ℕ) → IsNumbered t r a b
+      → (machine_by (numbered g) t).next r b ≡ revisions.Forks b' c' → IsIn (child r b.state.forks) t
+      → DoesFork (machine g) (machine_by (numbered g) t) (IsNumbered t) r a b b' c'
   forks r a b b' c' rel does known =
       let y = by_forks g ok t r b.state.forks (act g b) b' c' does in
       let x = from_bear (number_of t) (act g a) (act g b) (same_acts a b rel.is) y.0 c' y.1 in
       let made : a.state.forks ≡ b.state.forks = sym (ap (λ z. z.state.forks) rel.is) in
       let kid : Path = child r a.state.forks in
       let kid_known : IsIn kid t = subst (λ n. IsIn (child r n) t) (sym made) known in
-      let is : b' ≡ renamed (number_of t) (x.0 kid) = sym (ap (λ n. y.0 (number_of t (child r n))) made ∙ y.2) ∙ x.4 kid in
+      let is : b' ≡ renamed (number_of t) (x.0 kid) =
+      sym (ap (λ n. y.0 (number_of t (child r n))) made ∙ y.2) ∙ x.4 kid in
       record {
         before = a;
         quiet = stay;
@@ -96,21 +113,33 @@ module _ (g : CodeRun) (ok : IsVerified g) (t : List Path) where
         child_state = x.1;
         forks = ap (event_of r a.state.forks) x.2;
         number = made;
-        related = record { is = is; known = λ q i. of_forker a kid kid_known q (λ j. rel.known q j) (forker_held q g a x.0 x.1 kid x.2 i) };
+        related = record {
+          is = is;
+          known = λ q i. of_forker a kid kid_known q (λ j. rel.known q j) (forker_held q g a x.0 x.1 kid x.2 i);
+        };
         related_child = record { is = x.3; known = λ q i. rel.known q (forked_held q g a x.0 x.1 x.2 i) };
       }
     where
-      of_forker : (a : Local Path) (kid : Path) → IsIn kid t → (q : Path) → (Holds a q → IsIn q t) → Holds a q ⊎ (q ≡ kid) → IsIn q t
+      of_forker : (a : Local Path) (kid : Path) → IsIn kid t → (q : Path) → (Holds a q → IsIn q t)
+          → Holds a q ⊎ (q ≡ kid) → IsIn q t
       of_forker a kid known q known_of (inl i) = known_of i
       of_forker a kid known q known_of (inr e) = subst (λ z. IsIn z t) (sym e) known
 
-  joins : (r q : Path) (a : Local Path) (b : Local ℕ) → IsNumbered t r a b → (machine_by (numbered g) t).next r b ≡ revisions.Joins q → DoesJoin (machine g) (machine_by (numbered g) t) (IsNumbered t) r q a b
+  joins : (r q : Path) (a : Local Path) (b : Local ℕ) → IsNumbered t r a b
+      → (machine_by (numbered g) t).next r b ≡ revisions.Joins q
+      → DoesJoin (machine g) (machine_by (numbered g) t) (IsNumbered t) r q a b
   joins r q a b rel does =
       let y = by_wants r b.state.forks (act g b) q does in
       let x = from_want (number_of t) (act g a) (act g b) (same_acts a b rel.is) y.0 y.1 in
       let held : IsIn x.0 t = rel.known x.0 (want_held x.0 g a x.1) in
-      let is : q ≡ x.0 = y.2 ∙ ap (λ m. or_path (at_number t m) r) x.2 ∙ ap (λ o. or_path o r) (number_back t x.0 held) in
-      record { before = a; quiet = stay; joins = ap (event_of r a.state.forks) x.1 ∙ ap revisions.Joins (sym is); related = λ l m other ended. after l m other }
+      let is : q ≡ x.0 =
+      y.2 ∙ ap (λ m. or_path (at_number t m) r) x.2 ∙ ap (λ o. or_path o r) (number_back t x.0 held) in
+      record {
+        before = a;
+        quiet = stay;
+        joins = ap (event_of r a.state.forks) x.1 ∙ ap revisions.Joins (sym is);
+        related = λ l m other ended. after l m other;
+      }
     where
       after : (l : Local Path) (m : Local ℕ) → IsNumbered t q l m → IsNumbered t r (join g a l) (join g b m)
       after l m other = record {
@@ -127,7 +156,9 @@ module _ (g : CodeRun) (ok : IsVerified g) (t : List Path) where
     moves = moves;
     forks = forks;
     joins = joins;
-    ends = λ r a b rel does. ap (event_of r a.state.forks) (from_stop (number_of t) (act g a) (act g b) (same_acts a b rel.is) (by_ended r b.state.forks (act g b) does));
+    ends = λ r a b rel does.
+        ap (event_of r a.state.forks)
+        (from_stop (number_of t) (act g a) (act g b) (same_acts a b rel.is) (by_ended r b.state.forks (act g b) does));
   }
 
 -- ---- the first state
@@ -138,7 +169,8 @@ zeros_none (k.Int ∷ xs) = zeros_none xs
 zeros_none (k.Bool ∷ xs) = zeros_none xs
 zeros_none (k.Rev ∷ xs) = zeros_none xs
 
-start_none : {H : Type 0} (kind : ValueKind) (w n : ℕ) (ls : List (Location H)) → of_locations ls ≡ [] → of_locations (replicate n (record { snapshot = start_word kind w; written = None }) ++ ls) ≡ []
+start_none : {H : Type 0} (kind : ValueKind) (w n : ℕ) (ls : List (Location H)) → of_locations ls ≡ []
+    → of_locations (replicate n (record { snapshot = start_word kind w; written = None }) ++ ls) ≡ []
 start_none kind w zero ls e = e
 start_none k.Int w (suc n) ls e = start_none k.Int w n ls e
 start_none k.Bool w (suc n) ls e = start_none k.Bool w n ls e
@@ -163,21 +195,39 @@ module _ {H K : Type 0} (f : H → K) where
   start_same k.Bool w = refl
   start_same k.Rev w = refl
 
-  cells_same : (n : ℕ) (kind : ValueKind) (w : ℕ) → replicate n (record { snapshot = start_word kind w; written = None }) ≡ map (renamed_location f) (replicate n (record { snapshot = start_word kind w; written = None }))
+  cells_same : (n : ℕ) (kind : ValueKind) (w : ℕ)
+      → replicate n (record { snapshot = start_word kind w; written = None })
+      ≡ map (renamed_location f) (replicate n (record { snapshot = start_word kind w; written = None }))
   cells_same zero kind w = refl
-  cells_same (suc n) kind w = let a = start_same kind w in let b = cells_same n kind w in λ j. record { snapshot = a j; written = None } ∷ b j
+  cells_same (suc n) kind w =
+      let a = start_same kind w in let b = cells_same n kind w in λ j. record { snapshot = a j; written = None } ∷ b j
 
   starts_same : (vs : List CodeVar) → start_locations vs ≡ map (renamed_location f) (start_locations vs)
   starts_same [] = refl
   starts_same (v ∷ vs) =
       (let a = cells_same v.cells v.kind v.start in let b = starts_same vs in λ j. a j ++ b j)
-      ∙ sym (map-append (renamed_location f) (replicate v.cells (record { snapshot = start_word v.kind v.start; written = None })) (start_locations vs))
+      ∙ sym (map-append (renamed_location f)
+      (replicate v.cells (record { snapshot = start_word v.kind v.start; written = None })) (start_locations vs))
 
   first_same : (g : CodeRun) (n : ℕ) (b : CodeBlock) (fuel : ℕ) → start_in g n b fuel ≡ renamed f (start_in g n b fuel)
   first_same g n b fuel =
       let a = first_locals_same f b [] in
       let e = starts_same g.code.vars in
-      λ j. at_work (record { block = n; at = 0; locals = a j; stack = []; below = []; locations = e j; fuel = fuel; forks = 0; listed = []; text = []; line = 0 })
+      λ j. at_work (record {
+        block = n;
+        at = 0;
+        locals = a j;
+        stack = [];
+        below = [];
+        locations = e j;
+        fuel = fuel;
+        forks = 0;
+        listed = [];
+        text = [];
+        line = 0;
+      })
 
-pub first_numbered : (g : CodeRun) (n : ℕ) (b : CodeBlock) (fuel : ℕ) (t : List Path) → IsNumbered t [] (start_in g n b fuel) (start_in g n b fuel)
-first_numbered g n b fuel t = record { is = first_same (number_of t) g n b fuel; known = λ q i. absurd (first_none g n b fuel q i) }
+pub first_numbered : (g : CodeRun) (n : ℕ) (b : CodeBlock) (fuel : ℕ) (t : List Path)
+    → IsNumbered t [] (start_in g n b fuel) (start_in g n b fuel)
+first_numbered g n b fuel t =
+    record { is = first_same (number_of t) g n b fuel; known = λ q i. absurd (first_none g n b fuel q i) }

@@ -24,14 +24,21 @@ same_trap t u e = cc
 pub own_traps : {H : Type 0} → OwnTrapsShowIt H
 own_traps {H} g l c t e = by_phase l.phase e
   where
-    of_fork : (d : State H) (n : ℕ) (args : Rattle.std.specs.Prelude.List (Word H)) (o : Option CodeBlock) → fork g d n args o ≡ Goes (has_ended c (trapped t)) → shows_join t ≡ false
+    of_fork : (d : State H) (n : ℕ) (args : Rattle.std.specs.Prelude.List (Word H)) (o : Option CodeBlock)
+        → fork g d n args o ≡ Goes (has_ended c (trapped t)) → shows_join t ≡ false
     of_fork d n args None e = absurd (let z : Stops ≡ Goes (has_ended c (trapped t)) = e in cc)
-    of_fork d n args (Some b) e = absurd (let z : Bears (λ h. at_work (Rattle.rev_code.specs.Events.parent g.share d args h)) (at_work (Rattle.rev_code.specs.Events.child g.share d n b args)) ≡ Goes (has_ended c (trapped t)) = e in cc)
+    of_fork d n args (Some b) e =
+        absurd (let z : Bears (λ h. at_work (Rattle.rev_code.specs.Events.parent g.share d args h))
+        (at_work (Rattle.rev_code.specs.Events.child g.share d n b args))
+        ≡ Goes (has_ended c (trapped t)) = e in
+        cc)
 
     by_event : (o : Comes H) → leg g l.state ≡ o → act_of g o ≡ Goes (has_ended c (trapped t)) → shows_join t ≡ false
     by_event (traps d x) is e =
-        let z = went_to (has_ended d (trapped (record { cause = x; line = d.line; origin = None }))) (has_ended c (trapped t)) e in
-        let y : record { cause = x; line = d.line; origin = None } ≡ t = same_trap (record { cause = x; line = d.line; origin = None }) t (ap (λ k. k.phase) z) in
+        let z = went_to (has_ended d (trapped (record { cause = x; line = d.line; origin = None })))
+        (has_ended c (trapped t)) e in
+        let y : record { cause = x; line = d.line; origin = None } ≡ t =
+        same_trap (record { cause = x; line = d.line; origin = None }) t (ap (λ k. k.phase) z) in
         subst (λ k. shows_join k ≡ false) y (leg_own g l.state d x is)
     by_event (forks d n args) is e = of_fork d n args (slice_get g.code.blocks n) e
     by_event (ends d w) is e =
@@ -50,17 +57,20 @@ module _ {H : Type 0} (g : CodeRun) (t : Trap H) where
   works : {A : Type 0} → ◌≡◌ {A = Phase H} running (trapped t) → A
   works e = absurd cc
 
-  of_absorb : (c : State H) (try : Bool) (h : H) (j : End H) (o : Composition (Word H)) → (absorb c try h j o).phase ≡ trapped t → shows_join t ≡ true
+  of_absorb : (c : State H) (try : Bool) (h : H) (j : End H) (o : Composition (Word H))
+      → (absorb c try h j o).phase ≡ trapped t → shows_join t ≡ true
   of_absorb c try h j (Ok ws) e = works e
   of_absorb c try h j (Err f) e = ap shows_join (sym (same_trap _ t e))
 
-  of_join : (c : State H) (try : Bool) (h : H) (j : End H) (p : Phase H) → (join_in g c try h j p).phase ≡ trapped t → shows_join t ≡ true
+  of_join : (c : State H) (try : Bool) (h : H) (j : End H) (p : Phase H) → (join_in g c try h j p).phase ≡ trapped t
+      → shows_join t ≡ true
   of_join c try h j done e = of_absorb c try h j (composed (merges g) (mains c.locations j.written) j.written) e
   of_join c true h j (trapped u) e = works e
   of_join c false h j (trapped u) e = ap shows_join (sym (same_trap _ t e))
   of_join c try h j running e = works e
 
-  of_end : (l : Local H) → l.phase ≡ running → (o : Comes H) (j : End H) → (join_end g l o j).phase ≡ trapped t → shows_join t ≡ true
+  of_end : (l : Local H) → l.phase ≡ running → (o : Comes H) (j : End H) → (join_end g l o j).phase ≡ trapped t
+      → shows_join t ≡ true
   of_end l is (joins c try h) j e = of_join c try h j j.phase e
   of_end l is (goes c) j e = works (sym is ∙ e)
   of_end l is (traps c x) j e = works (sym is ∙ e)
@@ -78,15 +88,18 @@ by_the_end g l j k e = ap (join_end g l (leg g l.state)) e
 
 ascend : {H : Type 0} (n m : ℕ) (ls : List (Location H)) → m ≤ n → Ascend m (written_from n ls)
 ascend n m [] le = tt
-ascend n m (l ∷ ls) le = by l.written (ascend (suc n) m ls (omega (arith, le))) (ascend (suc n) (suc n) ls (omega arith))
+ascend n m (l ∷ ls) le =
+    by l.written (ascend (suc n) m ls (omega (arith, le))) (ascend (suc n) (suc n) ls (omega arith))
   where
-    by : (o : Option (Word _)) → Ascend m (written_from (suc n) ls) → Ascend (suc n) (written_from (suc n) ls) → Ascend m (with_entry n o l.snapshot (written_from (suc n) ls))
+    by : (o : Option (Word _)) → Ascend m (written_from (suc n) ls) → Ascend (suc n) (written_from (suc n) ls)
+        → Ascend m (with_entry n o l.snapshot (written_from (suc n) ls))
     by None earlier later = earlier
     by (Some w) earlier later = (le, later)
 
 pub ends_fit : {H : Type 0} → EndsFit H
 ends_fit g ok l p = (
-  written_fit g ok 0 (location_kinds g.code.vars) l.state.locations (λ i. ap (slice_get (location_kinds g.code.vars)) (let z : 0 + i ≡ i = omega arith in z)) p.locations,
+  written_fit g ok 0 (location_kinds g.code.vars) l.state.locations
+      (λ i. ap (slice_get (location_kinds g.code.vars)) (let z : 0 + i ≡ i = omega arith in z)) p.locations,
   ascend 0 0 l.state.locations (omega arith),
 )
 

@@ -10,7 +10,7 @@ use Rattle.rev_code.specs.declared.code.Code.{Code}
 use Rattle.rev_code.specs.Words.{Word, int, bool, rev}
 use Rattle.rev_code.specs.State.{Location, Frame, Listed, forked, joined, State, Setting}
 use Rattle.rev_code.specs.Funs.{setting}
-use Rattle.code_rules.specs.Verdict.{first_fault}
+use Rattle.code_soundness.specs.Safe.{first_fault}
 use Rattle.version_map.specs.Composing.{Entry}
 
 pub record CodeRun : Type 0 where

@@ -11,7 +11,7 @@ use Rattle.rev_code.specs.State.{State}
 use Rattle.rev_code.specs.Variables.{start_locations}
 use Rattle.rev_code.specs.Step.{Comes, goes, traps, forks, joins, ends, stuck}
 use Rattle.rev_code.specs.Events as events
-use Rattle.code_rules.specs.Tables.{is_main}
+use Rattle.code_soundness.specs.Safe.{is_main}
 use Rattle.revision_machine.specs.Machine as revisions
 use Rattle.revision_machine.specs.Machine.{Event, Machine}
 use Rattle.revision_machine.specs.Laws.{IsIn}

@@ -4,7 +4,7 @@
 --   pay          forks: one for each unit of fuel, and one for what a Charge paid
 use Rattle.std.specs.Prelude.{ℕ, ◌+◌, ◌*◌}
 use Rattle.rev_code.specs.State.{State}
-use Rattle.code_prices.specs.Prices.{Prices, entry_prices, total}
+use Rattle.code_soundness.specs.Prices.{Prices, entry_prices, total}
 use Rattle.code_soundness.specs.Whole.{notes_of}
 use Rattle.code_machine.specs.Local.{CodeRun, Phase, running, done, trapped, Local}
 

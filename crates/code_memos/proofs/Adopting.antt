@@ -4,7 +4,7 @@ use Rattle.rev_num.specs.Path.{Path}
 use Rattle.rev_code.specs.State.{State}
 use Rattle.rev_code.specs.Step.{Comes, goes, traps, forks, joins, ends, stuck}
 use Rattle.revision_machine.specs.Numbered as numbers
-use Rattle.revision_machine.specs.Numbered.{Entries, Listing, at_number, put_number, number_of, leg_at, leg_of}
+use Rattle.revision_machine.specs.Numbered.{number_of, leg_at, leg_of}
 use Rattle.code_machine.specs.Local.{CodeRun, under, Local, running, end_of}
 use Rattle.code_machine.specs.Leg.{leg, clock}
 use Rattle.code_machine.specs.Machines.{Act, Goes, act_of, wish_of, numbered}
@@ -34,12 +34,15 @@ pub record EndsSo (g : CodeRun) (d : State Path) (f : Fresh Path) (e : Known) : 
   pub ended : ended_by (leg g d) ≡ Some after
   pub end_is : end_of after ≡ rerooted f.snapshot e.end
 
-pub valid_ends : (g : CodeRun) (path : Path) (c : State Path) (e : Known) (known : IsKnown (under g) (clock g c) path c e) (inputs : List ℤ) (share : ℕ)
-    (r : Path) (f : Fresh Path) (d : State Path) → IsFresh g.code f d → length f.snapshot ≡ length known.begins.snapshot → IsValid e r f inputs → EndsSo (other g inputs share) d f e
+pub valid_ends : (g : CodeRun) (path : Path) (c : State Path) (e : Known)
+    (known : IsKnown (under g) (clock g c) path c e) (inputs : List ℤ) (share : ℕ)
+    (r : Path) (f : Fresh Path) (d : State Path) → IsFresh g.code f d → length f.snapshot ≡ length known.begins.snapshot
+    → IsValid e r f inputs → EndsSo (other g inputs share) d f e
 valid_ends g path c e known inputs share r f d fresh many valid =
     let g' = other g inputs share in
     let whole = valid_is_the_end (under g) (clock g c) path r c d e known f inputs share fresh many valid in
-    let at = fresh_over g.code known.begins f c d known.fresh fresh (sym known.block_is ∙ valid.block_is) (sym known.args_are ∙ valid.args_are) (sym known.fuel_is ∙ valid.fuel_is) many in
+    let at = fresh_over g.code known.begins f c d known.fresh fresh (sym known.block_is ∙ valid.block_is)
+    (sym known.args_are ∙ valid.args_are) (sym known.fuel_is ∙ valid.fuel_is) many in
     let same_clock : clock g' d ≡ clock g c = ap (clock g') at in
     record {
       after = whole.after;
@@ -57,7 +60,8 @@ valid_is_the_leg g path c e known inputs share w n r t a b there rel f d is fres
     ap ended_by (leg_same number g' d.forks d ∙ event_same number g'.code g'.inputs g'.share d.forks (leg g' d))
     ∙ ended_named number d.forks (leg g' d) ∙ ap (named_option number d.forks) whole.ended in
     let after = named_local number d.forks whole.after in
-    let does : (numbered g').next b ≡ numbers.Goes after = ap (numbered g').next state ∙ ap wish_of (goes_ended g' (leg g' (renamed_as number d.forks d)) after its) in
+    let does : (numbered g').next b ≡ numbers.Goes after =
+    ap (numbered g').next state ∙ ap wish_of (goes_ended g' (leg g' (renamed_as number d.forks d)) after its) in
     record {
       after = after;
       leg = ap (leg_at (numbered g') w n) there ∙ ap (leg_of (numbered g') w n r b) does;

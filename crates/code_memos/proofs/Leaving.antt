@@ -72,16 +72,22 @@ module _ {H : Type 0} where
       here : root n ≡ Some y
       here = ap root (let p : n ≡ n + 0 = omega arith in p) ∙ at 0
 
-      by : (o : Option (Word H)) → with_entry n o y (map (reroot root) (written_from (suc n) ls)) ≡ map (reroot root) (with_entry n o l.snapshot (written_from (suc n) ls))
+      by : (o : Option (Word H))
+          → with_entry n o y (map (reroot root) (written_from (suc n) ls))
+          ≡ map (reroot root) (with_entry n o l.snapshot (written_from (suc n) ls))
       by None = refl
-      by (Some w) = let p : y ≡ root_or (root n) l.snapshot = sym (ap (λ z. root_or z l.snapshot) here) in λ j. record { location = n; value = w; root = p j } ∷ map (reroot root) (written_from (suc n) ls)
+      by (Some w) =
+          let p : y ≡ root_or (root n) l.snapshot = sym (ap (λ z. root_or z l.snapshot) here) in
+          λ j. record { location = n; value = w; root = p j } ∷ map (reroot root) (written_from (suc n) ls)
 
   abbrev moved_local : List (Word H) → Local H → Local H
   moved_local ys l = record { state = moved ys l.state; phase = l.phase }
 
-  end_over : (ys : List (Word H)) (l : Local H) → length ys ≡ length l.state.locations → end_of (moved_local ys l) ≡ rerooted ys (end_of l)
+  end_over : (ys : List (Word H)) (l : Local H) → length ys ≡ length l.state.locations
+      → end_of (moved_local ys l) ≡ rerooted ys (end_of l)
   end_over ys l e =
-      let p = written_over 0 l.state.locations ys (slice_get ys) (λ k. ap (slice_get ys) (let q : 0 + k ≡ k = omega arith in q)) e in
+      let p = written_over 0 l.state.locations ys (slice_get ys)
+      (λ k. ap (slice_get ys) (let q : 0 + k ≡ k = omega arith in q)) e in
       λ j. record { written = p j; text = l.state.text; fuel = l.state.fuel; phase = l.phase }
 
   -- ---- the end of a leg
@@ -93,7 +99,8 @@ module _ {H : Type 0} where
   pub no : (l : Local H) → None ≡ Some l → ⊥
   no l e = let z : None ≡ Some l = e in cc
 
-  ended_over : (ys : List (Word H)) (o : Comes H) (l : Local H) → ended_by o ≡ Some l → ended_by (moved_comes ys o) ≡ Some (moved_local ys l)
+  ended_over : (ys : List (Word H)) (o : Comes H) (l : Local H) → ended_by o ≡ Some l
+      → ended_by (moved_comes ys o) ≡ Some (moved_local ys l)
   ended_over ys (traps c e) l h = ap (ended_by_moved ys) h
   ended_over ys (ends c w) l h = ap (ended_by_moved ys) h
   ended_over ys (goes c) l h = absurd (no l h)
@@ -105,7 +112,8 @@ module _ {H : Type 0} where
   many_in c None = length c.locations
   many_in c (Some l) = length l.state.locations
 
-  many_ended : (c : State H) (o : Comes H) (l : Local H) → ended_by o ≡ Some l → HasMany c o → length l.state.locations ≡ length c.locations
+  many_ended : (c : State H) (o : Comes H) (l : Local H) → ended_by o ≡ Some l → HasMany c o
+      → length l.state.locations ≡ length c.locations
   many_ended c (traps d e) l h k = ap (many_in c) (sym h) ∙ k
   many_ended c (ends d w) l h k = ap (many_in c) (sym h) ∙ k
   many_ended c (goes d) l h k = absurd (no l h)
@@ -123,7 +131,8 @@ module _ {H : Type 0} where
   over_unwritten [] [] e = refl
   over_unwritten [] (y ∷ ys) e = absurd (omega (arith, e))
   over_unwritten (x ∷ xs) [] e = absurd (omega (arith, e))
-  over_unwritten (x ∷ xs) (y ∷ ys) e = ap (λ z. record { snapshot = y; written = None } ∷ z) (over_unwritten xs ys (omega (arith, e)))
+  over_unwritten (x ∷ xs) (y ∷ ys) e =
+      ap (λ z. record { snapshot = y; written = None } ∷ z) (over_unwritten xs ys (omega (arith, e)))
 
   length_unwritten : (xs : List (Word H)) → length (unwritten xs) ≡ length xs
   length_unwritten [] = refl
@@ -134,7 +143,8 @@ module _ {H : Type 0} where
       → f.block ≡ f'.block → f.args ≡ f'.args → f.fuel ≡ f'.fuel → length f'.snapshot ≡ length f.snapshot
       → c' ≡ moved f'.snapshot c
   fresh_over code f f' c c' a b block args fuel many =
-      let body = one_body (slice_get code.blocks f.block) a.body b.body a.is (ap (slice_get code.blocks) block ∙ b.is) in
+      let body =
+      one_body (slice_get code.blocks f.block) a.body b.body a.is (ap (slice_get code.blocks) block ∙ b.is) in
       let ls = over_unwritten f.snapshot f'.snapshot many in
       b.state ∙ (λ j. start (sym block j) (sym body j) (sym args j) (unwritten f'.snapshot) (sym fuel j))
       ∙ (λ j. start f.block a.body f.args (sym ls j) f.fuel)
@@ -143,7 +153,8 @@ module _ {H : Type 0} where
 pub valid_is_the_end : ValidIsTheEnd
 valid_is_the_end s k path path' c c' e known f' inputs share fresh many valid =
     let f = known.begins in
-    let at = fresh_over s.code f f' c c' known.fresh fresh (sym known.block_is ∙ valid.block_is) (sym known.args_are ∙ valid.args_are) (sym known.fuel_is ∙ valid.fuel_is) many in
+    let at = fresh_over s.code f f' c c' known.fresh fresh (sym known.block_is ∙ valid.block_is)
+    (sym known.args_are ∙ valid.args_are) (sym known.fuel_is ∙ valid.fuel_is) many in
     let agree = subst (λ rs. AllAgree f'.snapshot inputs rs) known.reads_are valid.reads_agree in
     let same = reach_same s f'.snapshot inputs share k c agree in
     let ended = ended_over f'.snapshot (reach s k c) known.after known.ended in

@@ -25,11 +25,13 @@ module _ {H K : Type 0} (f : H → K) where
 
   -- ---- reads of a state
 
-  at_location : (m : ℕ) (ls : List (Location H)) (n : ℕ) → of_location m (slice_get (map (renamed_location f) ls) n) ≡ named (of_location m (slice_get ls n))
+  at_location : (m : ℕ) (ls : List (Location H)) (n : ℕ)
+      → of_location m (slice_get (map (renamed_location f) ls) n) ≡ named (of_location m (slice_get ls n))
   at_location m [] n = refl
   at_location m (l ∷ ls) zero = by l.written
     where
-      by : (o : Option (Word H)) → if_unwritten m (renamed_word f l.snapshot) (renamed_written f o) ≡ named (if_unwritten m l.snapshot o)
+      by : (o : Option (Word H))
+          → if_unwritten m (renamed_word f l.snapshot) (renamed_written f o) ≡ named (if_unwritten m l.snapshot o)
       by None = refl
       by (Some w) = refl
   at_location m (l ∷ ls) (suc n) = at_location m ls n
@@ -38,15 +40,18 @@ module _ {H K : Type 0} (f : H → K) where
   at_place ls None = refl
   at_place ls (Some n) = at_location n ls n
 
-  at_scalar : (ls : List (Location H)) (o : Option Place) → of_scalar (map (renamed_location f) ls) o ≡ named (of_scalar ls o)
+  at_scalar : (ls : List (Location H)) (o : Option Place)
+      → of_scalar (map (renamed_location f) ls) o ≡ named (of_scalar ls o)
   at_scalar ls None = refl
   at_scalar ls (Some p) = at_place ls (Some p.first)
 
-  at_cell : (ls : List (Location H)) (o : Option Place) (ws : List (Word H)) → of_cell (map (renamed_location f) ls) o (map (renamed_word f) ws) ≡ named (of_cell ls o ws)
+  at_cell : (ls : List (Location H)) (o : Option Place) (ws : List (Word H))
+      → of_cell (map (renamed_location f) ls) o (map (renamed_word f) ws) ≡ named (of_cell ls o ws)
   at_cell ls (Some p) (int n ∷ rest) = at_place ls (cell_at p n)
   at_cell ls _ _ = refl
 
-  at_position : (inputs : List ℤ) (n : ℕ) (o : Option ℤ) → of_position {H = K} inputs n o ≡ named (of_position inputs n o)
+  at_position : (inputs : List ℤ) (n : ℕ) (o : Option ℤ)
+      → of_position {H = K} inputs n o ≡ named (of_position inputs n o)
   at_position inputs n None = refl
   at_position inputs n (Some z) = refl
 
@@ -54,7 +59,8 @@ module _ {H K : Type 0} (f : H → K) where
   at_index inputs (pos n) = at_position inputs n (slice_get inputs n)
   at_index inputs (negsuc n) = refl
 
-  at_input : (inputs : List ℤ) (ws : List (Word H)) → of_input inputs (map (renamed_word f) ws) ≡ named (of_input inputs ws)
+  at_input : (inputs : List ℤ) (ws : List (Word H))
+      → of_input inputs (map (renamed_word f) ws) ≡ named (of_input inputs ws)
   at_input inputs (int n ∷ rest) = at_index inputs n
   at_input inputs _ = refl
 
@@ -86,7 +92,8 @@ module _ {H K : Type 0} (f : H → K) where
     steps_to : (c : State H) → step sk (renamed_as f m c) ≡ renamed_comes f m (step sh c)
     steps_to c = step_same f code inputs share (values code) (values code) (values_same f code) m c
 
-    then_named : (k : ℕ) → ((d : State H) → reach_reads sk k (renamed_as f m d) ≡ named (reach_reads sh k d)) → (o : Comes H)
+    then_named : (k : ℕ) → ((d : State H) → reach_reads sk k (renamed_as f m d) ≡ named (reach_reads sh k d))
+        → (o : Comes H)
         → then_reads (λ d. reach_reads sk k d) (renamed_comes f m o) ≡ named (then_reads (λ d. reach_reads sh k d) o)
     then_named k rec (goes c) = rec c
     then_named k rec (traps c e) = refl
@@ -111,15 +118,23 @@ module _ {H K : Type 0} (f : H → K) where
     event_same stuck = refl
 
     reaches_to : (k : ℕ) (c : State H) → reach sk k (renamed_as f m c) ≡ renamed_event f m (reach sh k c)
-    reaches_to k c = reach_same f code inputs share (values code) (values code) (values_same f code) m k c ∙ event_same (reach sh k c)
+    reaches_to k c =
+        reach_same f code inputs share (values code) (values code) (values_same f code) m k c
+        ∙ event_same (reach sh k c)
 
   -- ---- ends
 
-  written_named : (n : ℕ) (ls : List (Location H)) → written_from n (map (renamed_location f) ls) ≡ map (renamed_entry f) (written_from n ls)
+  written_named : (n : ℕ) (ls : List (Location H))
+      → written_from n (map (renamed_location f) ls) ≡ map (renamed_entry f) (written_from n ls)
   written_named n [] = refl
-  written_named n (l ∷ ls) = ap (with_entry n (renamed_written f l.written) (renamed_word f l.snapshot)) (written_named (suc n) ls) ∙ by l.written
+  written_named n (l ∷ ls) =
+      ap (with_entry n (renamed_written f l.written) (renamed_word f l.snapshot)) (written_named (suc n) ls)
+      ∙ by l.written
     where
-      by : (o : Option (Word H)) → with_entry n (renamed_written f o) (renamed_word f l.snapshot) (map (renamed_entry f) (written_from (suc n) ls)) ≡ map (renamed_entry f) (with_entry n o l.snapshot (written_from (suc n) ls))
+      by : (o : Option (Word H))
+          → with_entry n (renamed_written f o) (renamed_word f l.snapshot)
+          (map (renamed_entry f) (written_from (suc n) ls))
+          ≡ map (renamed_entry f) (with_entry n o l.snapshot (written_from (suc n) ls))
       by None = refl
       by (Some w) = refl
 
@@ -127,7 +142,9 @@ module _ {H K : Type 0} (f : H → K) where
   named_local m l = record { state = renamed_as f m l.state; phase = renamed_phase f l.phase }
 
   pub end_named : (m : ℕ) (l : Local H) → end_of (named_local m l) ≡ renamed_end f (end_of l)
-  end_named m l = let e = written_named 0 l.state.locations in λ j. record { written = e j; text = l.state.text; fuel = l.state.fuel; phase = renamed_phase f l.phase }
+  end_named m l =
+      let e = written_named 0 l.state.locations in
+      λ j. record { written = e j; text = l.state.text; fuel = l.state.fuel; phase = renamed_phase f l.phase }
 
   abbrev pub named_option : ℕ → Option (Local H) → Option (Local K)
   named_option m None = None
@@ -150,6 +167,7 @@ legs_are_renamed f code inputs share k m c = record {
 pub ends_are_renamed : {H K : Type 0} → EndsAreRenamed H K
 ends_are_renamed f code inputs share k m c l e = (
   named_local f m l,
-  ap ended_by (reaches_to f code inputs share m k c) ∙ ended_named f m (reach (setting code inputs share) k c) ∙ ap (named_option f m) e,
+  ap ended_by (reaches_to f code inputs share m k c) ∙ ended_named f m (reach (setting code inputs share) k c)
+      ∙ ap (named_option f m) e,
   end_named f m l,
 )

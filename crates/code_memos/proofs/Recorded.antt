@@ -81,15 +81,21 @@ record Ends (g : CodeRun) (h : Revisions (machine g)) (r : Path) : Type 0 where
   stands : h r ≡ Some entry
   listed : (local_of entry).state.listed ≡ []
 
-leaf_ends : (g : CodeRun) → IsVerified g → (number : ℕ) (main : IsMain g number) (fuel : ℕ) (rs : List Path) (h : Revisions (machine g))
+leaf_ends : (g : CodeRun) → IsVerified g
+    → (number : ℕ) (main : IsMain g number) (fuel : ℕ) (rs : List Path) (h : Revisions (machine g))
     → Complete (machine g) (start (machine g) (first g number main fuel)) rs (Live h)
     → (r : Path) (f : Fresh Path) → IsLeaf g number main fuel r f → Ends g h r
 leaf_ends g ok number main fuel rs h complete r f leaf =
     let s = leaf.state in
-    let first' : (machine g).next r (at_work s) ≡ Moves leaf.after = ap (event_of r s.forks) (goes_ended g (leg g s) leaf.after leaf.ends) in
-    let last : (machine g).next r leaf.after ≡ Ended = ap (event_of r leaf.after.state.forks) (ended_stops g (leg g s) leaf.after leaf.ends) in
-    let there = leaves_end (machine g) (first g number main fuel) (counts g ok) rs h complete r (at_work s) leaf.after leaf.born first' last in
-    let none : leaf.after.state.listed ≡ [] = ended_lists s (leg g s) leaf.after leaf.ends (leg_lists g s) ∙ ap (λ z. z.listed) leaf.fresh.state in
+    let first' : (machine g).next r (at_work s) ≡ Moves leaf.after =
+    ap (event_of r s.forks) (goes_ended g (leg g s) leaf.after leaf.ends) in
+    let last : (machine g).next r leaf.after ≡ Ended =
+    ap (event_of r leaf.after.state.forks) (ended_stops g (leg g s) leaf.after leaf.ends) in
+    let there =
+    leaves_end (machine g) (first g number main fuel) (counts g ok) rs h complete r (at_work s) leaf.after leaf.born
+    first' last in
+    let none : leaf.after.state.listed ≡ [] =
+    ended_lists s (leg g s) leaf.after leaf.ends (leg_lists g s) ∙ ap (λ z. z.listed) leaf.fresh.state in
     record { entry = there.0; stands = there.1; listed = ap (λ l. l.state.listed) there.2 ∙ none }
 
 pub recorded_is_memo : RecordedIsMemo
@@ -109,7 +115,8 @@ counted_is_reused g ok number main fuel rs h complete es paths counted = record 
   count = refl;
 }
   where
-    sort_out : (r : Path) → HasValid g number main fuel es r → IsIn r paths ⊎ HasNone g number main fuel es r → IsIn r paths
+    sort_out : (r : Path) → HasValid g number main fuel es r → IsIn r paths ⊎ HasNone g number main fuel es r
+        → IsIn r paths
     sort_out r v (inl i) = i
     sort_out r v (inr n) = absurd (n v)
 
@@ -135,7 +142,9 @@ module _ (p : Path) where
   shorter : (qs : List Path) → IsIn p qs → suc (length (without p qs)) ≡ length qs
   unfolding without
   shorter [] i = absurd i
-  shorter (q ∷ qs) i = by_cases q (λ b. suc (length (cond b qs (q ∷ without p qs))) ≡ length (q ∷ qs)) (λ e. refl) (λ other. ap suc (shorter qs (rest other i)))
+  shorter (q ∷ qs) i =
+      by_cases q (λ b. suc (length (cond b qs (q ∷ without p qs))) ≡ length (q ∷ qs)) (λ e. refl)
+      (λ other. ap suc (shorter qs (rest other i)))
     where
       rest : (p ≡ q → ⊥) → (p ≡ q) ⊎ IsIn p qs → IsIn p qs
       rest other (inl e) = absurd (other e)
@@ -144,7 +153,8 @@ module _ (p : Path) where
   still_in : (qs : List Path) (r : Path) → (r ≡ p → ⊥) → IsIn r qs → IsIn r (without p qs)
   unfolding without
   still_in [] r apart i = i
-  still_in (q ∷ qs) r apart i = by_cases q (λ b. IsIn r (cond b qs (q ∷ without p qs))) (λ e. at i e) (λ other. beside (still_in qs r apart) i)
+  still_in (q ∷ qs) r apart i =
+      by_cases q (λ b. IsIn r (cond b qs (q ∷ without p qs))) (λ e. at i e) (λ other. beside (still_in qs r apart) i)
     where
       at : (r ≡ q) ⊎ IsIn r qs → p ≡ q → IsIn r qs
       at (inl e) pq = absurd (apart (e ∙ sym pq))
@@ -158,7 +168,8 @@ no_longer : (ps qs : List Path) → IsDistinct ps → ((r : Path) → IsIn r ps 
 no_longer [] qs d sub = omega arith
 no_longer (p ∷ ps) qs d sub =
     let i = sub p (inl refl) in
-    let h = no_longer ps (without p qs) d.1 (λ r j. still_in p qs r (λ e. d.0 (subst (λ z. IsIn z ps) e j)) (sub r (inr j))) in
+    let h = no_longer ps (without p qs) d.1
+    (λ r j. still_in p qs r (λ e. d.0 (subst (λ z. IsIn z ps) e j)) (sub r (inr j))) in
     let e = shorter p qs i in omega (arith, h, e)
 
 pub reused_is_one : ReusedIsOne

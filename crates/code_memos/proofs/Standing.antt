@@ -50,7 +50,9 @@ only_is o b c e f = by (is_procedure c.class) (sym (ap (only is_procedure) f) �
 
 module _ (g : CodeRun) {H : Type 0} where
   abbrev Has : State H → Comes H → Type 0
-  Has c (forks d n args) = (b : CodeBlock) × (only is_procedure (slice_get g.code.blocks n) ≡ Some b) × (arguments (params b) d.stack ≡ Some args)
+  Has c (forks d n args) =
+      (b : CodeBlock) × (only is_procedure (slice_get g.code.blocks n) ≡ Some b)
+      × (arguments (params b) d.stack ≡ Some args)
   Has c _ = Unit {0}
 
   of_form : (c : State H) (o : Comes H) → ComesTo (under g) c o → Has c o
@@ -76,7 +78,8 @@ module _ (g : CodeRun) {H : Type 0} where
 
   -- ---- a child
 
-  fits_if : (kinds : List ValueKind) (xs args : List (Word H)) → (if fits kinds xs then Some xs else None) ≡ Some args → fits kinds args ≡ true
+  fits_if : (kinds : List ValueKind) (xs args : List (Word H)) → (if fits kinds xs then Some xs else None) ≡ Some args
+      → fits kinds args ≡ true
   fits_if kinds xs args e = by (fits kinds xs) refl e
     where
       by : (d : Bool) → fits kinds xs ≡ d → (if d then Some xs else None) ≡ Some args → fits kinds args ≡ true
@@ -87,7 +90,8 @@ module _ (g : CodeRun) {H : Type 0} where
   view_is [] = refl
   view_is (l ∷ ls) = ap (λ z. record { snapshot = seen l; written = None } ∷ z) (view_is ls)
 
-  child_fresh : (d : State H) (n : ℕ) (args : List (Word H)) → Has d (forks d n args) → (b : CodeBlock) → slice_get g.code.blocks n ≡ Some b → (f : Fresh H) × IsFresh g.code f (events.child g.share d n b args)
+  child_fresh : (d : State H) (n : ℕ) (args : List (Word H)) → Has d (forks d n args) → (b : CodeBlock)
+      → slice_get g.code.blocks n ≡ Some b → (f : Fresh H) × IsFresh g.code f (events.child g.share d n b args)
   child_fresh d n args has b is =
       let same = only_is (slice_get g.code.blocks n) has.0 b has.1 is in
       let fit = fits_if (params has.0) (reverse (take (length (params has.0)) d.stack)) args has.2 in (
@@ -103,8 +107,16 @@ module _ (g : CodeRun) {H : Type 0} where
   -- ---- what a leg leads to
 
   goes_ends : (o : Comes H) (l : Local H) → act_of g o ≡ Goes l → l.phase ≡ running → ⊥
-  goes_ends (traps c e) l h p = (let z : Goes (has_ended c (trapped (record { cause = e; line = c.line; origin = None }))) ≡ Goes l = h in let w : has_ended c (trapped (record { cause = e; line = c.line; origin = None })) ≡ l = cc in let q : trapped (record { cause = e; line = c.line; origin = None }) ≡ running = ap (λ x. x.phase) w ∙ p in cc)
-  goes_ends (ends c w) l h p = (let z : Goes (has_ended c done) ≡ Goes l = h in let v : has_ended c done ≡ l = cc in let q : done ≡ running = ap (λ x. x.phase) v ∙ p in cc)
+  goes_ends (traps c e) l h p =
+      (let z : Goes (has_ended c (trapped (record { cause = e; line = c.line; origin = None }))) ≡ Goes l = h in
+      let w : has_ended c (trapped (record { cause = e; line = c.line; origin = None })) ≡ l = cc in
+      let q : trapped (record { cause = e; line = c.line; origin = None }) ≡ running = ap (λ x. x.phase) w ∙ p in
+      cc)
+  goes_ends (ends c w) l h p =
+      (let z : Goes (has_ended c done) ≡ Goes l = h in
+      let v : has_ended c done ≡ l = cc in
+      let q : done ≡ running = ap (λ x. x.phase) v ∙ p in
+      cc)
   goes_ends (goes c) l h p = (let z : Stops ≡ Goes l = h in cc)
   goes_ends stuck l h p = (let z : Stops ≡ Goes l = h in cc)
   goes_ends (joins c try m) l h p = (let z : Wants m ≡ Goes l = h in cc)
@@ -112,7 +124,11 @@ module _ (g : CodeRun) {H : Type 0} where
     where
       by : (o : Option CodeBlock) → fork g c n args o ≡ Goes l → ⊥
       by None e = (let z : Stops ≡ Goes l = e in cc)
-      by (Some b) e = (let z : Bears (λ h. at_work (events.parent g.share c args h)) (at_work (events.child g.share c n b args)) ≡ Goes l = e in cc)
+      by (Some b) e =
+          (let z :
+          Bears (λ h. at_work (events.parent g.share c args h)) (at_work (events.child g.share c n b args)) ≡ Goes l =
+          e in
+          cc)
 
   in_ends : (c : State H) (p : Phase H) (l : Local H) → act_in g c p ≡ Goes l → l.phase ≡ running → ⊥
   in_ends c running l h p = goes_ends (leg g c) l h p
@@ -123,20 +139,25 @@ module _ (g : CodeRun) {H : Type 0} where
     pub listed : (h : H) → (u h).state.listed ≡ [] → ⊥
     pub fresh : (f : Fresh H) × IsFresh g.code f c.state
 
-  bears_of : (c0 : State H) (o : Comes H) → Has c0 o → (u : H → Local H) (c : Local H) → act_of g o ≡ Bears u c → Borne u c
+  bears_of : (c0 : State H) (o : Comes H) → Has c0 o → (u : H → Local H) (c : Local H) → act_of g o ≡ Bears u c
+      → Borne u c
   bears_of c0 (forks d n args) has u c h = by (slice_get g.code.blocks n) refl h
     where
       by : (o : Option CodeBlock) → slice_get g.code.blocks n ≡ o → fork g d n args o ≡ Bears u c → Borne u c
       by None is e = absurd (let z : Stops ≡ Bears u c = e in cc)
       by (Some b) is e =
-          let z : Bears (λ k. at_work (events.parent g.share d args k)) (at_work (events.child g.share d n b args)) ≡ Bears u c = e in
+          let z : Bears (λ k. at_work (events.parent g.share d args k)) (at_work (events.child g.share d n b args))
+          ≡ Bears u c = e in
           let v : (λ k. at_work (events.parent g.share d args k)) ≡ u = cc in
           let w : at_work (events.child g.share d n b args) ≡ c = cc in
           record {
             listed = λ k q. not_empty d.listed _ (ap (λ f. (f k).state.listed) v ∙ q);
             fresh = subst (λ x. (f : Fresh H) × IsFresh g.code f x.state) w (child_fresh d n args has b is);
           }
-  bears_of c0 (traps d e) has u c h = absurd (let z : Goes (has_ended d (trapped (record { cause = e; line = d.line; origin = None }))) ≡ Bears u c = h in cc)
+  bears_of c0 (traps d e) has u c h =
+      absurd (let z : Goes (has_ended d (trapped (record { cause = e; line = d.line; origin = None }))) ≡ Bears u c =
+      h in
+      cc)
   bears_of c0 (ends d w) has u c h = absurd (let z : Goes (has_ended d done) ≡ Bears u c = h in cc)
   bears_of c0 (goes d) has u c h = absurd (let z : Stops ≡ Bears u c = h in cc)
   bears_of c0 stuck has u c h = absurd (let z : Stops ≡ Bears u c = h in cc)
@@ -172,15 +193,22 @@ module _ (g : CodeRun) {H : Type 0} where
   joined_in c try h j (trapped t) i = inherited c try h t
   joined_in c try h j running i = absurd i
 
-  joined_end : (l : Local H) (o : Comes H) (q : H) → act_of g o ≡ Wants q → (j : End H) → Ends j.phase → Lists (join_end g l o j)
+  joined_end : (l : Local H) (o : Comes H) (q : H) → act_of g o ≡ Wants q → (j : End H) → Ends j.phase
+      → Lists (join_end g l o j)
   joined_end l (joins c try h) q a j i = joined_in c try h j j.phase i
   joined_end l (goes c) q a j i = absurd (let z : Stops ≡ Wants q = a in cc)
-  joined_end l (traps c e) q a j i = absurd (let z : Goes (has_ended c (trapped (record { cause = e; line = c.line; origin = None }))) ≡ Wants q = a in cc)
+  joined_end l (traps c e) q a j i =
+      absurd (let z : Goes (has_ended c (trapped (record { cause = e; line = c.line; origin = None }))) ≡ Wants q = a in
+      cc)
   joined_end l (forks c n args) q a j i = by (slice_get g.code.blocks n) a
     where
       by : (o : Option CodeBlock) → fork g c n args o ≡ Wants q → Lists l
       by None e = absurd (let z : Stops ≡ Wants q = e in cc)
-      by (Some b) e = absurd (let z : Bears (λ h. at_work (events.parent g.share c args h)) (at_work (events.child g.share c n b args)) ≡ Wants q = e in cc)
+      by (Some b) e =
+          absurd (let z :
+          Bears (λ h. at_work (events.parent g.share c args h)) (at_work (events.child g.share c n b args)) ≡ Wants q =
+          e in
+          cc)
   joined_end l (ends c w) q a j i = absurd (let z : Goes (has_ended c done) ≡ Wants q = a in cc)
   joined_end l stuck q a j i = absurd (let z : Stops ≡ Wants q = a in cc)
 
@@ -198,7 +226,8 @@ module _ (g : CodeRun) {H : Type 0} where
 main_takes_none : (g : CodeRun) → IsVerified g → (n : ℕ) (m : IsMain g n) → params m.body ≡ []
 main_takes_none g ok n m =
     let b = m.body in
-    let h = (and_parts (fits_class b.class b.params (has_result b)) (nat_le b.params (length b.locals)) (block_well g.code (no_fault_accepted g.code ok).named n b m.is)).0 in
+    let h = (and_parts (fits_class b.class b.params (has_result b)) (nat_le b.params (length b.locals))
+    (block_well g.code (no_fault_accepted g.code ok).named n b m.is)).0 in
     let e = main_bare b.class b.params (has_result b) m.class h in
     let z : b.params ≡ 0 = grind (arith, nat_tests, e) in
     ap (λ u. take u b.locals) z
@@ -221,7 +250,8 @@ module _ {H : Type 0} where
       (λ j. sym (map_replicate v.cells (start_word v.kind v.start)) j ++ starts vs j)
       ∙ sym (map-append plain_location (replicate v.cells (start_word v.kind v.start)) (start_words vs))
 
-  first_fresh : (g : CodeRun) → IsVerified g → (n : ℕ) (m : IsMain g n) (fuel : ℕ) → (f : Fresh H) × IsFresh g.code f (start_in g n m.body fuel).state
+  first_fresh : (g : CodeRun) → IsVerified g → (n : ℕ) (m : IsMain g n) (fuel : ℕ)
+      → (f : Fresh H) × IsFresh g.code f (start_in g n m.body fuel).state
   first_fresh g ok n m fuel = (
     record { block = n; args = []; snapshot = start_words g.code.vars; fuel = fuel },
     record {
@@ -249,19 +279,24 @@ module _ (g : CodeRun) (ok : IsVerified g) where
         let b = of_forks r l.state.forks (act g l) l' c does in
         (bears_in g l.state l.phase b.0 c b.1).listed (child r l.state.forks) (ap (λ z. z.state.listed) b.2 ∙ u.1);
     joins = λ r q l lq p o does ends u.
-        joined_end g l (leg g l.state) q (wants_leg g l.state l.phase q (of_joins r l.state.forks (act g l) q does)) (end_of lq)
+        joined_end g l (leg g l.state) q (wants_leg g l.state l.phase q (of_joins r l.state.forks (act g l) q does))
+        (end_of lq)
         (over_ends g lq.phase (over g ok lq o (ended_act q lq.state.forks (act g lq) ends))) u.1;
   }
 
   module _ (n : ℕ) (m : IsMain g n) (fuel : ℕ) where
-    born_fresh : (r : Path) (l : Local Path) → Born (machine g) (first g n m fuel) r l → (f : Fresh Path) × IsFresh g.code f l.state
-    born_fresh r l (births.first is same) = subst (λ x. (f : Fresh Path) × IsFresh g.code f x.state) (sym same) (first_fresh g ok n m fuel)
+    born_fresh : (r : Path) (l : Local Path) → Born (machine g) (first g n m fuel) r l
+        → (f : Fresh Path) × IsFresh g.code f l.state
+    born_fresh r l (births.first is same) =
+        subst (λ x. (f : Fresh Path) × IsFresh g.code f x.state) (sym same) (first_fresh g ok n m fuel)
     born_fresh r l (births.forked f) =
         let b = of_forks f.forker f.before.state.forks (act g f.before) f.after l f.forks in
         (bears_in g f.before.state f.before.phase b.0 l b.1).fresh
 
 pub unlisted_begins : UnlistedBegins
 unlisted_begins g ok n m fuel revs reached r e there u =
-    let born = new_born (machine g) (first g n m fuel) (λ r l. IsProper g l) (states_proper g ok n m fuel) (λ l. IsUnlisted l) (news g ok) revs reached r e there u in
+    let born =
+    new_born (machine g) (first g n m fuel) (λ r l. IsProper g l) (states_proper g ok n m fuel) (λ l. IsUnlisted l)
+    (news g ok) revs reached r e there u in
     let f = born_fresh g ok n m fuel r (local_of e) born in
     record { born = born; begins = f.0; fresh = f.1 }

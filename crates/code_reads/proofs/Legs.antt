@@ -1,17 +1,19 @@
 -- What a leg reads is what its steps read.
-use Rattle.std.proofs.Common.{◌≡◌, ◌∙◌, ℕ, zero, suc, ◌+◌, ◌<◌, ◌≤◌, List, [], ◌∷◌, ◌++◌, refl, sym, ap, subst, arith, le_refl}
+use Rattle.std.proofs.Common.{◌≡◌, ◌∙◌, ℕ, zero, suc, ◌+◌, ◌<◌, ◌≤◌, List, [], ◌++◌, refl, sym, ap, subst, arith, le_refl}
 use Rattle.std.proofs.lemmas.List.{append-nil, append_assoc}
 use Rattle.rev_code.specs.State.{State}
 use Rattle.rev_code.specs.Step as code
 use Rattle.rev_code.specs.Step.{Comes, goes, traps, forks, joins, ends, stuck, step, Steps}
-use Rattle.code_prices.specs.Prices.{leg_prices}
-use Rattle.code_prices.specs.Uses.{UsesUp}
-use Rattle.code_prices.proofs.Stepping.{uses}
-use Rattle.code_prices.proofs.Priced.{leg_bears}
+use Rattle.code_soundness.specs.Prices.{leg_prices}
+use Rattle.code_soundness.specs.Paid.{UsesUp}
+use Rattle.code_soundness.proofs.Stepping.{uses}
+use Rattle.code_soundness.proofs.Priced.{leg_bears}
 use Rattle.code_soundness.specs.Whole.{notes_of}
-use Rattle.code_machine.specs.Local.{CodeRun, IsVerified, under}
-use Rattle.code_machine.specs.Leg.{IsEvent, longest, clock}
-use Rattle.code_machine.proofs.Legs.{accepted, no_longer}
+use Rattle.code_machine_laws.specs.Instance.{CodeRun, IsVerified}
+use Rattle.code_machine_laws.proofs.Keeping.{under}
+use Rattle.code_machine_laws.specs.Laws.{IsEvent, longest}
+use Rattle.code_machine_laws.proofs.Keeping.{clock}
+use Rattle.code_machine_laws.proofs.Keeping.{accepted, no_longer}
 use Rattle.code_reads.specs.Reads.{Read, step_reads, then_reads, reach_reads, reads_of}
 use Rattle.code_reads.specs.Legs.{LegReadsOfSteps}
 
@@ -21,7 +23,8 @@ module _ (g : CodeRun) (ok : IsVerified g) {H : Type 0} where
       let most = longest g.code.blocks in
       let h : clock g c' + 1 ≤ clock g c =
       subst (UsesUp g.code (notes_of g.code) (leg_prices most) c) e
-      (uses (under g) (notes_of g.code) (accepted g ok).certified (leg_prices most) most (leg_bears most) (λ n b. no_longer g.code.blocks n b) c) in
+      (uses (under g) (notes_of g.code) (accepted g ok).certified (leg_prices most) most (leg_bears most)
+      (λ n b. no_longer g.code.blocks n b) c) in
       omega (arith, h)
 
   none_after : (f : State H → List (Read H)) (o : Comes H) → IsEvent o → then_reads f o ≡ []
@@ -32,11 +35,16 @@ module _ (g : CodeRun) (ok : IsVerified g) {H : Type 0} where
   none_after f (ends c w) i = refl
   none_after f stuck i = absurd i
 
-  at_event : (k : ℕ) (c : State H) (o : Comes H) → IsEvent o → step (under g) c ≡ o → reach_reads (under g) k c ≡ step_reads (under g) c
+  at_event : (k : ℕ) (c : State H) (o : Comes H) → IsEvent o → step (under g) c ≡ o
+      → reach_reads (under g) k c ≡ step_reads (under g) c
   at_event zero c o i e = refl
-  at_event (suc k) c o i e = ap (λ rs. step_reads (under g) c ++ rs) (ap (then_reads (λ d. reach_reads (under g) k d)) e ∙ none_after (λ d. reach_reads (under g) k d) o i) ∙ append-nil (step_reads (under g) c)
+  at_event (suc k) c o i e =
+      ap (λ rs. step_reads (under g) c ++ rs)
+      (ap (then_reads (λ d. reach_reads (under g) k d)) e ∙ none_after (λ d. reach_reads (under g) k d) o i)
+      ∙ append-nil (step_reads (under g) c)
 
-  reads : (k : ℕ) (a c : State H) (o : Comes H) → clock g a ≤ k → (steps : Steps (under g) a c) → IsEvent o → step (under g) c ≡ o → reach_reads (under g) k a ≡ reads_of steps ++ step_reads (under g) c
+  reads : (k : ℕ) (a c : State H) (o : Comes H) → clock g a ≤ k → (steps : Steps (under g) a c) → IsEvent o
+      → step (under g) c ≡ o → reach_reads (under g) k a ≡ reads_of steps ++ step_reads (under g) c
   reads k a c o small code.none i e = at_event k c o i e
   reads zero a c o small (code.more {c' = m} h t) i e = absurd (let d = bounded a m h in omega (arith, d, small))
   reads (suc k) a c o small (code.more {c' = m} h t) i e =

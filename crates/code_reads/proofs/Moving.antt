@@ -64,28 +64,34 @@ module _ {H : Type 0} (ys : List (Word H)) where
     n_pushes rest (Some w) = refl
 
     n_local : (n : ℕ) (o : Option ValueKind) (ws : List (Word H)) → r.into_local c' n o ws ≡ cm (r.into_local c n o ws)
-    n_local n (Some x) (w ∷ rest) = n_if (same_kind x (kind_of w)) (goes (record c { at = suc c.at; stack = rest; locals = slice_set c.locals n w })) stuck
+    n_local n (Some x) (w ∷ rest) =
+        n_if (same_kind x (kind_of w))
+        (goes (record c { at = suc c.at; stack = rest; locals = slice_set c.locals n w })) stuck
     n_local n (Some x) [] = refl
     n_local n None ws = refl
 
     n_write : (rest : List (Word H)) (l : ℕ) (w : Word H) → r.after_write c' rest l w ≡ cm (r.after_write c rest l w)
-    n_write rest l w = let e = written_over c.locations ys l w in λ j. goes (record c { at = suc c.at; stack = rest; locations = e j })
+    n_write rest l w =
+        let e = written_over c.locations ys l w in λ j. goes (record c { at = suc c.at; stack = rest; locations = e j })
 
     n_into_scalar : (o : Option Place) (ws : List (Word H)) → r.into_scalar c' o ws ≡ cm (r.into_scalar c o ws)
     n_into_scalar (Some q) (w ∷ rest) =
         let b = n_write rest q.first w in
-        (λ j. if same_kind q.var.kind (kind_of w) then b j else stuck) ∙ n_if (same_kind q.var.kind (kind_of w)) (r.after_write c rest q.first w) stuck
+        (λ j. if same_kind q.var.kind (kind_of w) then b j else stuck)
+        ∙ n_if (same_kind q.var.kind (kind_of w)) (r.after_write c rest q.first w) stuck
     n_into_scalar (Some q) [] = refl
     n_into_scalar None ws = refl
 
-    n_write_cell : (rest : List (Word H)) (w : Word H) (o : Option ℕ) → r.write_cell c' rest w o ≡ cm (r.write_cell c rest w o)
+    n_write_cell : (rest : List (Word H)) (w : Word H) (o : Option ℕ)
+        → r.write_cell c' rest w o ≡ cm (r.write_cell c rest w o)
     n_write_cell rest w None = refl
     n_write_cell rest w (Some l) = n_write rest l w
 
     n_into_cell : (o : Option Place) (ws : List (Word H)) → r.into_cell c' o ws ≡ cm (r.into_cell c o ws)
     n_into_cell (Some q) (w ∷ int n ∷ rest) =
         let b = n_write_cell rest w (cell_at q n) in
-        (λ j. if same_kind q.var.kind (kind_of w) then b j else stuck) ∙ n_if (same_kind q.var.kind (kind_of w)) (r.write_cell c rest w (cell_at q n)) stuck
+        (λ j. if same_kind q.var.kind (kind_of w) then b j else stuck)
+        ∙ n_if (same_kind q.var.kind (kind_of w)) (r.write_cell c rest w (cell_at q n)) stuck
     n_into_cell _ _ = refl
 
     n_test : (o : Option ℕ) → r.test_cell c' o ≡ cm (r.test_cell c o)
@@ -110,7 +116,8 @@ module _ {H : Type 0} (ys : List (Word H)) where
     n_jump_if false to (int n ∷ rest) = refl
     n_jump_if false to (rev n ∷ rest) = refl
 
-    n_value : (rest : List (Word H)) (o : Option (Result (Word H) Cause)) → r.value_or_trap c' rest o ≡ cm (r.value_or_trap c rest o)
+    n_value : (rest : List (Word H)) (o : Option (Result (Word H) Cause))
+        → r.value_or_trap c' rest o ≡ cm (r.value_or_trap c rest o)
     n_value rest None = refl
     n_value rest (Some (Ok w)) = refl
     n_value rest (Some (Err e)) = refl
@@ -129,7 +136,8 @@ module _ {H : Type 0} (ys : List (Word H)) where
 
     n_call_with : (n : ℕ) (b : CodeBlock) (o : Option (List (Word H))) → r.call_with c' n b o ≡ cm (r.call_with c n b o)
     n_call_with n b None = refl
-    n_call_with n b (Some args) = n_if (nat_lt (suc (length c.below)) r.most_frames) (goes (r.enter c n b args)) (traps c cause.CallDepth)
+    n_call_with n b (Some args) =
+        n_if (nat_lt (suc (length c.below)) r.most_frames) (goes (r.enter c n b args)) (traps c cause.CallDepth)
 
     n_call : (n : ℕ) (o : Option CodeBlock) → r.call c' n o ≡ cm (r.call c n o)
     n_call n None = refl
@@ -157,9 +165,11 @@ module _ {H : Type 0} (ys : List (Word H)) where
     n_return (Some x) [] = refl
     n_return (Some x) (w ∷ rest) =
         let b = n_leave c.below (Some w) in
-        (λ j. if same_kind x (kind_of w) then b j else stuck) ∙ n_if (same_kind x (kind_of w)) (r.leave c c.below (Some w)) stuck
+        (λ j. if same_kind x (kind_of w) then b j else stuck)
+        ∙ n_if (same_kind x (kind_of w)) (r.leave c c.below (Some w)) stuck
 
-    n_print_with : (texts : List (List ℕ)) (items : List LayoutItem) (o : Option (List (Word H))) → r.print_with texts c' items o ≡ cm (r.print_with texts c items o)
+    n_print_with : (texts : List (List ℕ)) (items : List LayoutItem) (o : Option (List (Word H)))
+        → r.print_with texts c' items o ≡ cm (r.print_with texts c items o)
     n_print_with texts items None = refl
     n_print_with texts items (Some ws) = refl
 
@@ -183,18 +193,25 @@ module _ {H : Type 0} (ys : List (Word H)) where
 
       n_from_scalar : (o : Option Place) → Agree (of_scalar c.locations o) → r.from_scalar c' o ≡ cm (r.from_scalar c o)
       n_from_scalar None h = refl
-      n_from_scalar (Some q) h = ap (r.pushes c' c.stack) (seen_over c.locations ys inputs' q.first h) ∙ n_pushes c.stack (seen_at c.locations q.first)
+      n_from_scalar (Some q) h =
+          ap (r.pushes c' c.stack) (seen_over c.locations ys inputs' q.first h)
+          ∙ n_pushes c.stack (seen_at c.locations q.first)
 
-      n_read : (rest : List (Word H)) (o : Option ℕ) → Agree (of_place c.locations o) → r.read_cell c' rest o ≡ cm (r.read_cell c rest o)
+      n_read : (rest : List (Word H)) (o : Option ℕ) → Agree (of_place c.locations o)
+          → r.read_cell c' rest o ≡ cm (r.read_cell c rest o)
       n_read rest None h = refl
-      n_read rest (Some l) h = ap (r.pushes c' rest) (seen_over c.locations ys inputs' l h) ∙ n_pushes rest (seen_at c.locations l)
+      n_read rest (Some l) h =
+          ap (r.pushes c' rest) (seen_over c.locations ys inputs' l h) ∙ n_pushes rest (seen_at c.locations l)
 
-      n_from_cell : (o : Option Place) (ws : List (Word H)) → Agree (of_cell c.locations o ws) → r.from_cell c' o ws ≡ cm (r.from_cell c o ws)
+      n_from_cell : (o : Option Place) (ws : List (Word H)) → Agree (of_cell c.locations o ws)
+          → r.from_cell c' o ws ≡ cm (r.from_cell c o ws)
       n_from_cell (Some q) (int n ∷ rest) h = n_read rest (cell_at q n) h
       n_from_cell _ _ h = refl
 
-      n_from_input : (ws : List (Word H)) → Agree (of_input inputs ws) → r.from_input inputs' c' ws ≡ cm (r.from_input inputs c ws)
-      n_from_input (int n ∷ rest) h = ap (r.read_input c' rest) (input_too ys inputs inputs' n h) ∙ n_input rest (r.input_at inputs n)
+      n_from_input : (ws : List (Word H)) → Agree (of_input inputs ws)
+          → r.from_input inputs' c' ws ≡ cm (r.from_input inputs c ws)
+      n_from_input (int n ∷ rest) h =
+          ap (r.read_input c' rest) (input_too ys inputs inputs' n h) ∙ n_input rest (r.input_at inputs n)
       n_from_input _ h = refl
 
 module _ {H : Type 0} (s : Setting H) (ys : List (Word H)) (inputs : List ℤ) (share : ℕ) where
@@ -204,7 +221,8 @@ module _ {H : Type 0} (s : Setting H) (ys : List (Word H)) (inputs : List ℤ) (
   abbrev Alike : List (Read H) → Type 0
   Alike rs = AllAgree ys inputs rs
 
-  act_same : (b : CodeBlock) (c : State H) (x : Instr) → Alike (act_reads s c x) → act s' b (moved ys c) x ≡ moved_comes ys (act s b c x)
+  act_same : (b : CodeBlock) (c : State H) (x : Instr) → Alike (act_reads s c x)
+      → act s' b (moved ys c) x ≡ moved_comes ys (act s b c x)
   act_same b c (i.PushInt n) h = refl
   act_same b c (i.PushBool v) h = refl
   act_same b c i.PushNone h = refl
@@ -244,11 +262,13 @@ module _ {H : Type 0} (s : Setting H) (ys : List (Word H)) (inputs : List ℤ) (
   act_same b c i.Pop h = n_pop ys c c.stack
   act_same b c i.TryJoin h = n_join ys c true c.stack
 
-  at_same : (b : CodeBlock) (c : State H) (o : Option Instr) → Alike (reads_at s c o) → act_at s' b (moved ys c) o ≡ moved_comes ys (act_at s b c o)
+  at_same : (b : CodeBlock) (c : State H) (o : Option Instr) → Alike (reads_at s c o)
+      → act_at s' b (moved ys c) o ≡ moved_comes ys (act_at s b c o)
   at_same b c None h = refl
   at_same b c (Some x) h = act_same b c x h
 
-  in_same : (c : State H) (o : Option CodeBlock) → Alike (reads_in s c o) → act_in s' (moved ys c) o ≡ moved_comes ys (act_in s c o)
+  in_same : (c : State H) (o : Option CodeBlock) → Alike (reads_in s c o)
+      → act_in s' (moved ys c) o ≡ moved_comes ys (act_in s c o)
   in_same c None h = refl
   in_same c (Some b) h = at_same b c (slice_get b.instrs c.at) h
 
@@ -257,11 +277,13 @@ module _ {H : Type 0} (s : Setting H) (ys : List (Word H)) (inputs : List ℤ) (
 
   -- ---- what is read
 
-  cell_reads : (c : State H) (o : Option Place) (ws : List (Word H)) → Alike (of_cell c.locations o ws) → of_cell (over ys c.locations) o ws ≡ of_cell c.locations o ws
+  cell_reads : (c : State H) (o : Option Place) (ws : List (Word H)) → Alike (of_cell c.locations o ws)
+      → of_cell (over ys c.locations) o ws ≡ of_cell c.locations o ws
   cell_reads c (Some q) (int n ∷ rest) h = place_over c.locations ys inputs (cell_at q n) h
   cell_reads c _ _ h = refl
 
-  scalar_reads : (c : State H) (o : Option Place) → Alike (of_scalar c.locations o) → of_scalar (over ys c.locations) o ≡ of_scalar c.locations o
+  scalar_reads : (c : State H) (o : Option Place) → Alike (of_scalar c.locations o)
+      → of_scalar (over ys c.locations) o ≡ of_scalar c.locations o
   scalar_reads c None h = refl
   scalar_reads c (Some q) h = place_over c.locations ys inputs (Some q.first) h
 
@@ -276,11 +298,13 @@ module _ {H : Type 0} (s : Setting H) (ys : List (Word H)) (inputs : List ℤ) (
   reads_same c i.CountInput h = ap (λ k. count k ∷ []) h.0
   reads_same c _ h = refl
 
-  reads_at_same : (c : State H) (o : Option Instr) → Alike (reads_at s c o) → reads_at s' (moved ys c) o ≡ reads_at s c o
+  reads_at_same : (c : State H) (o : Option Instr) → Alike (reads_at s c o)
+      → reads_at s' (moved ys c) o ≡ reads_at s c o
   reads_at_same c None h = refl
   reads_at_same c (Some x) h = reads_same c x h
 
-  reads_in_same : (c : State H) (o : Option CodeBlock) → Alike (reads_in s c o) → reads_in s' (moved ys c) o ≡ reads_in s c o
+  reads_in_same : (c : State H) (o : Option CodeBlock) → Alike (reads_in s c o)
+      → reads_in s' (moved ys c) o ≡ reads_in s c o
   reads_in_same c None h = refl
   reads_in_same c (Some b) h = reads_at_same c (slice_get b.instrs c.at) h
 
@@ -290,14 +314,16 @@ module _ {H : Type 0} (s : Setting H) (ys : List (Word H)) (inputs : List ℤ) (
   -- ---- several steps
 
   abbrev Both : (k : ℕ) → State H → Type 0
-  Both k c = (reach s' k (moved ys c) ≡ moved_comes ys (reach s k c)) × (reach_reads s' k (moved ys c) ≡ reach_reads s k c)
+  Both k c = (reach s' k (moved ys c) ≡ moved_comes ys (reach s k c))
+      × (reach_reads s' k (moved ys c) ≡ reach_reads s k c)
 
   abbrev Onward : (k : ℕ) → Comes H → Type 0
   Onward k o =
       (onward (λ d. reach s' k d) (moved_comes ys o) ≡ moved_comes ys (onward (λ d. reach s k d) o))
       × (then_reads (λ d. reach_reads s' k d) (moved_comes ys o) ≡ then_reads (λ d. reach_reads s k d) o)
 
-  onward_same : (k : ℕ) → ((d : State H) → Alike (reach_reads s k d) → Both k d) → (o : Comes H) → Alike (then_reads (λ d. reach_reads s k d) o) → Onward k o
+  onward_same : (k : ℕ) → ((d : State H) → Alike (reach_reads s k d) → Both k d) → (o : Comes H)
+      → Alike (then_reads (λ d. reach_reads s k d) o) → Onward k o
   onward_same k rec (goes d) h = rec d h
   onward_same k rec (traps d x) h = (refl, refl)
   onward_same k rec (forks d n args) h = (refl, refl)

@@ -11,7 +11,7 @@ use Rattle.rev_code.specs.Variables.{Place, scalar, array, cell_at}
 use Rattle.rev_code.specs.Step.{Comes, goes, traps, forks, joins, ends, stuck, step}
 use Rattle.step_forms.specs.Forms.{ComesTo, to_next, to_write, to_payment, to_trap, to_fork, to_join, to_end, to_nothing}
 use Rattle.step_forms.proofs.Forms.{step_form}
-use Rattle.reached_worlds.specs.Reached.{snapshots}
+use Rattle.code_machine_laws.specs.Reached.{snapshots}
 use Rattle.code_reads.specs.Reads.{Read, if_unwritten, of_location, of_place, of_scalar, of_cell, of_position, of_index, of_input, act_reads, reads_at, reads_in, step_reads, then_reads, reach_reads}
 use Rattle.code_reads.specs.Moved.{AllAgree}
 use Rattle.code_reads.specs.Laws.{OwnReadsAgree}
@@ -22,12 +22,14 @@ module _ {H : Type 0} where
   snapshots_stay (l ∷ ls) zero w = refl
   snapshots_stay (l ∷ ls) (suc n) w = ap (λ z. l.snapshot ∷ z) (snapshots_stay ls n w)
 
-  snapshot_at : (ls : List (Location H)) (n : ℕ) (l : Location H) → slice_get ls n ≡ Some l → slice_get (snapshots ls) n ≡ Some l.snapshot
+  snapshot_at : (ls : List (Location H)) (n : ℕ) (l : Location H) → slice_get ls n ≡ Some l
+      → slice_get (snapshots ls) n ≡ Some l.snapshot
   snapshot_at [] n l e = none_some e
   snapshot_at (x ∷ ls) zero l e = ap (λ z. Some z.snapshot) (some_eq e)
   snapshot_at (x ∷ ls) (suc n) l e = snapshot_at ls n l e
 
-  append_agree : (xs : List (Word H)) (inputs : List ℤ) (rs qs : List (Read H)) → AllAgree xs inputs rs → AllAgree xs inputs qs → AllAgree xs inputs (rs ++ qs)
+  append_agree : (xs : List (Word H)) (inputs : List ℤ) (rs qs : List (Read H)) → AllAgree xs inputs rs
+      → AllAgree xs inputs qs → AllAgree xs inputs (rs ++ qs)
   append_agree xs inputs [] qs h k = k
   append_agree xs inputs (r ∷ rs) qs h k = (h.0, append_agree xs inputs rs qs h.1 k)
 
@@ -35,7 +37,8 @@ module _ {H : Type 0} where
     abbrev Own : List (Read H) → Type 0
     Own rs = AllAgree (snapshots ls) inputs rs
 
-    own_written : (n : ℕ) (l : Location H) → slice_get ls n ≡ Some l → (o : Option (Word H)) → Own (if_unwritten n l.snapshot o)
+    own_written : (n : ℕ) (l : Location H) → slice_get ls n ≡ Some l → (o : Option (Word H))
+        → Own (if_unwritten n l.snapshot o)
     own_written n l e None = (snapshot_at ls n l e, tt)
     own_written n l e (Some w) = tt
 
@@ -100,7 +103,8 @@ module _ {H : Type 0} where
     form_keeps c o (to_end w) = tt
     form_keeps c o to_nothing = tt
 
-    then_own : (k : ℕ) (c : State H) → ((d : State H) → AllAgree (snapshots d.locations) s.inputs (reach_reads s k d)) → (o : Comes H) → IfGoes c o → AllAgree (snapshots c.locations) s.inputs (then_reads (λ d. reach_reads s k d) o)
+    then_own : (k : ℕ) (c : State H) → ((d : State H) → AllAgree (snapshots d.locations) s.inputs (reach_reads s k d))
+        → (o : Comes H) → IfGoes c o → AllAgree (snapshots c.locations) s.inputs (then_reads (λ d. reach_reads s k d) o)
     then_own k c rec (goes d) e = subst (λ xs. AllAgree xs s.inputs (reach_reads s k d)) e (rec d)
     then_own k c rec (traps d x) e = tt
     then_own k c rec (forks d n args) e = tt
@@ -111,7 +115,8 @@ module _ {H : Type 0} where
     pub own_reach : (k : ℕ) (c : State H) → AllAgree (snapshots c.locations) s.inputs (reach_reads s k c)
     own_reach zero c = own_step c
     own_reach (suc k) c =
-        append_agree (snapshots c.locations) s.inputs (step_reads s c) (then_reads (λ d. reach_reads s k d) (step s c)) (own_step c)
+        append_agree (snapshots c.locations) s.inputs (step_reads s c) (then_reads (λ d. reach_reads s k d) (step s c))
+        (own_step c)
         (then_own k c (λ d. own_reach k d) (step s c) (form_keeps c (step s c) (step_form s c)))
 
 pub own_reads_agree : {H : Type 0} → OwnReadsAgree H

@@ -3,7 +3,7 @@ use Rattle.std.specs.Prelude.{◌≡◌, ℕ, ℤ, List}
 use Rattle.rev_code.specs.Words.{Word}
 use Rattle.rev_code.specs.State.{Setting, State}
 use Rattle.rev_code.specs.Step.{step, reach}
-use Rattle.reached_worlds.specs.Reached.{snapshots}
+use Rattle.code_machine_laws.specs.Reached.{snapshots}
 use Rattle.code_reads.specs.Reads.{step_reads, reach_reads}
 use Rattle.code_reads.specs.Moved.{moved, moved_comes, AllAgree}
 

@@ -5,8 +5,10 @@ use Rattle.std.specs.Prelude.{◌≡◌, List, ◌++◌}
 use Rattle.rev_code.specs.State.{State}
 use Rattle.rev_code.specs.Step.{Comes}
 use Rattle.code_reads.specs.Reads.{Read, step_reads, reach_reads, reads_of}
-use Rattle.code_machine.specs.Local.{CodeRun, IsVerified, under}
-use Rattle.code_machine.specs.Leg.{IsLeg, clock}
+use Rattle.code_machine_laws.specs.Instance.{CodeRun, IsVerified}
+use Rattle.code_machine_laws.specs.Laws.{under}
+use Rattle.code_machine_laws.specs.Legs.{IsLeg}
+use Rattle.code_machine_laws.specs.Laws.{clock}
 
 abbrev pub leg_reads : {H : Type 0} → CodeRun → State H → List (Read H)
 leg_reads g c = reach_reads (under g) (clock g c) c

@@ -48,8 +48,10 @@ small_parts code h =
       layouts = within (length code.layouts) 4294967295 (and_right _ (nat_le (length code.layouts) 4294967295) h);
     }
 
-pub small_block : (b : CodeBlock) → tables.is_small_block b ≡ true → (length b.locals ≤ 64) × (length b.instrs ≤ 4294967295)
+pub small_block : (b : CodeBlock) → tables.is_small_block b ≡ true
+    → (length b.locals ≤ 64) × (length b.instrs ≤ 4294967295)
 small_block b h =
     let i = and_right _ (nat_le (length b.instrs) 4294967295) h in
-    let l = and_right (nat_le b.params 8) (nat_le (length b.locals) 64) (and_left _ (nat_le (length b.instrs) 4294967295) h) in
+    let l = and_right (nat_le b.params 8) (nat_le (length b.locals) 64)
+    (and_left _ (nat_le (length b.instrs) 4294967295) h) in
     (within (length b.locals) 64 l, within (length b.instrs) 4294967295 i)

@@ -1,3 +1,10 @@
+pub mod Naming
+pub mod Overlays
+pub mod Starting
+pub mod Shows
+pub mod Ending
+pub mod Left
+pub mod InWorlds
 pub mod Completing
 pub mod Least
 pub mod Schedules

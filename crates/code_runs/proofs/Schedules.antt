@@ -7,7 +7,7 @@ use Rattle.revision_machine.specs.Numbered.{World, begin}
 use Rattle.code_machine.specs.Local.{CodeRun, IsVerified, Local}
 use Rattle.code_machine.specs.Machines.{IsMain, numbered, start_in}
 use Rattle.code_machine.specs.Worlds.{after, replay}
-use Rattle.code_outcomes.proofs.Mains.{has_main, main_is_one}
+use Rattle.code_machine_laws.proofs.Mains.{has_main, main_is_one}
 use Rattle.world_runs.specs.Replay.{Replayed, StopsAt}
 use Rattle.code_runs.specs.Schedules.{EachIsLegalOrStops, IsLegal, NeverBoth, StopsOnce, WorldIsOne}
 use Rattle.rev_num.proofs.Options.{some_eq as some_same, none_some as never_some}
@@ -32,19 +32,31 @@ module _ (g : CodeRun) where
   stuck v n ns e = ap (λ o. after (numbered g) o (λ x. replay (numbered g) x ns)) e
 
   abbrev IsSorted : World (Local ℕ) → List ℕ → Type 0
-  IsSorted v ns = ((w : World (Local ℕ)) × (replay (numbered g) v ns ≡ Some w)) ⊎ ((at revision : ℕ) × Stops v ns at revision)
+  IsSorted v ns =
+      ((w : World (Local ℕ)) × (replay (numbered g) v ns ≡ Some w)) ⊎ ((at revision : ℕ) × Stops v ns at revision)
 
   -- the same behind an entry that has a leg
-  sorted_on : (v u : World (Local ℕ)) (n : ℕ) (ns : List ℕ) → numbers.leg (numbered g) v n ≡ Some u → IsSorted u ns → IsSorted v (n ∷ ns)
+  sorted_on : (v u : World (Local ℕ)) (n : ℕ) (ns : List ℕ) → numbers.leg (numbered g) v n ≡ Some u → IsSorted u ns
+      → IsSorted v (n ∷ ns)
   sorted_on v u n ns e (inl k) = inl (k.0, goes_on v u n ns e ∙ k.1)
   sorted_on v u n ns e (inr k) =
-      inr (suc k.0, k.1, record { before = k.2.before; replayed = goes_on v u n (take k.0 ns) e ∙ k.2.replayed; entry = k.2.entry; none = k.2.none })
+      inr (
+        suc k.0,
+        k.1,
+        record {
+          before = k.2.before;
+          replayed = goes_on v u n (take k.0 ns) e ∙ k.2.replayed;
+          entry = k.2.entry;
+          none = k.2.none;
+        },
+      )
 
   legal_or_stops : (v : World (Local ℕ)) (ns : List ℕ) → IsSorted v ns
   legal_or_stops v [] = inl (v, refl)
   legal_or_stops v (n ∷ ns) = by (numbers.leg (numbered g) v n) refl (λ u. legal_or_stops u ns)
     where
-      by : (o : Option (World (Local ℕ))) → numbers.leg (numbered g) v n ≡ o → ((u : World (Local ℕ)) → IsSorted u ns) → IsSorted v (n ∷ ns)
+      by : (o : Option (World (Local ℕ))) → numbers.leg (numbered g) v n ≡ o → ((u : World (Local ℕ)) → IsSorted u ns)
+          → IsSorted v (n ∷ ns)
       by None e rest = inr (zero, n, record { before = v; replayed = refl; entry = refl; none = e })
       by (Some u) e rest = sorted_on v u n ns e (rest u)
 
@@ -52,7 +64,12 @@ module _ (g : CodeRun) where
   stops_on : (v u : World (Local ℕ)) (n : ℕ) (ns : List ℕ) → numbers.leg (numbered g) v n ≡ Some u
       → (at revision : ℕ) → Stops v (n ∷ ns) (suc at) revision → Stops u ns at revision
   stops_on v u n ns e at revision s =
-      record { before = s.before; replayed = sym (goes_on v u n (take at ns) e) ∙ s.replayed; entry = s.entry; none = s.none }
+      record {
+        before = s.before;
+        replayed = sym (goes_on v u n (take at ns) e) ∙ s.replayed;
+        entry = s.entry;
+        none = s.none;
+      }
 
   never_both : (v w : World (Local ℕ)) (ns : List ℕ) → replay (numbered g) v ns ≡ Some w
       → (at revision : ℕ) → Stops v ns at revision → ⊥
@@ -76,7 +93,8 @@ module _ (g : CodeRun) where
   never_later v n ns k first at revision s =
       let here : v ≡ first.before = some_same first.replayed in
       let same : n ≡ k = some_same first.entry in
-      let none : numbers.leg (numbered g) v n ≡ None = ap₂ (λ x m. numbers.leg (numbered g) x m) here same ∙ first.none in
+      let none : numbers.leg (numbered g) v n ≡ None =
+      ap₂ (λ x m. numbers.leg (numbered g) x m) here same ∙ first.none in
       never_some (sym (stuck v n (take at ns) none) ∙ s.replayed)
 
   stops_once : (v : World (Local ℕ)) (ns : List ℕ) (at revision : ℕ) → Stops v ns at revision
@@ -89,7 +107,8 @@ module _ (g : CodeRun) where
       by (numbers.leg (numbered g) v n) refl (λ u x y. stops_once u ns at revision x place number y)
     where
       by : (o : Option (World (Local ℕ))) → numbers.leg (numbered g) v n ≡ o
-          → ((u : World (Local ℕ)) → Stops u ns at revision → Stops u ns place number → (at ≡ place) × (revision ≡ number))
+          → ((u : World (Local ℕ)) → Stops u ns at revision → Stops u ns place number
+          → (at ≡ place) × (revision ≡ number))
           → (suc at ≡ suc place) × (revision ≡ number)
       by None e rest = absurd (never_some (sym (stuck v n (take at ns) e) ∙ s.replayed))
       by (Some u) e rest =
@@ -120,12 +139,24 @@ module _ (g : CodeRun) (ok : IsVerified g) (fuel : ℕ) where
   is_replayed ns w h = record { number = (has_main g ok).0; main = (has_main g ok).1; world = h }
 
   stops_from : (ns : List ℕ) (at revision : ℕ) → StopsAt g fuel ns at revision → Stops g start ns at revision
-  stops_from ns at revision s = record { before = s.before; replayed = from_start (take at ns) s.before s.replayed; entry = s.entry; none = s.none }
+  stops_from ns at revision s = record {
+    before = s.before;
+    replayed = from_start (take at ns) s.before s.replayed;
+    entry = s.entry;
+    none = s.none;
+  }
 
   stops_at : (ns : List ℕ) (at revision : ℕ) → Stops g start ns at revision → StopsAt g fuel ns at revision
-  stops_at ns at revision s = record { before = s.before; replayed = is_replayed (take at ns) s.before s.replayed; entry = s.entry; none = s.none }
+  stops_at ns at revision s = record {
+    before = s.before;
+    replayed = is_replayed (take at ns) s.before s.replayed;
+    entry = s.entry;
+    none = s.none;
+  }
 
-  sorted : (ns : List ℕ) → ((w : World (Local ℕ)) × (replay (numbered g) start ns ≡ Some w)) ⊎ ((at revision : ℕ) × Stops g start ns at revision)
+  sorted : (ns : List ℕ)
+      → ((w : World (Local ℕ)) × (replay (numbered g) start ns ≡ Some w))
+      ⊎ ((at revision : ℕ) × Stops g start ns at revision)
       → IsLegal g fuel ns ⊎ ((at revision : ℕ) × StopsAt g fuel ns at revision)
   sorted ns (inl h) = inl (h.0, is_replayed ns h.0 h.1)
   sorted ns (inr s) = inr (s.0, s.1, stops_at ns s.0 s.1 s.2)
@@ -135,11 +166,13 @@ each_is_legal_or_stops g ok fuel ns = sorted g ok fuel ns (legal_or_stops g (sta
 
 pub legal_never_stops : NeverBoth
 legal_never_stops g ok fuel ns legal at revision s =
-    never_both g (start g ok fuel) legal.0 ns (from_start g ok fuel ns legal.0 legal.1) at revision (stops_from g ok fuel ns at revision s)
+    never_both g (start g ok fuel) legal.0 ns (from_start g ok fuel ns legal.0 legal.1) at revision
+    (stops_from g ok fuel ns at revision s)
 
 pub world_is_one : WorldIsOne
 world_is_one g ok fuel ns w v a b = some_same (sym (from_start g ok fuel ns w a) ∙ from_start g ok fuel ns v b)
 
 pub one_stop : StopsOnce
 one_stop g ok fuel ns at revision s place number t =
-    stops_once g (start g ok fuel) ns at revision (stops_from g ok fuel ns at revision s) place number (stops_from g ok fuel ns place number t)
+    stops_once g (start g ok fuel) ns at revision (stops_from g ok fuel ns at revision s) place number
+    (stops_from g ok fuel ns place number t)

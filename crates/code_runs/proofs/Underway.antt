@@ -9,13 +9,14 @@ use Rattle.code_machine.specs.Worlds.{after, replay}
 use Rattle.code_machine.proofs.Changes.{replay_goes_on, replay_is}
 use Rattle.code_world.specs.declared.world.World as rust
 use Rattle.code_world.specs.Tables.{IsWorld}
-use Rattle.reached_worlds.specs.Reached.{IsReached, most_fuel}
+use Rattle.code_machine_laws.specs.Reached.{IsReached, most_fuel}
 use Rattle.world_runs.specs.Finish.{HasFinished}
 use Rattle.world_runs.specs.Replay.{Replayed}
 use Rattle.code_runs.specs.Completed.{IsAfter, IsUnderway}
 
 -- the schedule without an entry leads to the start of `main`
-pub begun : (g : CodeRun) (fuel n : ℕ) (m : IsMain g n) → fuel ≤ most_fuel → (v : rust.World) → IsWorld g v (begin (numbered g) (start_in g n m.body fuel)) → IsUnderway g fuel v
+pub begun : (g : CodeRun) (fuel n : ℕ) (m : IsMain g n) → fuel ≤ most_fuel → (v : rust.World)
+    → IsWorld g v (begin (numbered g) (start_in g n m.body fuel)) → IsUnderway g fuel v
 begun g fuel n m few v stands = record {
   few = few;
   schedule = [];
@@ -25,7 +26,8 @@ begun g fuel n m few v stands = record {
 }
 
 -- a replay leads to its world
-pub replayed_to : (g : CodeRun) (fuel : ℕ) → fuel ≤ most_fuel → (ns : List ℕ) (w : World (Local ℕ)) → Replayed g fuel ns w → (v : rust.World) → IsWorld g v w → IsUnderway g fuel v
+pub replayed_to : (g : CodeRun) (fuel : ℕ) → fuel ≤ most_fuel → (ns : List ℕ) (w : World (Local ℕ))
+    → Replayed g fuel ns w → (v : rust.World) → IsWorld g v w → IsUnderway g fuel v
 replayed_to g fuel few ns w r v stands =
     record { few = few; schedule = ns; world = w; replayed = r; stands = stands }
 
@@ -44,7 +46,8 @@ module _ (g : CodeRun) (fuel : ℕ) (v : rust.World) (u : IsUnderway g fuel v) w
   }
 
   -- what goes on from this world is legal behind what led to it
-  legal_behind : (ms : List ℕ) (w : World (Local ℕ)) → Replays (numbered g) u.world ms w → Replays (numbered g) start (u.schedule ++ ms) w
+  legal_behind : (ms : List ℕ) (w : World (Local ℕ)) → Replays (numbered g) u.world ms w
+      → Replays (numbered g) start (u.schedule ++ ms) w
   legal_behind ms w h =
       (replay_is g start w (u.schedule ++ ms)).1
       (replay_goes_on g start u.schedule ms
@@ -68,10 +71,14 @@ module _ (g : CodeRun) (fuel : ℕ) (v : rust.World) (u : IsUnderway g fuel v) w
       }
 
 -- what holds of a run holds of the same code with the same inputs and share
-pub of_run : (P : CodeRun → Type 0) (code code' : Code) (inputs inputs' : List ℤ) (share share' : ℕ) → code' ≡ code → inputs' ≡ inputs → share' ≡ share
-    → P (record { code = code'; inputs = inputs'; share = share' }) → P (record { code = code; inputs = inputs; share = share })
+pub of_run : (P : CodeRun → Type 0) (code code' : Code) (inputs inputs' : List ℤ) (share share' : ℕ) → code' ≡ code
+    → inputs' ≡ inputs → share' ≡ share
+    → P (record { code = code'; inputs = inputs'; share = share' })
+    → P (record { code = code; inputs = inputs; share = share })
 of_run P code code' inputs inputs' share share' a b c h =
-    let same : ◌≡◌ {A = CodeRun} (record { code = code'; inputs = inputs'; share = share' }) (record { code = code; inputs = inputs; share = share }) = (λ i. record { code = a i; inputs = b i; share = c i }) in
+    let same : ◌≡◌ {A = CodeRun} (record { code = code'; inputs = inputs'; share = share' })
+    (record { code = code; inputs = inputs; share = share }) =
+    (λ i. record { code = a i; inputs = b i; share = c i }) in
     subst P same h
 
 -- what holds of an error holds of it where it is handed on

@@ -4,10 +4,10 @@
 use Rattle.std.specs.Prelude.{ℕ, ◌≤◌, List}
 use Rattle.revision_machine.specs.Numbered.{World}
 use Rattle.code_machine.specs.Local.{CodeRun, Local}
-use Rattle.code_outcomes.specs.Outcomes.{IsCompleteRun}
+use Rattle.code_machine_laws.specs.Outcomes.{IsCompleteRun}
 use Rattle.code_world.specs.declared.world.World as rust
 use Rattle.code_world.specs.Tables.{IsWorld}
-use Rattle.reached_worlds.specs.Reached.{most_fuel}
+use Rattle.code_machine_laws.specs.Reached.{most_fuel}
 use Rattle.world_runs.specs.Replay.{Replayed}
 
 pub record IsUnderway (g : CodeRun) (fuel : ℕ) (v : rust.World) : Type 0 where

@@ -1,15 +1,15 @@
 //! The outcome of a world that is over.
 
 ghost use Rattle.std.specs.Prelude.{ℕ, IfOk};
-ghost use Rattle.code_outcomes.specs.Outcomes.{HasOutcome};
+ghost use Rattle.code_machine_laws.specs.Outcomes.{HasOutcome};
 ghost use Rattle.rev_vm.specs.Starts.{run_under};
 ghost use Rattle.code_runs.specs.Completed.{IsAfter};
 
+use crate::outcome_of;
 use code_world::{MainEnd, World};
 use leg_run::CodeSetting;
 use rev_num::Outcome;
 use std::alloc::{AllocError, Global};
-use world_outcomes::outcome_of;
 
 /// The outcome of the code, from its world after a complete schedule. All revisions are let go.
 /// Want of memory is the one error.

@@ -2,9 +2,9 @@
 
 ghost use Rattle.std.specs.Prelude.{◌≡◌, ◌≤◌, ℕ, IfErr, IfOk};
 ghost use Rattle.rev_num.specs.Limits.{most_fuel};
-ghost use Rattle.block_merges.specs.Merging.{AreMergesOf};
+ghost use Rattle.fun_run.specs.Merging.{AreMergesOf};
 ghost use Rattle.block_run.specs.Area.{count};
-ghost use Rattle.code_outcomes.specs.Outcomes.{HasOutcome};
+ghost use Rattle.code_machine_laws.specs.Outcomes.{HasOutcome};
 ghost use Rattle.rev_vm.specs.Starts.{run_under};
 ghost use Rattle.world_runs.specs.Replay.{IsIllegal};
 ghost use Rattle.code_runs.specs.Completed.{IsUnderway};
@@ -12,9 +12,9 @@ ghost use Rattle.code_runs.specs.Schedules.{IsLegal};
 
 use crate::after::outcome_after;
 use crate::inputs::note_inputs;
-use block_merges::BlockMerges;
 use code_verifier::Verified;
 use code_world::World;
+use fun_run::BlockMerges;
 use leg_run::CodeSetting;
 use rev_num::Outcome;
 use std::alloc::{AllocError, Global};

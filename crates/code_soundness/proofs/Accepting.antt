@@ -12,10 +12,10 @@ use Rattle.code_rules.specs.declared.Rule.TheVariants as rule
 use Rattle.code_rules.specs.Pass.{Note, Passed, arrival, passed, target, bad_jump, bad_operand, bad_shape, wrong_kind, bad_local, falls_off, over_limit, broken, is_value_class, no_cost, cost_of, block_cost, costs_too_much, scan, block_fault, fault_or, blocks_fault, most_need, most_count, most_words, after, applied, greatest_depth, greatest_need}
 use Rattle.code_rules.specs.Tables.{names_well, is_small}
 use Rattle.code_rules.specs.Verdict.{first_fault, of_tables}
-use Rattle.code_certificate.specs.Certificate.{note_at, IsCertified}
-use Rattle.code_certificate.proofs.Accepted.{accepted, or_none}
-use Rattle.code_certificate.proofs.Basics.{if_none}
-use Rattle.code_certificate.proofs.Costs.{ok_eq, block_costs}
+use Rattle.code_soundness.specs.Certificate.{note_at, IsCertified}
+use Rattle.code_soundness.proofs.Accepted.{accepted, or_none}
+use Rattle.code_soundness.proofs.Basics.{if_none}
+use Rattle.code_soundness.proofs.Costs.{ok_eq, block_costs}
 use Rattle.code_soundness.specs.Whole.{IsAccepted, AreCosts, notes_in, notes_of, all_passed}
 use Rattle.code_soundness.proofs.Rooms.{place_room}
 use Rattle.code_soundness.proofs.Lists.{none_some, some_eq, or_parts}
@@ -23,7 +23,8 @@ use Rattle.code_soundness.proofs.Lists.{none_some, some_eq, or_parts}
 -- ---- what a block costs
 
 module _ (code : Code) (costs : List Cost) (n : ℕ) (b : CodeBlock) where
-  within : (done : List Passed) (x : Instr) (o : Option Note) → arrival code b done ≡ o → broken code costs n b done x o ≡ None → over_limit code costs b done (passed code b done x) ≡ false
+  within : (done : List Passed) (x : Instr) (o : Option Note) → arrival code b done ≡ o
+      → broken code costs n b done x o ≡ None → over_limit code costs b done (passed code b done x) ≡ false
   within done x None e h = absurd (
       let a = if_none (bad_jump b (length done) (target x)) rule.BadJump _ h in
       let a2 = if_none (bad_operand code n b x) rule.BadOperand _ a.1 in none_some (sym a2.1))
@@ -36,22 +37,31 @@ module _ (code : Code) (costs : List Cost) (n : ℕ) (b : CodeBlock) where
       let a5 = if_none (bad_local b x) rule.BadLocal _ a4.1 in
       let a6 = if_none (falls_off b (length done) x) rule.FallsOff _ a5.1 in
       let a7 = if_none (over_limit code costs b done p) rule.LimitOf None a6.1 in
-      let z : passed code b done x ≡ p = ap (λ o. record { instr = x; note = Rattle.code_rules.specs.Pass.known o }) e in
+      let z : passed code b done x ≡ p =
+      ap (λ o. record { instr = x; note = Rattle.code_rules.specs.Pass.known o }) e in
       ap (over_limit code costs b done) z ∙ a7.0
 
-  cheap : (done : List Passed) (p : Passed) → over_limit code costs b done p ≡ false → costs_too_much (block_cost code costs b (p ∷ done)) ≡ false
+  cheap : (done : List Passed) (p : Passed) → over_limit code costs b done p ≡ false
+      → costs_too_much (block_cost code costs b (p ∷ done)) ≡ false
   cheap done p h = by (is_value_class b.class) h
     where
-      by : (d : Bool) → (if d then costs_too_much (cost_of code costs b (p ∷ done)) else nat_lt most_words (length (after code b p).shape)) ≡ false
+      by : (d : Bool)
+          → (if d then costs_too_much (cost_of code costs b (p ∷ done))
+          else nat_lt most_words (length (after code b p).shape))
+          ≡ false
           → costs_too_much (if d then cost_of code costs b (p ∷ done) else no_cost) ≡ false
       by true g = g
       by false g = refl
 
-  scan_cheap : (xs : List Instr) (done : List Passed) (c : Cost) → costs_too_much (block_cost code costs b done) ≡ false → scan code costs n b done xs ≡ Ok c → costs_too_much c ≡ false
-  scan_cheap [] done c g h = ap costs_too_much (ok_eq (Ok (block_cost code costs b done)) c (block_cost code costs b done) h refl) ∙ g
+  scan_cheap : (xs : List Instr) (done : List Passed) (c : Cost) → costs_too_much (block_cost code costs b done) ≡ false
+      → scan code costs n b done xs ≡ Ok c → costs_too_much c ≡ false
+  scan_cheap [] done c g h =
+      ap costs_too_much (ok_eq (Ok (block_cost code costs b done)) c (block_cost code costs b done) h refl) ∙ g
   scan_cheap (x ∷ xs) done c g h =
-      let p = or_none (length done) (broken code costs n b done x (arrival code b done)) (scan code costs n b (passed code b done x ∷ done) xs) c h in
-      scan_cheap xs (passed code b done x ∷ done) c (cheap done (passed code b done x) (within done x (arrival code b done) refl p.0)) p.1
+      let p = or_none (length done) (broken code costs n b done x (arrival code b done))
+      (scan code costs n b (passed code b done x ∷ done) xs) c h in
+      scan_cheap xs (passed code b done x ∷ done) c
+      (cheap done (passed code b done x) (within done x (arrival code b done) refl p.0)) p.1
 
   -- a block has an instruction, so that its limits were looked at
   block_scan : (c : Cost) → block_fault code costs n b ≡ Ok c → costs_too_much c ≡ false
@@ -60,10 +70,13 @@ module _ (code : Code) (costs : List Cost) (n : ℕ) (b : CodeBlock) where
       some : (xs : List Instr) → 0 < length xs → scan code costs n b [] xs ≡ Ok c → costs_too_much c ≡ false
       some [] l g = absurd (omega (arith, l))
       some (x ∷ xs) l g =
-          let p = or_none 0 (broken code costs n b [] x (arrival code b [])) (scan code costs n b (passed code b [] x ∷ []) xs) c g in
-          scan_cheap xs (passed code b [] x ∷ []) c (cheap [] (passed code b [] x) (within [] x (arrival code b []) refl p.0)) p.1
+          let p = or_none 0 (broken code costs n b [] x (arrival code b []))
+          (scan code costs n b (passed code b [] x ∷ []) xs) c g in
+          scan_cheap xs (passed code b [] x ∷ []) c
+          (cheap [] (passed code b [] x) (within [] x (arrival code b []) refl p.0)) p.1
 
-      by : (d : Bool) → nat_eq (length b.instrs) 0 ≡ d → (if d then Err (0, rule.FallsOff) else scan code costs n b [] b.instrs) ≡ Ok c → costs_too_much c ≡ false
+      by : (d : Bool) → nat_eq (length b.instrs) 0 ≡ d
+          → (if d then Err (0, rule.FallsOff) else scan code costs n b [] b.instrs) ≡ Ok c → costs_too_much c ≡ false
       by true e g = absurd (let z : Err (0, rule.FallsOff) ≡ Ok c = g in cc)
       by false e g = some b.instrs (grind (arith, nat_tests, e)) g
 
@@ -76,26 +89,39 @@ record Found (code : Code) (costs : List Cost) (n : ℕ) (bs : List CodeBlock) :
   each : (j : ℕ) (b : CodeBlock) → slice_get bs j ≡ Some b
       → (c : Cost) × (slice_get more j ≡ Some c) × (block_fault code (costs ++ take j more) (n + j) b ≡ Ok c)
 
-found : (code : Code) (bs : List CodeBlock) (costs : List Cost) (n : ℕ) → blocks_fault code costs n bs ≡ None → Found code costs n bs
+found : (code : Code) (bs : List CodeBlock) (costs : List Cost) (n : ℕ) → blocks_fault code costs n bs ≡ None
+    → Found code costs n bs
 found code [] costs n h = record { more = []; same = refl; each = λ j b e. absurd (none_some e) }
 found code (b ∷ bs) costs n h = by (block_fault code costs n b) refl h (λ c. found code bs (costs ++ c ∷ []) (suc n))
   where
-    by : (o : Result Cost (ℕ × Rule)) → block_fault code costs n b ≡ o → fault_or n o (λ cost. blocks_fault code (costs ++ cost ∷ []) (suc n) bs) ≡ None
-        → ((c : Cost) → blocks_fault code (costs ++ c ∷ []) (suc n) bs ≡ None → Found code (costs ++ c ∷ []) (suc n) bs) → Found code costs n (b ∷ bs)
+    by : (o : Result Cost (ℕ × Rule)) → block_fault code costs n b ≡ o
+        → fault_or n o (λ cost. blocks_fault code (costs ++ cost ∷ []) (suc n) bs) ≡ None
+        → ((c : Cost) → blocks_fault code (costs ++ c ∷ []) (suc n) bs ≡ None → Found code (costs ++ c ∷ []) (suc n) bs)
+        → Found code costs n (b ∷ bs)
     by (Err f) e g rest = absurd (none_some (sym g))
     by (Ok c) e g rest =
         let r = rest c g in
         record { more = c ∷ r.more; same = ap suc r.same; each = at c e r }
       where
-        at : (c : Cost) → block_fault code costs n b ≡ Ok c → (r : Found code (costs ++ c ∷ []) (suc n) bs) → (j : ℕ) (b' : CodeBlock) → slice_get (b ∷ bs) j ≡ Some b'
-            → (c' : Cost) × (slice_get (c ∷ r.more) j ≡ Some c') × (block_fault code (costs ++ take j (c ∷ r.more)) (n + j) b' ≡ Ok c')
+        at : (c : Cost) → block_fault code costs n b ≡ Ok c → (r : Found code (costs ++ c ∷ []) (suc n) bs)
+            → (j : ℕ) (b' : CodeBlock) → slice_get (b ∷ bs) j ≡ Some b'
+            → (c' : Cost) × (slice_get (c ∷ r.more) j ≡ Some c')
+            × (block_fault code (costs ++ take j (c ∷ r.more)) (n + j) b' ≡ Ok c')
         at c e r zero b' here =
-            let z : n + 0 ≡ n = omega arith in
-            (c, refl, ap (λ l. block_fault code l (n + 0) b') (append-nil costs) ∙ ap (λ m. block_fault code costs m b') z ∙ ap (block_fault code costs n) (sym (some_eq here)) ∙ e)
+            let z : n + 0 ≡ n = omega arith in (
+              c,
+              refl,
+              ap (λ l. block_fault code l (n + 0) b') (append-nil costs) ∙ ap (λ m. block_fault code costs m b') z
+                  ∙ ap (block_fault code costs n) (sym (some_eq here)) ∙ e,
+            )
         at c e r (suc j) b' here =
             let q = r.each j b' here in
-            let z : n + suc j ≡ suc n + j = omega arith in
-            (q.0, q.1, ap (λ l. block_fault code l (n + suc j) b') (sym (append_assoc costs (c ∷ []) (take j r.more))) ∙ ap (λ m. block_fault code (costs ++ c ∷ [] ++ take j r.more) m b') z ∙ q.2)
+            let z : n + suc j ≡ suc n + j = omega arith in (
+              q.0,
+              q.1,
+              ap (λ l. block_fault code l (n + suc j) b') (sym (append_assoc costs (c ∷ []) (take j r.more)))
+                  ∙ ap (λ m. block_fault code (costs ++ c ∷ [] ++ take j r.more) m b') z ∙ q.2,
+            )
 
 -- what no fault says
 record NoFault (code : Code) : Type 0 where
@@ -107,7 +133,10 @@ no_fault : (code : Code) → first_fault code ≡ None → NoFault code
 no_fault code h = by (names_well code) refl (is_small code) refl h
   where
     by : (d : Bool) → names_well code ≡ d → (e : Bool) → is_small code ≡ e
-        → (if d then (if e then blocks_fault code [] 0 code.blocks else Some (of_tables rule.LimitOf)) else Some (of_tables rule.BadOperand)) ≡ None → NoFault code
+        → (if d then (if e then blocks_fault code [] 0 code.blocks else Some (of_tables rule.LimitOf))
+        else Some (of_tables rule.BadOperand))
+        ≡ None
+        → NoFault code
     by true p true q g = record { named = p; small = q; found = found code code.blocks [] 0 g }
     by true p false q g = absurd (none_some (sym g))
     by false p e q g = absurd (none_some (sym g))
@@ -120,7 +149,8 @@ no_fault_accepted code h =
           let q = f.found.each n b is in
           let z : 0 + n ≡ n = omega arith in
           subst (λ o. IsCertified code n b (notes_in code o)) (sym is)
-          (accepted code ([] ++ take n f.found.more) n b q.0 (ap (λ m. block_fault code ([] ++ take n f.found.more) m b) (sym z) ∙ q.2));
+          (accepted code ([] ++ take n f.found.more) n b q.0
+          (ap (λ m. block_fault code ([] ++ take n f.found.more) m b) (sym z) ∙ q.2));
       named = f.named;
       small = f.small;
     }
@@ -132,9 +162,13 @@ pub no_fault_costs : (code : Code) → first_fault code ≡ None → (costs : Li
 no_fault_costs code h = (
   f.found.more,
   record {
-    each = λ n b is. let q = f.found.each n b is in q.1 ∙ ap Some (block_costs code (take n f.found.more) n b q.0 (fault n b is));
-    need = λ n c is. not_less most_need c.need (or_parts (nat_lt most_need c.need) (nat_lt most_count c.count) (cheap_at n c is)).0;
-    count = λ n c is. not_less most_count c.count (or_parts (nat_lt most_need c.need) (nat_lt most_count c.count) (cheap_at n c is)).1;
+    each = λ n b is.
+        let q = f.found.each n b is in q.1 ∙ ap Some (block_costs code (take n f.found.more) n b q.0 (fault n b is));
+    need = λ n c is.
+        not_less most_need c.need (or_parts (nat_lt most_need c.need) (nat_lt most_count c.count) (cheap_at n c is)).0;
+    count = λ n c is.
+        not_less most_count c.count
+        (or_parts (nat_lt most_need c.need) (nat_lt most_count c.count) (cheap_at n c is)).1;
     room = λ n b c is is_c value at x here. room_at n b c is is_c value at x here;
   },
 )
@@ -142,12 +176,14 @@ no_fault_costs code h = (
     f : NoFault code
     f = no_fault code h
 
-    fault : (n : ℕ) (b : CodeBlock) (is : slice_get code.blocks n ≡ Some b) → block_fault code (take n f.found.more) n b ≡ Ok (f.found.each n b is).0
+    fault : (n : ℕ) (b : CodeBlock) (is : slice_get code.blocks n ≡ Some b)
+        → block_fault code (take n f.found.more) n b ≡ Ok (f.found.each n b is).0
     fault n b is =
         let z : 0 + n ≡ n = omega arith in
         ap (λ m. block_fault code (take n f.found.more) m b) (sym z) ∙ (f.found.each n b is).2
 
-    block_there : (n : ℕ) (c : Cost) → slice_get f.found.more n ≡ Some c → (b : CodeBlock) × (slice_get code.blocks n ≡ Some b)
+    block_there : (n : ℕ) (c : Cost) → slice_get f.found.more n ≡ Some c
+        → (b : CodeBlock) × (slice_get code.blocks n ≡ Some b)
     block_there n c is =
         let i = Rattle.code_soundness.proofs.Lists.some_within f.found.more n c is in
         let s = f.found.same in
@@ -159,13 +195,19 @@ no_fault_costs code h = (
         let q = f.found.each n b.0 b.1 in
         ap costs_too_much (some_eq (sym is ∙ q.1)) ∙ block_scan code (take n f.found.more) n b.0 q.0 (fault n b.0 b.1)
 
-    room_at : (n : ℕ) (b : CodeBlock) (c : Cost) → slice_get code.blocks n ≡ Some b → slice_get f.found.more n ≡ Some c → is_value_class b.class ≡ true → (at : ℕ) (x : Instr) → slice_get b.instrs at ≡ Some x
+    room_at : (n : ℕ) (b : CodeBlock) (c : Cost) → slice_get code.blocks n ≡ Some b → slice_get f.found.more n ≡ Some c
+        → is_value_class b.class ≡ true → (at : ℕ) (x : Instr) → slice_get b.instrs at ≡ Some x
         → length b.locals + length (notes_of code n at).shape + (applied (take n f.found.more) x).need ≤ c.need
     room_at n b c is is_c value at x here =
         let q = f.found.each n b is in
-        let z : c ≡ block_cost code (take n f.found.more) b (all_passed code b) = some_eq (sym is_c ∙ q.1) ∙ block_costs code (take n f.found.more) n b q.0 (fault n b is) in
-        let y : c ≡ cost_of code (take n f.found.more) b (all_passed code b) = z ∙ ap (λ d. if d then cost_of code (take n f.found.more) b (all_passed code b) else no_cost) value in
-        let w : c.need ≡ length b.locals + greatest_depth code b (all_passed code b) + greatest_need (take n f.found.more) (all_passed code b) = ap (λ u. u.need) y in
-        let s : length (notes_of code n at).shape ≡ length (note_at code b at).shape = ap (λ o. length (notes_in code o at).shape) is in
+        let z : c ≡ block_cost code (take n f.found.more) b (all_passed code b) =
+        some_eq (sym is_c ∙ q.1) ∙ block_costs code (take n f.found.more) n b q.0 (fault n b is) in
+        let y : c ≡ cost_of code (take n f.found.more) b (all_passed code b) =
+        z ∙ ap (λ d. if d then cost_of code (take n f.found.more) b (all_passed code b) else no_cost) value in
+        let w : c.need
+        ≡ length b.locals + greatest_depth code b (all_passed code b)
+        + greatest_need (take n f.found.more) (all_passed code b) = ap (λ u. u.need) y in
+        let s : length (notes_of code n at).shape ≡ length (note_at code b at).shape =
+        ap (λ o. length (notes_in code o at).shape) is in
         let r = place_room code b (take n f.found.more) at x here in
         omega (arith, w, s, r)

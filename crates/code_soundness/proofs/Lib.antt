@@ -1,3 +1,12 @@
+pub mod Basics
+pub mod Meeting
+pub mod Accepted
+pub mod Costs
+pub mod Costing
+pub mod Ways
+pub mod Stepping
+pub mod Once
+pub mod Priced
 pub mod Lists
 pub mod Rooms
 pub mod Accepting

@@ -11,7 +11,7 @@ use Rattle.rev_code.specs.Words.{Word, kind_of, fits, zero_word}
 use Rattle.rev_code.specs.Step as step
 use Rattle.code_rules.specs.Shapes.{begins}
 pub use Rattle.rev_num.proofs.Lists.{get_append_left}
-pub use Rattle.code_certificate.proofs.Basics.{or_parts, not_true, and_false, append_length, and_parts, not_false, none_some, some_eq, some_within, within_some}
+pub use Rattle.code_soundness.proofs.Basics.{or_parts, not_true, and_false, append_length, and_parts, not_false, none_some, some_eq, some_within, within_some}
 use Rattle.code_soundness.specs.Typed.{kinds_of}
 pub use Rattle.std.proofs.Math.Seq.{take-append_seam as take_append}
 pub use Rattle.std.proofs.lemmas.List.{length-reverse as reverse_length}
@@ -21,14 +21,17 @@ pub use Rattle.std.proofs.lemmas.List.{length-reverse as reverse_length}
 -- ---- lists
 
 module _ {A : Type 0} where
-  pub all_at : (p : A → Bool) (xs : List A) (n : ℕ) (x : A) → list_all p xs ≡ true → slice_get xs n ≡ Some x → p x ≡ true
+  pub all_at : (p : A → Bool) (xs : List A) (n : ℕ) (x : A) → list_all p xs ≡ true → slice_get xs n ≡ Some x
+      → p x ≡ true
   all_at p [] n x h e = absurd (none_some e)
   all_at p (y ∷ xs) zero x h e = ap p (sym (some_eq e)) ∙ (and_parts (p y) (list_all p xs) h).0
   all_at p (y ∷ xs) (suc n) x h e = all_at p xs n x (and_parts (p y) (list_all p xs) h).1 e
 
   pub get_append_right : (xs ys : List A) (n : ℕ) → slice_get (xs ++ ys) (length xs + n) ≡ slice_get ys n
   get_append_right [] ys n = ap (slice_get ys) (omega arith)
-  get_append_right (x ∷ xs) ys n = ap (slice_get (x ∷ xs ++ ys)) (let z : suc (length xs) + n ≡ suc (length xs + n) = omega arith in z) ∙ get_append_right xs ys n
+  get_append_right (x ∷ xs) ys n =
+      ap (slice_get (x ∷ xs ++ ys)) (let z : suc (length xs) + n ≡ suc (length xs + n) = omega arith in z)
+      ∙ get_append_right xs ys n
 
   -- what is taken, and behind as many the rest
   pub take_then_drop : (n : ℕ) (xs : List A) → take n xs ++ drop (length (take n xs)) xs ≡ xs
@@ -97,7 +100,8 @@ module _ {H : Type 0} where
       ap kinds_of (reverse-cons w ws) ∙ kinds_append (reverse ws) (w ∷ [])
       ∙ ap (λ z. z ++ kind_of w ∷ []) (kinds_reverse ws) ∙ sym (reverse-cons (kind_of w) (kinds_of ws))
 
-  pub kinds_set : (ws : List (Word H)) (n : ℕ) (w : Word H) (kinds : List ValueKind) → kinds_of ws ≡ kinds → slice_get kinds n ≡ Some (kind_of w) → kinds_of (slice_set ws n w) ≡ kinds
+  pub kinds_set : (ws : List (Word H)) (n : ℕ) (w : Word H) (kinds : List ValueKind) → kinds_of ws ≡ kinds
+      → slice_get kinds n ≡ Some (kind_of w) → kinds_of (slice_set ws n w) ≡ kinds
   kinds_set ws n w [] e h = absurd (none_some h)
   kinds_set [] n w (x ∷ kinds) e h = absurd cc
   kinds_set (u ∷ ws) zero w (x ∷ kinds) e h =
@@ -109,7 +113,8 @@ module _ {H : Type 0} where
       let r = kinds_set ws n w kinds q h in λ j. z j ∷ r j
 
   -- the word of a local
-  pub word_at : (ws : List (Word H)) (n : ℕ) (kinds : List ValueKind) (x : ValueKind) → kinds_of ws ≡ kinds → slice_get kinds n ≡ Some x → (w : Word H) × (slice_get ws n ≡ Some w) × (kind_of w ≡ x)
+  pub word_at : (ws : List (Word H)) (n : ℕ) (kinds : List ValueKind) (x : ValueKind) → kinds_of ws ≡ kinds
+      → slice_get kinds n ≡ Some x → (w : Word H) × (slice_get ws n ≡ Some w) × (kind_of w ≡ x)
   word_at ws n [] x e h = absurd (none_some h)
   word_at [] n (y ∷ kinds) x e h = absurd cc
   word_at (u ∷ ws) zero (y ∷ kinds) x e h = (u, refl, let z : kind_of u ≡ y = cc in z ∙ some_eq h)
@@ -122,7 +127,8 @@ module _ {H : Type 0} where
   fits_kinds (x ∷ kinds) (w ∷ ws) e =
       let z : kind_of w ≡ x = cc in
       let q : kinds_of ws ≡ kinds = cc in
-      ap (λ y. same_kind x y && fits kinds ws) z ∙ ap (λ d. d && fits kinds ws) (same_kind_self x) ∙ fits_kinds kinds ws q
+      ap (λ y. same_kind x y && fits kinds ws) z ∙ ap (λ d. d && fits kinds ws) (same_kind_self x)
+      ∙ fits_kinds kinds ws q
 
   -- the uppermost words, where the stack begins with their kinds
   pub record Taken (kinds : List ValueKind) (ws : List (Word H)) : Type 0 where
@@ -131,10 +137,12 @@ module _ {H : Type 0} where
     pub same : kinds_of args ≡ kinds
     pub left : kinds_of (drop (length args) ws) ≡ drop (length (reverse kinds)) (kinds_of ws)
 
-  pub taken : (kinds : List ValueKind) (ws : List (Word H)) → begins (reverse kinds) (kinds_of ws) ≡ true → Taken kinds ws
+  pub taken : (kinds : List ValueKind) (ws : List (Word H)) → begins (reverse kinds) (kinds_of ws) ≡ true
+      → Taken kinds ws
   taken kinds ws h = record {
     args = reverse (take (length kinds) ws);
-    is = ap (λ d. if d then Some (reverse (take (length kinds) ws)) else None) (fits_kinds kinds (reverse (take (length kinds) ws)) is_same);
+    is = ap (λ d. if d then Some (reverse (take (length kinds) ws)) else None)
+        (fits_kinds kinds (reverse (take (length kinds) ws)) is_same);
     same = is_same;
     left = kinds_drop (length (reverse (take (length kinds) ws))) ws ∙ ap (λ n. drop n (kinds_of ws)) long;
   }
@@ -142,14 +150,16 @@ module _ {H : Type 0} where
       is_same : kinds_of (reverse (take (length kinds) ws)) ≡ kinds
       is_same =
           kinds_reverse (take (length kinds) ws)
-          ∙ ap reverse (kinds_take (length kinds) ws ∙ ap (λ n. take n (kinds_of ws)) (sym (reverse_length kinds)) ∙ begins_take (reverse kinds) (kinds_of ws) h)
+          ∙ ap reverse (kinds_take (length kinds) ws ∙ ap (λ n. take n (kinds_of ws)) (sym (reverse_length kinds))
+          ∙ begins_take (reverse kinds) (kinds_of ws) h)
           ∙ reverse-reverse kinds
 
       long : length (reverse (take (length kinds) ws)) ≡ length (reverse kinds)
       long = sym (kinds_length (reverse (take (length kinds) ws))) ∙ ap length is_same ∙ sym (reverse_length kinds)
 
   -- the locals of a new frame
-  pub first_kinds : (n : ℕ) (locals : List ValueKind) (args : List (Word H)) → kinds_of args ≡ take n locals → kinds_of (args ++ map zero_word (drop (length args) locals)) ≡ locals
+  pub first_kinds : (n : ℕ) (locals : List ValueKind) (args : List (Word H)) → kinds_of args ≡ take n locals
+      → kinds_of (args ++ map zero_word (drop (length args) locals)) ≡ locals
   first_kinds n locals args e =
       let long : length args ≡ length (take n locals) = sym (kinds_length args) ∙ ap length e in
       kinds_append args (map zero_word (drop (length args) locals))

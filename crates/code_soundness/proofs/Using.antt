@@ -16,7 +16,7 @@ use Rattle.rev_code.specs.Funs.{fun_start, setting_of_fun, values}
 use Rattle.code_rules.specs.declared.Cost.{Cost}
 use Rattle.code_rules.specs.Pass.{Passed, passed, gone, names, has_class, applied, cost_at, count_of, cost_of, no_cost, is_value_class}
 use Rattle.code_rules.specs.Verdict.{first_fault}
-use Rattle.code_certificate.proofs.Basics.{take_whole, take_front, get_last}
+use Rattle.code_soundness.proofs.Basics.{take_whole, take_front, get_last}
 use Rattle.code_soundness.specs.Typed.{kinds_of, IsTyped}
 use Rattle.code_soundness.specs.Whole.{IsAccepted, AreCosts, all_passed, notes_of}
 use Rattle.code_soundness.specs.Funs.{IsFunStep}
@@ -36,29 +36,41 @@ module _ {H : Type 0} (code : Code) where
   long_more : (before : List (UseOf H)) (n : ℕ) (v : UseOf H) → length before ≡ n → length (before ++ v ∷ []) ≡ suc n
   long_more before n v h = let l = append_length before (v ∷ []) in omega (arith, l, h)
 
-  kept_front : (bs : List CodeBlock) (before : List (UseOf H)) (n : ℕ) → length before ≡ n → take n (uses_from code before n bs) ≡ before
+  kept_front : (bs : List CodeBlock) (before : List (UseOf H)) (n : ℕ) → length before ≡ n
+      → take n (uses_from code before n bs) ≡ before
   kept_front [] before n h = take_whole before n h
   kept_front (b ∷ bs) before n h =
       let r = kept_front bs (before ++ here before n b ∷ []) (suc n) (long_more before n (here before n b) h) in
-      sym (take_less (uses_from code (before ++ here before n b ∷ []) (suc n) bs) n) ∙ ap (take n) r ∙ take_front before (here before n b ∷ []) n h
+      sym (take_less (uses_from code (before ++ here before n b ∷ []) (suc n) bs) n) ∙ ap (take n) r
+      ∙ take_front before (here before n b ∷ []) n h
 
-  by_blocks : (bs : List CodeBlock) (before : List (UseOf H)) (n : ℕ) → length before ≡ n → (j : ℕ) (b : CodeBlock) → slice_get bs j ≡ Some b
-      → slice_get (uses_from code before n bs) (n + j) ≡ Some (here (take (n + j) (uses_from code before n bs)) (n + j) b)
+  by_blocks : (bs : List CodeBlock) (before : List (UseOf H)) (n : ℕ) → length before ≡ n → (j : ℕ) (b : CodeBlock)
+      → slice_get bs j ≡ Some b
+      → slice_get (uses_from code before n bs) (n + j)
+      ≡ Some (here (take (n + j) (uses_from code before n bs)) (n + j) b)
   by_blocks [] before n h j b e = absurd (none_some e)
   by_blocks (y ∷ bs) before n h zero b e =
       let z : n + 0 ≡ n = omega arith in
       let f = kept_front bs (before ++ here before n y ∷ []) (suc n) (long_more before n (here before n y) h) in
       let g = kept_front (y ∷ bs) before n h in
       let there : slice_get (uses_from code before n (y ∷ bs)) n ≡ Some (here before n y) =
-      sym (get_take (uses_from code before n (y ∷ bs)) n (suc n) (omega arith)) ∙ ap (λ l. slice_get l n) f ∙ get_last before (here before n y) n h in
-      let same : slice_get (uses_from code before n (y ∷ bs)) n ≡ Some (here (take n (uses_from code before n (y ∷ bs))) n b) = there ∙ (λ j. Some (here (sym g j) n (some_eq e j))) in
-      subst (λ m. slice_get (uses_from code before n (y ∷ bs)) m ≡ Some (here (take m (uses_from code before n (y ∷ bs))) m b)) (sym z) same
+      sym (get_take (uses_from code before n (y ∷ bs)) n (suc n) (omega arith)) ∙ ap (λ l. slice_get l n) f
+      ∙ get_last before (here before n y) n h in
+      let same :
+      slice_get (uses_from code before n (y ∷ bs)) n ≡ Some (here (take n (uses_from code before n (y ∷ bs))) n b) =
+      there ∙ (λ j. Some (here (sym g j) n (some_eq e j))) in
+      subst (λ m.
+      slice_get (uses_from code before n (y ∷ bs)) m ≡ Some (here (take m (uses_from code before n (y ∷ bs))) m b))
+      (sym z) same
   by_blocks (y ∷ bs) before n h (suc j) b e =
       let z : suc n + j ≡ n + suc j = omega arith in
       let r = by_blocks bs (before ++ here before n y ∷ []) (suc n) (long_more before n (here before n y) h) j b e in
-      subst (λ m. slice_get (uses_from code before n (y ∷ bs)) m ≡ Some (here (take m (uses_from code before n (y ∷ bs))) m b)) z r
+      subst (λ m.
+      slice_get (uses_from code before n (y ∷ bs)) m ≡ Some (here (take m (uses_from code before n (y ∷ bs))) m b))
+      z r
 
-  pub uses_by_blocks : (n : ℕ) (b : CodeBlock) → slice_get code.blocks n ≡ Some b → slice_get (uses {H = H} code) n ≡ Some (block_use code n b)
+  pub uses_by_blocks : (n : ℕ) (b : CodeBlock) → slice_get code.blocks n ≡ Some b
+      → slice_get (uses {H = H} code) n ≡ Some (block_use code n b)
   uses_by_blocks n b e =
       let z : 0 + n ≡ n = omega arith in
       subst (λ m. slice_get (uses {H = H} code) m ≡ Some (block_use code m b)) z (by_blocks code.blocks [] 0 refl n b e)
@@ -70,7 +82,8 @@ module _ (costs : List Cost) where
   sum_count [] = 0
   sum_count (x ∷ xs) = suc (applied costs x).count + sum_count xs
 
-  count_gone : (code : Code) (b : CodeBlock) (done : List Passed) (xs : List Instr) → count_of costs (gone code b done xs) ≡ count_of costs done + sum_count xs
+  count_gone : (code : Code) (b : CodeBlock) (done : List Passed) (xs : List Instr)
+      → count_of costs (gone code b done xs) ≡ count_of costs done + sum_count xs
   count_gone code b done [] = omega arith
   count_gone code b done (x ∷ xs) = let r = count_gone code b (passed code b done x ∷ done) xs in omega (arith, r)
 
@@ -85,7 +98,8 @@ module _ (costs : List Cost) where
   later_count [] (suc m) (suc n) h = omega arith
   later_count (x ∷ xs) (suc m) (suc n) h = later_count xs m n (omega (arith, h))
 
-  here_count : (xs : List Instr) (at : ℕ) (x : Instr) → slice_get xs at ≡ Some x → sum_count (drop at xs) ≡ suc (applied costs x).count + sum_count (drop (suc at) xs)
+  here_count : (xs : List Instr) (at : ℕ) (x : Instr) → slice_get xs at ≡ Some x
+      → sum_count (drop at xs) ≡ suc (applied costs x).count + sum_count (drop (suc at) xs)
   here_count [] at x h = absurd (none_some h)
   here_count (y ∷ xs) zero x h = ap (λ u. suc (applied costs u).count + sum_count xs) (some_eq h)
   here_count (y ∷ xs) (suc at) x h = here_count xs at x h
@@ -103,16 +117,19 @@ fitting (x ∷ kinds) (w ∷ ws) h =
 
 -- ---- one block
 
-module _ (H : Type 0) (code : Code) (fault : first_fault code ≡ None) (costs : List Cost) (priced : AreCosts code costs) where
+module _ (H : Type 0) (code : Code) (fault : first_fault code ≡ None) (costs : List Cost)
+    (priced : AreCosts code costs) where
   ok : IsAccepted code (notes_of code)
   ok = no_fault_accepted code fault
 
   abbrev Keeps : ℕ → Type 0
   Keeps n =
-      (b : CodeBlock) → slice_get code.blocks n ≡ Some b → is_value_class b.class ≡ true → (c : Cost) → slice_get costs n ≡ Some c
+      (b : CodeBlock) → slice_get code.blocks n ≡ Some b → is_value_class b.class ≡ true → (c : Cost)
+      → slice_get costs n ≡ Some c
       → (args : List (Word H)) → kinds_of args ≡ params b → IsWithin (block_use code n b args) c
 
-  module _ (n : ℕ) (b : CodeBlock) (is : slice_get code.blocks n ≡ Some b) (value : is_value_class b.class ≡ true) (c : Cost) (is_c : slice_get costs n ≡ Some c) (earlier : (m : ℕ) → m < n → Keeps m) where
+  module _ (n : ℕ) (b : CodeBlock) (is : slice_get code.blocks n ≡ Some b) (value : is_value_class b.class ≡ true)
+      (c : Cost) (is_c : slice_get costs n ≡ Some c) (earlier : (m : ℕ) → m < n → Keeps m) where
     abbrev before : List (UseOf H)
     before = take n (uses code)
 
@@ -121,7 +138,8 @@ module _ (H : Type 0) (code : Code) (fault : first_fault code ≡ None) (costs :
 
     -- ---- the fun that is applied
 
-    fun_within : (f : ℕ) (y : CodeBlock) → f < n → slice_get code.blocks f ≡ Some y → is_fun y.class ≡ true → (o : Option (List (Word H))) → ((args : List (Word H)) → o ≡ Some args → kinds_of args ≡ params y)
+    fun_within : (f : ℕ) (y : CodeBlock) → f < n → slice_get code.blocks f ≡ Some y → is_fun y.class ≡ true
+        → (o : Option (List (Word H))) → ((args : List (Word H)) → o ≡ Some args → kinds_of args ≡ params y)
         → IsWithin (use_for (slice_get before f) o) (cost_at (take n costs) f)
     fun_within f y less there fun None same = by (slice_get before f)
       where
@@ -136,18 +154,25 @@ module _ (H : Type 0) (code : Code) (fault : first_fault code ≡ None) (costs :
         subst (λ o. IsWithin (use_for o (Some args)) (cost_at (take n costs) f)) (sym used)
         (subst (λ o. IsWithin (block_use code f y args) (elim o [ None ↦ no_cost | Some k ↦ k ])) (sym front) r)
 
-    applied_within : (x : Instr) → names code n x ≡ true → (stack : List (Word H)) → IsWithin (applied_use code before (Some x) stack) (applied (take n costs) x)
+    applied_within : (x : Instr) → names code n x ≡ true → (stack : List (Word H))
+        → IsWithin (applied_use code before (Some x) stack) (applied (take n costs) x)
     applied_within (i.Apply f) h stack =
         let p = and_parts (nat_lt f n) (has_class is_fun (slice_get code.blocks f)) h in
         let l = p.0 in
         by (slice_get code.blocks f) refl (grind (arith, nat_tests, l)) p.1
       where
-        by : (o : Option CodeBlock) → slice_get code.blocks f ≡ o → f < n → has_class is_fun o ≡ true → IsWithin (use_for (slice_get before f) (arguments_for o stack)) (cost_at (take n costs) f)
+        by : (o : Option CodeBlock) → slice_get code.blocks f ≡ o → f < n → has_class is_fun o ≡ true
+            → IsWithin (use_for (slice_get before f) (arguments_for o stack)) (cost_at (take n costs) f)
         by None e l g = absurd (true≢false (sym g))
-        by (Some y) e l g = fun_within f y l e g (arguments_for (Some y) stack) (λ args q. taken (fits (params y) (reverse (take (length (params y)) stack))) refl args q)
+        by (Some y) e l g =
+            fun_within f y l e g (arguments_for (Some y) stack)
+            (λ args q. taken (fits (params y) (reverse (take (length (params y)) stack))) refl args q)
           where
-            taken : (d : Bool) → fits (params y) (reverse (take (length (params y)) stack)) ≡ d → (args : List (Word H)) → (if d then Some (reverse (take (length (params y)) stack)) else None) ≡ Some args → kinds_of args ≡ params y
-            taken true z args q = ap kinds_of (sym (some_eq q)) ∙ fitting (params y) (reverse (take (length (params y)) stack)) z
+            taken : (d : Bool) → fits (params y) (reverse (take (length (params y)) stack)) ≡ d → (args : List (Word H))
+                → (if d then Some (reverse (take (length (params y)) stack)) else None) ≡ Some args
+                → kinds_of args ≡ params y
+            taken true z args q =
+                ap kinds_of (sym (some_eq q)) ∙ fitting (params y) (reverse (take (length (params y)) stack)) z
             taken false z args q = absurd (none_some q)
     applied_within _ h stack = record { count = omega arith; need = omega arith }
 
@@ -172,9 +197,11 @@ module _ (H : Type 0) (code : Code) (fault : first_fault code ≡ None) (costs :
       stack_long : length st.stack ≡ length (notes_of code n st.at).shape
       stack_long = sym (kinds_length st.stack) ∙ ap length (t.stack ∙ ap (λ m. (notes_of code m st.at).shape) e)
 
-      step_within : ((step_use code before b st).count ≤ suc (applied (take n costs) instr.0).count) × ((step_use code before b st).need ≤ c.need)
+      step_within : ((step_use code before b st).count ≤ suc (applied (take n costs) instr.0).count)
+          × ((step_use code before b st).need ≤ c.need)
       step_within =
-          let w = subst (λ o. IsWithin (applied_use code before o st.stack) (applied (take n costs) instr.0)) (sym instr.1) (applied_within instr.0 named st.stack) in
+          let w = subst (λ o. IsWithin (applied_use code before o st.stack) (applied (take n costs) instr.0))
+          (sym instr.1) (applied_within instr.0 named st.stack) in
           let r = priced.room n b c is is_c value st.at instr.0 instr.1 in
           let w0 = w.count in
           let w1 = w.need in
@@ -182,12 +209,16 @@ module _ (H : Type 0) (code : Code) (fault : first_fault code ≡ None) (costs :
           let k = stack_long in
           (omega (arith, w0), omega (arith, w1, r, l, k))
 
-      count_here : sum_count (take n costs) (drop st.at b.instrs) ≡ suc (applied (take n costs) instr.0).count + sum_count (take n costs) (drop (suc st.at) b.instrs)
+      count_here : sum_count (take n costs) (drop st.at b.instrs)
+          ≡ suc (applied (take n costs) instr.0).count + sum_count (take n costs) (drop (suc st.at) b.instrs)
       count_here = here_count (take n costs) b.instrs st.at instr.0 instr.1
 
     -- what comes of a step, where further runs are within the cost
-    onward_within : (left : ℕ) (st : State H) → st.block ≡ n → ((st' : State H) → IsTyped code (notes_of code) st' → st'.block ≡ n → Bound (run_use S before b left st') st'.at)
-        → (o : Comes H) → IsFunStep code (notes_of code) b st o → Bound (onward_use (λ c'. run_use S before b left c') o) (suc st.at)
+    onward_within : (left : ℕ) (st : State H) → st.block ≡ n
+        → ((st' : State H) → IsTyped code (notes_of code) st' → st'.block ≡ n
+        → Bound (run_use S before b left st') st'.at)
+        → (o : Comes H) → IsFunStep code (notes_of code) b st o
+        → Bound (onward_use (λ c'. run_use S before b left c') o) (suc st.at)
     onward_within left st e next (goes c') w =
         let r = next c' w.typed (w.block ∙ e) in
         let r0 = r.0 in
@@ -199,7 +230,8 @@ module _ (H : Type 0) (code : Code) (fault : first_fault code ≡ None) (costs :
     onward_within left st e next (joins c' try h) w = absurd w
     onward_within left st e next stuck w = absurd w
 
-    runs : (left : ℕ) (st : State H) → IsTyped code (notes_of code) st → st.block ≡ n → Bound (run_use S before b left st) st.at
+    runs : (left : ℕ) (st : State H) → IsTyped code (notes_of code) st → st.block ≡ n
+        → Bound (run_use S before b left st) st.at
     runs zero st t e =
         let w = step_within st t e in
         let w0 = w.0 in
@@ -210,14 +242,17 @@ module _ (H : Type 0) (code : Code) (fault : first_fault code ≡ None) (costs :
         let w0 = w.0 in
         let w1 = w.1 in
         let q = count_here st t e in
-        let r = onward_within left st e (λ st' t' e'. runs left st' t' e') (step S st) (fun_step code (notes_of code) ok n b is value st t e) in
+        let r = onward_within left st e (λ st' t' e'. runs left st' t' e') (step S st)
+        (fun_step code (notes_of code) ok n b is value st t e) in
         let r0 = r.0 in
         let r1 = r.1 in
         (omega (arith, w0, q, r0), omega (arith, w1, r1))
 
     c_count : c.count ≡ sum_count (take n costs) b.instrs
     c_count =
-        let z : c ≡ cost_of code (take n costs) b (all_passed code b) = some_eq (sym is_c ∙ priced.each n b is) ∙ ap (λ d. if d then cost_of code (take n costs) b (all_passed code b) else no_cost) value in
+        let z : c ≡ cost_of code (take n costs) b (all_passed code b) =
+        some_eq (sym is_c ∙ priced.each n b is)
+        ∙ ap (λ d. if d then cost_of code (take n costs) b (all_passed code b) else no_cost) value in
         let k : c.count ≡ count_of (take n costs) (all_passed code b) = ap (λ u. u.count) z in
         let g = count_gone (take n costs) code b [] b.instrs in
         omega (arith, k, g)
@@ -233,12 +268,14 @@ module _ (H : Type 0) (code : Code) (fault : first_fault code ≡ None) (costs :
 
   all_keep : (upto n : ℕ) → n < upto → Keeps n
   all_keep zero n l = absurd (omega (arith, l))
-  all_keep (suc upto) n l = λ b is value c is_c args e. keeps n b is value c is_c (λ m less. all_keep upto m (omega (arith, less, l))) args e
+  all_keep (suc upto) n l =
+      λ b is value c is_c args e. keeps n b is value c is_c (λ m less. all_keep upto m (omega (arith, less, l))) args e
 
   pub funs_keep : (n : ℕ) → Keeps n
   funs_keep n = all_keep (suc n) n (omega arith)
 
-pub funs_limited : (H : Type 0) (code : Code) → first_fault code ≡ None → (n : ℕ) (b : CodeBlock) → slice_get code.blocks n ≡ Some b → is_value_class b.class ≡ true
+pub funs_limited : (H : Type 0) (code : Code) → first_fault code ≡ None → (n : ℕ) (b : CodeBlock)
+    → slice_get code.blocks n ≡ Some b → is_value_class b.class ≡ true
     → (args : List (Word H)) → kinds_of args ≡ params b → IsWithin (block_use code n b args) limits
 funs_limited H code fault n b is value args e =
     let p = no_fault_costs code fault in

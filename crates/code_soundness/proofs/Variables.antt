@@ -41,7 +41,9 @@ placed (u ∷ vs) first zero v h =
       is = ap (λ m. Some (record { var = u; first = m })) (omega arith);
       kinds = λ i less.
           let e : 0 + i ≡ i = omega arith in
-          ap (slice_get (location_kinds (u ∷ vs))) e ∙ get_append_left (replicate u.cells u.kind) (location_kinds vs) i u.kind (get_replicate u.cells i u.kind less);
+          ap (slice_get (location_kinds (u ∷ vs))) e
+          ∙ get_append_left (replicate u.cells u.kind) (location_kinds vs) i u.kind
+          (get_replicate u.cells i u.kind less);
     })
 placed (u ∷ vs) first (suc n) v h =
     let r = placed vs (first + u.cells) n v h in
@@ -51,7 +53,8 @@ placed (u ∷ vs) first (suc n) v h =
       kinds = λ i less.
           let l = length_replicate u.cells u.kind in
           let e : u.cells + r.offset + i ≡ length (replicate u.cells u.kind) + (r.offset + i) = omega (arith, l) in
-          ap (slice_get (location_kinds (u ∷ vs))) e ∙ get_append_right (replicate u.cells u.kind) (location_kinds vs) (r.offset + i) ∙ r.kinds i less;
+          ap (slice_get (location_kinds (u ∷ vs))) e
+          ∙ get_append_right (replicate u.cells u.kind) (location_kinds vs) (r.offset + i) ∙ r.kinds i less;
     }
 
 -- a scalar lies at a location of its kind
@@ -74,13 +77,15 @@ pub record IsArrayAt (vs : List CodeVar) (n : ℕ) : Type 0 where
 module _ (code : Code) where
   one_cell : (v : CodeVar) → is_var code v ≡ true → v.array ≡ false → v.cells ≡ 1
   one_cell v h a =
-      let p = and_parts (is_name v.name && has_cells v.array v.cells && is_start v.kind v.start) (merges_well code v) h in
+      let p = and_parts (is_name v.name && has_cells v.array v.cells && is_start v.kind v.start) (merges_well code v)
+      h in
       let p2 = and_parts (is_name v.name && has_cells v.array v.cells) (is_start v.kind v.start) p.0 in
       let p3 = and_parts (is_name v.name) (has_cells v.array v.cells) p2.0 in
       let e : nat_eq v.cells 1 ≡ true = ap (λ d. has_cells d v.cells) (sym a) ∙ p3.1 in
       grind (arith, nat_tests, e)
 
-  pub scalar_at : (vs : List CodeVar) (n : ℕ) → ((v : CodeVar) → slice_get vs n ≡ Some v → is_var code v ≡ true) → is_scalar (slice_get vs n) ≡ true → IsScalarAt vs n
+  pub scalar_at : (vs : List CodeVar) (n : ℕ) → ((v : CodeVar) → slice_get vs n ≡ Some v → is_var code v ≡ true)
+      → is_scalar (slice_get vs n) ≡ true → IsScalarAt vs n
   scalar_at vs n well h = by (slice_get vs n) refl h
     where
       by : (o : Option CodeVar) → slice_get vs n ≡ o → is_scalar o ≡ true → IsScalarAt vs n
@@ -114,11 +119,13 @@ module _ (code : Code) where
             kind = λ i l q. cell p i l q;
           }
         where
-          cell : (p : Placed 0 vs n v) (i : ℤ) (l : ℕ) → cell_at (record { var = v; first = 0 + p.offset }) i ≡ Some l → slice_get (location_kinds vs) l ≡ Some v.kind
+          cell : (p : Placed 0 vs n v) (i : ℤ) (l : ℕ) → cell_at (record { var = v; first = 0 + p.offset }) i ≡ Some l
+              → slice_get (location_kinds vs) l ≡ Some v.kind
           cell p (negsuc i) l q = absurd (none_some q)
           cell p (pos i) l q = inside (nat_lt i v.cells) refl q
             where
-              inside : (d : Bool) → nat_lt i v.cells ≡ d → (if d then Some (0 + p.offset + i) else None) ≡ Some l → slice_get (location_kinds vs) l ≡ Some v.kind
+              inside : (d : Bool) → nat_lt i v.cells ≡ d → (if d then Some (0 + p.offset + i) else None) ≡ Some l
+                  → slice_get (location_kinds vs) l ≡ Some v.kind
               inside false e r = absurd (none_some r)
               inside true e r =
                   let z : 0 + p.offset + i ≡ l = some_eq r in
@@ -135,20 +142,23 @@ module _ {H : Type 0} where
       by None e = h.snapshot
       by (Some w) e = h.written w e
 
-  pub seen_there : (kinds : List ValueKind) (ls : List (Location H)) (n : ℕ) (x : ValueKind) → AreLocations kinds ls → slice_get kinds n ≡ Some x → (w : Word H) × (seen_at ls n ≡ Some w) × (kind_of w ≡ x)
+  pub seen_there : (kinds : List ValueKind) (ls : List (Location H)) (n : ℕ) (x : ValueKind) → AreLocations kinds ls
+      → slice_get kinds n ≡ Some x → (w : Word H) × (seen_at ls n ≡ Some w) × (kind_of w ≡ x)
   seen_there [] ls n x h e = absurd (none_some e)
   seen_there (y ∷ kinds) [] n x h e = absurd h
   seen_there (y ∷ kinds) (l ∷ ls) zero x h e = (seen l, refl, seen_kind y l h.0 ∙ some_eq e)
   seen_there (y ∷ kinds) (l ∷ ls) (suc n) x h e = seen_there kinds ls n x h.1 e
 
-  pub written_there : (kinds : List ValueKind) (ls : List (Location H)) (n : ℕ) (w : Word H) → AreLocations kinds ls → slice_get kinds n ≡ Some (kind_of w) → AreLocations kinds (written_at ls n w)
+  pub written_there : (kinds : List ValueKind) (ls : List (Location H)) (n : ℕ) (w : Word H) → AreLocations kinds ls
+      → slice_get kinds n ≡ Some (kind_of w) → AreLocations kinds (written_at ls n w)
   written_there [] ls n w h e = absurd (none_some e)
   written_there (y ∷ kinds) [] n w h e = absurd h
   written_there (y ∷ kinds) (l ∷ ls) zero w h e =
       (record { snapshot = h.0.snapshot; written = λ u q. ap kind_of (sym (some_eq q)) ∙ sym (some_eq e) }, h.1)
   written_there (y ∷ kinds) (l ∷ ls) (suc n) w h e = (h.0, written_there kinds ls n w h.1 e)
 
-  pub view_kinds : (kinds : List ValueKind) (ls : List (Location H)) → AreLocations kinds ls → AreLocations kinds (view ls)
+  pub view_kinds : (kinds : List ValueKind) (ls : List (Location H)) → AreLocations kinds ls
+      → AreLocations kinds (view ls)
   view_kinds [] [] h = tt
   view_kinds [] (l ∷ ls) h = absurd h
   view_kinds (y ∷ kinds) [] h = absurd h
@@ -160,11 +170,15 @@ start_kind H k.Int w = refl
 start_kind H k.Bool w = refl
 start_kind H k.Rev w = refl
 
-cells_start : (H : Type 0) (v : CodeVar) (cells : ℕ) (kinds : List ValueKind) (ls : List (Location H)) → AreLocations kinds ls
-    → AreLocations (replicate cells v.kind ++ kinds) (replicate cells (record { snapshot = start_word v.kind v.start; written = None }) ++ ls)
+cells_start : (H : Type 0) (v : CodeVar) (cells : ℕ) (kinds : List ValueKind) (ls : List (Location H))
+    → AreLocations kinds ls
+    → AreLocations (replicate cells v.kind ++ kinds)
+    (replicate cells (record { snapshot = start_word v.kind v.start; written = None }) ++ ls)
 cells_start H v zero kinds ls h = h
-cells_start H v (suc cells) kinds ls h =
-    (record { snapshot = start_kind H v.kind v.start; written = λ w e. absurd (none_some e) }, cells_start H v cells kinds ls h)
+cells_start H v (suc cells) kinds ls h = (
+  record { snapshot = start_kind H v.kind v.start; written = λ w e. absurd (none_some e) },
+  cells_start H v cells kinds ls h,
+)
 
 pub start_kinds : (H : Type 0) (vs : List CodeVar) → AreLocations (location_kinds vs) (start_locations {H = H} vs)
 start_kinds H [] = tt

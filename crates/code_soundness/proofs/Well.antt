@@ -51,7 +51,8 @@ module _ {H : Type 0} (s : Setting H) (notes : ℕ → ℕ → Note) where
 
     pub record JoinsWell (c' : State H) (try : Bool) (h : H) : Type 0 where
       pub class : is_value_class b.class ≡ false
-      pub joined : (done : Bool) (ls : List (Location H)) → AreLocations (location_kinds s.code.vars) ls → (fuel : ℕ) (text : List ℕ) → IsRevision s.code notes (joiner c' try done h ls fuel text)
+      pub joined : (done : Bool) (ls : List (Location H)) → AreLocations (location_kinds s.code.vars) ls
+          → (fuel : ℕ) (text : List ℕ) → IsRevision s.code notes (joiner c' try done h ls fuel text)
 
     abbrev pub Well : Comes H → Type 0
     Well (goes c') = GoesWell c'

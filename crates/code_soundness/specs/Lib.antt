@@ -1,3 +1,7 @@
+pub mod Certificate
+pub mod Prices
+pub mod Paid
+pub mod Once
 pub mod Typed
 pub mod Whole
 pub mod Funs

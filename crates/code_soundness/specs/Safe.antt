@@ -17,8 +17,8 @@ use Rattle.rev_code.specs.Funs.{setting}
 use Rattle.rev_code.specs.Events.{start, parent, child, past_join}
 use Rattle.code_rules.specs.Shapes.{takes, begins}
 use Rattle.code_rules.specs.Pass.{Note, most_words}
-use Rattle.code_rules.specs.Tables.{is_main}
-use Rattle.code_rules.specs.Verdict.{first_fault}
+pub use Rattle.code_rules.specs.Tables.{is_main}
+pub use Rattle.code_rules.specs.Verdict.{first_fault}
 use Rattle.code_soundness.specs.Typed.{kinds_of, AreLocations, location_kinds, IsOfProgram, IsRevision}
 use Rattle.code_soundness.specs.Whole.{IsAccepted}
 use Rattle.code_soundness.specs.Funs.{kind_of_result}

@@ -9,7 +9,7 @@ use Rattle.code_rules.specs.declared.Cost.{Cost}
 use Rattle.code_rules.specs.Pass.{Note, Passed, entry, gone, is_value_class, applied, block_cost, most_need, most_count}
 use Rattle.code_rules.specs.Tables.{names_well, is_small}
 use Rattle.code_rules.specs.Verdict.{first_fault}
-use Rattle.code_certificate.specs.Certificate.{AllCertified, note_at}
+use Rattle.code_soundness.specs.Certificate.{AllCertified, note_at}
 
 pub record IsAccepted (code : Code) (notes : ℕ → ℕ → Note) : Type 0 where
   pub certified : AllCertified code notes

@@ -7,8 +7,11 @@ use Rattle.rev_code.specs.declared.code.BlockClass.{BlockClass}
 use Rattle.code_rules.specs.Tables as tables
 use Rattle.std.proofs.lemmas.List.{drop_more}
 
-pub count_more : (f : BlockClass → Bool) (xs : List CodeBlock) (n : ℕ) (d : CodeBlock) → n < length xs → f (get_or xs n d).class ≡ true → tables.count_class f (drop n xs) ≡ suc (tables.count_class f (drop (n + 1) xs))
-count_more f xs n d h e = ap (tables.count_class f) (drop_more xs n d h) ∙ ap (λ y. cond y (suc (tables.count_class f (drop (n + 1) xs))) (tables.count_class f (drop (n + 1) xs))) e
+pub count_more : (f : BlockClass → Bool) (xs : List CodeBlock) (n : ℕ) (d : CodeBlock) → n < length xs
+    → f (get_or xs n d).class ≡ true → tables.count_class f (drop n xs) ≡ suc (tables.count_class f (drop (n + 1) xs))
+count_more f xs n d h e =
+    ap (tables.count_class f) (drop_more xs n d h)
+    ∙ ap (λ y. cond y (suc (tables.count_class f (drop (n + 1) xs))) (tables.count_class f (drop (n + 1) xs))) e
 
 fold_from : (xs : List ℕ) (n : ℕ) → fold ◌+◌ n xs ≡ n + fold ◌+◌ 0 xs
 fold_from [] n = omega arith
@@ -18,13 +21,16 @@ fold_from (x ∷ xs) n =
     let z : (n + x) + fold ◌+◌ 0 xs ≡ n + ((0 + x) + fold ◌+◌ 0 xs) = omega arith in
     a ∙ z ∙ ap (λ y. n + y) (sym b)
 
-pub locations_more : (xs : List CodeVar) (n : ℕ) (d : CodeVar) → n < length xs → tables.locations (drop n xs) ≡ (get_or xs n d).cells + tables.locations (drop (n + 1) xs)
+pub locations_more : (xs : List CodeVar) (n : ℕ) (d : CodeVar) → n < length xs
+    → tables.locations (drop n xs) ≡ (get_or xs n d).cells + tables.locations (drop (n + 1) xs)
 locations_more xs n d h =
     ap tables.locations (drop_more xs n d h)
     ∙ fold_from (map (λ v. v.cells) (drop (n + 1) xs)) (0 + (get_or xs n d).cells)
-    ∙ ap (λ y. y + tables.locations (drop (n + 1) xs)) (let z : 0 + (get_or xs n d).cells ≡ (get_or xs n d).cells = omega arith in z)
+    ∙ ap (λ y. y + tables.locations (drop (n + 1) xs))
+    (let z : 0 + (get_or xs n d).cells ≡ (get_or xs n d).cells = omega arith in z)
 
-pub main_last : (xs : List CodeBlock) (n : ℕ) (d : CodeBlock) → length xs ≡ n + 1 → tables.ends_in_main (drop n xs) ≡ tables.is_main (get_or xs n d).class
+pub main_last : (xs : List CodeBlock) (n : ℕ) (d : CodeBlock) → length xs ≡ n + 1
+    → tables.ends_in_main (drop n xs) ≡ tables.is_main (get_or xs n d).class
 main_last xs n d h =
     ap tables.ends_in_main (drop_more xs n d (omega (arith, h)))
     ∙ ap (λ y. tables.ends_in_main (get_or xs n d ∷ y)) (past xs (n + 1) (omega (arith, h)))

@@ -1,4 +1,5 @@
--- The trace of the world after one complete schedule is that after all, and for a program's code it is the trace of the program.
+-- The trace of the world after one complete schedule is that after all, and for a program's code it is the trace of the
+-- program.
 use Rattle.std.proofs.Common.{◌≡◌, ℕ, ◌≤◌, List, Option, Some, None, refl, sym, subst}
 use Rattle.trace_diagram.specs.declared.diagram.Trace.{Trace}
 use Rattle.revision_machine.specs.Machine.{Global, Twice, Live}
@@ -8,14 +9,15 @@ use Rattle.revision_calculus.specs.Program.{Setting}
 use Rattle.revision_calculus.specs.State as source
 use Rattle.revision_calculus.proofs.Outcomes as calculus_outcomes
 use Rattle.audit_rules.specs.Traces.{IsTrace}
+use Rattle.audit_rules.specs.Traced as program
 use Rattle.code_machine.specs.Local.{CodeRun, IsVerified, Local}
 use Rattle.code_machine.specs.Machines.{IsMain, numbered, start_in}
 use Rattle.code_machine.proofs.Ending.{none_blocked}
 use Rattle.code_machine.proofs.Outcomes.{ended}
-use Rattle.code_outcomes.specs.Outcomes.{IsCompleteRun}
-use Rattle.code_outcomes.proofs.Outcomes.{by_main}
+use Rattle.code_machine_laws.specs.Outcomes.{IsCompleteRun}
+use Rattle.code_machine_laws.proofs.Outcomes.{by_main}
 use Rattle.code_runs.proofs.Least.{is_after}
-use Rattle.reached_worlds.specs.Reached.{IsReached, most_fuel}
+use Rattle.code_machine_laws.specs.Reached.{IsReached, most_fuel}
 use Rattle.world_notes.specs.Runs.{HasFinishedNoting}
 use Rattle.code_world.specs.declared.ending.MainEnd.{MainEnd}
 use Rattle.code_world.specs.declared.world.World as rust
@@ -25,8 +27,7 @@ use Rattle.code_world.specs.Endings.{HasLeft, HasNoLeg}
 use Rattle.code_world.specs.Tables.{IsTable, IsWorld}
 use Rattle.code_world.proofs.Worlds.{world_live, world_twice}
 use Rattle.generated_blocks.proofs.Accepted.{code_accepted}
-use Rattle.join_agreement.specs.Related.{run_of}
-use Rattle.trace_making.specs.Traced as program
+use Rattle.world_traces.specs.Traces.{run_of}
 use Rattle.world_notes.specs.declared.noted.Noted.{Noted}
 use Rattle.world_notes.specs.Notes.{AreNoted, NotesOf}
 use Rattle.world_traces.specs.Traces.{AgreeOnTrace, HaveOneTrace, IsListing, IsTraceOf}
@@ -43,9 +44,11 @@ module _ (g : CodeRun) (ok : IsVerified g) (fuel : ℕ) where
   carried (Some t) Both u h is = absurd is
   carried None (Listing w) u h is = absurd is
   carried (Some t) (Listing w) Both h is = absurd h
-  carried (Some t) (Listing w) (Listing u) (trace, of, also) is = subst (IsTraceOf g (Listing u)) (sym (of.only t.parts is)) also.is
+  carried (Some t) (Listing w) (Listing u) (trace, of, also) is =
+      subst (IsTraceOf g (Listing u)) (sym (of.only t.parts is)) also.is
 
-  pub traced_by : (ns : List ℕ) (w : World (Local ℕ)) → IsCompleteRun g fuel ns w → (t : Option Trace) → IsTraceIn g w t → HasTrace g fuel t
+  pub traced_by : (ns : List ℕ) (w : World (Local ℕ)) → IsCompleteRun g fuel ns w → (t : Option Trace) → IsTraceIn g w t
+      → HasTrace g fuel t
   traced_by ns w h t is = record {
     schedule = ns;
     world = w;
@@ -76,7 +79,9 @@ module _ (g : CodeRun) (ok : IsVerified g) (fuel : ℕ) where
 
   module _ (v : rust.World) (notes : List Noted) (a : IsNotedAfter g fuel v notes) where
     pub none_traced : (left : Option MainEnd) → HasLeft g a.after.world left → left ≡ None → HasTrace g fuel None
-    none_traced left h e = traced_by a.after.schedule a.after.world a.after.complete None (by a.after.world (subst (HasLeft g a.after.world) e h))
+    none_traced left h e =
+        traced_by a.after.schedule a.after.world a.after.complete None
+        (by a.after.world (subst (HasLeft g a.after.world) e h))
       where
         by : (w : World (Local ℕ)) → HasLeft g w None → IsTraceIn g w None
         by Both k = tt
@@ -103,13 +108,15 @@ module _ (g : CodeRun) (ok : IsVerified g) (fuel : ℕ) where
 
 -- ---- a world without a leg
 
-module _ (g : CodeRun) (ok : IsVerified g) (v : rust.World) (t : Table) (live : v ≡ world.Live t) (w : World (Local ℕ)) (h : IsReached g w) (is : IsWorld g v w) (over : HasNoLeg g w)
+module _ (g : CodeRun) (ok : IsVerified g) (v : rust.World) (t : Table) (live : v ≡ world.Live t) (w : World (Local ℕ))
+    (h : IsReached g w) (is : IsWorld g v w) (over : HasNoLeg g w)
     (ns : List Noted) (noted : NotesOf g w ns) where
   pub there : (x : Entries (Local ℕ)) × (w ≡ Listing x) × IsTable g t x
   there = world_live g v w t live is
 
   complete : IsCompleteRun g h.fuel h.schedule (Listing there.0)
-  complete = subst (IsCompleteRun g h.fuel h.schedule) there.1 (record { block = h.number; main = h.main; legal = h.replays; over = over })
+  complete = subst (IsCompleteRun g h.fuel h.schedule) there.1
+      (record { block = h.number; main = h.main; legal = h.replays; over = over })
 
   pub stands_in : IsWorld g v (Listing there.0)
   stands_in = subst (λ z. IsWorld g v z) there.1 is
@@ -129,18 +136,21 @@ module _ (g : CodeRun) (ok : IsVerified g) (v : rust.World) (t : Table) (live : 
   pub trace_in : (trace : Trace) → IsListing g there.0 trace.parts → IsTraceIn g w (Some trace)
   trace_in trace listing = subst (λ z. IsTraceIn g z (Some trace)) (sym there.1) listing
 
-pub none_in : (g : CodeRun) (v : rust.World) (w : World (Local ℕ)) → v ≡ world.Twice → IsWorld g v w → IsTraceIn g w None
+pub none_in : (g : CodeRun) (v : rust.World) (w : World (Local ℕ)) → v ≡ world.Twice → IsWorld g v w
+    → IsTraceIn g w None
 none_in g v w e is = subst (λ z. IsTraceIn g z None) (sym (world_twice g v w e is)) tt
 
 -- ---- programs
 
-agree_on : (s : Setting) (t : Option Trace) (w : World (Local ℕ)) (h : Global source.Local) → AgreeOnTrace s w h → IsTraceIn (run_of s) w t → program.IsTraceAt s t h
+agree_on : (s : Setting) (t : Option Trace) (w : World (Local ℕ)) (h : Global source.Local) → AgreeOnTrace s w h
+    → IsTraceIn (run_of s) w t → program.IsTraceAt s t h
 agree_on s None Both Twice a is = refl
 agree_on s None Both (Live revs) a is = absurd a
 agree_on s (Some t) Both h a is = absurd is
 agree_on s None (Listing w) h a is = absurd is
 agree_on s (Some t) (Listing w) Twice a is = absurd a
-agree_on s (Some t) (Listing w) (Live revs) (trace, of, also) is = subst (IsTrace s (Live revs)) (sym (of.only t.parts is)) also.is
+agree_on s (Some t) (Listing w) (Live revs) (trace, of, also) is =
+    subst (IsTrace s (Live revs)) (sym (of.only t.parts is)) also.is
 
 pub of_program : TracesAreOfPrograms
 of_program s well fuel t h =
@@ -152,7 +162,8 @@ of_program s well fuel t h =
       complete = one.complete;
       each = λ rs x c.
           agree_on s t h.world x
-          (traces_agree s well (code_accepted s.program well) run.block run.main fuel h.schedule h.world run.legal run.over rs x c)
+          (traces_agree s well (code_accepted s.program well) run.block run.main fuel h.schedule h.world run.legal
+          run.over rs x c)
           (h.each h.schedule h.world run);
     }
 
@@ -167,6 +178,7 @@ pub noted_after : (g : CodeRun) (fuel n : ℕ) (m : IsMain g n) → fuel ≤ mos
     → HasFinishedNoting g (begin (numbered g) (start_in g n m.body fuel)) v ns → IsNotedAfter g fuel v ns
 unfolding is_after
 noted_after g fuel n m few v ns f = record {
-  after = is_after g fuel n m few v f.finished.schedule f.finished.end (f.finished.least (start_in g n m.body fuel)) f.finished.world;
+  after = is_after g fuel n m few v f.finished.schedule f.finished.end (f.finished.least (start_in g n m.body fuel))
+      f.finished.world;
   noted = f.noted;
 }

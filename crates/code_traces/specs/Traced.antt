@@ -10,9 +10,9 @@ use Rattle.revision_machine.specs.Numbered.{World, Both, Listing}
 use Rattle.revision_calculus.specs.Kinded.{IsAccepted}
 use Rattle.revision_calculus.specs.Program.{Setting}
 use Rattle.code_machine.specs.Local.{CodeRun, Local}
-use Rattle.code_outcomes.specs.Outcomes.{IsCompleteRun}
-use Rattle.join_agreement.specs.Related.{run_of}
-use Rattle.trace_making.specs.Traced as program
+use Rattle.code_machine_laws.specs.Outcomes.{IsCompleteRun}
+use Rattle.world_traces.specs.Traces.{run_of}
+use Rattle.audit_rules.specs.Traced as program
 use Rattle.world_notes.specs.declared.noted.Noted.{Noted}
 use Rattle.world_notes.specs.Notes.{NotesOf}
 use Rattle.world_traces.specs.Traces.{IsTraceOf}

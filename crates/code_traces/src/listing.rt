@@ -20,7 +20,7 @@ use leg_run::CodeSetting;
 use rev_num::{Bytes, Items, ValueKind};
 use std::alloc::{AllocError, Global};
 use trace_diagram::{Part, Trace};
-use trace_making::put_in_order;
+use trace_parts::put_in_order;
 use world_notes::Noted;
 
 /// The part of the revision of this number, which has ended.

@@ -4,7 +4,7 @@ ghost use Rattle.std.specs.Prelude.{ℕ, IfOk};
 ghost use Rattle.code_machine.specs.Local.{Local};
 ghost use Rattle.code_world.specs.Endings.{HasNoLeg};
 ghost use Rattle.code_world.specs.Tables.{IsWorld};
-ghost use Rattle.reached_worlds.specs.Reached.{IsReached};
+ghost use Rattle.code_machine_laws.specs.Reached.{IsReached};
 ghost use Rattle.revision_machine.specs.Numbered.{World as DefinedWorld};
 ghost use Rattle.rev_vm.specs.Starts.{run_under};
 ghost use Rattle.world_notes.specs.Notes.{NotesOf};

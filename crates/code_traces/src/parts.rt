@@ -10,14 +10,14 @@ ghost use Rattle.world_traces.specs.Parts as spec;
 ghost use Rattle.world_traces.specs.Parts.{path_in};
 ghost use Rattle.code_traces.specs.Made.{noted_part};
 
+use code_runs::{path_of, value_of};
 use code_world::Birth;
 use leg_run::Meeting;
 use rev_num::{Bytes, Items, Path, Trap, ValueKind};
 use std::alloc::{AllocError, Global};
 use trace_diagram::{Change, Part, PartEnd, TraceEvent};
-use trace_making::{cause_place, place_at};
+use trace_parts::{cause_place, place_at};
 use version_map::{CodeTrap, EndValue, Finish, Written};
-use world_outcomes::{path_of, value_of};
 
 /// An entry of the list of forks and joins, as a trace has it.
 fn event_of(alloc: Global, births: &[Birth], meeting: &Meeting) -> Result<TraceEvent, AllocError>

@@ -2,21 +2,20 @@
 
 ghost use Rattle.std.specs.Prelude.{◌≤◌, ℕ, IfOk};
 ghost use Rattle.rev_num.specs.Limits.{most_fuel};
-ghost use Rattle.code_outcomes.specs.Outcomes.{HasOutcome};
+ghost use Rattle.code_machine_laws.specs.Outcomes.{HasOutcome};
 ghost use Rattle.rev_vm.specs.Starts.{run_under};
 ghost use Rattle.code_traces.specs.Traced.{HasTrace, IsNotedAfter};
 
 use crate::listing::trace_of;
-use block_merges::BlockMerges;
-use code_runs::note_inputs;
+use code_runs::{note_inputs, outcome_of};
 use code_verifier::Verified;
 use code_world::{MainEnd, World};
+use fun_run::BlockMerges;
 use leg_run::CodeSetting;
 use rev_num::Outcome;
 use std::alloc::{AllocError, Global};
 use trace_diagram::Trace;
 use world_notes::{Noted, finish_noting, first_notes};
-use world_outcomes::outcome_of;
 
 /// What a run comes to: its outcome, and its trace, of which there is none where a revision was
 /// joined a second time.

@@ -7,7 +7,7 @@ ghost use Rattle.world_traces.specs.Parts.{cell_places, places, variable_places}
 use rev_code::CodeVar;
 use rev_num::{Bytes, ValueKind};
 use std::alloc::{AllocError, Global};
-use trace_making::place_of;
+use trace_parts::place_of;
 
 /// Appends the places of the cells of an array.
 fn append_cells(

@@ -16,12 +16,14 @@ kinds_append (item.Int ∷ xs) ys = ap (λ y. k.Int ∷ y) (kinds_append xs ys)
 kinds_append (item.Bool ∷ xs) ys = ap (λ y. k.Bool ∷ y) (kinds_append xs ys)
 kinds_append (item.Text n ∷ xs) ys = kinds_append xs ys
 
-take_more : {A : Type 0} (xs : List A) (n : ℕ) (d : A) → n < length xs → take (suc n) xs ≡ take n xs ++ get_or xs n d ∷ []
+take_more : {A : Type 0} (xs : List A) (n : ℕ) (d : A) → n < length xs
+    → take (suc n) xs ≡ take n xs ++ get_or xs n d ∷ []
 take_more [] n d h = absurd (omega (arith, h))
 take_more (x ∷ xs) zero d h = refl
 take_more (x ∷ xs) (suc n) d h = ap (λ y. x ∷ y) (take_more xs n d (omega (arith, h)))
 
-pub kinds_more : (xs : List LayoutItem) (n : ℕ) (d : LayoutItem) → n < length xs → printed_kinds (take (n + 1) xs) ≡ printed_kinds (take n xs) ++ printed_kinds (get_or xs n d ∷ [])
+pub kinds_more : (xs : List LayoutItem) (n : ℕ) (d : LayoutItem) → n < length xs
+    → printed_kinds (take (n + 1) xs) ≡ printed_kinds (take n xs) ++ printed_kinds (get_or xs n d ∷ [])
 kinds_more xs n d h =
     ap (λ y. printed_kinds (take y xs)) (let z : n + 1 ≡ suc n = omega arith in z)
     ∙ ap printed_kinds (take_more xs n d h) ∙ kinds_append (take n xs) (get_or xs n d ∷ [])
@@ -46,7 +48,8 @@ begins_none : (x : ValueKind) (xs s : Shape) → first s ≡ None → begins (x 
 begins_none x xs [] h = refl
 begins_none x xs (y ∷ s) h = absurd (let z : Some y ≡ None = h in cc)
 
-begins_some : (x y : ValueKind) (xs s : Shape) → first s ≡ Some y → begins (x ∷ xs) s ≡ same_kind x y && begins xs (rest s)
+begins_some : (x y : ValueKind) (xs s : Shape) → first s ≡ Some y
+    → begins (x ∷ xs) s ≡ same_kind x y && begins xs (rest s)
 begins_some x y xs [] h = absurd (let z : None ≡ Some y = h in cc)
 begins_some x y xs (w ∷ s) h = let e : w ≡ y = cc in ap (λ v. same_kind x v && begins xs s) e
 
@@ -54,7 +57,8 @@ pub no_more : (xs : Shape) (n : ℕ) (s : Shape) → n < length xs → None ≡ 
 no_more [] n s h e = absurd (omega (arith, h))
 no_more (x ∷ xs) n s h e = ap (λ y. begins y s) (drop_get (x ∷ xs) n x h) ∙ begins_none _ _ s (sym e)
 
-pub one_more : (xs : Shape) (n : ℕ) (s : Shape) (d y : ValueKind) → n < length xs → Some y ≡ first s → begins (drop n xs) s ≡ same_kind (get_or xs n d) y && begins (drop (n + 1) xs) (rest s)
+pub one_more : (xs : Shape) (n : ℕ) (s : Shape) (d y : ValueKind) → n < length xs → Some y ≡ first s
+    → begins (drop n xs) s ≡ same_kind (get_or xs n d) y && begins (drop (n + 1) xs) (rest s)
 one_more xs n s d y h e =
     ap (λ v. begins v s) (drop_get xs n d h) ∙ begins_some (get_or xs n d) y (drop (suc n) xs) s (sym e)
     ∙ ap (λ v. same_kind (get_or xs n d) y && begins (drop v xs) (rest s)) (let z : suc n ≡ n + 1 = omega arith in z)

@@ -4,7 +4,7 @@ use Rattle.std.specs.Prelude.{slice_get, slice_set, nat_eq}
 use Rattle.std.proofs.lemmas.Option.{slice_get_read}
 use Rattle.std.proofs.lemmas.Bool.Decides.{nat_tests}
 use Rattle.rev_num.specs.declared.value.ValueKind.{ValueKind}
-use Rattle.code_certificate.proofs.Basics.{same_is, within_some, same_self}
+use Rattle.code_soundness.proofs.Basics.{same_is, within_some, same_self}
 use Rattle.code_rules.specs.Shapes.{Shape, same_shape}
 use Rattle.code_verifier.specs.declared.node.Node.{Node}
 use Rattle.code_verifier.specs.Kept.{shape_at, first, rest, Extends}
@@ -12,7 +12,8 @@ use Rattle.code_verifier.specs.Trie.{shape_on, grown, shapes_of, above_at, IsTri
 
 -- ---- lists
 
-pub get_or_some : {A : Type 0} (xs : List A) (n : ℕ) (x : A) → n < length xs → x ≡ get_or xs n x → slice_get xs n ≡ Some x
+pub get_or_some : {A : Type 0} (xs : List A) (n : ℕ) (x : A) → n < length xs → x ≡ get_or xs n x
+    → slice_get xs n ≡ Some x
 get_or_some xs n x h e = slice_get_read xs (length xs) n x refl h e
 
 pub get_last : {A : Type 0} (xs : List A) (x : A) → slice_get (xs ++ x ∷ []) (length xs) ≡ Some x
@@ -28,23 +29,28 @@ grown_length done (n ∷ ns) =
     let l = length-append done (shape_on done n ∷ []) in
     omega (arith, r, l)
 
-pub grown_snoc : (done : List Shape) (ns : List Node) (n : Node) → grown done (ns ++ n ∷ []) ≡ grown done ns ++ shape_on (grown done ns) n ∷ []
+pub grown_snoc : (done : List Shape) (ns : List Node) (n : Node)
+    → grown done (ns ++ n ∷ []) ≡ grown done ns ++ shape_on (grown done ns) n ∷ []
 grown_snoc done [] n = refl
 grown_snoc done (m ∷ ns) n = grown_snoc (done ++ shape_on done m ∷ []) ns n
 
-pub view_within : (ns : List Node) (shapes : List Shape) (id : ℕ) → shapes_of ns ≡ shapes → id < length shapes → id < length ns
+pub view_within : (ns : List Node) (shapes : List Shape) (id : ℕ) → shapes_of ns ≡ shapes → id < length shapes
+    → id < length ns
 view_within ns shapes id e h = let l = grown_length [] ns in let z = ap length e in omega (arith, l, z, h)
 
 -- the same of the length that a vector tells
-pub len_within : (ns : List Node) (shapes : List Shape) (id len : ℕ) → len ≡ length ns → shapes_of ns ≡ shapes → id < length shapes → id < len
+pub len_within : (ns : List Node) (shapes : List Shape) (id len : ℕ) → len ≡ length ns → shapes_of ns ≡ shapes
+    → id < length shapes → id < len
 len_within ns shapes id len l e h = let z = view_within ns shapes id e h in omega (arith, l, z)
 
 -- numbers of shapes above do not count
-pub grown_set : (done : List Shape) (ns : List Node) (i : ℕ) (n n' : Node) → slice_get ns i ≡ Some n → n'.kind ≡ n.kind → n'.below ≡ n.below → grown done (slice_set ns i n') ≡ grown done ns
+pub grown_set : (done : List Shape) (ns : List Node) (i : ℕ) (n n' : Node) → slice_get ns i ≡ Some n → n'.kind ≡ n.kind
+    → n'.below ≡ n.below → grown done (slice_set ns i n') ≡ grown done ns
 grown_set done [] i n n' h e f = refl
 grown_set done (m ∷ ns) zero n n' h e f =
     let mn : m ≡ n = cc in
-    let s : (d : List Shape) → shape_on d n' ≡ shape_on d m = on_eq n' m (e ∙ ap (λ y. y.kind) (sym mn)) (f ∙ ap (λ y. y.below) (sym mn)) in
+    let s : (d : List Shape) → shape_on d n' ≡ shape_on d m =
+    on_eq n' m (e ∙ ap (λ y. y.kind) (sym mn)) (f ∙ ap (λ y. y.below) (sym mn)) in
     ap (λ y. grown (done ++ y ∷ []) ns) (s done)
   where
     on_eq : (a b : Node) → a.kind ≡ b.kind → a.below ≡ b.below → (d : List Shape) → shape_on d a ≡ shape_on d b
@@ -52,7 +58,8 @@ grown_set done (m ∷ ns) zero n n' h e f =
     on_eq a b p q (s ∷ ss) = λ i. p i ∷ shape_at (s ∷ ss) (q i)
 grown_set done (m ∷ ns) (suc i) n n' h e f = grown_set (done ++ shape_on done m ∷ []) ns i n n' h e f
 
-pub shape_extends : (old new : List Shape) (id : ℕ) → Extends old new → id < length old → shape_at new id ≡ shape_at old id
+pub shape_extends : (old new : List Shape) (id : ℕ) → Extends old new → id < length old
+    → shape_at new id ≡ shape_at old id
 shape_extends old new id e h = ap (λ o. elim o as (λ _. Shape) [ None ↦ [] | Some s ↦ s ]) (e.kept id h)
 
 -- ---- equal shapes have one number
@@ -75,7 +82,8 @@ module _ (ns : List Node) (trie : IsTrie ns) where
   deep zero x s e = absurd (no_cons x s (sym e ∙ trie.root))
   deep (suc a) x s e = omega arith
 
-  pub one_number : (s : Shape) (a b : ℕ) → a < length ns → b < length ns → shape_at (shapes_of ns) a ≡ s → shape_at (shapes_of ns) b ≡ s → a ≡ b
+  pub one_number : (s : Shape) (a b : ℕ) → a < length ns → b < length ns → shape_at (shapes_of ns) a ≡ s
+      → shape_at (shapes_of ns) b ≡ s → a ≡ b
   one_number [] a b ha hb ea eb = empty_is_root a ha ea ∙ sym (empty_is_root b hb eb)
   one_number (x ∷ s) a b ha hb ea eb =
       let n = within_some ns a ha in
@@ -89,21 +97,25 @@ module _ (ns : List Node) (trie : IsTrie ns) where
       let low = one_number s n.0.below m.0.below (omega (arith, lp, ha)) (omega (arith, lq, hb)) cp.1 cq.1 in
       sym p.found ∙ ap (λ y. above_at y ns n.0.below) (cp.0 ∙ sym cq.0) ∙ ap (above_at m.0.kind ns) low ∙ q.found
 
-  pub same_number : (a b : ℕ) → a < length ns → b < length ns → nat_eq a b ≡ same_shape (shape_at (shapes_of ns) a) (shape_at (shapes_of ns) b)
+  pub same_number : (a b : ℕ) → a < length ns → b < length ns
+      → nat_eq a b ≡ same_shape (shape_at (shapes_of ns) a) (shape_at (shapes_of ns) b)
   same_number a b ha hb = by (nat_eq a b) refl (same_shape (shape_at (shapes_of ns) a) (shape_at (shapes_of ns) b)) refl
     where
-      by : (d : Bool) → nat_eq a b ≡ d → (e : Bool) → same_shape (shape_at (shapes_of ns) a) (shape_at (shapes_of ns) b) ≡ e → d ≡ e
+      by : (d : Bool) → nat_eq a b ≡ d → (e : Bool)
+          → same_shape (shape_at (shapes_of ns) a) (shape_at (shapes_of ns) b) ≡ e → d ≡ e
       by true p true q = refl
       by false p false q = refl
       by true p false q =
           let z : a ≡ b = grind (arith, nat_tests, p) in
-          absurd (true≢false (sym (same_self (shape_at (shapes_of ns) b)) ∙ ap (λ y. same_shape (shape_at (shapes_of ns) y) (shape_at (shapes_of ns) b)) (sym z) ∙ q))
+          absurd (true≢false (sym (same_self (shape_at (shapes_of ns) b))
+          ∙ ap (λ y. same_shape (shape_at (shapes_of ns) y) (shape_at (shapes_of ns) b)) (sym z) ∙ q))
       by false p true q =
           let z = one_number (shape_at (shapes_of ns) b) a b ha hb (same_is _ _ q) refl in
           grind (arith, nat_tests, p, z)
 
 -- what a node says of its shape
-module _ (ns : List Node) (trie : IsTrie ns) (shapes : List Shape) (view : shapes_of ns ≡ shapes) (id : ℕ) (within : id < length shapes) (n : Node) (is : n ≡ get_or ns id n) where
+module _ (ns : List Node) (trie : IsTrie ns) (shapes : List Shape) (view : shapes_of ns ≡ shapes) (id : ℕ)
+    (within : id < length shapes) (n : Node) (is : n ≡ get_or ns id n) where
   here : slice_get ns id ≡ Some n
   here = get_or_some ns id n (view_within ns shapes id view within) is
 
@@ -130,7 +142,8 @@ module _ (ns : List Node) (trie : IsTrie ns) (shapes : List Shape) (view : shape
   above_root h = let f = node_fits in grind (arith, nat_tests, h, f)
 
   node_shape : 0 < id → shape_at shapes id ≡ n.kind ∷ shape_at shapes n.below
-  node_shape h = ap (λ y. shape_at y id) (sym view) ∙ (trie.each id n here h).shape ∙ ap (λ y. n.kind ∷ shape_at y n.below) view
+  node_shape h =
+      ap (λ y. shape_at y id) (sym view) ∙ (trie.each id n here h).shape ∙ ap (λ y. n.kind ∷ shape_at y n.below) view
 
   pub some_first : (n.depth ≡ 0 → ⊥) → Some n.kind ≡ first (shape_at shapes id)
   some_first h = sym (ap first (node_shape (above_root (grind (arith, nat_tests, h)))))

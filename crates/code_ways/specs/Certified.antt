@@ -9,7 +9,7 @@ use Rattle.rev_code.specs.declared.code.Instr.{Instr}
 use Rattle.code_rules.specs.declared.Cost.{Cost}
 use Rattle.code_rules.specs.Shapes.{shape_after}
 use Rattle.code_rules.specs.Pass.{Note, entry, falls, is_value_class, block_fault, costs_too_much}
-use Rattle.code_certificate.specs.Certificate.{Fits, IsJumped, IsCertified}
+use Rattle.code_soundness.specs.Certificate.{Fits, IsJumped, IsCertified}
 use Rattle.code_ways.specs.Breaks.{need_of_applied, total_count}
 
 abbrev pub BeginsAnew : CodeBlock → (ℕ → Note) → Type 0

@@ -8,7 +8,7 @@ use Rattle.rev_code.specs.declared.code.CodeBlock.{CodeBlock}
 use Rattle.rev_code.specs.declared.code.Instr.{Instr}
 use Rattle.code_rules.specs.Shapes.{Shape, shape_after}
 use Rattle.code_rules.specs.Pass.{target, falls, paid_after, bad_jump}
-use Rattle.code_certificate.specs.Certificate.{IsJumped}
+use Rattle.code_soundness.specs.Certificate.{IsJumped}
 
 pub data IsStart (b : CodeBlock) : ℕ → Type 0 where
   first : IsStart b 0

@@ -35,14 +35,16 @@ last_block (b ∷ c ∷ bs) e = by (last_block (c ∷ bs) (and_parts (not (is_ma
     by l = record {
       some = omega arith;
       body = l.body;
-      is = (let z : length (b ∷ c ∷ bs) - 1 ≡ suc (length (c ∷ bs) - 1) = omega arith in ap (slice_get (b ∷ c ∷ bs)) z ∙ l.is);
+      is = (let z : length (b ∷ c ∷ bs) - 1 ≡ suc (length (c ∷ bs) - 1) = omega arith in
+          ap (slice_get (b ∷ c ∷ bs)) z ∙ l.is);
       class = l.class;
     }
 
 module _ (g : CodeRun) (ok : IsVerified g) where
   ends : ends_in_main g.code.blocks ≡ true
   ends =
-      let p = and_parts (rules.blocks_well g.code && list_all (rules.is_var g.code) g.code.vars) (rules.lines_well g.code) (accepted g ok).named in
+      let p = and_parts (rules.blocks_well g.code && list_all (rules.is_var g.code) g.code.vars)
+      (rules.lines_well g.code) (accepted g ok).named in
       let q = and_parts (rules.blocks_well g.code) (list_all (rules.is_var g.code) g.code.vars) p.0 in
       (and_parts (ends_in_main g.code.blocks) (list_all is_block g.code.blocks) q.0).0
 
@@ -57,14 +59,17 @@ module _ (g : CodeRun) (ok : IsVerified g) where
 
 -- ---- the world at the start
 
-pub alone : (g : CodeRun) (fuel : ℕ) (r : WholeRunner) (f : IsFirst g fuel r) (t : Table) → IsAlone r t → IsTable g t (([], Plain (start_in g f.number f.main.body fuel)) ∷ [])
+pub alone : (g : CodeRun) (fuel : ℕ) (r : WholeRunner) (f : IsFirst g fuel r) (t : Table) → IsAlone r t
+    → IsTable g t (([], Plain (start_in g f.number f.main.body fuel)) ∷ [])
 alone g fuel r f t a = record {
-  slots = subst (λ ss. AreSlots g ss (([], Plain (start_in g f.number f.main.body fuel)) ∷ [])) (sym a.slots) ((_, refl, f.runs), tt);
+  slots = subst (λ ss. AreSlots g ss (([], Plain (start_in g f.number f.main.body fuel)) ∷ [])) (sym a.slots)
+      ((_, refl, f.runs), tt);
   forks = subst (λ bs. AreForks bs (([], Plain (start_in g f.number f.main.body fuel)) ∷ [])) (sym a.births) (refl, tt);
   named = subst (λ bs. AreNamed bs ([] ∷ [])) (sym a.births) named;
   counted = subst (λ bs. forks_of bs + 1 ≡ length bs) (sym a.births) (omega arith);
 }
   where
-    named : (n : ℕ) (b : Birth) → at_number (record { forker = 0; place = 0; forks = 0 } ∷ []) n ≡ Some b → HasPath ([] ∷ []) n b
+    named : (n : ℕ) (b : Birth) → at_number (record { forker = 0; place = 0; forks = 0 } ∷ []) n ≡ Some b
+        → HasPath ([] ∷ []) n b
     named zero b e = refl
     named (suc n) b e = none_some e

@@ -13,9 +13,9 @@ use Rattle.code_machine.specs.Machines.{act_of, act_in, wish_of, numbered}
 use Rattle.code_machine.specs.Proper.{IsOver}
 use Rattle.code_machine.proofs.Typing.{worlds_proper, stops_over}
 use Rattle.rev_vm.specs.Meaning.{IsEnd, IsPhase}
-use Rattle.reached_worlds.specs.Reached.{IsReached, most_fuel}
-use Rattle.reached_worlds.specs.Laws.{HasNumber}
-use Rattle.reached_worlds.proofs.Reaching.{joinees, small}
+use Rattle.code_machine_laws.specs.Reached.{IsReached, most_fuel}
+use Rattle.code_machine_laws.specs.Laws.{HasNumber}
+use Rattle.code_machine_laws.proofs.Reaching.{joinees, small}
 use Rattle.code_world.specs.declared.slot.Slot.{Slot}
 use Rattle.code_world.specs.declared.slot.Slot.TheVariants as slot
 use Rattle.code_world.specs.declared.table.Stage.TheVariants as stage
@@ -43,10 +43,12 @@ stage_running (Some (slot.Ended v)) e = absurd (let z : stage.Running ≡ stage.
 stage_running (Some (slot.Joined v)) e = absurd (let z : stage.Running ≡ stage.Joined = e in cc)
 stage_running (Some slot.Taken) e = absurd (let z : stage.Running ≡ stage.NoSuch = e in cc)
 
-pub stage_standing : (o : Option Slot) (on : ℕ) → IsStage o (stage.Standing on) → (a : WholeJoin) × (o ≡ Some (slot.Standing a)) × (a.on ≡ on)
+pub stage_standing : (o : Option Slot) (on : ℕ) → IsStage o (stage.Standing on)
+    → (a : WholeJoin) × (o ≡ Some (slot.Standing a)) × (a.on ≡ on)
 stage_standing None on e = absurd (let z : stage.Standing on ≡ stage.NoSuch = e in cc)
 stage_standing (Some (slot.Running r)) on e = absurd (let z : stage.Standing on ≡ stage.Running = e in cc)
-stage_standing (Some (slot.Standing a)) on e = (a, refl, (let z : stage.Standing on ≡ stage.Standing a.on = e in let y : on ≡ a.on = cc in sym y))
+stage_standing (Some (slot.Standing a)) on e =
+    (a, refl, (let z : stage.Standing on ≡ stage.Standing a.on = e in let y : on ≡ a.on = cc in sym y))
 stage_standing (Some (slot.Ended v)) on e = absurd (let z : stage.Standing on ≡ stage.Ended = e in cc)
 stage_standing (Some (slot.Joined v)) on e = absurd (let z : stage.Standing on ≡ stage.Joined = e in cc)
 stage_standing (Some slot.Taken) on e = absurd (let z : stage.Standing on ≡ stage.NoSuch = e in cc)
@@ -80,7 +82,8 @@ module _ (g : CodeRun) (ss : List Slot) (w : Entries (Local ℕ)) (h : AreSlots 
   running_at r e = let x = slot_at g ss w h n (slot.Running r) e in by x.0 x.1 x.2 x.3
     where
       by : (p : Path) (f : Entry (Local ℕ)) → at_number w n ≡ Some (p, f) → IsEntry g (slot.Running r) f → RunsAt r
-      by p (Plain l) there (c, is, runs) = record { path = p; state = c; there = there ∙ ap (λ k. Some (p, Plain k)) is; runs = runs }
+      by p (Plain l) there (c, is, runs) =
+          record { path = p; state = c; there = there ∙ ap (λ k. Some (p, Plain k)) is; runs = runs }
       by p (Joined l) there i = absurd i
 
   pub record StandsThere (a : WholeJoin) : Type 0 where
@@ -94,8 +97,16 @@ module _ (g : CodeRun) (ss : List Slot) (w : Entries (Local ℕ)) (h : AreSlots 
   pub standing_at : (a : WholeJoin) → at_number ss n ≡ Some (slot.Standing a) → StandsThere a
   standing_at a e = let x = slot_at g ss w h n (slot.Standing a) e in by x.0 x.1 x.2 x.3
     where
-      by : (p : Path) (f : Entry (Local ℕ)) → at_number w n ≡ Some (p, f) → IsEntry g (slot.Standing a) f → StandsThere a
-      by p (Plain l) there (c, is, c', comes, stands) = record { path = p; state = c; there = there ∙ ap (λ k. Some (p, Plain k)) is; at = c'; comes = comes; stands = stands }
+      by : (p : Path) (f : Entry (Local ℕ)) → at_number w n ≡ Some (p, f) → IsEntry g (slot.Standing a) f
+          → StandsThere a
+      by p (Plain l) there (c, is, c', comes, stands) = record {
+        path = p;
+        state = c;
+        there = there ∙ ap (λ k. Some (p, Plain k)) is;
+        at = c';
+        comes = comes;
+        stands = stands;
+      }
       by p (Joined l) there i = absurd i
 
   pub record EndedThere (v : EndValue) : Type 0 where
@@ -149,20 +160,25 @@ end_stops g l v e = by l.phase v.finish e.phase
     by done f i = refl
     by (trapped t) f i = refl
 
-pub stands_wants : (g : CodeRun) (c c' : State ℕ) (try : Bool) (m : ℕ) → leg g c ≡ joins c' try m → (numbered g).next (at_work c) ≡ Wants m
+pub stands_wants : (g : CodeRun) (c c' : State ℕ) (try : Bool) (m : ℕ) → leg g c ≡ joins c' try m
+    → (numbered g).next (at_work c) ≡ Wants m
 stands_wants g c c' try m e = ap (λ o. wish_of (act_of g o)) e
 
 module _ (g : CodeRun) (ok : IsVerified g) (w : Entries (Local ℕ)) (h : IsReached g (Listing w)) where
   -- a revision at work has a next event
-  pub works_on : (n : ℕ) (p : Path) (c : State ℕ) → at_number w n ≡ Some (p, Plain (at_work c)) → (numbered g).next (at_work c) ≢ Stops
-  works_on n p c there e = by (stops_over g ok (at_work c) (worlds_proper g ok h.number h.main h.fuel h.schedule (Listing w) h.replays n p (Plain (at_work c)) there) e)
+  pub works_on : (n : ℕ) (p : Path) (c : State ℕ) → at_number w n ≡ Some (p, Plain (at_work c))
+      → (numbered g).next (at_work c) ≢ Stops
+  works_on n p c there e =
+      by (stops_over g ok (at_work c)
+      (worlds_proper g ok h.number h.main h.fuel h.schedule (Listing w) h.replays n p (Plain (at_work c)) there) e)
     where
       by : IsOver (at_work c) → ⊥
       by (inl i) = (let z : ◌≡◌ {A = Phase ℕ} running done = i in cc)
       by (inr (t, i)) = (let z : ◌≡◌ {A = Phase ℕ} running (trapped t) = i in cc)
 
   -- a joiner joins one of the world, whose number is small
-  pub joinee_number : (n : ℕ) (p : Path) (c c' : State ℕ) (try : Bool) (m : ℕ) → at_number w n ≡ Some (p, Plain (at_work c)) → leg g c ≡ joins c' try m → HasNumber w m × (m ≤ most_fuel)
+  pub joinee_number : (n : ℕ) (p : Path) (c c' : State ℕ) (try : Bool) (m : ℕ)
+      → at_number w n ≡ Some (p, Plain (at_work c)) → leg g c ≡ joins c' try m → HasNumber w m × (m ≤ most_fuel)
   joinee_number n p c c' try m there e =
       let has = (joinees g ok w h n p (at_work c) there m (stands_wants g c c' try m e)).0 in
       let a = at_below w m (has.0, has.1) has.2 in

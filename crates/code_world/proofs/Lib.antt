@@ -8,3 +8,6 @@ pub mod Ended
 pub mod Listed
 pub mod Touching
 pub mod Saying
+pub mod AdoptedEnds
+pub mod Begun
+pub mod HasRead

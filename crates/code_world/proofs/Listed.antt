@@ -30,16 +30,21 @@ module _ (g : CodeRun) (w : Entries (Local ℕ)) (n : ℕ) where
     by_leg : (o : Comes ℕ) (m : Option Meeting) → leg g c ≡ o → HasMeeting (length w) o m → MeetingOf g w n m
     by_leg o m is h = (p, at_work c, there, subst (λ x. HasMeeting (length w) x m) (sym is) h)
 
-    pub fork_noted : (child line : ℕ) → child ≡ length w → ForksInLine g c line → MeetingOf g w n (Some (meeting.Forked child line))
+    pub fork_noted : (child line : ℕ) → child ≡ length w → ForksInLine g c line
+        → MeetingOf g w n (Some (meeting.Forked child line))
     fork_noted child line is f =
         let number = is in
         let same = f.is in
-        by_leg (forks f.at f.block f.args) (Some (meeting.Forked child line)) f.comes (λ i. Some (meeting.Forked (number i) (same i)))
+        by_leg (forks f.at f.block f.args) (Some (meeting.Forked child line)) f.comes
+        (λ i. Some (meeting.Forked (number i) (same i)))
 
-    pub join_noted : (c' : State ℕ) (try : Bool) (on line : ℕ) → leg g c ≡ joins c' try on → line ≡ c'.line → MeetingOf g w n (Some (meeting.Joined on line))
-    join_noted c' try on line is same = by_leg (joins c' try on) (Some (meeting.Joined on line)) is (λ i. Some (meeting.Joined on (same i)))
+    pub join_noted : (c' : State ℕ) (try : Bool) (on line : ℕ) → leg g c ≡ joins c' try on → line ≡ c'.line
+        → MeetingOf g w n (Some (meeting.Joined on line))
+    join_noted c' try on line is same =
+        by_leg (joins c' try on) (Some (meeting.Joined on line)) is (λ i. Some (meeting.Joined on (same i)))
 
-    no_fork : {A : Type 0} (d : State ℕ) (block : ℕ) (args : List (Word ℕ)) (o : Option CodeBlock) (l : Local ℕ) → wish_of (fork g d block args o) ≡ Goes l → A
+    no_fork : {A : Type 0} (d : State ℕ) (block : ℕ) (args : List (Word ℕ)) (o : Option CodeBlock) (l : Local ℕ)
+        → wish_of (fork g d block args o) ≡ Goes l → A
     no_fork d block args None l e = absurd (let z : ◌≡◌ {A = Wish (Local ℕ)} Stops (Goes l) = e in cc)
     no_fork d block args (Some b) l e = absurd (let z = e in cc)
 
@@ -58,7 +63,8 @@ module _ (g : CodeRun) (w : Entries (Local ℕ)) (n : ℕ) where
   ends_noted finish.Done h = h
   ends_noted (finish.Trapped t) h = h
 
-  pub joins_noted : (a : LegAnswer) (on line : ℕ) → MeetingOf g w n (Some (meeting.Joined on line)) → HasNoted g w n a (join_meeting a on line)
+  pub joins_noted : (a : LegAnswer) (on line : ℕ) → MeetingOf g w n (Some (meeting.Joined on line))
+      → HasNoted g w n a (join_meeting a on line)
   joins_noted (answer.Forked m) on line h = h
   joins_noted (answer.Joined m) on line h = h
   joins_noted answer.Ended on line h = h

@@ -1,5 +1,5 @@
 -- What a leg leaves as it was.
-use Rattle.std.proofs.Common.{◌≡◌, ◌≢◌, ◌⊎◌, inl, inr, ◌∙◌, ℕ, List, [], ◌∷◌, ◌++◌, Option, Some, refl, sym, ap, subst}
+use Rattle.std.proofs.Common.{◌≡◌, ◌≢◌, ◌⊎◌, inl, inr, ◌∙◌, ℕ, List, [], ◌∷◌, ◌++◌, Some, refl, sym, ap, subst}
 use Rattle.version_map.specs.declared.end.EndValue.{EndValue}
 use Rattle.version_map.specs.declared.end.Finish.{Finish}
 use Rattle.version_map.specs.declared.end.Finish.TheVariants as finish
@@ -33,17 +33,24 @@ pub but_stays : (t t' : Table) (n : ℕ) → IsSameBut t n t' → OthersStay t.s
 but_stays t t' n e m s apart there = inl (e.0 m apart ∙ there)
 
 -- the revision is taken out and put back
-pub put_stays : (ss ss' : List Slot) (n : ℕ) (a b : Slot) → ss' ≡ put_number (put_number ss n a) n b → (m : ℕ) → m ≢ n → at_number ss' m ≡ at_number ss m
-put_stays ss ss' n a b e m apart = ap (λ z. at_number z m) e ∙ put_other (put_number ss n a) n m b apart ∙ put_other ss n m a apart
+pub put_stays : (ss ss' : List Slot) (n : ℕ) (a b : Slot) → ss' ≡ put_number (put_number ss n a) n b → (m : ℕ) → m ≢ n
+    → at_number ss' m ≡ at_number ss m
+put_stays ss ss' n a b e m apart =
+    ap (λ z. at_number z m) e ∙ put_other (put_number ss n a) n m b apart ∙ put_other ss n m a apart
 
-pub others_put : (ss ss' : List Slot) (n : ℕ) (a b : Slot) → ss' ≡ put_number (put_number ss n a) n b → OthersStay ss n ss'
+pub others_put : (ss ss' : List Slot) (n : ℕ) (a b : Slot) → ss' ≡ put_number (put_number ss n a) n b
+    → OthersStay ss n ss'
 others_put ss ss' n a b e m s apart there = inl (put_stays ss ss' n a b e m apart ∙ there)
 
-pub fork_stays : (ss ss' : List Slot) (n : ℕ) (a b kid : Slot) → ss' ≡ put_number (put_number ss n a) n b ++ kid ∷ [] → OthersStay ss n ss'
+pub fork_stays : (ss ss' : List Slot) (n : ℕ) (a b kid : Slot) → ss' ≡ put_number (put_number ss n a) n b ++ kid ∷ []
+    → OthersStay ss n ss'
 fork_stays ss ss' n a b kid e m s apart there =
-    inl (ap (λ z. at_number z m) e ∙ at_front (put_number (put_number ss n a) n b) (kid ∷ []) m s (put_other (put_number ss n a) n m b apart ∙ put_other ss n m a apart ∙ there))
+    inl (ap (λ z. at_number z m) e
+    ∙ at_front (put_number (put_number ss n a) n b) (kid ∷ []) m s
+    (put_other (put_number ss n a) n m b apart ∙ put_other ss n m a apart ∙ there))
 
-pub settle_stays : (ss ss' : List Slot) (n on : ℕ) (v : EndValue) (a b : Slot) → at_number ss on ≡ Some (slot.Ended v) → ss' ≡ put_number (put_number (put_number ss on (slot.Joined v)) n a) n b → OthersStay ss n ss'
+pub settle_stays : (ss ss' : List Slot) (n on : ℕ) (v : EndValue) (a b : Slot) → at_number ss on ≡ Some (slot.Ended v)
+    → ss' ≡ put_number (put_number (put_number ss on (slot.Joined v)) n a) n b → OthersStay ss n ss'
 settle_stays ss ss' n on v a b end e m s apart there = by (decide m on)
   where
     last : at_number ss' m ≡ at_number (put_number ss on (slot.Joined v)) m
@@ -57,13 +64,15 @@ settle_stays ss ss' n on v a b end e m s apart there = by (decide m on)
     )
     by (inr z) = inl (last ∙ put_other ss on m (slot.Joined v) z ∙ there)
 
-pub then_stays : (a b c : List Slot) (n : ℕ) → ((m : ℕ) → m ≢ n → at_number b m ≡ at_number a m) → OthersStay b n c → OthersStay a n c
+pub then_stays : (a b c : List Slot) (n : ℕ) → ((m : ℕ) → m ≢ n → at_number b m ≡ at_number a m) → OthersStay b n c
+    → OthersStay a n c
 then_stays a b c n first second m s apart there = second m s apart (first m apart ∙ there)
 
 -- ---- joins
 
 -- whatever comes of it
-pub settle_touches : (t t' : Table) (n on : ℕ) (s : Slot) → OthersStay t.slots.items n t'.slots.items → (a : LegAnswer) → a ≡ behind s on → TouchesJoining t n a t'
+pub settle_touches : (t t' : Table) (n on : ℕ) (s : Slot) → OthersStay t.slots.items n t'.slots.items → (a : LegAnswer)
+    → a ≡ behind s on → TouchesJoining t n a t'
 settle_touches t t' n on s h a e = subst (λ z. TouchesJoining t n z t') (sym e) (by s)
   where
     by : (s : Slot) → TouchesJoining t n (behind s on) t'
@@ -87,7 +96,8 @@ joining_touches t t' n a b e h = subst (λ z. Touches t n z t') (sym e) (by a h)
     by answer.Over h = absurd h
 
 -- behind the instructions of its leg
-pub then_joining : (t u t' : Table) (n : ℕ) (a : LegAnswer) → IsSameBut t n u → TouchesJoining u n a t' → TouchesJoining t n a t'
+pub then_joining : (t u t' : Table) (n : ℕ) (a : LegAnswer) → IsSameBut t n u → TouchesJoining u n a t'
+    → TouchesJoining t n a t'
 then_joining t u t' n (answer.Joined on) h k = then_stays t.slots.items u.slots.items t'.slots.items n h.0 k
 then_joining t u t' n answer.Trapped h k = then_stays t.slots.items u.slots.items t'.slots.items n h.0 k
 then_joining t u t' n answer.Twice h k = then_stays t.slots.items u.slots.items t'.slots.items n h.0 k
@@ -97,7 +107,8 @@ then_joining t u t' n answer.Ended h k = absurd k
 then_joining t u t' n answer.NoSuch h k = absurd k
 then_joining t u t' n answer.Over h k = absurd k
 
-pub ends_touch : (t t' : Table) (n : ℕ) (f : Finish) → OthersStay t.slots.items n t'.slots.items → Touches t n (ends_with f) t'
+pub ends_touch : (t t' : Table) (n : ℕ) (f : Finish) → OthersStay t.slots.items n t'.slots.items
+    → Touches t n (ends_with f) t'
 ends_touch t t' n finish.Done h = h
 ends_touch t t' n (finish.Trapped x) h = h
 
@@ -106,7 +117,8 @@ ends_touch t t' n (finish.Trapped x) h = h
 pub touches_so : (t t' : Table) (n : ℕ) (a b : LegAnswer) → b ≡ a → Touches t n a t' → Touches t n b t'
 touches_so t t' n a b e h = subst (λ z. Touches t n z t') (sym e) h
 
-pub touches_stays : (t t' : Table) (n : ℕ) (a : LegAnswer) → Touches t n a t' → OthersStay t.slots.items n t'.slots.items
+pub touches_stays : (t t' : Table) (n : ℕ) (a : LegAnswer) → Touches t n a t'
+    → OthersStay t.slots.items n t'.slots.items
 touches_stays t t' n (answer.Forked k) h = h
 touches_stays t t' n (answer.Joined k) h = h
 touches_stays t t' n answer.Ended h = h
@@ -128,7 +140,8 @@ in_live t t' n (answer.Waits k) h = h
 in_live t t' n answer.NoSuch h = h
 in_live t t' n answer.Over h = h
 
-pub touches_in : (v v' : rust.World) (t t' : Table) (n : ℕ) (a : LegAnswer) → v ≡ world.Live t → v' ≡ world_after t' a → Touches t n a t' → TouchesIn v n a v'
+pub touches_in : (v v' : rust.World) (t t' : Table) (n : ℕ) (a : LegAnswer) → v ≡ world.Live t → v' ≡ world_after t' a
+    → Touches t n a t' → TouchesIn v n a v'
 touches_in v v' t t' n a e is h =
     subst (λ z. TouchesIn z n a v') (sym e) (subst (λ z. TouchesIn (world.Live t) n a z) (sym is) (in_live t t' n a h))
 

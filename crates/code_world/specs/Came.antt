@@ -13,6 +13,7 @@ use Rattle.code_machine.specs.Local.{CodeRun, Local, at_work, End, end_of}
 use Rattle.code_machine.specs.Joining.{join_in}
 use Rattle.code_machine.specs.Leg.{leg}
 use Rattle.code_machine.specs.Machines.{numbered}
+pub use Rattle.rev_vm.specs.Starts.{run_under}
 use Rattle.rev_vm.specs.Meaning.{IsEnd}
 use Rattle.code_world.specs.declared.advance.Came.{Came}
 use Rattle.code_world.specs.declared.advance.Came.TheVariants as came

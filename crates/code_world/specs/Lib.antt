@@ -9,3 +9,6 @@ pub mod Counts
 pub mod Meetings
 pub mod Said
 pub mod Touches
+pub mod Adopted
+pub mod Beginnings
+pub mod Between

@@ -12,7 +12,7 @@ use Rattle.version_map.specs.declared.end.Finish.{Finish}
 use Rattle.version_map.specs.declared.end.Finish.TheVariants as finish
 use Rattle.revision_machine.specs.Numbered.{Entries, Listing, at_number, put_number}
 use Rattle.code_machine.specs.Local.{CodeRun, IsVerified, Local}
-use Rattle.reached_worlds.specs.Reached.{IsReached}
+use Rattle.code_machine_laws.specs.Reached.{IsReached}
 use Rattle.code_world.specs.declared.answer.LegAnswer.{LegAnswer}
 use Rattle.code_world.specs.declared.answer.LegAnswer.TheVariants as answer
 use Rattle.code_world.specs.declared.slot.Slot.{Slot}

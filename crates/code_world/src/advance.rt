@@ -1,14 +1,17 @@
 //! The instructions of a leg, and the join of a revision that has ended.
 
-ghost use Rattle.std.specs.Prelude.{◌≡◌, ◌<◌, ℕ, List, IfOk};
+ghost use Rattle.std.specs.Prelude.{◌≡◌, ◌<◌, ◌^◌, ℕ, List, IfOk, length};
 ghost use Rattle.rev_code.specs.State.{State};
 ghost use Rattle.rev_code.specs.Step.{forks};
 ghost use Rattle.rev_code.specs.Words.{Word};
 ghost use Rattle.block_run.specs.Area.{count};
-ghost use Rattle.block_merges.specs.Merging.{AreMergesOf};
+ghost use Rattle.rev_vm.specs.Meaning.{AreMergesOf};
 ghost use Rattle.code_machine.specs.Local.{CodeRun, End};
 ghost use Rattle.code_machine.specs.Leg.{leg};
+ghost use Rattle.code_reads.specs.Legs.{leg_reads};
+ghost use Rattle.noting_run.specs.Marks.{HasMarked, marks_of};
 ghost use Rattle.rev_vm.specs.Meaning.{IsEnd};
+ghost use Rattle.version_map.specs.Deltas.{locations};
 ghost use Rattle.rev_vm.specs.Starts.{run_under};
 ghost use Rattle.version_map.specs.declared.end.Finish.TheVariants as finish;
 ghost use Rattle.code_world.specs.Came.{HasCome, HasMet, IsMeeting, meets};
@@ -16,7 +19,8 @@ ghost use Rattle.code_world.specs.Slots.{Runs, StandsAtFork, StandsAtJoin};
 
 use crate::slot::Slot;
 use leg_run::CodeSetting;
-use rev_vm::{AtFork, AtJoin, Event, Runner, Settled, retire, run_leg, settle};
+use noting_run::Noted;
+use rev_vm::{AtFork, AtJoin, Event, Runner, Settled, retire, run_leg, run_leg_noting, settle};
 use std::alloc::{AllocError, Global};
 use version_map::{CodeTrap, EndValue, Finish, MergeBy, Whole};
 
@@ -66,6 +70,36 @@ pub fn advance(
         → IfOk result (λ k. HasCome (run_under setting.now) child c k) }
 {
     match run_leg(alloc, runner, setting) {
+        Ok(Event::Fork(at)) => fork(alloc, setting, at, child),
+        Ok(Event::Join(at)) => Ok(Came::Standing(at)),
+        Ok(Event::End(stopped)) => Ok(Came::Ended(retire(stopped).0)),
+        Ok(Event::Trap(stopped)) => Ok(Came::Ended(retire(stopped).0)),
+        Err(broken) => {
+            broken.give_up();
+            Err(AllocError)
+        },
+    }
+}
+
+/// As `advance`, with notes of what the leg reads.
+pub fn advance_noting(
+    alloc: Global,
+    setting: &CodeSetting,
+    runner: Runner<Whole>,
+    child: u32,
+    noted: &mut Noted,
+) -> Result<Came, AllocError>
+    requires stands { (c : State ℕ) × Runs (run_under setting.now) runner c }
+    requires locations { locations noted.old.locations ≡ count setting.now.code.vars }
+    requires few { length setting.now.inputs.items < 2 ^ 32 }
+    requires positions { locations noted.old.inputs ≡ length setting.now.inputs.items }
+    ensures come { (c : State ℕ) → Runs (run_under setting.now) runner c
+        → IfOk result (λ k. HasCome (run_under setting.now) child c k) }
+    ensures read { (c : State ℕ) → Runs (run_under setting.now) runner c
+        → IfOk result (λ _. HasMarked noted.old noted.new
+        (marks_of (leg_reads (run_under setting.now) c))) }
+{
+    match run_leg_noting(alloc, runner, setting, noted) {
         Ok(Event::Fork(at)) => fork(alloc, setting, at, child),
         Ok(Event::Join(at)) => Ok(Came::Standing(at)),
         Ok(Event::End(stopped)) => Ok(Came::Ended(retire(stopped).0)),

@@ -1,10 +1,10 @@
 //! Worlds, and legs of them.
 
 ghost use Rattle.std.specs.Prelude.{◌≡◌, ℕ, IfOk};
-ghost use Rattle.block_merges.specs.Merging.{AreMergesOf};
+ghost use Rattle.rev_vm.specs.Meaning.{AreMergesOf};
 ghost use Rattle.block_run.specs.Area.{count};
 ghost use Rattle.code_machine.specs.Local.{Local};
-ghost use Rattle.reached_worlds.specs.Reached.{IsReached};
+ghost use Rattle.code_machine_laws.specs.Reached.{IsReached};
 ghost use Rattle.revision_machine.specs.Numbered.{Entries, Listing, World as DefinedWorld};
 ghost use Rattle.rev_vm.specs.Starts.{run_under};
 ghost use Rattle.code_world.specs.Answers.{LegAnswers, world_after};
@@ -38,7 +38,7 @@ impl World {
 }
 
 /// The world of this table after a leg that came out so.
-fn world_of(table: Table, answer: LegAnswer) -> World
+pub(crate) fn world_of(table: Table, answer: LegAnswer) -> World
     ensures { result ≡ world_after table answer }
 {
     match answer {

@@ -7,7 +7,8 @@ use Rattle.rev_syntax.proofs.Shapes.{stmt_is}
 use Rattle.code_generation.specs.Generated.{is_return, ends_in_return}
 use Rattle.emit_program.specs.Parts.{ends_behind}
 
-some_end : (before : Bool) (x : Statement) (rest : Statements) → ends_behind before (statements x rest) ≡ ends_in_return (statements x rest)
+some_end : (before : Bool) (x : Statement) (rest : Statements)
+    → ends_behind before (statements x rest) ≡ ends_in_return (statements x rest)
 some_end before (statement p line form) no_statements = refl
 some_end before (statement p line form) (statements x rest) = some_end (is_return form) x rest
 
@@ -16,5 +17,6 @@ ends_are no_statements = refl
 ends_are (statements x rest) = some_end false x rest
 
 -- one more statement
-pub ends_more : (before : Bool) (s : Stmt) (rest : List Stmt) → ends_behind (is_return (statement_form s.form)) (stmts rest) ≡ ends_behind before (stmts (s ∷ rest))
+pub ends_more : (before : Bool) (s : Stmt) (rest : List Stmt)
+    → ends_behind (is_return (statement_form s.form)) (stmts rest) ≡ ends_behind before (stmts (s ∷ rest))
 ends_more before s rest = sym (ap (λ x. ends_behind before (statements x (stmts rest))) (stmt_is s))

@@ -14,17 +14,20 @@ use Rattle.rev_types.specs.Limits.{DeclarationsWithin}
 use Rattle.rev_types.specs.Scopes.{outside, within}
 use Rattle.code_generation.specs.Numbers.{Numbers, numbers}
 use Rattle.code_generation.specs.Generated.{var_of}
-use Rattle.generated_tables.proofs.Counts.{size_few, statements_few}
-use Rattle.generated_tables.proofs.Small.{texts_count, layouts_count, parts_few}
-use Rattle.generated_tables.proofs.Variables.{vars_few}
+use Rattle.generated_certificates.proofs.Counts.{size_few, statements_few}
+use Rattle.generated_certificates.proofs.Small.{texts_count, layouts_count, parts_few}
+use Rattle.generated_certificates.proofs.Variables.{vars_few}
 use Rattle.emit_program.specs.Fitting.{DeclarationsFit, ProgramFits}
 
-declarations_fit : (n : Numbers) (ws : Table ℕ) (es : List Declaration) → DeclarationsWithin ws es → declarations_count es ≤ 16777216 → DeclarationsFit n es
+declarations_fit : (n : Numbers) (ws : Table ℕ) (es : List Declaration) → DeclarationsWithin ws es
+    → declarations_count es ≤ 16777216 → DeclarationsFit n es
 declarations_fit n ws [] lim few = tt
 declarations_fit n ws (fun w ps r body ∷ es) lim few =
     let params = lim.0.0 in
-    let size = size_few body in
-    ((omega (arith, params), omega (arith, size, few)), declarations_fit n (weights_with ws (fun w ps r body)) es lim.1 (omega (arith, few)))
+    let size = size_few body in (
+      (omega (arith, params), omega (arith, size, few)),
+      declarations_fit n (weights_with ws (fun w ps r body)) es lim.1 (omega (arith, few)),
+    )
 declarations_fit n ws (merge w m j r body ∷ es) lim few =
     let size = size_few body in
     (omega (arith, size, few), declarations_fit n ws es lim.1 (omega (arith, few)))
@@ -58,4 +61,6 @@ module _ (p : ProgramTree) (small : IsSmall p) (well : IsWellTyped p) where
       }
 
 pub typed_fits : (t : Typed) → ProgramFits (whole t.expanded.program)
-typed_fits t = program_fits (whole t.expanded.program) t.expanded.small (kept_typed (whole t.expanded.program) t.expanded.keeps_rules t.well_typed t.expanded.small)
+typed_fits t =
+    program_fits (whole t.expanded.program) t.expanded.small
+    (kept_typed (whole t.expanded.program) t.expanded.keeps_rules t.well_typed t.expanded.small)

@@ -12,14 +12,16 @@ use Rattle.code_generation.specs.Generated.{value_blocks, body_blocks, texts_of,
 use Rattle.code_generation.proofs.Lengths.{statements_prints_length}
 use Rattle.emit_program.specs.Parts.{value_block_of, body_block_of, prints_of, texts_in, layouts_in}
 
-pub value_first : (n : Numbers) (e : Declaration) (es : List Declaration) → value_blocks n (e ∷ es) ≡ value_block_of n e ++ value_blocks n es
+pub value_first : (n : Numbers) (e : Declaration) (es : List Declaration)
+    → value_blocks n (e ∷ es) ≡ value_block_of n e ++ value_blocks n es
 value_first n (fun w ps r body) es = refl
 value_first n (merge w m j r body) es = refl
 value_first n (shared x) es = refl
 value_first n (proc w ps r body) es = refl
 
 -- one more fun or merge
-pub values_behind : (n : Numbers) (e : Declaration) (es : List Declaration) (b0 b1 : List CodeBlock) → b1 ≡ b0 ++ value_block_of n e
+pub values_behind : (n : Numbers) (e : Declaration) (es : List Declaration) (b0 b1 : List CodeBlock)
+    → b1 ≡ b0 ++ value_block_of n e
     → b1 ++ value_blocks n es ≡ b0 ++ value_blocks n (e ∷ es)
 values_behind n e es b0 b1 h =
     ap (λ x. x ++ value_blocks n es) h
@@ -30,14 +32,17 @@ no_more : (k : ℕ) → k ≡ k + 0
 no_more k = omega arith
 
 module _ (n : Numbers) (c : Names) (main : Statements) where
-  body_first : (e : Declaration) (es : List Declaration) (layout : ℕ) → body_blocks n c (e ∷ es) main layout ≡ body_block_of n c layout e ++ body_blocks n c es main (layout + prints_of e)
+  body_first : (e : Declaration) (es : List Declaration) (layout : ℕ)
+      → body_blocks n c (e ∷ es) main layout
+      ≡ body_block_of n c layout e ++ body_blocks n c es main (layout + prints_of e)
   body_first (proc w ps r body) es layout = refl
   body_first (fun w ps r body) es layout = ap (λ k. body_blocks n c es main k) (no_more layout)
   body_first (merge w m j r body) es layout = ap (λ k. body_blocks n c es main k) (no_more layout)
   body_first (shared x) es layout = ap (λ k. body_blocks n c es main k) (no_more layout)
 
   -- one more procedure
-  pub bodies_behind : (e : Declaration) (es : List Declaration) (b0 b1 : List CodeBlock) (y0 y1 : ℕ) → b1 ≡ b0 ++ body_block_of n c y0 e → y1 ≡ y0 + prints_of e
+  pub bodies_behind : (e : Declaration) (es : List Declaration) (b0 b1 : List CodeBlock) (y0 y1 : ℕ)
+      → b1 ≡ b0 ++ body_block_of n c y0 e → y1 ≡ y0 + prints_of e
       → b1 ++ body_blocks n c es main y1 ≡ b0 ++ body_blocks n c (e ∷ es) main y0
   bodies_behind e es b0 b1 y0 y1 h k =
       (λ j. h j ++ body_blocks n c es main (k j))
@@ -51,7 +56,8 @@ module _ (c : Names) (main : Statements) where
   texts_first (merge w m j r body) es = refl
   texts_first (shared x) es = refl
 
-  layouts_first : (e : Declaration) (es : List Declaration) (t : ℕ) → layouts_of c t (e ∷ es) main ≡ layouts_in c t e ++ layouts_of c (t + length (texts_in e)) es main
+  layouts_first : (e : Declaration) (es : List Declaration) (t : ℕ)
+      → layouts_of c t (e ∷ es) main ≡ layouts_in c t e ++ layouts_of c (t + length (texts_in e)) es main
   layouts_first (proc w ps r body) es t = refl
   layouts_first (fun w ps r body) es t = ap (λ k. layouts_of c k es main) (no_more t)
   layouts_first (merge w m j r body) es t = ap (λ k. layouts_of c k es main) (no_more t)
@@ -64,19 +70,28 @@ module _ (c : Names) (main : Statements) where
   layouts_long (shared x) t = refl
 
   -- so many more layouts
-  pub layouts_grown : (e : Declaration) (t : ℕ) (y0 y1 : List (List LayoutItem)) → y1 ≡ y0 ++ layouts_in c t e → length y1 ≡ length y0 + prints_of e
-  layouts_grown e t y0 y1 h = let a = ap length h in let b = length-append y0 (layouts_in c t e) in let l = layouts_long e t in omega (arith, a, b, l)
+  pub layouts_grown : (e : Declaration) (t : ℕ) (y0 y1 : List (List LayoutItem)) → y1 ≡ y0 ++ layouts_in c t e
+      → length y1 ≡ length y0 + prints_of e
+  layouts_grown e t y0 y1 h =
+      let a = ap length h in
+      let b = length-append y0 (layouts_in c t e) in
+      let l = layouts_long e t in
+      omega (arith, a, b, l)
 
-  texts_grown : (e : Declaration) (t0 t1 : List (List ℕ)) → t1 ≡ t0 ++ texts_in e → length t1 ≡ length t0 + length (texts_in e)
+  texts_grown : (e : Declaration) (t0 t1 : List (List ℕ)) → t1 ≡ t0 ++ texts_in e
+      → length t1 ≡ length t0 + length (texts_in e)
   texts_grown e t0 t1 h = let a = ap length h in let b = length-append t0 (texts_in e) in omega (arith, a, b)
 
-  pub texts_behind : (e : Declaration) (es : List Declaration) (t0 t1 : List (List ℕ)) → t1 ≡ t0 ++ texts_in e → t1 ++ texts_of es main ≡ t0 ++ texts_of (e ∷ es) main
+  pub texts_behind : (e : Declaration) (es : List Declaration) (t0 t1 : List (List ℕ)) → t1 ≡ t0 ++ texts_in e
+      → t1 ++ texts_of es main ≡ t0 ++ texts_of (e ∷ es) main
   texts_behind e es t0 t1 h =
       ap (λ x. x ++ texts_of es main) h
       ∙ append_assoc t0 (texts_in e) (texts_of es main)
       ∙ ap (λ x. t0 ++ x) (sym (texts_first e es))
 
-  pub layouts_behind : (e : Declaration) (es : List Declaration) (t0 t1 : List (List ℕ)) (y0 y1 : List (List LayoutItem)) → t1 ≡ t0 ++ texts_in e → y1 ≡ y0 ++ layouts_in c (length t0) e
+  pub layouts_behind : (e : Declaration) (es : List Declaration) (t0 t1 : List (List ℕ))
+      (y0 y1 : List (List LayoutItem))
+      → t1 ≡ t0 ++ texts_in e → y1 ≡ y0 ++ layouts_in c (length t0) e
       → y1 ++ layouts_of c (length t1) es main ≡ y0 ++ layouts_of c (length t0) (e ∷ es) main
   layouts_behind e es t0 t1 y0 y1 h k =
       (λ j. k j ++ layouts_of c (texts_grown e t0 t1 h j) es main)
@@ -85,7 +100,8 @@ module _ (c : Names) (main : Statements) where
 
   -- ---- room
 
-  pub texts_room : (e : Declaration) (es : List Declaration) (t all : List (List ℕ)) → t ++ texts_of (e ∷ es) main ≡ all → length all < 2 ^ 32 → length t + length (texts_in e) < 2 ^ 32
+  pub texts_room : (e : Declaration) (es : List Declaration) (t all : List (List ℕ)) → t ++ texts_of (e ∷ es) main ≡ all
+      → length all < 2 ^ 32 → length t + length (texts_in e) < 2 ^ 32
   texts_room e es t all h few =
       let a = ap length h in
       let b = length-append t (texts_of (e ∷ es) main) in
@@ -93,7 +109,8 @@ module _ (c : Names) (main : Statements) where
       let f = length-append (texts_in e) (texts_of es main) in
       omega (arith, a, b, d, f, few)
 
-  pub layouts_room : (e : Declaration) (es : List Declaration) (t : ℕ) (y all : List (List LayoutItem)) → y ++ layouts_of c t (e ∷ es) main ≡ all → length all < 2 ^ 32 → length y + prints_of e < 2 ^ 32
+  pub layouts_room : (e : Declaration) (es : List Declaration) (t : ℕ) (y all : List (List LayoutItem))
+      → y ++ layouts_of c t (e ∷ es) main ≡ all → length all < 2 ^ 32 → length y + prints_of e < 2 ^ 32
   layouts_room e es t y all h few =
       let a = ap length h in
       let b = length-append y (layouts_of c t (e ∷ es) main) in
@@ -102,10 +119,13 @@ module _ (c : Names) (main : Statements) where
       let l = layouts_long e t in
       omega (arith, a, b, d, f, l, few)
 
-  pub main_texts_room : (t all : List (List ℕ)) → t ++ texts_of [] main ≡ all → length all < 2 ^ 32 → length t + length (statements_texts main) < 2 ^ 32
-  main_texts_room t all h few = let a = ap length h in let b = length-append t (statements_texts main) in omega (arith, a, b, few)
+  pub main_texts_room : (t all : List (List ℕ)) → t ++ texts_of [] main ≡ all → length all < 2 ^ 32
+      → length t + length (statements_texts main) < 2 ^ 32
+  main_texts_room t all h few =
+      let a = ap length h in let b = length-append t (statements_texts main) in omega (arith, a, b, few)
 
-  pub main_layouts_room : (t : ℕ) (y all : List (List LayoutItem)) → y ++ layouts_of c t [] main ≡ all → length all < 2 ^ 32 → length y + statements_prints main < 2 ^ 32
+  pub main_layouts_room : (t : ℕ) (y all : List (List LayoutItem)) → y ++ layouts_of c t [] main ≡ all
+      → length all < 2 ^ 32 → length y + statements_prints main < 2 ^ 32
   main_layouts_room t y all h few =
       let a = ap length h in
       let b = length-append y (statements_layouts c [] t main) in

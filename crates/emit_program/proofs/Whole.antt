@@ -13,7 +13,8 @@ use Rattle.code_generation.specs.Generated.{var_of, value_blocks, body_blocks, t
 use Rattle.emit_program.specs.Fitting.{BodyFits, DeclarationsFit, ProgramFits}
 
 module _ (p : ProgramTree) where
-  pub whole_code : (n : Numbers) (c : Names) (vars : List CodeVar) (texts : List (List ℕ)) (layouts : List (List LayoutItem)) (values blocks : List CodeBlock)
+  pub whole_code : (n : Numbers) (c : Names) (vars : List CodeVar) (texts : List (List ℕ))
+      (layouts : List (List LayoutItem)) (values blocks : List CodeBlock)
       → n ≡ numbers p → c ≡ outside p.declarations
       → vars ≡ map (var_of p.declarations) (variables p)
       → texts ≡ texts_of p.declarations p.main
@@ -25,7 +26,10 @@ module _ (p : ProgramTree) where
     vars = ev i;
     texts = et i;
     layouts = (el ∙ (λ j. layouts_of (ec j) 0 p.declarations p.main)) i;
-    blocks = (eb ∙ (λ j. (es ∙ (λ k. value_blocks (en k) p.declarations)) j ++ body_blocks (en j) (ec j) p.declarations p.main 0)) i;
+    blocks = (eb
+        ∙ (λ j. (es ∙ (λ k. value_blocks (en k) p.declarations)) j
+        ++ body_blocks (en j) (ec j) p.declarations p.main 0))
+        i;
   }
 
   pub declarations_by : (n : Numbers) → n ≡ numbers p → ProgramFits p → DeclarationsFit n p.declarations
@@ -34,5 +38,6 @@ module _ (p : ProgramTree) where
   pub main_by : (n : Numbers) → n ≡ numbers p → ProgramFits p → BodyFits n [] p.main
   main_by n e f = subst (λ m. BodyFits m [] p.main) (sym e) f.main
 
-  pub layouts_by : (c : Names) → c ≡ outside p.declarations → ProgramFits p → length (layouts_of c 0 p.declarations p.main) < 2 ^ 32
+  pub layouts_by : (c : Names) → c ≡ outside p.declarations → ProgramFits p
+      → length (layouts_of c 0 p.declarations p.main) < 2 ^ 32
   layouts_by c e f = subst (λ m. length (layouts_of m 0 p.declarations p.main) < 2 ^ 32) (sym e) f.layouts

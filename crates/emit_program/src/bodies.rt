@@ -11,13 +11,12 @@ ghost use Rattle.code_generation.specs.Prints.{statements_layouts, statements_te
 ghost use Rattle.code_generation.specs.Generated.{body_blocks, body_code, body_locals, end_code};
 ghost use Rattle.code_generation.specs.Generated.{ends_in_return, is_return, layouts_of};
 ghost use Rattle.code_generation.specs.Generated.{main_block, proc_block, texts_of, zero_code};
-ghost use Rattle.emit_expressions.specs.Naming.{numbers_of};
+ghost use Rattle.emit_code.specs.Naming.{numbers_of};
 ghost use Rattle.emit_program.specs.Fitting.{BodyFits, DeclarationFits, DeclarationsFit};
 ghost use Rattle.emit_program.specs.Parts.{body_block_of, layouts_in, prints_of, texts_in};
 
 use crate::params::{params_kinds, params_locals, params_scope};
-use emit_blocks::{Body, emit_block};
-use emit_expressions::{NameNumbers, put};
+use emit_code::{Body, NameNumbers, emit_block, put};
 use emit_tables::{Listed, list_block};
 use merge_decl::NameTable;
 use rev_code::{BlockClass, CodeBlock, Instr};

@@ -6,8 +6,7 @@ ghost use Rattle.code_generation.specs.Generated.{code_of};
 
 use crate::bodies::emit_bodies;
 use crate::values::emit_values;
-use emit_names::{code_vars, name_numbers, value_blocks};
-use emit_tables::Listed;
+use emit_tables::{Listed, code_vars, name_numbers, value_blocks};
 use rev_code::Code;
 use rev_kinds::Checker;
 use rev_num::Items;

@@ -5,12 +5,12 @@ ghost use Rattle.rev_syntax.specs.View.{declaration, expression, parameter, plac
 ghost use Rattle.rev_code.specs.declared.code.Instr.TheVariants as i;
 ghost use Rattle.code_generation.specs.Expressions.{expression_code};
 ghost use Rattle.code_generation.specs.Generated.{fun_block, merge_block, value_blocks};
-ghost use Rattle.emit_expressions.specs.Naming.{numbers_of};
+ghost use Rattle.emit_code.specs.Naming.{numbers_of};
 ghost use Rattle.emit_program.specs.Fitting.{DeclarationFits, DeclarationsFit, ValueFits};
 ghost use Rattle.emit_program.specs.Parts.{value_block_of};
 
 use crate::params::{merge_scope, params_kinds, params_scope};
-use emit_expressions::{Known, NameNumbers, emit_expression, put};
+use emit_code::{Known, NameNumbers, emit_expression, put};
 use merge_decl::NameTable;
 use rev_code::{BlockClass, CodeBlock, Instr};
 use rev_num::{Items, ValueKind};

@@ -16,7 +16,7 @@ use Rattle.rev_code.specs.Step as s
 use Rattle.rev_code.specs.Step.{Comes, goes, traps, forks, joins, ends, stuck, act, act_in, act_at, step, reach, params, value_at, is_fun, only, Steps}
 use Rattle.rev_code.specs.Funs.{fun_start, setting_of_fun, values, answer}
 use Rattle.code_rules.specs.Pass.{has_class, is_value_class, is_pure}
-use Rattle.code_certificate.proofs.Basics.{and_parts, some_eq}
+use Rattle.code_soundness.proofs.Basics.{and_parts, some_eq}
 use Rattle.code_soundness.specs.Typed.{kinds_of}
 use Rattle.code_soundness.specs.Whole.{IsAccepted, notes_of}
 use Rattle.code_soundness.specs.Funs.{IsFunStep, IsArithmetic, HasValue}
@@ -59,15 +59,22 @@ module _ (code : Code) (ok : IsAccepted code (notes_of code)) (n : ℕ) where
   t = setting_in code [] (value n)
 
   later : (c c' : State ℕ) → IsGood code (value n) c → step (setting_in code [] (value n)) c ≡ goes c' → c.at < c'.at
-  later c c' g e = (subst (IsFunStep code (notes_of code) g.2.0 c) e (fun_step code (notes_of code) ok n g.2.0 g.2.1 g.2.2 c g.0 g.1)).later
+  later c c' g e =
+      (subst (IsFunStep code (notes_of code) g.2.0 c) e
+      (fun_step code (notes_of code) ok n g.2.0 g.2.1 g.2.2 c g.0 g.1)).later
 
-  pub not_earlier : (c c' : State ℕ) → IsGood code (value n) c → Steps (setting_in code [] (value n)) c c' → c.at ≤ c'.at
+  pub not_earlier : (c c' : State ℕ) → IsGood code (value n) c → Steps (setting_in code [] (value n)) c c'
+      → c.at ≤ c'.at
   not_earlier c _ g s.none = omega arith
   not_earlier c c' g (s.more {c' = d} e rest) =
-      let a = later c d g e in let r = not_earlier d c' (good_next code ok [] (value n) c d g e) rest in omega (arith, a, r)
+      let a = later c d g e in
+      let r = not_earlier d c' (good_next code ok [] (value n) c d g e) rest in
+      omega (arith, a, r)
 
-  pub trap_arithmetic : (c c' : State ℕ) (e : Cause) → IsGood code (value n) c → step (setting_in code [] (value n)) c ≡ traps c' e → IsArithmetic e
-  trap_arithmetic c c' e g h = subst (IsFunStep code (notes_of code) g.2.0 c) h (fun_step code (notes_of code) ok n g.2.0 g.2.1 g.2.2 c g.0 g.1)
+  pub trap_arithmetic : (c c' : State ℕ) (e : Cause) → IsGood code (value n) c
+      → step (setting_in code [] (value n)) c ≡ traps c' e → IsArithmetic e
+  trap_arithmetic c c' e g h =
+      subst (IsFunStep code (notes_of code) g.2.0 c) h (fun_step code (notes_of code) ok n g.2.0 g.2.1 g.2.2 c g.0 g.1)
 
   onward_event : (f : State ℕ → Comes ℕ) (o : Comes ℕ) → IsEvent o → s.onward f o ≡ o
   onward_event f (goes c) h = absurd h
@@ -77,32 +84,43 @@ module _ (code : Code) (ok : IsAccepted code (notes_of code)) (n : ℕ) where
   onward_event f (ends c w) h = refl
   onward_event f stuck h = refl
 
-  reach_event : (m : ℕ) (c : State ℕ) → IsEvent (step (setting_in code [] (value n)) c) → reach (setting_in code [] (value n)) m c ≡ step (setting_in code [] (value n)) c
+  reach_event : (m : ℕ) (c : State ℕ) → IsEvent (step (setting_in code [] (value n)) c)
+      → reach (setting_in code [] (value n)) m c ≡ step (setting_in code [] (value n)) c
   reach_event zero c h = refl
-  reach_event (suc m) c h = onward_event (λ d. reach (setting_in code [] (value n)) m d) (step (setting_in code [] (value n)) c) h
+  reach_event (suc m) c h =
+      onward_event (λ d. reach (setting_in code [] (value n)) m d) (step (setting_in code [] (value n)) c) h
 
-  reach_is : (c c' : State ℕ) → IsGood code (value n) c → Steps (setting_in code [] (value n)) c c' → IsEvent (step (setting_in code [] (value n)) c')
+  reach_is : (c c' : State ℕ) → IsGood code (value n) c → Steps (setting_in code [] (value n)) c c'
+      → IsEvent (step (setting_in code [] (value n)) c')
       → (m : ℕ) → c'.at ≤ c.at + m → reach (setting_in code [] (value n)) m c ≡ step (setting_in code [] (value n)) c'
   reach_is c _ g s.none ev m h = reach_event m c ev
   reach_is c c' g (s.more {c' = d} e rest) ev zero h =
-      let a = later c d g e in let r = not_earlier d c' (good_next code ok [] (value n) c d g e) rest in absurd (omega (arith, a, r, h))
+      let a = later c d g e in
+      let r = not_earlier d c' (good_next code ok [] (value n) c d g e) rest in
+      absurd (omega (arith, a, r, h))
   reach_is c c' g (s.more {c' = d} e rest) ev (suc m) h =
       let a = later c d g e in
-      ap (s.onward (λ x. reach (setting_in code [] (value n)) m x)) e ∙ reach_is d c' (good_next code ok [] (value n) c d g e) rest ev m (omega (arith, a, h))
+      ap (s.onward (λ x. reach (setting_in code [] (value n)) m x)) e
+      ∙ reach_is d c' (good_next code ok [] (value n) c d g e) rest ev m (omega (arith, a, h))
 
-  module _ (b : CodeBlock) (is : slice_get code.blocks n ≡ Some b) (class : is_value_class b.class ≡ true) (args : List (Word ℕ)) (kinds : kinds_of args ≡ params b) where
+  module _ (b : CodeBlock) (is : slice_get code.blocks n ≡ Some b) (class : is_value_class b.class ≡ true)
+      (args : List (Word ℕ)) (kinds : kinds_of args ≡ params b) where
     pub start_good : IsGood code (value n) (fun_start n b args)
     start_good = (fun_starts code (notes_of code) ok n b is args kinds, refl, (b, is, class))
 
     -- the value is the answer of the event at which the evaluation arrives
-    pub value_is : (c : State ℕ) → Steps (setting_in code [] (value n)) (fun_start n b args) c → IsEvent (step (setting_in code [] (value n)) c) → c.at ≤ length b.instrs
+    pub value_is : (c : State ℕ) → Steps (setting_in code [] (value n)) (fun_start n b args) c
+        → IsEvent (step (setting_in code [] (value n)) c) → c.at ≤ length b.instrs
         → value_at (slice_get (values code) n) args ≡ answer (step (setting_in code [] (value n)) c)
     value_is c steps ev inside =
         let v = values_by_blocks code n b is in
         let f = fits_kinds (params b) args kinds in
         let r = reach_is (fun_start n b args) c start_good steps ev (length b.instrs) (omega (arith, inside)) in
         ap (λ o. value_at o args) v
-        ∙ ap (λ d. if d then answer (reach (setting_of_fun code (take n (values code))) (length b.instrs) (fun_start n b args)) else None) f
+        ∙ ap (λ d.
+        if d then answer (reach (setting_of_fun code (take n (values code))) (length b.instrs) (fun_start n b args))
+        else None)
+        f
         ∙ ap answer r
 
     pub has_value : HasValue b.result (value_at (slice_get (values code) n) args)
@@ -115,15 +133,20 @@ module _ (code : Code) (ok : IsAccepted code (notes_of code)) (n : ℕ) where
     block_is = ap (slice_get code.blocks) good.1 ∙ is
 
     class_is : is_value_class b.class ≡ true
-    class_is = let e : good.2.0 ≡ b = some_eq (sym good.2.1 ∙ is) in sym (ap (λ (y : CodeBlock). is_value_class y.class) e) ∙ good.2.2
+    class_is =
+        let e : good.2.0 ≡ b = some_eq (sym good.2.1 ∙ is) in
+        sym (ap (λ (y : CodeBlock). is_value_class y.class) e) ∙ good.2.2
 
-    act_is : (x : Instr) → slice_get b.instrs c.at ≡ Some x → step (setting_in code [] (value n)) c ≡ act (setting_in code [] (value n)) b c x
-    act_is x at = ap (act_in (setting_in code [] (value n)) c) block_is ∙ ap (act_at (setting_in code [] (value n)) b c) at
+    act_is : (x : Instr) → slice_get b.instrs c.at ≡ Some x
+        → step (setting_in code [] (value n)) c ≡ act (setting_in code [] (value n)) b c x
+    act_is x at =
+        ap (act_in (setting_in code [] (value n)) c) block_is ∙ ap (act_at (setting_in code [] (value n)) b c) at
 
     has : (x : Instr) → slice_get b.instrs c.at ≡ Some x → act (setting_in code [] (value n)) b c x ≢ stuck
     has x at e = good_event code ok [] (value n) c good (act_is x at ∙ e)
 
-    operand_of : (x : Instr) → slice_get b.instrs c.at ≡ Some x → Rattle.code_rules.specs.Pass.bad_operand code c.block b x ≡ false
+    operand_of : (x : Instr) → slice_get b.instrs c.at ≡ Some x
+        → Rattle.code_rules.specs.Pass.bad_operand code c.block b x ≡ false
     operand_of x at = ((ok.certified c.block b block_is).each c.at x at).operand
 
     pure_only : (x : Instr) → slice_get b.instrs c.at ≡ Some x → is_pure x ≡ false → ⊥
@@ -142,7 +165,8 @@ module _ (code : Code) (ok : IsAccepted code (notes_of code)) (n : ℕ) where
     turns i.TryJoin p h = absurd (p refl)
     turns _ p h = absurd (true≢false (sym h))
 
-    pub turn_here : (x : Instr) → slice_get b.instrs c.at ≡ Some x → leaves_block x ≡ true → (slice_get b.instrs c.at ≡ Some i.Return) ⊎ ((j : ℕ) × (slice_get b.instrs c.at ≡ Some (i.Apply j)))
+    pub turn_here : (x : Instr) → slice_get b.instrs c.at ≡ Some x → leaves_block x ≡ true
+        → (slice_get b.instrs c.at ≡ Some i.Return) ⊎ ((j : ℕ) × (slice_get b.instrs c.at ≡ Some (i.Apply j)))
     turn_here x at h = elim (turns x (pure_only x at) h) [
       | inl e ↦ inl (at ∙ ap Some e)
       | inr e ↦ inr (e.0, at ∙ ap Some e.1)
@@ -156,9 +180,11 @@ module _ (code : Code) (ok : IsAccepted code (notes_of code)) (n : ℕ) where
       pub top : (result ≡ None) ⊎ ((w : Word ℕ) × (rest : List (Word ℕ)) × (c.stack ≡ w ∷ rest) × (result ≡ Some w))
 
     abbrev Gives : Comes ℕ → Type 0
-    Gives o = (result : Option (Word ℕ)) × (o ≡ ends c result) × ((result ≡ None) ⊎ ((w : Word ℕ) × (rest : List (Word ℕ)) × (c.stack ≡ w ∷ rest) × (result ≡ Some w)))
+    Gives o = (result : Option (Word ℕ)) × (o ≡ ends c result)
+        × ((result ≡ None) ⊎ ((w : Word ℕ) × (rest : List (Word ℕ)) × (c.stack ≡ w ∷ rest) × (result ≡ Some w)))
 
-    gives_if : (d : Bool) (w : Word ℕ) (rest : List (Word ℕ)) → c.stack ≡ w ∷ rest → (fs : List (Frame ℕ)) → fs ≡ [] → (if d then s.leave c fs (Some w) else stuck) ≢ stuck → Gives (if d then s.leave c fs (Some w) else stuck)
+    gives_if : (d : Bool) (w : Word ℕ) (rest : List (Word ℕ)) → c.stack ≡ w ∷ rest → (fs : List (Frame ℕ)) → fs ≡ []
+        → (if d then s.leave c fs (Some w) else stuck) ≢ stuck → Gives (if d then s.leave c fs (Some w) else stuck)
     gives_if true w rest e [] f h = (Some w, refl, inr (w, rest, e, refl))
     gives_if true w rest e (g ∷ fs) f h = absurd (cons_no f)
       where
@@ -173,7 +199,8 @@ module _ (code : Code) (ok : IsAccepted code (notes_of code)) (n : ℕ) where
         cons_no : g ∷ fs ≡ [] → ⊥
         cons_no h = cc
 
-    gives : (o : Option ValueKind) (ws : List (Word ℕ)) → c.stack ≡ ws → c.below ≡ [] → s.return c o ws ≢ stuck → Gives (s.return c o ws)
+    gives : (o : Option ValueKind) (ws : List (Word ℕ)) → c.stack ≡ ws → c.below ≡ [] → s.return c o ws ≢ stuck
+        → Gives (s.return c o ws)
     gives None ws e f h = gives_none c.below f
     gives (Some x) [] e f h = absurd (h refl)
     gives (Some x) (w ∷ rest) e f h = gives_if (same_kind x (kind_of w)) w rest e c.below f h
@@ -194,27 +221,38 @@ module _ (code : Code) (ok : IsAccepted code (notes_of code)) (n : ℕ) where
       pub kinds : kinds_of (reverse (take (length (params body)) c.stack)) ≡ params body
       pub many : length (reverse (take (length (params body)) c.stack)) ≡ length (params body)
       pub comes : step (setting_in code [] (value n)) c
-          ≡ s.value_or_trap c (drop (length (reverse (take (length (params body)) c.stack))) c.stack) (value_at (slice_get (values code) j) (reverse (take (length (params body)) c.stack)))
+          ≡ s.value_or_trap c (drop (length (reverse (take (length (params body)) c.stack))) c.stack)
+          (value_at (slice_get (values code) j) (reverse (take (length (params body)) c.stack)))
 
     abbrev args_of : CodeBlock → List (Word ℕ)
     args_of y = reverse (take (length (params y)) c.stack)
 
     abbrev Applies : ℕ → Comes ℕ → Type 0
-    Applies j o = (body : CodeBlock) × (slice_get code.blocks j ≡ Some body) × (is_fun body.class ≡ true) × (fits (params body) (args_of body) ≡ true)
-        × (o ≡ s.value_or_trap c (drop (length (args_of body)) c.stack) (value_at (slice_get (take n (values code)) j) (args_of body)))
+    Applies j o =
+        (body : CodeBlock) × (slice_get code.blocks j ≡ Some body) × (is_fun body.class ≡ true)
+        × (fits (params body) (args_of body) ≡ true)
+        × (o
+        ≡ s.value_or_trap c (drop (length (args_of body)) c.stack)
+        (value_at (slice_get (take n (values code)) j) (args_of body)))
 
-    with_args : (j : ℕ) (y : CodeBlock) (f : Option (Fun ℕ)) → f ≡ slice_get (take n (values code)) j → slice_get code.blocks j ≡ Some y → is_fun y.class ≡ true → (d : Bool) → fits (params y) (args_of y) ≡ d
-        → s.apply_to c f (if d then Some (args_of y) else None) ≢ stuck → Applies j (s.apply_to c f (if d then Some (args_of y) else None))
-    with_args j y f e is cl true g h = (y, is, cl, g, ap (λ z. s.value_or_trap c (drop (length (args_of y)) c.stack) (value_at z (args_of y))) e)
+    with_args : (j : ℕ) (y : CodeBlock) (f : Option (Fun ℕ)) → f ≡ slice_get (take n (values code)) j
+        → slice_get code.blocks j ≡ Some y → is_fun y.class ≡ true → (d : Bool) → fits (params y) (args_of y) ≡ d
+        → s.apply_to c f (if d then Some (args_of y) else None) ≢ stuck
+        → Applies j (s.apply_to c f (if d then Some (args_of y) else None))
+    with_args j y f e is cl true g h =
+        (y, is, cl, g, ap (λ z. s.value_or_trap c (drop (length (args_of y)) c.stack) (value_at z (args_of y))) e)
     with_args j y f e is cl false g h = absurd (h refl)
 
     with_fun : (j : ℕ) (y : CodeBlock) → slice_get code.blocks j ≡ Some y → (d : Bool) → is_fun y.class ≡ d
-        → s.apply c (if d then Some y else None) (slice_get (take n (values code)) j) ≢ stuck → Applies j (s.apply c (if d then Some y else None) (slice_get (take n (values code)) j))
-    with_fun j y is true g h = with_args j y (slice_get (take n (values code)) j) refl is g (fits (params y) (args_of y)) refl h
+        → s.apply c (if d then Some y else None) (slice_get (take n (values code)) j) ≢ stuck
+        → Applies j (s.apply c (if d then Some y else None) (slice_get (take n (values code)) j))
+    with_fun j y is true g h =
+        with_args j y (slice_get (take n (values code)) j) refl is g (fits (params y) (args_of y)) refl h
     with_fun j y is false g h = absurd (h refl)
 
     with_block : (j : ℕ) (o : Option CodeBlock) → slice_get code.blocks j ≡ o
-        → s.apply c (only is_fun o) (slice_get (take n (values code)) j) ≢ stuck → Applies j (s.apply c (only is_fun o) (slice_get (take n (values code)) j))
+        → s.apply c (only is_fun o) (slice_get (take n (values code)) j) ≢ stuck
+        → Applies j (s.apply c (only is_fun o) (slice_get (take n (values code)) j))
     with_block j None is h = absurd (h refl)
     with_block j (Some y) is h = with_fun j y is (is_fun y.class) refl h
 
@@ -237,5 +275,7 @@ module _ (code : Code) (ok : IsAccepted code (notes_of code)) (n : ℕ) where
           enough = taken_enough (length (params y)) c.stack taken;
           kinds = kinds;
           many = many;
-          comes = act_is (i.Apply j) at ∙ q.4 ∙ ap (λ z. s.value_or_trap c (drop (length (args_of y)) c.stack) (value_at z (args_of y))) (got_front (values code) n j less);
+          comes = act_is (i.Apply j) at ∙ q.4
+              ∙ ap (λ z. s.value_or_trap c (drop (length (args_of y)) c.stack) (value_at z (args_of y)))
+              (got_front (values code) n j less);
         }

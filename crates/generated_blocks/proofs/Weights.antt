@@ -17,8 +17,8 @@ use Rattle.code_rules.specs.Pass.{cost_at, applied}
 use Rattle.code_ways.specs.Breaks.{need_of_applied, total_count}
 use Rattle.code_generation.specs.Numbers.{Numbers, Scope}
 use Rattle.code_generation.specs.Expressions.{expression_size, link_size, load, unary_code, link_code, pick_yes, pick_no, pick_end, expression_code, form_code, expressions_code, links_code}
-use Rattle.expression_run.proofs.Typed.{Typed, FormTyped, ArgsTyped, LinksTyped}
-use Rattle.generated_certificate.specs.Expressions.{expression_depth, form_depth, expressions_depth, links_depth}
+use Rattle.expression_meaning.proofs.Typed.{Typed, FormTyped, ArgsTyped, LinksTyped}
+use Rattle.generated_certificates.specs.Expressions.{expression_depth, form_depth, expressions_depth, links_depth}
 
 -- ---- the own parts of an expression
 
@@ -38,13 +38,16 @@ own_some (placed p (pick test x y)) = omega arith
 own_some (placed p (unary op e)) = omega arith
 own_some (placed p (chain first rest)) = let h = own_some first in omega (arith, h)
 
-module _ (c : Names) (l : Locals) (Can : Name → Callee → Type 0) (few : (name : Name) (f : Callee) → Can name f → length f.params ≤ 8) where
+module _ (c : Names) (l : Locals) (Can : Name → Callee → Type 0)
+    (few : (name : Name) (f : Callee) → Can name f → length f.params ≤ 8) where
   mutual
     -- the depth is at most seven eighths of the parts, and one more
-    pub depth_within : (e : Expression) (t : ValueKind) → Typed c l Can e t → 8 * expression_depth e ≤ 7 * expression_weight [] e + 8
+    pub depth_within : (e : Expression) (t : ValueKind) → Typed c l Can e t
+        → 8 * expression_depth e ≤ 7 * expression_weight [] e + 8
     depth_within (placed p form) t h = form_within form t h
 
-    form_within : (form : ExpressionForm) (t : ValueKind) → FormTyped c l Can form t → 8 * form_depth form ≤ 7 * expression_form_weight [] form + 8
+    form_within : (form : ExpressionForm) (t : ValueKind) → FormTyped c l Can form t
+        → 8 * form_depth form ≤ 7 * expression_form_weight [] form + 8
     form_within (int z) t h = omega arith
     form_within (bool z) t h = omega arith
     form_within no_rev t h = omega arith
@@ -56,12 +59,22 @@ module _ (c : Names) (l : Locals) (Can : Name → Callee → Type 0) (few : (nam
         let r = args_within h.0.params args 0 h.4 (omega (arith, less)) in
         omega (arith, r)
     form_within (input p index) t h = let r = depth_within index _ h.2 in omega (arith, r)
-    form_within (pick test x y) t h = let r = depth_within test _ h.0 in let s = depth_within x _ h.1 in let q = depth_within y _ h.2 in omega (arith, r, s, q)
+    form_within (pick test x y) t h =
+        let r = depth_within test _ h.0 in
+        let s = depth_within x _ h.1 in
+        let q = depth_within y _ h.2 in
+        omega (arith, r, s, q)
     form_within (unary op e) t h = let r = depth_within e _ h.1 in omega (arith, r)
-    form_within (chain first rest) t h = let r = depth_within first _ h.1 in let s = links_within rest h.0 t h.2 in let o = own_some first in omega (arith, r, s, o)
+    form_within (chain first rest) t h =
+        let r = depth_within first _ h.1 in
+        let s = links_within rest h.0 t h.2 in
+        let o = own_some first in
+        omega (arith, r, s, o)
 
     -- behind as many arguments, each of which has a part
-    args_within : (ps : List Parameter) (args : Expressions) (before : ℕ) → ArgsTyped c l Can ps args → before + length ps ≤ 8 → 8 * (before + expressions_depth args) ≤ 7 * (1 + before + expressions_weight [] args) + 8
+    args_within : (ps : List Parameter) (args : Expressions) (before : ℕ) → ArgsTyped c l Can ps args
+        → before + length ps ≤ 8
+        → 8 * (before + expressions_depth args) ≤ 7 * (1 + before + expressions_weight [] args) + 8
     args_within [] no_expressions before h few' = omega (arith, few')
     args_within [] (expression e rest) before h few' = absurd h
     args_within (p ∷ ps) no_expressions before h few' = absurd h
@@ -72,9 +85,11 @@ module _ (c : Names) (l : Locals) (Can : Name → Callee → Type 0) (few : (nam
         omega (arith, r, s, o, few')
 
     -- above a left operand, which has a part
-    links_within : (rest : Links) (left t : ValueKind) → LinksTyped c l Can left rest t → 8 * links_depth rest ≤ 7 * (1 + links_weight [] rest) + 8
+    links_within : (rest : Links) (left t : ValueKind) → LinksTyped c l Can left rest t
+        → 8 * links_depth rest ≤ 7 * (1 + links_weight [] rest) + 8
     links_within no_links left t h = omega arith
-    links_within (link op e rest) left t h = let r = depth_within e _ h.1 in let s = links_within rest (given_kind op) t h.4 in omega (arith, r, s)
+    links_within (link op e rest) left t h =
+        let r = depth_within e _ h.1 in let s = links_within rest (given_kind op) t h.4 in omega (arith, r, s)
 
 -- ---- what is applied
 
@@ -83,7 +98,8 @@ module _ (costs : List Cost) where
   count_both [] ys = omega arith
   count_both (x ∷ xs) ys = let r = count_both xs ys in omega (arith, r)
 
-  pub need_both : (xs ys : List Instr) → need_of_applied costs (xs ++ ys) ≡ max (need_of_applied costs xs) (need_of_applied costs ys)
+  pub need_both : (xs ys : List Instr)
+      → need_of_applied costs (xs ++ ys) ≡ max (need_of_applied costs xs) (need_of_applied costs ys)
   need_both [] ys = omega arith
   need_both (x ∷ xs) ys = let r = need_both xs ys in omega (arith, r)
 
@@ -120,7 +136,8 @@ module _ (ws : Table ℕ) (costs : List Cost) (at_block : ℕ) (n : Numbers) (sc
     pub need : 7 * own + 8 * need_of_applied costs xs ≤ 7 * weight + 72 * at_block
     pub light : own ≤ weight
 
-  one_more : (xs : List Instr) (x : Instr) (o w : ℕ) → Free x → Bounds xs o w 1 → Bounds (xs ++ x ∷ []) (1 + o) (1 + w) 1
+  one_more : (xs : List Instr) (x : Instr) (o w : ℕ) → Free x → Bounds xs o w 1
+      → Bounds (xs ++ x ∷ []) (1 + o) (1 + w) 1
   unfolding Free
   one_more xs x o w f r =
       let a = count_both costs xs (x ∷ []) in
@@ -131,30 +148,42 @@ module _ (ws : Table ℕ) (costs : List Cost) (at_block : ℕ) (n : Numbers) (sc
       record { count = omega (arith, a, f, r1); need = omega (arith, e, f, r2, r3); light = omega (arith, r3) }
 
   -- what a link has beside its operand
-  by_operand : (xs ys : List Instr) (o w : ℕ) → total_count costs ys ≤ total_count costs xs + 3 → need_of_applied costs ys ≡ need_of_applied costs xs → Bounds xs o w 1 → (total_count costs ys ≤ 4 * w + 2) × (7 * o + 8 * need_of_applied costs ys ≤ 7 * w + 72 * at_block)
+  by_operand : (xs ys : List Instr) (o w : ℕ) → total_count costs ys ≤ total_count costs xs + 3
+      → need_of_applied costs ys ≡ need_of_applied costs xs → Bounds xs o w 1
+      → (total_count costs ys ≤ 4 * w + 2) × (7 * o + 8 * need_of_applied costs ys ≤ 7 * w + 72 * at_block)
   by_operand xs ys o w p q r =
       let r1 = r.count in
       let r2 = r.need in
       (omega (arith, p, r1), omega (arith, q, r2))
 
-  short : (first : Instr) (xs : List Instr) (y z : Instr) (o w : ℕ) → Free first → Free y → Free z → Bounds xs o w 1 → (total_count costs (first ∷ xs ++ y ∷ z ∷ []) ≤ 4 * w + 2) × (7 * o + 8 * need_of_applied costs (first ∷ xs ++ y ∷ z ∷ []) ≤ 7 * w + 72 * at_block)
+  short : (first : Instr) (xs : List Instr) (y z : Instr) (o w : ℕ) → Free first → Free y → Free z → Bounds xs o w 1
+      → (total_count costs (first ∷ xs ++ y ∷ z ∷ []) ≤ 4 * w + 2)
+      × (7 * o + 8 * need_of_applied costs (first ∷ xs ++ y ∷ z ∷ []) ≤ 7 * w + 72 * at_block)
   unfolding Free
   short first xs y z o w f g h r =
       let a = count_both costs xs (y ∷ z ∷ []) in
       let e = need_both costs xs (y ∷ z ∷ []) in
       by_operand xs (first ∷ xs ++ y ∷ z ∷ []) o w (omega (arith, a, f, g, h)) (omega (arith, e, f, g, h)) r
 
-  long : (x : Instr) (xs : List Instr) (o w : ℕ) → Free x → Bounds xs o w 1 → (total_count costs (xs ++ x ∷ []) ≤ 4 * w + 2) × (7 * o + 8 * need_of_applied costs (xs ++ x ∷ []) ≤ 7 * w + 72 * at_block)
+  long : (x : Instr) (xs : List Instr) (o w : ℕ) → Free x → Bounds xs o w 1
+      → (total_count costs (xs ++ x ∷ []) ≤ 4 * w + 2)
+      × (7 * o + 8 * need_of_applied costs (xs ++ x ∷ []) ≤ 7 * w + 72 * at_block)
   unfolding Free
   long x xs o w f r =
       let a = count_both costs xs (x ∷ []) in
       let e = need_both costs xs (x ∷ []) in
       by_operand xs (xs ++ x ∷ []) o w (omega (arith, a, f)) (omega (arith, e, f)) r
 
-  links_one : (op : BinaryOp) (size at o w : ℕ) (xs : ℕ → List Instr) → ((p : ℕ) → Bounds (xs p) o w 1) → (total_count costs (link_code op size xs at) ≤ 4 * w + 2) × (7 * o + 8 * need_of_applied costs (link_code op size xs at) ≤ 7 * w + 72 * at_block)
+  links_one : (op : BinaryOp) (size at o w : ℕ) (xs : ℕ → List Instr) → ((p : ℕ) → Bounds (xs p) o w 1)
+      → (total_count costs (link_code op size xs at) ≤ 4 * w + 2)
+      × (7 * o + 8 * need_of_applied costs (link_code op size xs at) ≤ 7 * w + 72 * at_block)
   unfolding Free
-  links_one b.And size at o w xs h = short (i.JumpIfFalse (at + 1 + size + 1)) (xs (at + 1)) (i.Jump (at + size + 3)) (i.PushBool false) o w refl refl refl (h (at + 1))
-  links_one b.Or size at o w xs h = short (i.JumpIfTrue (at + 1 + size + 1)) (xs (at + 1)) (i.Jump (at + size + 3)) (i.PushBool true) o w refl refl refl (h (at + 1))
+  links_one b.And size at o w xs h =
+      short (i.JumpIfFalse (at + 1 + size + 1)) (xs (at + 1)) (i.Jump (at + size + 3)) (i.PushBool false) o w refl refl
+      refl (h (at + 1))
+  links_one b.Or size at o w xs h =
+      short (i.JumpIfTrue (at + 1 + size + 1)) (xs (at + 1)) (i.Jump (at + size + 3)) (i.PushBool true) o w refl refl
+      refl (h (at + 1))
   links_one b.Add size at o w xs h = long i.Add (xs at) o w refl (h at)
   links_one b.Sub size at o w xs h = long i.Sub (xs at) o w refl (h at)
   links_one b.Mul size at o w xs h = long i.Mul (xs at) o w refl (h at)
@@ -170,10 +199,12 @@ module _ (ws : Table ℕ) (costs : List Cost) (at_block : ℕ) (n : Numbers) (sc
   mutual
     unfolding Free
 
-    pub costs_within : (e : Expression) (t : ValueKind) (at : ℕ) → Typed c l Can e t → Bounds (expression_code n scope e at) (expression_weight [] e) (expression_weight ws e) 1
+    pub costs_within : (e : Expression) (t : ValueKind) (at : ℕ) → Typed c l Can e t
+        → Bounds (expression_code n scope e at) (expression_weight [] e) (expression_weight ws e) 1
     costs_within (placed p form) t at h = form_costs form t at h
 
-    form_costs : (form : ExpressionForm) (t : ValueKind) (at : ℕ) → FormTyped c l Can form t → Bounds (form_code n scope form at) (expression_form_weight [] form) (expression_form_weight ws form) 1
+    form_costs : (form : ExpressionForm) (t : ValueKind) (at : ℕ) → FormTyped c l Can form t
+        → Bounds (form_code n scope form at) (expression_form_weight [] form) (expression_form_weight ws form) 1
     form_costs (int z) t at h = record { count = omega arith; need = omega arith; light = omega arith }
     form_costs (bool z) t at h = record { count = omega arith; need = omega arith; light = omega arith }
     form_costs no_rev t at h = record { count = omega arith; need = omega arith; light = omega arith }
@@ -181,7 +212,9 @@ module _ (ws : Table ℕ) (costs : List Cost) (at_block : ℕ) (n : Numbers) (sc
         let f = load_free w (find w.text scope) in
         record { count = omega (arith, f); need = omega (arith, f); light = omega arith }
     form_costs (inputs p) t at h = record { count = omega arith; need = omega arith; light = omega arith }
-    form_costs (cell w index) t at h = one_more (expression_code n scope index at) (i.LoadCell (n.var w.text)) (expression_weight [] index) (expression_weight ws index) refl (costs_within index _ at h.1)
+    form_costs (cell w index) t at h =
+        one_more (expression_code n scope index at) (i.LoadCell (n.var w.text)) (expression_weight [] index)
+        (expression_weight ws index) refl (costs_within index _ at h.1)
     form_costs (apply w args) t at h =
         let r = args_costs h.0.params args at h.4 in
         let f : IsPaid ws costs at_block n w.text h.0 = h.3 in
@@ -193,8 +226,14 @@ module _ (ws : Table ℕ) (costs : List Cost) (at_block : ℕ) (n : Numbers) (sc
         let r3 = r.light in
         let f1 = f.count in
         let f2 = f.need in
-        record { count = omega (arith, a, k, r1, f1); need = omega (arith, e, k, r2, r3, f2); light = omega (arith, k, r3) }
-    form_costs (input p index) t at h = one_more (expression_code n scope index at) i.LoadInput (expression_weight [] index) (expression_weight ws index) refl (costs_within index _ at h.2)
+        record {
+          count = omega (arith, a, k, r1, f1);
+          need = omega (arith, e, k, r2, r3, f2);
+          light = omega (arith, k, r3);
+        }
+    form_costs (input p index) t at h =
+        one_more (expression_code n scope index at) i.LoadInput (expression_weight [] index)
+        (expression_weight ws index) refl (costs_within index _ at h.2)
     form_costs (pick test x y) t at h =
         let cx : List Instr = expression_code n scope x (pick_yes at test) in
         let cy : List Instr = expression_code n scope y (pick_no at test x) in
@@ -215,8 +254,14 @@ module _ (ws : Table ℕ) (costs : List Cost) (at_block : ℕ) (n : Numbers) (sc
         let q1 = q.count in
         let q2 = q.need in
         let q3 = q.light in
-        record { count = omega (arith, a1, a2, r1, s1, q1); need = omega (arith, e1, e2, r2, s2, q2, r3, s3, q3); light = omega (arith, r3, s3, q3) }
-    form_costs (unary op e) t at h = one_more (expression_code n scope e at) (unary_code op) (expression_weight [] e) (expression_weight ws e) (unary_free op) (costs_within e _ at h.1)
+        record {
+          count = omega (arith, a1, a2, r1, s1, q1);
+          need = omega (arith, e1, e2, r2, s2, q2, r3, s3, q3);
+          light = omega (arith, r3, s3, q3);
+        }
+    form_costs (unary op e) t at h =
+        one_more (expression_code n scope e at) (unary_code op) (expression_weight [] e) (expression_weight ws e)
+        (unary_free op) (costs_within e _ at h.1)
     form_costs (chain first rest) t at h =
         let cf : List Instr = expression_code n scope first at in
         let cr : List Instr = links_code n scope rest (at + expression_size first) in
@@ -230,9 +275,14 @@ module _ (ws : Table ℕ) (costs : List Cost) (at_block : ℕ) (n : Numbers) (sc
         let s1 = s.count in
         let s2 = s.need in
         let s3 = s.light in
-        record { count = omega (arith, a, r1, s1); need = omega (arith, e, r2, s2, r3, s3); light = omega (arith, r3, s3) }
+        record {
+          count = omega (arith, a, r1, s1);
+          need = omega (arith, e, r2, s2, r3, s3);
+          light = omega (arith, r3, s3);
+        }
 
-    args_costs : (ps : List Parameter) (args : Expressions) (at : ℕ) → ArgsTyped c l Can ps args → Bounds (expressions_code n scope args at) (expressions_weight [] args) (expressions_weight ws args) 0
+    args_costs : (ps : List Parameter) (args : Expressions) (at : ℕ) → ArgsTyped c l Can ps args
+        → Bounds (expressions_code n scope args at) (expressions_weight [] args) (expressions_weight ws args) 0
     args_costs [] no_expressions at h = record { count = omega arith; need = omega arith; light = omega arith }
     args_costs [] (expression e rest) at h = absurd h
     args_costs (p ∷ ps) no_expressions at h = absurd h
@@ -249,9 +299,14 @@ module _ (ws : Table ℕ) (costs : List Cost) (at_block : ℕ) (n : Numbers) (sc
         let s1 = s.count in
         let s2 = s.need in
         let s3 = s.light in
-        record { count = omega (arith, a, r1, s1); need = omega (arith, e, r2, s2, r3, s3); light = omega (arith, r3, s3) }
+        record {
+          count = omega (arith, a, r1, s1);
+          need = omega (arith, e, r2, s2, r3, s3);
+          light = omega (arith, r3, s3);
+        }
 
-    links_costs : (rest : Links) (left t : ValueKind) (at : ℕ) → LinksTyped c l Can left rest t → Bounds (links_code n scope rest at) (links_weight [] rest) (links_weight ws rest) 0
+    links_costs : (rest : Links) (left t : ValueKind) (at : ℕ) → LinksTyped c l Can left rest t
+        → Bounds (links_code n scope rest at) (links_weight [] rest) (links_weight ws rest) 0
     links_costs no_links left t at h = record { count = omega arith; need = omega arith; light = omega arith }
     links_costs (link op x rest) left t at h =
         let size : ℕ = expression_size x in
@@ -268,4 +323,8 @@ module _ (ws : Table ℕ) (costs : List Cost) (at_block : ℕ) (n : Numbers) (sc
         let s1 = s.count in
         let s2 = s.need in
         let s3 = s.light in
-        record { count = omega (arith, a, r1, s1); need = omega (arith, e, r2, s2, r3, s3); light = omega (arith, r3, s3) }
+        record {
+          count = omega (arith, a, r1, s1);
+          need = omega (arith, e, r2, s2, r3, s3);
+          light = omega (arith, r3, s3);
+        }

@@ -21,13 +21,17 @@ module _ (p : ProgramTree) (small : IsSmall p) (fine : fun_faults p ≡ []) (wel
   abbrev tail : List CodeBlock
   tail = body_blocks (numbers p) (outside p.declarations) p.declarations p.main 0
 
-  later : (costs : List Cost) (at : ℕ) → length costs ≡ at → AllBefore p at → Stand p at tail → blocks_fault (code_of p) costs at tail ≡ None
+  later : (costs : List Cost) (at : ℕ) → length costs ≡ at → AllBefore p at → Stand p at tail
+      → blocks_fault (code_of p) costs at tail ≡ None
   later costs at many before stand =
-      bodies_accepted p well.within.declarations costs at 0 0 [] [] p.declarations before well.typed.declarations well.within.declarations small.declarations well.typed.main small.main well.within.main
+      bodies_accepted p well.within.declarations costs at 0 0 [] [] p.declarations before well.typed.declarations
+      well.within.declarations small.declarations well.typed.main small.main well.within.main
       (whole_stands (layouts_of (outside p.declarations) 0 p.declarations p.main)) stand
 
   pub instructions_accepted : blocks_fault (code_of p) [] 0 (code_of p).blocks ≡ None
   instructions_accepted =
       let all : ℕ = length p.declarations in
-      let uses = broken_parts (rule.fun_named p) (declarations_uses all 0 p.declarations) (statements_uses all p.main) fine in
-      funs_accepted p (λ name f e. few_of_fun [] p.declarations name f well.within.declarations e) tail later all well.within.declared_funs well.typed.declarations well.within.declarations uses.0 small.declarations (all_stand p)
+      let uses =
+      broken_parts (rule.fun_named p) (declarations_uses all 0 p.declarations) (statements_uses all p.main) fine in
+      funs_accepted p (λ name f e. few_of_fun [] p.declarations name f well.within.declarations e) tail later all
+      well.within.declared_funs well.typed.declarations well.within.declarations uses.0 small.declarations (all_stand p)

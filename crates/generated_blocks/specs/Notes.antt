@@ -7,9 +7,9 @@ use Rattle.rev_types.specs.Scopes.{with_params}
 use Rattle.code_rules.specs.Pass.{Note, entry}
 use Rattle.code_generation.specs.Numbers.{Numbers}
 use Rattle.code_generation.specs.Generated.{ends_in_return}
-use Rattle.generated_certificate.specs.Items.{push}
-use Rattle.generated_certificate.specs.Expressions.{word_kind, expression_notes}
-use Rattle.generated_statements.specs.Statements.{statements_notes}
+use Rattle.generated_certificates.specs.Items.{push}
+use Rattle.generated_certificates.specs.Expressions.{word_kind, expression_notes}
+use Rattle.generated_certificates.specs.Statements.{statements_notes}
 
 -- of the body of a fun or merge and its Return
 abbrev pub value_notes : Names → Locals → Expression → List Note

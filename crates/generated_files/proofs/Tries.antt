@@ -16,8 +16,8 @@ use Rattle.code_generation.specs.Sizes.{statements_prints}
 use Rattle.code_generation.specs.Statements.{statements_code}
 use Rattle.code_generation.specs.Generated.{end_code, body_code, fun_block, merge_block, proc_block, main_block, merge_scope, value_blocks, body_blocks, code_of}
 use Rattle.code_generation.proofs.Lengths.{expression_length, statements_length}
-use Rattle.generated_tables.proofs.Counts.{size_few, statements_few}
-use Rattle.generated_tables.proofs.Small.{end_few}
+use Rattle.generated_certificates.proofs.Counts.{size_few, statements_few}
+use Rattle.generated_certificates.proofs.Small.{end_few}
 
 -- ---- at most as many as instructions
 
@@ -33,7 +33,8 @@ tries_in_few (x ∷ xs) =
     let c = tries_in_few xs in
     omega (arith, a, b, c)
 
-tries_more : (b : CodeBlock) (bs : List CodeBlock) (m n : ℕ) → length b.instrs ≤ m → tries bs ≤ n → tries (b ∷ bs) ≤ m + n
+tries_more : (b : CodeBlock) (bs : List CodeBlock) (m n : ℕ) → length b.instrs ≤ m → tries bs ≤ n
+    → tries (b ∷ bs) ≤ m + n
 tries_more b bs m n h k =
     let a = sum_by-cons (λ (x : CodeBlock). tries_in x.instrs) b bs in
     let c = tries_in_few b.instrs in
@@ -41,16 +42,20 @@ tries_more b bs m n h k =
 
 -- ---- at most five instructions for each part
 
-value_few : (n : Numbers) (scope : Scope) (e : Expression) → length (expression_code n scope e 0 ++ i.Return ∷ []) ≤ 5 * expression_count e
+value_few : (n : Numbers) (scope : Scope) (e : Expression)
+    → length (expression_code n scope e 0 ++ i.Return ∷ []) ≤ 5 * expression_count e
 value_few n scope e =
     let a = length-append (expression_code n scope e 0) (i.Return ∷ []) in
     let z = expression_length n scope e 0 in
     let r = size_few e in
     omega (arith, a, z, r)
 
-body_few : (n : Numbers) (ps : List Parameter) (r : Option ValueKind) (body : Statements) (layout : ℕ) → length (body_code n ps r body layout) ≤ 5 * statements_count body + 2
+body_few : (n : Numbers) (ps : List Parameter) (r : Option ValueKind) (body : Statements) (layout : ℕ)
+    → length (body_code n ps r body layout) ≤ 5 * statements_count body + 2
 body_few n ps r body layout =
-    let a = length-append (statements_code n (with_params [] 0 ps) body (record { at = 0; local = length ps; layout = layout })) (end_code r body) in
+    let a = length-append
+    (statements_code n (with_params [] 0 ps) body (record { at = 0; local = length ps; layout = layout }))
+    (end_code r body) in
     let z = statements_length n (with_params [] 0 ps) body (record { at = 0; local = length ps; layout = layout }) in
     let s = statements_few n body in
     let e = end_few r body in
@@ -59,21 +64,27 @@ body_few n ps r body layout =
 values_few : (n : Numbers) (es : List Declaration) → tries (value_blocks n es) ≤ 5 * declarations_count es
 values_few n [] = omega arith
 values_few n (fun w ps r body ∷ es) =
-    let h = tries_more (fun_block n ps r body) (value_blocks n es) (5 * expression_count body) (5 * declarations_count es) (value_few n (with_params [] 0 ps) body) (values_few n es) in
+    let h = tries_more (fun_block n ps r body) (value_blocks n es) (5 * expression_count body)
+    (5 * declarations_count es) (value_few n (with_params [] 0 ps) body) (values_few n es) in
     omega (arith, h)
 values_few n (merge w m j r body ∷ es) =
-    let h = tries_more (merge_block n m j r body) (value_blocks n es) (5 * expression_count body) (5 * declarations_count es) (value_few n (merge_scope m j r) body) (values_few n es) in
+    let h = tries_more (merge_block n m j r body) (value_blocks n es) (5 * expression_count body)
+    (5 * declarations_count es) (value_few n (merge_scope m j r) body) (values_few n es) in
     omega (arith, h)
 values_few n (shared x ∷ es) = let h = values_few n es in omega (arith, h)
 values_few n (proc w ps r body ∷ es) = let h = values_few n es in omega (arith, h)
 
-bodies_few : (n : Numbers) (c : Names) (es : List Declaration) (main : Statements) (layout : ℕ) → tries (body_blocks n c es main layout) ≤ 5 * declarations_count es + (5 * statements_count main + 2)
+bodies_few : (n : Numbers) (c : Names) (es : List Declaration) (main : Statements) (layout : ℕ)
+    → tries (body_blocks n c es main layout) ≤ 5 * declarations_count es + (5 * statements_count main + 2)
 bodies_few n c [] main layout =
-    let h = tries_more (main_block n c main layout) [] (5 * statements_count main + 2) 0 (body_few n [] None main layout) (omega arith) in
+    let h = tries_more (main_block n c main layout) [] (5 * statements_count main + 2) 0
+    (body_few n [] None main layout) (omega arith) in
     omega (arith, h)
 bodies_few n c (proc w ps r body ∷ es) main layout =
     let next : ℕ = layout + statements_prints body in
-    let h = tries_more (proc_block n c ps r body layout) (body_blocks n c es main next) (5 * statements_count body + 2) (5 * declarations_count es + (5 * statements_count main + 2)) (body_few n ps r body layout) (bodies_few n c es main next) in
+    let h = tries_more (proc_block n c ps r body layout) (body_blocks n c es main next) (5 * statements_count body + 2)
+    (5 * declarations_count es + (5 * statements_count main + 2)) (body_few n ps r body layout)
+    (bodies_few n c es main next) in
     omega (arith, h)
 bodies_few n c (fun w ps r body ∷ es) main layout = let h = bodies_few n c es main layout in omega (arith, h)
 bodies_few n c (merge w m j r body ∷ es) main layout = let h = bodies_few n c es main layout in omega (arith, h)

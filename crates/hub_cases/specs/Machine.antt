@@ -1,6 +1,6 @@
 -- The tree as a machine, whose joiners and ends are the revisions themselves.
 use Rattle.std.specs.Prelude.{[]}
-use Rattle.hub_algebra.specs.HubMachine.{HubMachine}
+use Rattle.hub_core.specs.HubMachine.{HubMachine}
 use Rattle.hub_cases.specs.declared.going.Going.{Going}
 use Rattle.hub_cases.specs.declared.node.Node.{Node}
 use Rattle.hub_cases.specs.Tree.{next, forks_at, joined, joinee, outlives}

@@ -5,7 +5,7 @@ ghost use Rattle.hub_cases.specs.Machine.{tree};
 
 use crate::going::{Done, Going, claimed, stopped};
 use crate::node::{Node, Way};
-use turn_rule::Revision;
+use hub_core::Revision;
 
 /// The machine.
 pub struct Tree;

@@ -1,7 +1,7 @@
 ghost use Rattle.std.specs.Prelude.{◌≡◌, IfOk, MatchBool, length};
 
 use crate::{Going, Node, Room, Tree, Way};
-use hub_table::HubState;
+use hub_core::HubState;
 use hub_workers::{Finished, NotBegun, OpenGate, run};
 use std::alloc::{AllocError, Global};
 use std::sync::Wait;

@@ -3,15 +3,15 @@ use Rattle.std.proofs.Common.{◌≡◌, ◌≢◌, ℕ, Bool, List, cond, sym, 
 use mathlib.Core.Logic.{dite}
 use native.Mathlib.Decide.{ℕ_discrete}
 use Rattle.revision_machine.specs.Numbered.{put_number}
-use Rattle.hub_algebra.specs.HubMachine.{HubMachine}
-use Rattle.hub_table.specs.declared.state.HubState.{HubState}
-use Rattle.hub_table.specs.declared.state.HubState.TheVariants.{All, Twice, NoMemory}
-use Rattle.turn_rule.specs.declared.view.Said.{Said}
-use Rattle.turn_rule.specs.declared.view.Said.TheVariants as mark
-use Rattle.turn_rule.specs.declared.view.View.{View}
-use Rattle.turn_rule.specs.Passes.{IsPass}
-use Rattle.turn_rule.specs.Seats.{KeepsAll, KeepsOthers, LacksPass}
-use Rattle.turn_rule.specs.Views.{or_no_memory, sees}
+use Rattle.hub_core.specs.HubMachine.{HubMachine}
+use Rattle.hub_core.specs.declared.state.HubState.{HubState}
+use Rattle.hub_core.specs.declared.state.HubState.TheVariants.{All, Twice, NoMemory}
+use Rattle.hub_core.specs.declared.view.Said.{Said}
+use Rattle.hub_core.specs.declared.view.Said.TheVariants as mark
+use Rattle.hub_core.specs.declared.view.View.{View}
+use Rattle.hub_core.specs.Passes.{IsPass}
+use Rattle.hub_core.specs.Seats.{KeepsAll, KeepsOthers, LacksPass}
+use Rattle.hub_core.specs.Views.{or_no_memory, sees}
 use Rattle.turn_hub.specs.declared.answers.EndStep.{EndStep}
 use Rattle.turn_hub.specs.declared.answers.EndStep.TheVariants as ending
 use Rattle.turn_hub.specs.declared.answers.JoinAnswer.{JoinAnswer}

@@ -4,11 +4,11 @@ use Rattle.std.specs.List.{AllByRecursion}
 use Rattle.std.proofs.Math.Seq.{take-append_seam}
 use Rattle.std.proofs.lemmas.List.Elements.{All-from_recursion, All-head, All-tail}
 use Rattle.turn_hub.specs.declared.hub.TurnHub.{TurnHub}
-use Rattle.turn_rule.specs.declared.revision.Revision.{Ghosts}
+use Rattle.hub_core.specs.declared.revision.Revision.{Ghosts}
 use Rattle.turn_hub.specs.declared.seat.HubSeat.{HubSeat}
 use Rattle.turn_hub.specs.Closing.{saw_of}
 use Rattle.turn_hub.specs.Names.{IsSeatOf, AreSeatsOf, view_of, began, places}
-use Rattle.turn_rule.specs.Seats.{AreNew}
+use Rattle.hub_core.specs.Seats.{AreNew}
 use Rattle.hub_workers.specs.Running.{IsSeatFor}
 
 module _ {M S R A E C P : Type 0} {g : Ghosts M S R A E C P} where

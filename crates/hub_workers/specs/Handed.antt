@@ -5,9 +5,9 @@
 --   OnlyAnswer    the joiner of an answer is the one revision that it has, and none where the joiner is given up
 --   OnlyNext      it has no revision but the one that the thread goes on with
 use Rattle.std.specs.Prelude.{◌≡◌, ℕ, List}
-use Rattle.hub_table.specs.declared.state.HubState.TheVariants.{All}
-use Rattle.turn_rule.specs.declared.view.View.{View}
-use Rattle.turn_rule.specs.Passes.{IsPass}
+use Rattle.hub_core.specs.declared.state.HubState.TheVariants.{All}
+use Rattle.hub_core.specs.declared.view.View.{View}
+use Rattle.hub_core.specs.Passes.{IsPass}
 use Rattle.turn_hub.specs.declared.answers.JoinAnswer.{JoinAnswer}
 use Rattle.turn_hub.specs.declared.answers.JoinAnswer.TheVariants as join
 use Rattle.hub_workers.specs.declared.next.Next.{Next}

@@ -7,9 +7,9 @@
 --   IsSameHand   a hand of the same group, for the same runs
 use Rattle.std.specs.Prelude.{◌≡◌, ℕ, Bool, true, false, List, Some}
 use Rattle.revision_machine.specs.Numbered.{Bears, Goes}
-use Rattle.hub_algebra.specs.Replay.{state_after}
-use Rattle.hub_algebra.specs.Hub.{Stands, IsEnd, Meets}
-use Rattle.hub_algebra.specs.HubMachine.{HubMachine, numbered, values}
+use Rattle.hub_core.specs.Replay.{state_after}
+use Rattle.hub_core.specs.Hub.{Stands, IsEnd, Meets}
+use Rattle.hub_core.specs.HubMachine.{HubMachine, numbered, values}
 use Rattle.hub_workers.specs.declared.legs.Event.{Event}
 use Rattle.hub_workers.specs.declared.legs.Event.TheVariants as event
 use Rattle.hub_workers.specs.declared.legs.Settled.{Settled}

@@ -3,11 +3,11 @@
 --   IsHandFor     a hand for the run that this hub began
 --   IsRunFrom     what a run leaves that began in a state, with snapshots of a group
 use Rattle.std.specs.Prelude.{◌≡◌, ℕ, List, Some}
-use Rattle.hub_algebra.specs.HubMachine.{HubMachine}
-use Rattle.hub_table.specs.declared.kept.Kept.{Kept}
+use Rattle.hub_core.specs.HubMachine.{HubMachine}
+use Rattle.hub_core.specs.declared.kept.Kept.{Kept}
 use Rattle.turn_hub.specs.declared.closing.HubRun.{HubRun}
 use Rattle.turn_hub.specs.declared.hub.TurnHub.{TurnHub}
-use Rattle.turn_rule.specs.declared.revision.Revision.{Ghosts}
+use Rattle.hub_core.specs.declared.revision.Revision.{Ghosts}
 use Rattle.turn_hub.specs.declared.seat.HubSeat.{HubSeat}
 use Rattle.turn_hub.specs.Closing.{ClosedHub}
 use Rattle.turn_hub.specs.Names.{IsSeatOf, view_of, began, run_start, run_group, run_state, run_schedule, run_forkers, run_ends}

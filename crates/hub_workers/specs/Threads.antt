@@ -3,7 +3,7 @@
 --   HasWorked    and the seat knows that all is over, or that a halt was entered
 use Rattle.std.specs.Prelude.{◌≡◌, ℕ, List}
 use Rattle.turn_hub.specs.declared.hub.TurnHub.{TurnHub}
-use Rattle.turn_rule.specs.declared.revision.Revision.{Ghosts}
+use Rattle.hub_core.specs.declared.revision.Revision.{Ghosts}
 use Rattle.turn_hub.specs.declared.seat.HubSeat.{HubSeat}
 use Rattle.turn_hub.specs.Names.{IsSeatOf, view_of, began}
 use Rattle.hub_workers.specs.Work.{IsHandOf}

@@ -7,12 +7,12 @@
 --   HasNext        the seat has the revision that the thread goes on with
 use Rattle.std.specs.Prelude.{◌≡◌, ℕ, List, [], Some, true, false}
 use Rattle.revision_machine.specs.Numbered.{Bears}
-use Rattle.hub_algebra.specs.HubMachine.{HubMachine}
+use Rattle.hub_core.specs.HubMachine.{HubMachine}
 use Rattle.turn_hub.specs.declared.answers.JoinAnswer.{JoinAnswer}
 use Rattle.turn_hub.specs.declared.answers.JoinAnswer.TheVariants as join
-use Rattle.turn_rule.specs.declared.view.View.{View}
-use Rattle.turn_rule.specs.Seats.{HasState, HasJoin}
-use Rattle.turn_rule.specs.Views.{sees}
+use Rattle.hub_core.specs.declared.view.View.{View}
+use Rattle.hub_core.specs.Seats.{HasState, HasJoin}
+use Rattle.hub_core.specs.Views.{sees}
 use Rattle.turn_hub.specs.Answers.{HasMet}
 use Rattle.hub_workers.specs.declared.next.Next.{Next}
 use Rattle.hub_workers.specs.declared.next.Next.TheVariants as next

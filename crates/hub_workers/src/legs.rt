@@ -3,8 +3,8 @@ ghost use Rattle.std.specs.Prelude.{◌≡◌, ℕ, List, true, false, IfOk};
 ghost use Rattle.hub_workers.specs.Legs.{IsReached, HaveMet, Comes, IsSettled, IsEndBy};
 ghost use Rattle.hub_workers.specs.Legs.{IsEventOf, IsSettledOf, IsSameHand};
 
+use hub_core::Revision;
 use std::alloc::AllocError;
-use turn_rule::Revision;
 
 /// Where a leg leads.
 pub enum Event<F, A, E> {

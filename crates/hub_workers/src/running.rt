@@ -10,7 +10,7 @@ use crate::gate::Gate;
 use crate::legs::Legs;
 use crate::threads::{Worker, run_workers};
 use crate::vectors::take_last;
-use hub_table::{Kept, append};
+use hub_core::{Kept, append};
 use std::alloc::Global;
 use std::sync::Wait;
 use std::thread::Threads;

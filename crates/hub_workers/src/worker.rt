@@ -1,7 +1,7 @@
 //! One thread's work at a hub.
 ghost use Rattle.std.specs.Prelude.{◌≡◌, MatchBool};
 ghost use Rattle.turn_hub.specs.Names.{IsSeatOf, view_of};
-ghost use Rattle.turn_rule.specs.Seats.{HasState, HasJoin, HasEnd, HasTrap, IsSameSeat};
+ghost use Rattle.hub_core.specs.Seats.{HasState, HasJoin, HasEnd, HasTrap, IsSameSeat};
 ghost use Rattle.hub_workers.specs.Work.{IsHandOf, StandsAtFork, HasClaimed, HasAnswer, HasNext};
 ghost use Rattle.hub_workers.specs.Handed.{HasHandedIn, IsAlone, OnlyAnswer, OnlyNext};
 

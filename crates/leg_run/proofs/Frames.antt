@@ -13,8 +13,8 @@ use Rattle.rev_code.specs.Funs.{setting}
 use Rattle.code_rules.specs.Shapes.{begins, takes}
 use Rattle.code_rules.specs.Pass.{is_bare, names}
 use Rattle.code_rules.specs.Verdict.{first_fault}
-use Rattle.code_certificate.specs.Certificate.{IsNoted}
-use Rattle.code_certificate.proofs.Basics.{some_eq}
+use Rattle.code_soundness.specs.Certificate.{IsNoted}
+use Rattle.code_soundness.proofs.Basics.{some_eq}
 use Rattle.code_soundness.specs.Typed.{kinds_of, IsRevision}
 use Rattle.code_soundness.specs.Whole.{IsAccepted, notes_of}
 use Rattle.code_soundness.proofs.Accepting.{no_fault_accepted}
@@ -33,7 +33,8 @@ use Rattle.leg_run.specs.Standing.{AreBelow, Stands}
 
 -- ---- the area
 
-pub part_same : (ws ws' : List ℕ) (above base n : ℕ) → take above ws' ≡ take above ws → base + n ≤ above → take n (drop base ws') ≡ take n (drop base ws)
+pub part_same : (ws ws' : List ℕ) (above base n : ℕ) → take above ws' ≡ take above ws → base + n ≤ above
+    → take n (drop base ws') ≡ take n (drop base ws)
 part_same ws ws' above base n e h =
     sym (drop-take base n ws') ∙ ap (drop base) (take_shorter ws' ws above (base + n) h e) ∙ drop-take base n ws
 
@@ -45,14 +46,16 @@ take_whole (w ∷ ws) = ap (λ xs. w ∷ xs) (take_whole ws)
 pub refilled : (ws old : List ℕ) (n : ℕ) → n ≡ length ws → take n (ws ++ drop (length ws) old) ≡ ws
 refilled ws old n e = ap (λ m. take m (ws ++ drop (length ws) old)) e ∙ take_append ws (drop (length ws) old)
 
-pub below_length : (code : Code) (ws : List ℕ) (above : ℕ) (fs : List (Frame ℕ)) (waits : List Waiting) → AreBelow code ws above fs waits → length fs ≡ length waits
+pub below_length : (code : Code) (ws : List ℕ) (above : ℕ) (fs : List (Frame ℕ)) (waits : List Waiting)
+    → AreBelow code ws above fs waits → length fs ≡ length waits
 below_length code ws above [] [] h = refl
 below_length code ws above [] (w ∷ waits) h = absurd h
 below_length code ws above (f ∷ fs) [] h = absurd h
 below_length code ws above (f ∷ fs) (w ∷ waits) h = ap suc (below_length code ws w.base fs waits h.1)
 
 -- frames lie below the place above them
-pub frames_still : (code : Code) (ws ws' : List ℕ) (above : ℕ) (fs : List (Frame ℕ)) (waits : List Waiting) → take above ws' ≡ take above ws → length ws ≤ length ws'
+pub frames_still : (code : Code) (ws ws' : List ℕ) (above : ℕ) (fs : List (Frame ℕ)) (waits : List Waiting)
+    → take above ws' ≡ take above ws → length ws ≤ length ws'
     → AreBelow code ws above fs waits → AreBelow code ws' above fs waits
 frames_still code ws ws' above [] [] e l h = tt
 frames_still code ws ws' above [] (w ∷ waits) e l h = absurd h
@@ -65,7 +68,8 @@ frames_still code ws ws' above (f ∷ fs) (w ∷ waits) e l h =
         is = a.is;
         block = a.block;
         at = a.at;
-        locals = subst (AreWords f.locals) (sym (part_same ws ws' above w.base (length a.body.locals) e (omega (arith, behind)))) a.locals;
+        locals = subst (AreWords f.locals)
+            (sym (part_same ws ws' above w.base (length a.body.locals) e (omega (arith, behind)))) a.locals;
         behind = behind;
         room = λ at k. (let r = a.room at k in omega (arith, r, l));
       },
@@ -74,10 +78,12 @@ frames_still code ws ws' above (f ∷ fs) (w ∷ waits) e l h =
 
 -- ---- arguments
 
-pub arguments_are : (kinds : List ValueKind) (stack args : List (Word ℕ)) → arguments kinds stack ≡ Some args → args ≡ reverse (take (length kinds) stack)
+pub arguments_are : (kinds : List ValueKind) (stack args : List (Word ℕ)) → arguments kinds stack ≡ Some args
+    → args ≡ reverse (take (length kinds) stack)
 arguments_are kinds stack args e = by (fits kinds (reverse (take (length kinds) stack))) e
   where
-    by : (d : Bool) → (if d then Some (reverse (take (length kinds) stack)) else None) ≡ Some args → args ≡ reverse (take (length kinds) stack)
+    by : (d : Bool) → (if d then Some (reverse (take (length kinds) stack)) else None) ≡ Some args
+        → args ≡ reverse (take (length kinds) stack)
     by true e = sym (some_eq e)
     by false e = absurd (none_no e)
       where
@@ -86,8 +92,10 @@ arguments_are kinds stack args e = by (fits kinds (reverse (take (length kinds) 
 
 -- ---- an instruction
 
-module _ (code : Code) (ok : first_fault code ≡ None) (inputs : List ℤ) (share : ℕ) (run : Run) (seen : ℕ → ℕ) (root : ℕ → Option ℕ) (c : State ℕ)
-    (st : Stands code inputs share run seen root c) (b : CodeBlock) (is : slice_get code.blocks run.registers.block ≡ Some b) where
+module _ (code : Code) (ok : first_fault code ≡ None) (inputs : List ℤ) (share : ℕ) (run : Run) (seen : ℕ → ℕ)
+    (root : ℕ → Option ℕ) (c : State ℕ)
+    (st : Stands code inputs share run seen root c) (b : CodeBlock)
+    (is : slice_get code.blocks run.registers.block ≡ Some b) where
   pub accepted : IsAccepted code (notes_of code)
   accepted = no_fault_accepted code ok
 
@@ -107,7 +115,8 @@ module _ (code : Code) (ok : first_fault code ≡ None) (inputs : List ℤ) (sha
   block_is = ap (slice_get code.blocks) here.block ∙ is
 
   pub height : length c.stack ≡ run.registers.top - low b run.registers
-  height = words_length c.stack (stack_of run.words.items (low b run.registers) (run.registers.top - low b run.registers)) here.run.stack
+  height = words_length c.stack
+      (stack_of run.words.items (low b run.registers) (run.registers.top - low b run.registers)) here.run.stack
       ∙ stack_length run.words.items (low b run.registers) (run.registers.top - low b run.registers)
 
   pub stands_inside : c.at < length b.instrs
@@ -120,11 +129,14 @@ module _ (code : Code) (ok : first_fault code ≡ None) (inputs : List ℤ) (sha
   top_inside =
       let h = height in let o = here.top in let r = roomy c.at stands_inside in
       let d : length c.stack ≡ length (notes_of code run.registers.block c.at).shape =
-      sym (kinds_length c.stack) ∙ ap length good.typed.stack ∙ ap (λ n. length (notes_of code n c.at).shape) here.block in
+      sym (kinds_length c.stack) ∙ ap length good.typed.stack
+      ∙ ap (λ n. length (notes_of code n c.at).shape) here.block in
       omega (arith, h, o, r, d)
 
   pub frames_many : length c.below ≡ length run.below.items
-  frames_many = below_length code run.words.items run.registers.base c.below (reverse run.below.items) st.below ∙ reverse_length run.below.items
+  frames_many =
+      below_length code run.words.items run.registers.base c.below (reverse run.below.items) st.below
+      ∙ reverse_length run.below.items
 
   pub leaves_it : Leaves code run seen root c
   leaves_it = record {
@@ -157,7 +169,8 @@ module _ (code : Code) (ok : first_fault code ≡ None) (inputs : List ℤ) (sha
     found = subst (λ s. begins (takes code b s x) s ≡ true) (sym good.typed.stack) noted.found
 
     pub bare : is_bare x ≡ true → length c.stack ≡ length (takes code b (kinds_of c.stack) x)
-    bare h = sym (kinds_length c.stack) ∙ subst (λ s. length s ≡ length (takes code b s x)) (sym good.typed.stack) (noted.bare h)
+    bare h = sym (kinds_length c.stack)
+        ∙ subst (λ s. length s ≡ length (takes code b s x)) (sym good.typed.stack) (noted.bare h)
 
     pub named : names code c.block x ≡ true
     named = (operand_good code c.block b x noted.operand).0

@@ -25,26 +25,31 @@ use Rattle.leg_run.specs.Ends.{EndsAt, join_instr, join_of}
 use Rattle.leg_run.specs.Standing.{Stands}
 use Rattle.leg_run.proofs.Frames as f
 
-module _ (code : Code) (ok : first_fault code ≡ None) (inputs : List ℤ) (share : ℕ) (run : Run) (seen : ℕ → ℕ) (root : ℕ → Option ℕ) (c : State ℕ)
-    (st : Stands code inputs share run seen root c) (b : CodeBlock) (is : slice_get code.blocks run.registers.block ≡ Some b) where
+module _ (code : Code) (ok : first_fault code ≡ None) (inputs : List ℤ) (share : ℕ) (run : Run) (seen : ℕ → ℕ)
+    (root : ℕ → Option ℕ) (c : State ℕ)
+    (st : Stands code inputs share run seen root c) (b : CodeBlock)
+    (is : slice_get code.blocks run.registers.block ≡ Some b) where
   -- ---- Fork
 
   module _ (n : ℕ) (at : slice_get b.instrs run.registers.at ≡ Some (i.Fork n)) where
     abbrev Forks : Option CodeBlock → Type 0
     Forks o = (args : List (Word ℕ)) × (s.fork c n (only is_procedure o) ≡ forks c n args)
 
-    forks_if : (y : CodeBlock) (d : Bool) → d ≡ true → begins (Rattle.std.specs.Prelude.reverse (params y)) (kinds_of c.stack) ≡ true
+    forks_if : (y : CodeBlock) (d : Bool) → d ≡ true
+        → begins (Rattle.std.specs.Prelude.reverse (params y)) (kinds_of c.stack) ≡ true
         → (args : List (Word ℕ)) × (s.fork c n (if d then Some y else None) ≡ forks c n args)
     forks_if y true e h = let t = taken (params y) c.stack h in (t.args, ap (fork_with c n) t.is)
     forks_if y false e h = false_no e
 
-    forked : (o : Option CodeBlock) → has_class is_procedure o ≡ true → begins (Rattle.std.specs.Prelude.reverse (param_kinds o)) (kinds_of c.stack) ≡ true → Forks o
+    forked : (o : Option CodeBlock) → has_class is_procedure o ≡ true
+        → begins (Rattle.std.specs.Prelude.reverse (param_kinds o)) (kinds_of c.stack) ≡ true → Forks o
     forked None e h = false_no e
     forked (Some y) e h = forks_if y (is_procedure y.class) e h
 
     pub fork_ends : EndsAt (setting code inputs share) c (end.Fork n)
     fork_ends =
-        let q = forked (slice_get code.blocks n) (f.named code ok inputs share run seen root c st b is (i.Fork n) at) (f.found code ok inputs share run seen root c st b is (i.Fork n) at) in
+        let q = forked (slice_get code.blocks n) (f.named code ok inputs share run seen root c st b is (i.Fork n) at)
+        (f.found code ok inputs share run seen root c st b is (i.Fork n) at) in
         (q.0, f.step_is code ok inputs share run seen root c st b is (i.Fork n) at ∙ q.1)
 
   -- ---- Join and TryJoin
@@ -68,7 +73,8 @@ module _ (code : Code) (ok : first_fault code ≡ None) (inputs : List ℤ) (sha
         by true at = top_handle c.stack refl (f.found code ok inputs share run seen root c st b is i.TryJoin at)
         by false at = top_handle c.stack refl (f.found code ok inputs share run seen root c st b is i.Join at)
 
-    joins_by : (d : Bool) → slice_get b.instrs run.registers.at ≡ Some (join_instr d) → step (setting code inputs share) c ≡ s.join c d c.stack
+    joins_by : (d : Bool) → slice_get b.instrs run.registers.at ≡ Some (join_instr d)
+        → step (setting code inputs share) c ≡ s.join c d c.stack
     joins_by true at = f.step_is code ok inputs share run seen root c st b is i.TryJoin at
     joins_by false at = f.step_is code ok inputs share run seen root c st b is i.Join at
 
@@ -81,13 +87,17 @@ module _ (code : Code) (ok : first_fault code ≡ None) (inputs : List ℤ) (sha
 
     word_on_top : IsWord (rev on_top.word) (get_or run.words.items (run.registers.top - 1) 0)
     word_on_top =
-        let a = subst (λ xs. AreWords xs (run_of b run.words.items run.registers).stack) on_top.found (f.here code ok inputs share run seen root c st b is).run.stack in
+        let a = subst (λ xs. AreWords xs (run_of b run.words.items run.registers).stack) on_top.found
+        (f.here code ok inputs share run seen root c st b is).run.stack in
         (subst (AreWords (rev on_top.word ∷ on_top.rest)) (upper b run.words.items run.registers some) a).0
 
-    ends_by : (o : Option ℕ) (rest : List (Word ℕ)) (w : ℕ) → w ≡ handle o → step (setting code inputs share) c ≡ s.join c try (rev o ∷ rest)
+    ends_by : (o : Option ℕ) (rest : List (Word ℕ)) (w : ℕ) → w ≡ handle o
+        → step (setting code inputs share) c ≡ s.join c try (rev o ∷ rest)
         → EndsAt (setting code inputs share) c (join_of try w)
     ends_by None rest w e h = subst (λ v. EndsAt (setting code inputs share) c (join_of try v)) (sym e) h
     ends_by (Some n) rest w e h = subst (λ v. EndsAt (setting code inputs share) c (join_of try v)) (sym e) h
 
-    pub join_ends : EndsAt (setting code inputs share) c (join_of try (get_or run.words.items (run.registers.top - 1) 0))
-    join_ends = ends_by on_top.word on_top.rest (get_or run.words.items (run.registers.top - 1) 0) word_on_top (joins_by try at ∙ ap (s.join c try) on_top.found)
+    pub join_ends :
+        EndsAt (setting code inputs share) c (join_of try (get_or run.words.items (run.registers.top - 1) 0))
+    join_ends = ends_by on_top.word on_top.rest (get_or run.words.items (run.registers.top - 1) 0) word_on_top
+        (joins_by try at ∙ ap (s.join c try) on_top.found)

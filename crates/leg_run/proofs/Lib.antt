@@ -1,5 +1,4 @@
 pub mod Decoding
-pub mod Depths
 pub mod Frames
 pub mod Calling
 pub mod Returning
@@ -7,4 +6,4 @@ pub mod Joining
 pub mod Applying
 pub mod Printing
 pub mod Rounding
-pub mod Limits
+pub mod NotedLegs

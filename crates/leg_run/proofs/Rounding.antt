@@ -9,10 +9,10 @@ use Rattle.rev_code.specs.Step as s
 use Rattle.rev_code.specs.Step.{goes, step, Steps, traps}
 use Rattle.rev_code.specs.Funs.{setting}
 use Rattle.code_rules.specs.Verdict.{first_fault}
-use Rattle.code_prices.specs.Prices.{leg_prices}
-use Rattle.code_prices.specs.Uses.{UsesUp}
-use Rattle.code_prices.proofs.Stepping.{uses}
-use Rattle.code_prices.proofs.Priced.{leg_bears}
+use Rattle.code_soundness.specs.Prices.{leg_prices}
+use Rattle.code_soundness.specs.Paid.{UsesUp}
+use Rattle.code_soundness.proofs.Stepping.{uses}
+use Rattle.code_soundness.proofs.Priced.{leg_bears}
 use Rattle.code_machine.specs.Leg.{clock, longest}
 use Rattle.code_machine.specs.Local.{CodeRun}
 use Rattle.code_machine.proofs.Events as events
@@ -33,69 +33,86 @@ use Rattle.leg_run.specs.declared.revision.Run.{Run}
 use Rattle.leg_run.specs.declared.turn.Turn.{Turn}
 use Rattle.leg_run.specs.declared.turn.Turn.TheVariants as turn
 use Rattle.leg_run.specs.Changes.{SameRest}
-use Rattle.leg_run.specs.Ends.{LegEnds, RoundTo, StandsAt, TurnsTo}
+use Rattle.leg_run.specs.Ends.{Leaves, LegEnds, RoundTo, StandsAt, TurnsTo}
 use Rattle.leg_run.specs.Standing.{AreBelow, Stands, IsStanding, listed_as, state_of}
 use Rattle.leg_run.proofs.Decoding.{its_state, leaves_state}
 use Rattle.leg_run.proofs.Frames as f
 use Rattle.leg_run.proofs.Frames.{frames_still}
 
 module _ (code : Code) (ok : first_fault code ≡ None) (inputs : List ℤ) (share : ℕ) where
-  pub steps_good : (c c' : State ℕ) → IsRevision code (notes_of code) c → Steps (setting code inputs share) c c' → IsRevision code (notes_of code) c'
+  pub steps_good : (c c' : State ℕ) → IsRevision code (notes_of code) c → Steps (setting code inputs share) c c'
+      → IsRevision code (notes_of code) c'
   steps_good c _ g s.none = g
-  steps_good c c' g (s.more {c' = d} e rest) = steps_good d c' ((is_safe ℕ code (notes_of code) (no_fault_accepted code ok) inputs share c g).goes d e) rest
+  steps_good c c' g (s.more {c' = d} e rest) =
+      steps_good d c' ((is_safe ℕ code (notes_of code) (no_fault_accepted code ok) inputs share c g).goes d e) rest
 
   abbrev g : CodeRun
   g = record { code = code; inputs = inputs; share = share }
 
   -- a trap changes no location
-  trap_locations : (c c' : State ℕ) (e : Cause) → step (setting code inputs share) c ≡ traps c' e → c'.locations ≡ c.locations
-  trap_locations c c' e h = ap (λ (x : State ℕ). x.locations) (subst (IsAt c) h (events.stands (record { code = code; inputs = inputs; share = share }) c)).0
+  trap_locations : (c c' : State ℕ) (e : Cause) → step (setting code inputs share) c ≡ traps c' e
+      → c'.locations ≡ c.locations
+  trap_locations c c' e h =
+      ap (λ (x : State ℕ). x.locations)
+      (subst (IsAt c) h (events.stands (record { code = code; inputs = inputs; share = share }) c)).0
 
-  pub leaving_of : (b : CodeBlock) (c : State ℕ) (ws : List ℕ) (r : Registers) (seen : ℕ → ℕ) (root : ℕ → Option ℕ) (v : Stop)
-      → Ends code inputs (program share) b c v ws r seen root → ((e : Cause) → v ≢ stop.Traps e) → IsLeaving code inputs (program share) b c ws r seen root
+  pub leaving_of :
+      (b : CodeBlock) (c : State ℕ) (ws : List ℕ) (r : Registers) (seen : ℕ → ℕ) (root : ℕ → Option ℕ) (v : Stop)
+      → Ends code inputs (program share) b c v ws r seen root → ((e : Cause) → v ≢ stop.Traps e)
+      → IsLeaving code inputs (program share) b c ws r seen root
   leaving_of b c ws r seen root stop.Goes h k = absurd h
   leaving_of b c ws r seen root (stop.Traps e) h k = absurd (k e refl)
   leaving_of b c ws r seen root stop.Leaves h k = h
 
-  module _ (run : Run) (seen : ℕ → ℕ) (root : ℕ → Option ℕ) (c : State ℕ) (st : Stands code inputs share run seen root c)
+  module _ (run : Run) (seen : ℕ → ℕ) (root : ℕ → Option ℕ) (c : State ℕ)
+      (st : Stands code inputs share run seen root c)
       (b : CodeBlock) (is : slice_get code.blocks run.registers.block ≡ Some b) where
-    pub trapped : (e : Cause) (ws' : List ℕ) (r' : Registers) (seen' : ℕ → ℕ) (root' : ℕ → Option ℕ) → IsTrapped code inputs (program share) b c e ws' r' seen' root'
-        → (run' : Run) → run'.registers ≡ r' → SameRest run run' → RoundTo code inputs share c (turn.Ends (end.Trap e)) run' seen' root'
-    trapped e ws' r' seen' root' h run' registers rest =
-        let good = steps_good c h.before st.here.good h.steps in (
-          h.before,
-          h.trapped,
-          h.steps,
-          h.trap,
-          record {
-            locations = h.locations;
-            kinds = subst (AreLocations (location_kinds code.vars)) (sym (trap_locations h.before h.trapped e h.trap)) good.locations;
-            fuel = sym h.run.fuel ∙ ap (λ (z : Registers). z.fuel) (sym registers);
-            line = sym h.run.line ∙ ap (λ (z : Registers). z.line) (sym registers);
-            forks = h.same.forks ∙ st.forks ∙ sym rest.forks;
-            listed = h.same.listed ∙ st.listed ∙ ap (map listed_as) (sym rest.meetings);
-            text = h.same.text ∙ st.text ∙ sym rest.text;
-          },
-        )
+    pub leaves_trap : (e : Cause) (ws' : List ℕ) (r' : Registers) (seen' : ℕ → ℕ) (root' : ℕ → Option ℕ)
+        (h : IsTrapped code inputs (program share) b c e ws' r' seen' root')
+        → (run' : Run) → run'.registers ≡ r' → SameRest run run' → Leaves code run' seen' root' h.trapped
+    leaves_trap e ws' r' seen' root' h run' registers rest =
+        let good = steps_good c h.before st.here.good h.steps in record {
+          locations = h.locations;
+          kinds = subst (AreLocations (location_kinds code.vars)) (sym (trap_locations h.before h.trapped e h.trap))
+              good.locations;
+          fuel = sym h.run.fuel ∙ ap (λ (z : Registers). z.fuel) (sym registers);
+          line = sym h.run.line ∙ ap (λ (z : Registers). z.line) (sym registers);
+          forks = h.same.forks ∙ st.forks ∙ sym rest.forks;
+          listed = h.same.listed ∙ st.listed ∙ ap (map listed_as) (sym rest.meetings);
+          text = h.same.text ∙ st.text ∙ sym rest.text;
+        }
 
-    module _ (ws' : List ℕ) (r' : Registers) (seen' : ℕ → ℕ) (root' : ℕ → Option ℕ) (h : Ahead code inputs (program share) b c ws' r' seen' root') where
-      pub stands_now : r'.block ≡ run.registers.block → r'.base ≡ run.registers.base → take run.registers.base ws' ≡ take run.registers.base run.words.items → length ws' ≡ length run.words.items
-          → (run' : Run) → run'.words.items ≡ ws' → run'.registers ≡ r' → run'.below.items ≡ run.below.items → SameRest run run' → Stands code inputs share run' seen' root' h.now
+    pub trapped : (e : Cause) (ws' : List ℕ) (r' : Registers) (seen' : ℕ → ℕ) (root' : ℕ → Option ℕ)
+        → IsTrapped code inputs (program share) b c e ws' r' seen' root'
+        → (run' : Run) → run'.registers ≡ r' → SameRest run run'
+        → RoundTo code inputs share c (turn.Ends (end.Trap e)) run' seen' root'
+    trapped e ws' r' seen' root' h run' registers rest =
+        (h.before, h.trapped, h.steps, h.trap, leaves_trap e ws' r' seen' root' h run' registers rest)
+
+    module _ (ws' : List ℕ) (r' : Registers) (seen' : ℕ → ℕ) (root' : ℕ → Option ℕ)
+        (h : Ahead code inputs (program share) b c ws' r' seen' root') where
+      pub stands_now : r'.block ≡ run.registers.block → r'.base ≡ run.registers.base
+          → take run.registers.base ws' ≡ take run.registers.base run.words.items → length ws' ≡ length run.words.items
+          → (run' : Run) → run'.words.items ≡ ws' → run'.registers ≡ r' → run'.below.items ≡ run.below.items
+          → SameRest run run' → Stands code inputs share run' seen' root' h.now
       stands_now block base beneath long run' words registers below rest = record {
         body = b;
         is = ap (λ (z : Registers). slice_get code.blocks z.block) registers ∙ ap (slice_get code.blocks) block ∙ is;
         here = subst (λ z. Here code inputs (program share) b h.now run'.words.items z seen' root') (sym registers)
             (subst (λ ws. Here code inputs (program share) b h.now ws r' seen' root') (sym words) h.here);
-        below = subst (λ (z : Registers). AreBelow code run'.words.items z.base h.now.below (reverse run'.below.items)) (sym registers)
+        below = subst (λ (z : Registers). AreBelow code run'.words.items z.base h.now.below (reverse run'.below.items))
+            (sym registers)
             (subst (λ ws. AreBelow code ws r'.base h.now.below (reverse run'.below.items)) (sym words)
             (subst (λ xs. AreBelow code ws' r'.base h.now.below (reverse xs)) (sym below)
             (subst (λ fs. AreBelow code ws' r'.base fs (reverse run.below.items)) (sym h.same.below)
             (subst (λ n. AreBelow code ws' n c.below (reverse run.below.items)) (sym base)
-            (frames_still code run.words.items ws' run.registers.base c.below (reverse run.below.items) beneath (omega (arith, long)) st.below)))));
+            (frames_still code run.words.items ws' run.registers.base c.below (reverse run.below.items) beneath
+            (omega (arith, long)) st.below)))));
         room = subst (λ z. IsRoomy code b z (length run'.words.items)) (sym registers)
             (subst (λ (ws : List ℕ). IsRoomy code b r' (length ws)) (sym words)
             (λ at k. (let m = f.roomy code ok inputs share run seen root c st b is at k in
-            let q : length (notes_of code r'.block at).shape ≡ length (notes_of code run.registers.block at).shape = ap (λ n. length (notes_of code n at).shape) block in
+            let q : length (notes_of code r'.block at).shape ≡ length (notes_of code run.registers.block at).shape =
+            ap (λ n. length (notes_of code n at).shape) block in
             omega (arith, m, q, base, long))));
         forks = h.same.forks ∙ st.forks ∙ sym rest.forks;
         listed = h.same.listed ∙ st.listed ∙ ap (map listed_as) (sym rest.meetings);
@@ -103,12 +120,16 @@ module _ (code : Code) (ok : first_fault code ≡ None) (inputs : List ℤ) (sha
         few = (let a = st.few in let e = rest.forks in let d = ap length rest.meetings in omega (arith, a, e, d));
       }
 
-      pub turned : (run' : Run) (seen'' : ℕ → ℕ) (root'' : ℕ → Option ℕ) (t : Turn) → TurnsTo code inputs share h.now t run' seen'' root'' → RoundTo code inputs share c t run' seen'' root''
-      turned run' seen'' root'' turn.Goes k = record { last = h.now; steps = h.steps; next = k.next; goes = k.goes; stands = k.stands }
+      pub turned : (run' : Run) (seen'' : ℕ → ℕ) (root'' : ℕ → Option ℕ) (t : Turn)
+          → TurnsTo code inputs share h.now t run' seen'' root'' → RoundTo code inputs share c t run' seen'' root''
+      turned run' seen'' root'' turn.Goes k =
+          record { last = h.now; steps = h.steps; next = k.next; goes = k.goes; stands = k.stands }
       turned run' seen'' root'' (turn.Ends e) k = (h.now, h.now, h.steps, k.0, k.1)
 
-  pub stands_at : (run : Run) (seen : ℕ → ℕ) (root : ℕ → Option ℕ) (c : State ℕ) (st : Stands code inputs share run seen root c) (b : CodeBlock)
-      (is : slice_get code.blocks run.registers.block ≡ Some b) (e : LegEnd) → StandsAt code inputs share c e run seen root
+  pub stands_at : (run : Run) (seen : ℕ → ℕ) (root : ℕ → Option ℕ) (c : State ℕ)
+      (st : Stands code inputs share run seen root c) (b : CodeBlock)
+      (is : slice_get code.blocks run.registers.block ≡ Some b) (e : LegEnd)
+      → StandsAt code inputs share c e run seen root
   stands_at run seen root c st b is (end.Fork n) = st
   stands_at run seen root c st b is (end.Join try on) = st
   stands_at run seen root c st b is end.End = f.leaves_it code ok inputs share run seen root c st b is
@@ -121,15 +142,19 @@ module _ (code : Code) (ok : first_fault code ≡ None) (inputs : List ℤ) (sha
   less c c' e =
       let h : clock g c' + 1 ≤ clock g c =
       subst (UsesUp code (notes_of code) (leg_prices (longest code.blocks)) c) e
-      (uses (setting code inputs share) (notes_of code) (no_fault_accepted code ok).certified (leg_prices (longest code.blocks)) (longest code.blocks) (leg_bears (longest code.blocks)) (λ n b. no_longer code.blocks n b) c) in
+      (uses (setting code inputs share) (notes_of code) (no_fault_accepted code ok).certified
+      (leg_prices (longest code.blocks)) (longest code.blocks) (leg_bears (longest code.blocks))
+      (λ n b. no_longer code.blocks n b) c) in
       omega (arith, h)
 
   no_more : (c c' : State ℕ) → Steps (setting code inputs share) c c' → clock g c' ≤ clock g c
   no_more c _ s.none = omega arith
   no_more c c' (s.more {c' = d} e rest) = let a = less c d e in let b = no_more d c' rest in omega (arith, a, b)
 
-  module _ (run run' : Run) (seen seen' : ℕ → ℕ) (root root' : ℕ → Option ℕ) (c : State ℕ) (st : Stands code inputs share run seen root c) where
-    pub round_less : RoundTo code inputs share c turn.Goes run' seen' root' → clock g (state_of code run' seen' root') < clock g (state_of code run seen root)
+  module _ (run run' : Run) (seen seen' : ℕ → ℕ) (root root' : ℕ → Option ℕ) (c : State ℕ)
+      (st : Stands code inputs share run seen root c) where
+    pub round_less : RoundTo code inputs share c turn.Goes run' seen' root'
+        → clock g (state_of code run' seen' root') < clock g (state_of code run seen root)
     round_less r =
         let a = less r.last r.next r.goes in
         let b = no_more c r.last r.steps in
@@ -137,33 +162,72 @@ module _ (code : Code) (ok : first_fault code ≡ None) (inputs : List ℤ) (sha
         let y = ap (clock g) (its_state code inputs share run' seen' root' r.next r.stands) in
         omega (arith, a, b, x, y)
 
-    pub round_on : (c0 : State ℕ) → Steps (setting code inputs share) c0 c → RoundTo code inputs share c turn.Goes run' seen' root'
+    pub round_on : (c0 : State ℕ) → Steps (setting code inputs share) c0 c
+        → RoundTo code inputs share c turn.Goes run' seen' root'
         → (d : State ℕ) × Steps (setting code inputs share) c0 d × Stands code inputs share run' seen' root' d
-    round_on c0 steps r = (r.next, steps_on (setting code inputs share) c0 c r.next steps (steps_on (setting code inputs share) c r.last r.next r.steps (s.more r.goes s.none)), r.stands)
+    round_on c0 steps r = (
+      r.next,
+      steps_on (setting code inputs share) c0 c r.next steps
+          (steps_on (setting code inputs share) c r.last r.next r.steps (s.more r.goes s.none)),
+      r.stands,
+    )
 
-  stands_own : (run : Run) (seen : ℕ → ℕ) (root : ℕ → Option ℕ) (c : State ℕ) → Stands code inputs share run seen root c → IsStanding code inputs share run seen root
-  stands_own run seen root c st = subst (Stands code inputs share run seen root) (its_state code inputs share run seen root c st) st
+  stands_own : (run : Run) (seen : ℕ → ℕ) (root : ℕ → Option ℕ) (c : State ℕ) → Stands code inputs share run seen root c
+      → IsStanding code inputs share run seen root
+  stands_own run seen root c st =
+      subst (Stands code inputs share run seen root) (its_state code inputs share run seen root c st) st
 
-  pub ends_leg : (run' : Run) (seen' : ℕ → ℕ) (root' : ℕ → Option ℕ) (c0 c : State ℕ) → Steps (setting code inputs share) c0 c → (e : LegEnd)
+  pub ends_leg : (run' : Run) (seen' : ℕ → ℕ) (root' : ℕ → Option ℕ) (c0 c : State ℕ)
+      → Steps (setting code inputs share) c0 c → (e : LegEnd)
       → RoundTo code inputs share c (turn.Ends e) run' seen' root' → LegEnds code inputs share c0 e run' seen' root'
   ends_leg run' seen' root' c0 c steps (end.Fork n) r =
-      let x = its_state code inputs share run' seen' root' r.1 r.4 in
-      (r.3.0, record { last = r.0; steps = steps_on (setting code inputs share) c0 c r.0 steps r.2; comes = r.3.1 ∙ ap (λ d. s.forks d n r.3.0) x; is = tt }, stands_own run' seen' root' r.1 r.4)
+      let x = its_state code inputs share run' seen' root' r.1 r.4 in (
+        r.3.0,
+        record {
+          last = r.0;
+          steps = steps_on (setting code inputs share) c0 c r.0 steps r.2;
+          comes = r.3.1 ∙ ap (λ d. s.forks d n r.3.0) x;
+          is = tt;
+        },
+        stands_own run' seen' root' r.1 r.4,
+      )
   ends_leg run' seen' root' c0 c steps (end.Join try on) r =
-      let x = its_state code inputs share run' seen' root' r.1 r.4 in
-      (record { last = r.0; steps = steps_on (setting code inputs share) c0 c r.0 steps r.2; comes = r.3 ∙ ap (λ d. s.joins d try on) x; is = tt }, stands_own run' seen' root' r.1 r.4)
-  ends_leg run' seen' root' c0 c steps end.End r =
-      (r.3.0, r.1, record { last = r.0; steps = steps_on (setting code inputs share) c0 c r.0 steps r.2; comes = r.3.1; is = tt }, leaves_state code run' seen' root' r.1 r.4, r.4)
-  ends_leg run' seen' root' c0 c steps (end.Trap e) r =
-      (r.1, record { last = r.0; steps = steps_on (setting code inputs share) c0 c r.0 steps r.2; comes = r.3; is = tt }, leaves_state code run' seen' root' r.1 r.4, r.4)
+      let x = its_state code inputs share run' seen' root' r.1 r.4 in (
+        record {
+          last = r.0;
+          steps = steps_on (setting code inputs share) c0 c r.0 steps r.2;
+          comes = r.3 ∙ ap (λ d. s.joins d try on) x;
+          is = tt;
+        },
+        stands_own run' seen' root' r.1 r.4,
+      )
+  ends_leg run' seen' root' c0 c steps end.End r = (
+    r.3.0,
+    r.1,
+    record { last = r.0; steps = steps_on (setting code inputs share) c0 c r.0 steps r.2; comes = r.3.1; is = tt },
+    leaves_state code run' seen' root' r.1 r.4,
+    r.4,
+  )
+  ends_leg run' seen' root' c0 c steps (end.Trap e) r = (
+    r.1,
+    record { last = r.0; steps = steps_on (setting code inputs share) c0 c r.0 steps r.2; comes = r.3; is = tt },
+    leaves_state code run' seen' root' r.1 r.4,
+    r.4,
+  )
 
 -- ---- what is handed on by slices
 
-pub here_for : (code : Code) (inputs inputs' : List ℤ) (share : ℕ) (b : CodeBlock) (c : State ℕ) (ws ws' : List ℕ) (r : Registers) (seen : ℕ → ℕ) (root : ℕ → Option ℕ)
-    → inputs' ≡ inputs → ws' ≡ ws → Here code inputs (program share) b c ws r seen root → Here code inputs' (program share) b c ws' r seen root
+pub here_for : (code : Code) (inputs inputs' : List ℤ) (share : ℕ) (b : CodeBlock) (c : State ℕ) (ws ws' : List ℕ)
+    (r : Registers) (seen : ℕ → ℕ) (root : ℕ → Option ℕ)
+    → inputs' ≡ inputs → ws' ≡ ws → Here code inputs (program share) b c ws r seen root
+    → Here code inputs' (program share) b c ws' r seen root
 here_for code inputs inputs' share b c ws ws' r seen root e d h =
-    subst (λ is. Here code is (program share) b c ws' r seen root) (sym e) (subst (λ us. Here code inputs (program share) b c us r seen root) (sym d) h)
+    subst (λ is. Here code is (program share) b c ws' r seen root) (sym e)
+    (subst (λ us. Here code inputs (program share) b c us r seen root) (sym d) h)
 
-pub ends_for : (code : Code) (inputs inputs' : List ℤ) (share : ℕ) (b : CodeBlock) (c : State ℕ) (v : Stop) (ws : List ℕ) (r : Registers) (seen : ℕ → ℕ) (root : ℕ → Option ℕ)
-    → inputs' ≡ inputs → Ends code inputs' (program share) b c v ws r seen root → Ends code inputs (program share) b c v ws r seen root
-ends_for code inputs inputs' share b c v ws r seen root e h = subst (λ is. Ends code is (program share) b c v ws r seen root) e h
+pub ends_for : (code : Code) (inputs inputs' : List ℤ) (share : ℕ) (b : CodeBlock) (c : State ℕ) (v : Stop)
+    (ws : List ℕ) (r : Registers) (seen : ℕ → ℕ) (root : ℕ → Option ℕ)
+    → inputs' ≡ inputs → Ends code inputs' (program share) b c v ws r seen root
+    → Ends code inputs (program share) b c v ws r seen root
+ends_for code inputs inputs' share b c v ws r seen root e h =
+    subst (λ is. Ends code is (program share) b c v ws r seen root) e h

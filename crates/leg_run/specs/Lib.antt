@@ -1,5 +1,5 @@
-pub mod Rooms
 pub mod Standing
 pub mod Changes
 pub mod Ends
 pub mod Printed
+pub mod Noting

@@ -32,7 +32,7 @@ fn instr_at(b: &CodeBlock, at: u32) -> Instr
 }
 
 /// Does an instruction that leaves its block, or ends the leg there.
-fn turn_at<P: Snapshot>(
+pub(crate) fn turn_at<P: Snapshot>(
     setting: &CodeSetting,
     memory: &mut Memory<P>,
     run: &mut Run,

@@ -7,9 +7,9 @@ mod apply_fun;
 mod calls;
 mod joins;
 mod legs;
+mod noting;
 mod prints;
 mod revision;
-mod rooms;
 mod setting;
 mod turn;
 
@@ -17,8 +17,9 @@ pub use apply_fun::apply;
 pub use calls::{call, leave};
 pub use joins::join;
 pub use legs::run;
+pub use noting::run_noting;
+pub use noting_run::Noted;
 pub use revision::{LegEnd, Meeting, Revision, Run, Waiting};
-pub use rooms::rooms_of;
 pub use setting::CodeSetting;
 pub use turn::Turn;
 

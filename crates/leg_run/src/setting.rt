@@ -1,17 +1,24 @@
 //! What a program runs under.
 
-ghost use Rattle.std.specs.Prelude.{◌≡◌, IfOk, None, Some, slice_get};
+ghost use Rattle.std.specs.Prelude.{◌≡◌, ◌<◌, IfOk, None, Some, length, slice_get};
 ghost use Rattle.rev_code.specs.declared.code.CodeBlock.{CodeBlock};
 ghost use Rattle.code_rules.specs.Verdict.{first_fault};
 ghost use Rattle.plain_words.specs.Agreement.{AreInputs};
 ghost use Rattle.block_run.specs.Area.{table_from};
-ghost use Rattle.leg_run.specs.Rooms.{AreRooms, IsRoom, are_rooms_prop};
+ghost use Rattle.fun_run.specs.Rooms.{AreRooms, IsRoom, are_rooms_prop};
 
-use crate::rooms::{room_at, rooms_of};
 use block_run::{Variable, table_of};
-use fun_run::block_at;
+use fun_run::{block_at, rooms_of};
 use rev_code::{Code, CodeBlock};
 use std::alloc::{AllocError, Global};
+
+/// The room of a block that is in the table.
+fn room_at(rooms: &[u32], n: u16) -> usize
+    requires { n < length rooms.now }
+    ensures { slice_get rooms.now n ≡ Some result }
+{
+    rooms[n as usize] as usize
+}
 
 /// Code without a fault, with where its shared variables lie and how many words the frames of each
 /// block need; the input numbers; and the most fuel that a child gets.
@@ -76,6 +83,13 @@ impl CodeSetting {
             → IsRoom self.now.code n b result }
     {
         room_at(self.rooms.as_slice(), n)
+    }
+
+    /// The input numbers.
+    pub fn inputs(&self) -> &[i64]
+        ensures { result.now ≡ self.now.inputs.items }
+    {
+        self.inputs.as_slice()
     }
 
     /// The most fuel that a child gets.

@@ -28,28 +28,40 @@ module _ {P S : Type 0} {m : Ghosts P S} (g : CodeRun) where
     abbrev Comes : Event P S m → Type 0
     Comes e = elim e [
       | event.Fork a ↦ (d : State ℕ) × (args : List (Word ℕ)) × (leg g c ≡ forks d a.block args)
-          × IsAtFork g a.revision.value.run a.revision.value.memory.delta (m.base a.revision.value.memory.snapshot) a.revision.value.memory.first.roots a.block d args
+          × IsAtFork g a.revision.value.run a.revision.value.memory.delta (m.base a.revision.value.memory.snapshot)
+          a.revision.value.memory.first.roots a.block d args
       | event.Join a ↦ (d : State ℕ) × (leg g c ≡ joins d a.is_try a.on)
-          × IsAtJoin g a.revision.value.run a.revision.value.memory.delta (m.base a.revision.value.memory.snapshot) a.revision.value.memory.first.roots a.written a.is_try a.on d
-      | event.End s ↦ (d : State ℕ) × (w : Option (Word ℕ)) × (leg g c ≡ ends d w) × IsEnd g (end_of (has_ended d done)) s.end
-      | event.Trap s ↦ (d : State ℕ) × (e : Cause) × (leg g c ≡ traps d e) × IsEnd g (end_of (has_ended d (trap_of d e))) s.end
+          × IsAtJoin g a.revision.value.run a.revision.value.memory.delta (m.base a.revision.value.memory.snapshot)
+          a.revision.value.memory.first.roots a.written a.is_try a.on d
+      | event.End s ↦
+          (d : State ℕ) × (w : Option (Word ℕ)) × (leg g c ≡ ends d w) × IsEnd g (end_of (has_ended d done)) s.end
+      | event.Trap s ↦
+          (d : State ℕ) × (e : Cause) × (leg g c ≡ traps d e) × IsEnd g (end_of (has_ended d (trap_of d e))) s.end
     ]
 
-    pub at_fork : (e : Event P S m) (a : AtFork P S m) → e ≡ event.Fork a → Comes e → (d : State ℕ) × (args : List (Word ℕ)) × StandsAtFork g a d args
+    pub at_fork : (e : Event P S m) (a : AtFork P S m) → e ≡ event.Fork a → Comes e
+        → (d : State ℕ) × (args : List (Word ℕ)) × StandsAtFork g a d args
     at_fork e a is h = let q : Comes (event.Fork a) = subst Comes is h in (q.0, q.1, q.3)
 
     pub at_join : (e : Event P S m) (a : AtJoin P S m) → e ≡ event.Join a → Comes e → (d : State ℕ) × StandsAtJoin g a d
     at_join e a is h = let q : Comes (event.Join a) = subst Comes is h in (q.0, q.2)
 
-    pub at_end : (e : Event P S m) (s : StoppedValue P) → e ≡ event.End s → Comes e → (v : EndValue) → v ≡ s.end → (j : End ℕ) × IsEnd g j v
-    at_end e s is h v same = let q : Comes (event.End s) = subst Comes is h in (end_of (has_ended q.0 done), subst (IsEnd g (end_of (has_ended q.0 done))) (sym same) q.3)
+    pub at_end : (e : Event P S m) (s : StoppedValue P) → e ≡ event.End s → Comes e → (v : EndValue) → v ≡ s.end
+        → (j : End ℕ) × IsEnd g j v
+    at_end e s is h v same =
+        let q : Comes (event.End s) = subst Comes is h in
+        (end_of (has_ended q.0 done), subst (IsEnd g (end_of (has_ended q.0 done))) (sym same) q.3)
 
-    pub at_trap : (e : Event P S m) (s : StoppedValue P) → e ≡ event.Trap s → Comes e → (v : EndValue) → v ≡ s.end → (j : End ℕ) × IsEnd g j v
+    pub at_trap : (e : Event P S m) (s : StoppedValue P) → e ≡ event.Trap s → Comes e → (v : EndValue) → v ≡ s.end
+        → (j : End ℕ) × IsEnd g j v
     at_trap e s is h v same =
-        let q : Comes (event.Trap s) = subst Comes is h in
-        (end_of (has_ended q.0 (trap_of q.0 q.1)), subst (IsEnd g (end_of (has_ended q.0 (trap_of q.0 q.1)))) (sym same) q.3)
+        let q : Comes (event.Trap s) = subst Comes is h in (
+          end_of (has_ended q.0 (trap_of q.0 q.1)),
+          subst (IsEnd g (end_of (has_ended q.0 (trap_of q.0 q.1)))) (sym same) q.3,
+        )
 
-  pub claimed : (a : AtJoin P S m) (v : EndValue) (k : Claimed P S m) (c : State ℕ) (j : End ℕ) → StandsAtJoin g a c → IsEnd g j v → v.finish ≡ finish.Done → k.at ≡ a → k.end ≡ v
+  pub claimed : (a : AtJoin P S m) (v : EndValue) (k : Claimed P S m) (c : State ℕ) (j : End ℕ) → StandsAtJoin g a c
+      → IsEnd g j v → v.finish ≡ finish.Done → k.at ≡ a → k.end ≡ v
       → HasClaimed g k c j
   claimed a v k c j h e d at end = record {
     joiner = subst (λ (b : AtJoin P S m). StandsAtJoin g b c) (sym at) h;
@@ -61,7 +73,8 @@ module _ {P S : Type 0} {m : Ghosts P S} (g : CodeRun) where
     abbrev Settles : Settled P S m → Type 0
     Settles s = elim s [
       | settled.Run r ↦ (c' : State ℕ) × (join_in g c try on j j.phase ≡ at_work c')
-          × IsAt g r.revision.value.run r.revision.value.memory.delta (m.base r.revision.value.memory.snapshot) r.revision.value.memory.first.roots c'
+          × IsAt g r.revision.value.run r.revision.value.memory.delta (m.base r.revision.value.memory.snapshot)
+          r.revision.value.memory.first.roots c'
       | settled.Trap t ↦ IsEnd g (end_of (join_in g c try on j j.phase)) t.end
     ]
 

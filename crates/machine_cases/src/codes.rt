@@ -3,12 +3,12 @@
 ghost use Rattle.std.specs.Prelude.{◌≡◌, IfOk};
 ghost use Rattle.plain_words.specs.Agreement.{AreInputs};
 ghost use Rattle.block_run.specs.Area.{count};
-ghost use Rattle.block_merges.specs.Merging.{AreMergesOf};
+ghost use Rattle.fun_run.specs.Merging.{AreMergesOf};
 ghost use Rattle.rev_vm.specs.Starts.{run_under};
 
 use crate::driver::run_to_end;
-use block_merges::BlockMerges;
 use code_verifier::{CodeFault, verify};
+use fun_run::BlockMerges;
 use leg_run::CodeSetting;
 use rev_code::{BlockClass, Code, CodeBlock, CodeVar, Instr, LayoutItem};
 use rev_num::{Items, ValueKind};

@@ -5,7 +5,7 @@ ghost use Rattle.std.specs.Prelude.{◌≡◌, ◌<◌, ◌+◌, ◌^◌, ℕ, I
 ghost use Rattle.rev_code.specs.State.{State};
 ghost use Rattle.version_map.specs.declared.end.Finish.TheVariants as finish;
 ghost use Rattle.block_run.specs.Area.{count};
-ghost use Rattle.block_merges.specs.Merging.{AreMergesOf};
+ghost use Rattle.fun_run.specs.Merging.{AreMergesOf};
 ghost use Rattle.code_machine.specs.Local.{End};
 ghost use Rattle.rev_vm.specs.Meaning.{IsEnd};
 ghost use Rattle.rev_vm.specs.Starts.{run_under};

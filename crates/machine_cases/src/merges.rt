@@ -4,8 +4,8 @@ ghost use Rattle.std.specs.Prelude.{◌≡◌, ◌<◌, IfOk};
 ghost use Rattle.block_run.specs.Area.{count};
 
 use crate::codes::{block, fun_and_merge, variable};
-use block_merges::BlockMerges;
 use code_verifier::{CodeFault, verify};
+use fun_run::BlockMerges;
 use rev_code::{BlockClass, Code, Instr};
 use rev_num::{Items, NumFault, int_of_word, word_of_int};
 use std::alloc::{AllocError, Global};

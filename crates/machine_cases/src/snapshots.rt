@@ -5,8 +5,8 @@ ghost use Rattle.version_map.specs.Deltas.{locations};
 
 use crate::codes::block;
 use crate::driver::run_to_end;
-use block_merges::BlockMerges;
 use code_verifier::{CodeFault, verify};
+use fun_run::BlockMerges;
 use leg_run::CodeSetting;
 use rev_code::{BlockClass, Code, CodeVar, Instr};
 use rev_num::{Items, ValueKind};

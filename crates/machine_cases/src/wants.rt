@@ -2,11 +2,11 @@
 
 ghost use Rattle.std.specs.Prelude.{◌≡◌};
 ghost use Rattle.block_run.specs.Area.{count};
-ghost use Rattle.block_merges.specs.Merging.{AreMergesOf};
+ghost use Rattle.fun_run.specs.Merging.{AreMergesOf};
 ghost use Rattle.rev_vm.specs.Starts.{run_under};
 
 use crate::codes::{code_of, left_under, setting_of};
-use block_merges::BlockMerges;
+use fun_run::BlockMerges;
 use leg_run::CodeSetting;
 use rev_code::{Code, Instr};
 use std::alloc::{AllocError, Global};

@@ -17,8 +17,8 @@ use Rattle.revision_machine.specs.Numbered.{Entries, World, Both, Listing, at_nu
 use Rattle.code_machine.specs.Local.{CodeRun, IsVerified, Local, running}
 use Rattle.code_machine.specs.Leg.{leg}
 use Rattle.code_machine.specs.Machines.{numbered, IsMain, start_in}
-use Rattle.code_outcomes.specs.Outcomes.{HasOutcome}
-use Rattle.reached_worlds.specs.Reached.{IsReached, most_fuel}
+use Rattle.code_machine_laws.specs.Outcomes.{HasOutcome}
+use Rattle.code_machine_laws.specs.Reached.{IsReached, most_fuel}
 use Rattle.step_forms.specs.Forms.{Grows}
 
 abbrev pub said : Outcome → List ℕ

@@ -20,24 +20,32 @@ use Rattle.merge_decl.specs.declared.expand.MergeFault.{MergeFault}
 use Rattle.merge_decl.proofs.Leasts.{first_of-assoc, least-append}
 
 -- a list from an index on begins with the element there
-pub drop_at : {A : Type 0} (xs : List A) (i : ℕ) (x : A) → i < length xs → x ≡ get_or xs i x → drop i xs ≡ x ∷ drop (i + 1) xs
+pub drop_at : {A : Type 0} (xs : List A) (i : ℕ) (x : A) → i < length xs → x ≡ get_or xs i x
+    → drop i xs ≡ x ∷ drop (i + 1) xs
 drop_at xs i x h e = rw (add-one) (drop-cons xs i x h ∙ ap (λ y. y ∷ drop (suc i) xs) (sym e))
 
-pub broken_step : (named : Name → Option FunHead) (us : List held.Use) (i : ℕ) (u : held.Use) (best b b' all : Option MergeFault) → i < length us → u ≡ get_or us i u
-    → b ≡ least rule.place rule.rank (rule.broken_by (use_of u) (named u.name.now.text.items)) → b' ≡ first_of rule.place rule.rank best b
+pub broken_step : (named : Name → Option FunHead) (us : List held.Use) (i : ℕ) (u : held.Use)
+    (best b b' all : Option MergeFault)
+    → i < length us → u ≡ get_or us i u
+    → b ≡ least rule.place rule.rank (rule.broken_by (use_of u) (named u.name.now.text.items))
+    → b' ≡ first_of rule.place rule.rank best b
     → first_of rule.place rule.rank best (least rule.place rule.rank (rule.broken_in named (uses_of (drop i us)))) ≡ all
-    → first_of rule.place rule.rank b' (least rule.place rule.rank (rule.broken_in named (uses_of (drop (i + 1) us)))) ≡ all
+    → first_of rule.place rule.rank b' (least rule.place rule.rank (rule.broken_in named (uses_of (drop (i + 1) us))))
+    ≡ all
 broken_step named us i u best b b' all h e p q r =
     let here = rule.broken_by (use_of u) (named u.name.now.text.items) in
     let rest = rule.broken_in named (uses_of (drop (i + 1) us)) in
-    ap (λ x. first_of rule.place rule.rank x (least rule.place rule.rank rest)) (q ∙ ap (λ x. first_of rule.place rule.rank best x) p)
+    ap (λ x. first_of rule.place rule.rank x (least rule.place rule.rank rest))
+    (q ∙ ap (λ x. first_of rule.place rule.rank best x) p)
     ∙ first_of-assoc rule.place rule.rank best (least rule.place rule.rank here) (least rule.place rule.rank rest)
     ∙ ap (λ x. first_of rule.place rule.rank best x) (sym (least-append rule.place rule.rank here rest))
-    ∙ ap (λ l. first_of rule.place rule.rank best (least rule.place rule.rank (rule.broken_in named (uses_of l)))) (sym (drop_at us i u h e))
+    ∙ ap (λ l. first_of rule.place rule.rank best (least rule.place rule.rank (rule.broken_in named (uses_of l))))
+    (sym (drop_at us i u h e))
     ∙ r
 
 -- a declaration that is no fun
-other_decl : (d : Decl) → ((x : RName) (ps : Vec Param Global) (r : ValueKind) (b : Expr) → d ≡ decl.Fun x ps r b → ⊥) → (i k : ℕ) (rest : List Declaration) (name : Name)
+other_decl : (d : Decl) → ((x : RName) (ps : Vec Param Global) (r : ValueKind) (b : Expr) → d ≡ decl.Fun x ps r b → ⊥)
+    → (i k : ℕ) (rest : List Declaration) (name : Name)
     → rule.first_fun i k (declaration d ∷ rest) name ≡ rule.first_fun (i + 1) k rest name
 other_decl (decl.Fun x ps r b) h i k rest name = absurd (h x ps r b refl)
 other_decl (decl.Merge x m j r b) h i k rest name = refl
@@ -47,7 +55,8 @@ other_decl (decl.Proc x ps r b) h i k rest name = refl
 abbrev found_from : Table FunHead → ℕ → ℕ → List Decl → Name → Option FunHead
 found_from t i k ds name = or_else (find name t) (rule.first_fun i k (map declaration ds) name)
 
-pub other_turn : (ds : List Decl) (i k k' : ℕ) (d : Decl) (t t' : Table FunHead) (name : Name) (all : Option FunHead) → i < length ds → d ≡ get_or ds i d
+pub other_turn : (ds : List Decl) (i k k' : ℕ) (d : Decl) (t t' : Table FunHead) (name : Name) (all : Option FunHead)
+    → i < length ds → d ≡ get_or ds i d
     → ((x : RName) (ps : Vec Param Global) (r : ValueKind) (b : Expr) → d ≡ decl.Fun x ps r b → ⊥) → t' ≡ t → k' ≡ k
     → found_from t i k (drop i ds) name ≡ all → found_from t' (i + 1) k' (drop (i + 1) ds) name ≡ all
 other_turn ds i k k' d t t' name all h e n p q r =
@@ -56,8 +65,10 @@ other_turn ds i k k' d t t' name all h e n p q r =
     ∙ ap (λ l. found_from t i k l name) (sym (drop_at ds i d h e))
     ∙ r
 
-pub fun_turn : (ds : List Decl) (i k k' : ℕ) (d : Decl) (t t' : Table FunHead) (name : Name) (all : Option FunHead) (x : RName) (ps : Vec Param Global) (r : ValueKind) (b : Expr) (key : Name) (params : ℕ)
-    → i < length ds → d ≡ get_or ds i d → d ≡ decl.Fun x ps r b → key ≡ x.text.items → params ≡ length (map parameter ps.items)
+pub fun_turn : (ds : List Decl) (i k k' : ℕ) (d : Decl) (t t' : Table FunHead) (name : Name) (all : Option FunHead)
+    (x : RName) (ps : Vec Param Global) (r : ValueKind) (b : Expr) (key : Name) (params : ℕ)
+    → i < length ds → d ≡ get_or ds i d → d ≡ decl.Fun x ps r b → key ≡ x.text.items
+    → params ≡ length (map parameter ps.items)
     → t' ≡ added t key (rule.head i k params) → k' ≡ k + 1
     → found_from t i k (drop i ds) name ≡ all → found_from t' (i + 1) k' (drop (i + 1) ds) name ≡ all
 fun_turn ds i k k' d t t' name all x ps r b key params h e is p l a q goes =
@@ -66,6 +77,7 @@ fun_turn ds i k k' d t t' name all x ps r b key params h e is p l a q goes =
     ∙ ap (λ o. or_else o rest) (find-added name key (rule.head i k params) t)
     ∙ or_else-step (find name t) (same name key) (rule.head i k params) rest
     ∙ (λ j. or_else (find name t) (if same name (p j) then Some (rule.head i k (l j)) else rest))
-    ∙ ap (λ y. or_else (find name t) (rule.first_fun i k (declaration y ∷ map declaration (drop (i + 1) ds)) name)) (sym is)
+    ∙ ap (λ y. or_else (find name t) (rule.first_fun i k (declaration y ∷ map declaration (drop (i + 1) ds)) name))
+    (sym is)
     ∙ ap (λ l. found_from t i k l name) (sym (drop_at ds i d h e))
     ∙ goes

@@ -16,28 +16,35 @@ is_after : (a b p q : ℕ) → is_less b q a p ≡ true → (b < a) ⊎ ((b ≡ 
 is_after a b p q h = grind (arith, nat_tests)
 
 module _ {F : Type 0} (place rank : F → ℕ) where
-  three : (a b c : F) (p q r : Bool) → precedes place rank b a ≡ p → precedes place rank c b ≡ q → precedes place rank c a ≡ r
-      → first_of place rank (first_of place rank (Some a) (Some b)) (Some c) ≡ first_of place rank (Some a) (first_of place rank (Some b) (Some c))
+  three : (a b c : F) (p q r : Bool) → precedes place rank b a ≡ p → precedes place rank c b ≡ q
+      → precedes place rank c a ≡ r
+      → first_of place rank (first_of place rank (Some a) (Some b)) (Some c)
+      ≡ first_of place rank (Some a) (first_of place rank (Some b) (Some c))
   three a b c true true true hp hq hr = rw (hp, hq, hr) refl
-  three a b c true true false hp hq hr = absurd (true≢false (sym (less_less (place a) (place b) (place c) (rank a) (rank b) (rank c) hq hp) ∙ hr))
+  three a b c true true false hp hq hr =
+      absurd (true≢false (sym (less_less (place a) (place b) (place c) (rank a) (rank b) (rank c) hq hp) ∙ hr))
   three a b c true false r hp hq hr = rw (hp, hq, hp) refl
   three a b c false true true hp hq hr = rw (hp, hq, hr) refl
   three a b c false true false hp hq hr = rw (hp, hq, hr) refl
-  three a b c false false true hp hq hr = absurd (true≢false (sym hr ∙ not_not (place a) (place b) (place c) (rank a) (rank b) (rank c) hp hq))
+  three a b c false false true hp hq hr =
+      absurd (true≢false (sym hr ∙ not_not (place a) (place b) (place c) (rank a) (rank b) (rank c) hp hq))
   three a b c false false false hp hq hr = rw (hp, hq, hr, hp) refl
 
   -- the first of three faults
-  pub first_of-assoc : (x y z : Option F) → first_of place rank (first_of place rank x y) z ≡ first_of place rank x (first_of place rank y z)
+  pub first_of-assoc : (x y z : Option F)
+      → first_of place rank (first_of place rank x y) z ≡ first_of place rank x (first_of place rank y z)
   first_of-assoc None y z = refl
   first_of-assoc (Some a) None z = refl
   first_of-assoc (Some a) (Some b) None = refl
   first_of-assoc (Some a) (Some b) (Some c) = three a b c _ _ _ refl refl refl
 
   -- the first fault of a list is that of its parts
-  pub least-append : (xs ys : List F) → least place rank (xs ++ ys) ≡ first_of place rank (least place rank xs) (least place rank ys)
+  pub least-append : (xs ys : List F)
+      → least place rank (xs ++ ys) ≡ first_of place rank (least place rank xs) (least place rank ys)
   least-append [] ys = refl
   least-append (x ∷ xs) ys =
-      ap (λ r. first_of place rank (Some x) r) (least-append xs ys) ∙ sym (first_of-assoc (Some x) (least place rank xs) (least place rank ys))
+      ap (λ r. first_of place rank (Some x) r) (least-append xs ys)
+      ∙ sym (first_of-assoc (Some x) (least place rank xs) (least place rank ys))
 
   IsBefore-refl : (f : F) → IsBefore place rank f f
   IsBefore-refl f = inr (refl, omega arith)
@@ -53,10 +60,14 @@ module _ {F : Type 0} (place rank : F → ℕ) where
   IsLeastOf fs None = fs ≡ []
   IsLeastOf fs (Some f) = IsFirst place rank fs f
 
-  least_of_two : (f : F) (fs : List F) (g : F) (b : Bool) → precedes place rank g f ≡ b → IsFirst place rank fs g → IsFirst place rank (f ∷ fs) (cond b g f)
+  least_of_two : (f : F) (fs : List F) (g : F) (b : Bool) → precedes place rank g f ≡ b → IsFirst place rank fs g
+      → IsFirst place rank (f ∷ fs) (cond b g f)
   least_of_two f fs g true h k = record {
     among = inr k.among;
-    first = λ x m. elim m [ inl e ↦ subst (λ y. IsBefore place rank g y) e (is_after (place f) (place g) (rank f) (rank g) h) | inr r ↦ k.first x r ];
+    first = λ x m. elim m [
+      | inl e ↦ subst (λ y. IsBefore place rank g y) e (is_after (place f) (place g) (rank f) (rank g) h)
+      | inr r ↦ k.first x r
+    ];
   }
   least_of_two f fs g false h k = record {
     among = inl refl;

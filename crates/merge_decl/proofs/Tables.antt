@@ -54,16 +54,19 @@ or_else-some None p h = absurd (true≢false (sym h))
 or_else-some (Some x) p h = refl
 
 module _ {V : Type 0} where
-  find-push : (name w : Name) (x : V) (t : Table V) → find name (t ++ (w, x) ∷ []) ≡ or_else (find name t) (if same name w then Some x else None)
+  find-push : (name w : Name) (x : V) (t : Table V)
+      → find name (t ++ (w, x) ∷ []) ≡ or_else (find name t) (if same name w then Some x else None)
   find-push name w x [] = refl
   find-push name w x (e ∷ t) = by (same name e.0) (find-push name w x t)
     where
       by : (b : Bool) → find name (t ++ (w, x) ∷ []) ≡ or_else (find name t) (if same name w then Some x else None)
-          → cond b (Some e.1) (find name (t ++ (w, x) ∷ [])) ≡ or_else (cond b (Some e.1) (find name t)) (if same name w then Some x else None)
+          → cond b (Some e.1) (find name (t ++ (w, x) ∷ []))
+          ≡ or_else (cond b (Some e.1) (find name t)) (if same name w then Some x else None)
       by true rest = refl
       by false rest = rest
 
-  find-kept : (name w : Name) (x : V) (t : Table V) (b : Bool) → same name w ≡ b → is_some (find w t) ≡ true → find name t ≡ or_else (find name t) (if b then Some x else None)
+  find-kept : (name w : Name) (x : V) (t : Table V) (b : Bool) → same name w ≡ b → is_some (find w t) ≡ true
+      → find name t ≡ or_else (find name t) (if b then Some x else None)
   find-kept name w x t true h k =
       sym (or_else-some (find name t) (Some x) (ap (λ n. is_some (find n t)) (same_equal name w h) ∙ k))
   find-kept name w x t false h k = sym (or_else-none (find name t))
@@ -74,11 +77,13 @@ module _ {V : Type 0} where
   find-added-by name w x t false h = find-push name w x t
 
   -- a look-up in a table with a further entry
-  pub find-added : (name w : Name) (x : V) (t : Table V) → find name (added t w x) ≡ or_else (find name t) (if same name w then Some x else None)
+  pub find-added : (name w : Name) (x : V) (t : Table V)
+      → find name (added t w x) ≡ or_else (find name t) (if same name w then Some x else None)
   find-added name w x t = find-added-by name w x t _ refl
 
 -- a choice between two, and then a third
-pub or_else-step : {A : Type 0} (o : Option A) (b : Bool) (h : A) (r : Option A) → or_else (or_else o (if b then Some h else None)) r ≡ or_else o (if b then Some h else r)
+pub or_else-step : {A : Type 0} (o : Option A) (b : Bool) (h : A) (r : Option A)
+    → or_else (or_else o (if b then Some h else None)) r ≡ or_else o (if b then Some h else r)
 or_else-step None true h r = refl
 or_else-step None false h r = refl
 or_else-step (Some x) b h r = refl
@@ -92,12 +97,14 @@ same-sym (x ∷ a) [] = refl
 same-sym (x ∷ a) (y ∷ b) = let e = same-sym a b in grind (arith, nat_tests)
 
 -- one more row
-pub rows_push : {V : Type 0} (es : List (Key × V)) (key : Key) (x : V) → rows (es ++ (key, x) ∷ []) ≡ rows es ++ (key.items, x) ∷ []
+pub rows_push : {V : Type 0} (es : List (Key × V)) (key : Key) (x : V)
+    → rows (es ++ (key, x) ∷ []) ≡ rows es ++ (key.items, x) ∷ []
 rows_push [] key x = refl
 rows_push (e ∷ es) key x = ap (λ t. (e.0.items, e.1) ∷ t) (rows_push es key x)
 
 -- without the last entry the first ones are the same
-pub shorter : {V : Type 0} (len : ℕ) (es new : List (Key × V)) → new ≡ take (length es - 1) es → len < length es → take len (rows new) ≡ take len (rows es)
+pub shorter : {V : Type 0} (len : ℕ) (es new : List (Key × V)) → new ≡ take (length es - 1) es → len < length es
+    → take len (rows new) ≡ take len (rows es)
 shorter len es new e h =
     ap (λ l. take len (rows l)) e ∙ ap (λ l. take len l) (sym (take-map _ (length es - 1) es))
     ∙ take-take len (length es - 1) (rows es) (omega arith)
@@ -107,12 +114,14 @@ module _ {V : Type 0} where
   cond_none true x o h = cc
   cond_none false x o h = (refl, h)
 
-  or_else_none : (o : Option V) (b : Bool) (x : V) → or_else o (if b then Some x else None) ≡ None → (b ≡ false) × (o ≡ None)
+  or_else_none : (o : Option V) (b : Bool) (x : V) → or_else o (if b then Some x else None) ≡ None
+      → (b ≡ false) × (o ≡ None)
   or_else_none None true x h = cc
   or_else_none None false x h = (refl, refl)
   or_else_none (Some y) b x h = cc
 
-  none_or_else : (o : Option V) (b : Bool) (x : V) → b ≡ false → o ≡ None → or_else o (if b then Some x else None) ≡ None
+  none_or_else : (o : Option V) (b : Bool) (x : V) → b ≡ false → o ≡ None
+      → or_else o (if b then Some x else None) ≡ None
   none_or_else None true x h k = absurd (true≢false h)
   none_or_else None false x h k = refl
   none_or_else (Some y) b x h k = cc
@@ -121,8 +130,10 @@ module _ {V : Type 0} where
   once_push : (w : Name) (x : V) (t : Table V) → IsOnce t → find w t ≡ None → IsOnce (t ++ (w, x) ∷ [])
   once_push w x [] h k = (refl, tt)
   once_push w x (e ∷ t) h k =
-      let parts = cond_none (same w e.0) e.1 (find w t) k in
-      (find-push e.0 w x t ∙ none_or_else (find e.0 t) (same e.0 w) x (same-sym e.0 w ∙ parts.0) h.0, once_push w x t h.1 parts.1)
+      let parts = cond_none (same w e.0) e.1 (find w t) k in (
+        find-push e.0 w x t ∙ none_or_else (find e.0 t) (same e.0 w) x (same-sym e.0 w ∙ parts.0) h.0,
+        once_push w x t h.1 parts.1,
+      )
 
   -- without the last entry, whose name is then not there
   once_pop : (w : Name) (x : V) (t : Table V) → IsOnce (t ++ (w, x) ∷ []) → IsOnce t × (find w t ≡ None)
@@ -171,7 +182,9 @@ module _ {V : Type 0} where
   indexed_pop m n key x t h i =
       let parts = once_pop key.items x t i.once in
       record {
-        finds = λ name. given m n key None name h ∙ ap (λ o. cond (same name key.items) None o) (i.finds name ∙ find-push name key.items x t)
+        finds = λ name.
+            given m n key None name h
+            ∙ ap (λ o. cond (same name key.items) None o) (i.finds name ∙ find-push name key.items x t)
             ∙ pop_found name key.items x t (same name key.items) refl parts.1;
         once = parts.0;
       }

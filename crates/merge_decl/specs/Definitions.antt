@@ -1,7 +1,7 @@
 -- The funs and the merges that a program declares.
 use Rattle.std.specs.Prelude.{ℕ, List, [], ◌∷◌, map, Option, Some, None, slice_get}
 use Rattle.rev_num.specs.declared.value.Value.{Value}
-use Rattle.rev_syntax.specs.Trees.{PlacedName, Expression, Parameter, Declaration, fun, merge, shared, proc, ProgramTree}
+use Rattle.rev_syntax.specs.Trees.{PlacedName, Expression, Parameter, Declaration, fun, merge, ProgramTree}
 use Rattle.merge_decl.specs.Names.{Name}
 use Rattle.merge_decl.specs.Value.{Answer, FunDef, funs_of, inside, value_by, some_value}
 
@@ -15,9 +15,7 @@ fun_def name params body = record { name = name.text; params = names_of params; 
 abbrev pub funs_after : List FunDef → List Declaration → List FunDef
 funs_after fs [] = fs
 funs_after fs (fun name params result body ∷ es) = funs_after (fun_def name params body ∷ fs) es
-funs_after fs (merge name m j r body ∷ es) = funs_after fs es
-funs_after fs (shared x ∷ es) = funs_after fs es
-funs_after fs (proc name params result body ∷ es) = funs_after fs es
+funs_after fs (e ∷ es) = funs_after fs es
 
 -- the funs that an expression outside of funs and merges may apply
 abbrev pub funs_in : ProgramTree → List FunDef
@@ -41,8 +39,7 @@ abbrev pub merges_after : List FunDef → List Declaration → List MergeDef
 merges_after fs [] = []
 merges_after fs (fun name params result body ∷ es) = merges_after (fun_def name params body ∷ fs) es
 merges_after fs (merge name m j r body ∷ es) = merge_def fs name m j r body ∷ merges_after fs es
-merges_after fs (shared x ∷ es) = merges_after fs es
-merges_after fs (proc name params result body ∷ es) = merges_after fs es
+merges_after fs (e ∷ es) = merges_after fs es
 
 abbrev pub merges_in : ProgramTree → List MergeDef
 merges_in p = merges_after [] p.declarations

@@ -1,6 +1,7 @@
 -- The rules on applications of funs: which funs may be applied where, and to how many arguments.
-use Rattle.std.specs.Prelude.{ℕ, ◌+◌, if◌then◌else◌, nat_eq, nat_le, length, map, Option, Some, None, List, [], ◌∷◌, ◌++◌}
+use Rattle.std.specs.Prelude.{ℕ, ◌+◌, if◌then◌else◌, nat_eq, nat_le, length, map, Option, Some, None, List, [], ◌∷◌, ◌++◌, codes}
 use Rattle.rev_syntax.specs.Trees.{PlacedName, Expression, placed, ExpressionForm, Expressions, Links, int, bool, no_rev, var, cell, apply, input, inputs, pick, unary, chain, no_expressions, expression, no_links, link, RightSide, plain, called, forked, tried, PrintItem, text, shown, Statement, statement, StatementForm, bind, assign, assign_cell, choose, choose_or, repeat, call, return, fork, join, print, assert, Statements, no_statements, statements, Arms, no_arms, arm, Declaration, fun, merge, shared, proc, ProgramTree}
+use Rattle.merge_decl.specs.Least.{Row}
 use Rattle.merge_decl.specs.Names.{Name, same}
 use Rattle.merge_decl.specs.declared.expand.MergeFault.{MergeFault}
 use Rattle.merge_decl.specs.declared.expand.MergeFault.TheVariants.{UnknownFun, LaterFun, Arity, OutOfMemory}
@@ -146,18 +147,18 @@ merge_decls d (proc w params result body ∷ es) = merge_decls (d + 1) es
 
 -- ---- the rules
 
--- the place of a fault, and its rank among the faults at one place
+-- the place of a fault, its rank among the faults at one place, and what is said of it
+abbrev pub row : MergeFault → Row
+row (UnknownFun at) = (at, 1, codes "unknown fun")
+row (LaterFun at) = (at, 2, codes "fun declared later")
+row (Arity at) = (at, 3, codes "wrong number of arguments")
+row OutOfMemory = (0, 4, [])
+
 abbrev pub place : MergeFault → ℕ
-place (UnknownFun at) = at
-place (LaterFun at) = at
-place (Arity at) = at
-place OutOfMemory = 0
+place f = (row f).0
 
 abbrev pub rank : MergeFault → ℕ
-rank (UnknownFun at) = 1
-rank (LaterFun at) = 2
-rank (Arity at) = 3
-rank OutOfMemory = 4
+rank f = (row f).1
 
 -- inside a fun or a merge only a fun that is declared earlier may be applied
 abbrev pub later_here : Use → FunHead → List MergeFault

@@ -6,6 +6,19 @@ abbrev pub is_less : ℕ → ℕ → ℕ → ℕ → Bool
 is_less place rank place' rank' =
     if nat_lt place place' then true else (if nat_lt place' place then false else nat_lt rank rank')
 
+-- what a fault shows of itself: its place, its rank among the faults at one place, and what is said of it
+abbrev pub Row : Type 0
+Row = ℕ × ℕ × List ℕ
+
+-- the first is at a lesser place, or at the same and of no greater rank
+abbrev pub ComesFirst : Row → Row → Type 0
+ComesFirst a b = (a.0 < b.0) ⊎ ((a.0 ≡ b.0) × (a.1 ≤ b.1))
+
+-- this fault comes, and none that comes stands before it
+pub record IsFirstOf {F : Type 0} (Comes : F → Type 0) (row : F → Row) (f : F) : Type 0 where
+  pub broken : Comes f
+  pub first : (g : F) → Comes g → ComesFirst (row f) (row g)
+
 -- f is an element of the list
 abbrev pub Among : {F : Type 0} → List F → F → Type 0
 Among [] f = ⊥

@@ -3,7 +3,8 @@
 -- The definition is total. Where an operand has another kind than its operator takes, where a name
 -- has no value, and where no fun has the name of an application, some fixed answer is given. No
 -- program that keeps the rules on names and kinds meets one.
-use Rattle.std.specs.Prelude.{ℕ, ℤ, pos, negsuc, Bool, true, false, if◌then◌else◌, nat_lt, length, Option, Some, None, List, [], ◌∷◌, Result, Ok, Err, int_lt, int_le, slice_get}
+use Rattle.std.specs.Prelude.{ℕ, ℤ, pos, negsuc, ◌+ℤ◌, ◌-ℤ◌, ◌*ℤ◌, neg_ℤ, Bool, true, false, not, if◌then◌else◌, nat_lt, length, Option, Some, None, List, [], ◌∷◌, Result, Ok, Err, int_lt, int_le, slice_get}
+use Rattle.std.specs.Option.{option_or}
 use Rattle.rev_num.specs.declared.value.Value.{Value}
 use Rattle.rev_num.specs.declared.value.Value.TheVariants as v
 use Rattle.rev_num.specs.declared.value.NumFault.{NumFault}
@@ -11,7 +12,7 @@ use Rattle.rev_num.specs.declared.value.NumFault.TheVariants as fault
 use Rattle.rev_num.specs.declared.outcome.Cause.{Cause}
 use Rattle.rev_num.specs.declared.outcome.Cause.TheVariants as cause
 use Rattle.rev_num.specs.Value.{same_number, same_truth}
-use Rattle.rev_num.specs.Arith.{sum_of, difference_of, product_of, quotient_of, remainder_of, negation_of}
+use Rattle.rev_num.specs.Arith.{checked, quotient_of, remainder_of}
 use Rattle.rev_syntax.specs.Trees.{Expression, placed, ExpressionForm, Expressions, Links, int, bool, no_rev, var, cell, apply, input, inputs, pick, unary, chain, no_expressions, expression, no_links, link}
 use Rattle.rev_syntax.specs.declared.tree.UnaryOp.{UnaryOp}
 use Rattle.rev_syntax.specs.declared.tree.UnaryOp.TheVariants as u
@@ -53,10 +54,6 @@ flag b = Ok (v.Bool b)
 
 -- ---- operators
 
-abbrev pub not : Bool → Bool
-not true = false
-not false = true
-
 abbrev pub both : Bool → Bool → Bool
 both true b = b
 both false b = false
@@ -69,9 +66,9 @@ same_value _ _ = false
 
 -- an operator that takes both operands
 abbrev pub operated : BinaryOp → Value → Value → Answer
-operated b.Add x y = number (sum_of (number_of x) (number_of y))
-operated b.Sub x y = number (difference_of (number_of x) (number_of y))
-operated b.Mul x y = number (product_of (number_of x) (number_of y))
+operated b.Add x y = number (checked (number_of x +ℤ number_of y))
+operated b.Sub x y = number (checked (number_of x -ℤ number_of y))
+operated b.Mul x y = number (checked (number_of x *ℤ number_of y))
 operated b.Div x y = number (quotient_of (number_of x) (number_of y))
 operated b.Rem x y = number (remainder_of (number_of x) (number_of y))
 operated b.Eq x y = flag (same_value x y)
@@ -95,7 +92,7 @@ linked op x right (Some z) = Ok z
 linked op x right None = and_then right (operated op x)
 
 abbrev pub reversed : UnaryOp → Value → Answer
-reversed u.Neg x = number (negation_of (number_of x))
+reversed u.Neg x = number (checked (neg_ℤ (number_of x)))
 reversed u.Not x = flag (not (truth_of x))
 
 -- ---- what an expression reads
@@ -218,17 +215,12 @@ inside params args = closed (bind_all nothing params args)
 abbrev pub fun_value : Funs → FunDef → Fun
 fun_value fs f args = value_by fs (inside f.params args) f.body
 
--- the earlier one, if there is one
-abbrev pub earlier_of : Option Fun → Option Fun → Option Fun
-earlier_of (Some f) later = Some f
-earlier_of None later = later
-
 -- Funs, from the last declared to the first. The body of each may apply those that are declared
 -- before it. Where two have one name, the first declared counts.
 abbrev pub funs_of : List FunDef → Funs
 funs_of [] name = None
 funs_of (f ∷ before) name =
-    earlier_of (funs_of before name)
+    option_or (funs_of before name)
     (if same name f.name then Some (fun_value (funs_of before) f) else None)
 
 -- the value of an expression where all these funs, from the last declared to the first, may be

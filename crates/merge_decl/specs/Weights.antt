@@ -1,14 +1,13 @@
 -- How much the evaluation of an expression may cost: its weight counts its parts, with those of the
 -- funs that it applies.
-use Rattle.std.specs.Prelude.{ℕ, ◌+◌, List, [], ◌∷◌, take, Option, Some, None, slice_get}
-use Rattle.rev_syntax.specs.Trees.{Expression, placed, ExpressionForm, Expressions, Links, int, bool, no_rev, var, cell, apply, input, inputs, pick, unary, chain, no_expressions, expression, no_links, link, Declaration, fun, merge, shared, proc, ProgramTree}
+use Rattle.std.specs.Prelude.{ℕ, ◌+◌, List, [], ◌∷◌, take, Option, Some, None, unwrap_or, slice_get}
+use Rattle.rev_syntax.specs.Trees.{Expression, placed, ExpressionForm, Expressions, Links, cell, apply, input, pick, unary, chain, no_expressions, expression, no_links, link, Declaration, fun, merge, ProgramTree}
 use Rattle.merge_decl.specs.Names.{Name}
 use Rattle.merge_decl.specs.Table.{Table, find, added}
 use Rattle.merge_decl.specs.FunRules.{merge_decls}
 
 abbrev pub known_weight : Option ℕ → ℕ
-known_weight None = 0
-known_weight (Some n) = n
+known_weight found = unwrap_or found 0
 
 abbrev mutual
   -- the weight of an expression, where the funs have these weights: 1 for each node, and 1 for each
@@ -17,11 +16,6 @@ abbrev mutual
   expression_weight ws (placed at s) = expression_form_weight ws s
 
   pub expression_form_weight : Table ℕ → ExpressionForm → ℕ
-  expression_form_weight ws (int n) = 1
-  expression_form_weight ws (bool x) = 1
-  expression_form_weight ws no_rev = 1
-  expression_form_weight ws (var w) = 1
-  expression_form_weight ws (inputs at) = 1
   expression_form_weight ws (cell w index) = 1 + expression_weight ws index
   expression_form_weight ws (input at index) = 1 + expression_weight ws index
   expression_form_weight ws (apply w args) =
@@ -30,6 +24,7 @@ abbrev mutual
       1 + expression_weight ws test + expression_weight ws x + expression_weight ws y
   expression_form_weight ws (unary op part) = 1 + expression_weight ws part
   expression_form_weight ws (chain first rest) = expression_weight ws first + links_weight ws rest
+  expression_form_weight ws _ = 1
 
   pub expressions_weight : Table ℕ → Expressions → ℕ
   expressions_weight ws no_expressions = 0
@@ -42,9 +37,7 @@ abbrev mutual
 -- the weights of the funs after a declaration: with two of one name the first counts
 abbrev pub weights_with : Table ℕ → Declaration → Table ℕ
 weights_with ws (fun w ps r body) = added ws w.text (expression_weight ws body)
-weights_with ws (merge w m j r body) = ws
-weights_with ws (shared x) = ws
-weights_with ws (proc w ps r body) = ws
+weights_with ws _ = ws
 
 abbrev pub weights_after : Table ℕ → List Declaration → Table ℕ
 weights_after ws [] = ws
@@ -68,8 +61,7 @@ name_within es n name = known_weight (find name (weights_before es n))
 abbrev pub declaration_weight : Table ℕ → Declaration → ℕ
 declaration_weight ws (fun w ps r body) = expression_weight ws body
 declaration_weight ws (merge w m j r body) = expression_weight ws body
-declaration_weight ws (shared x) = 0
-declaration_weight ws (proc w ps r body) = 0
+declaration_weight ws _ = 0
 
 abbrev pub weight_by : Table ℕ → Option Declaration → ℕ
 weight_by ws (Some e) = declaration_weight ws e

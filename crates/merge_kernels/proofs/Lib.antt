@@ -7,3 +7,4 @@ pub mod ThreeValues
 pub mod OneLane
 pub mod RowChoices
 pub mod RowWords
+pub mod Crossing

@@ -1,5 +1,5 @@
 -- The links of a chain, one by one.
-use Rattle.std.proofs.Common.{◌≡◌, ◌∙◌, ap, sym, ℕ, ◌+◌, ◌<◌, ◌≤◌, length, List, [], ◌∷◌, ◌++◌, drop, get_or, Option, Some, None, arith}
+use Rattle.std.proofs.Common.{◌≡◌, ◌∙◌, ap, sym, ℕ, ◌+◌, ◌<◌, ◌≤◌, length, List, [], ◌∷◌, ◌++◌, drop, get_or, Option, Some, None}
 use Rattle.std.proofs.lemmas.List.{drop_more, drop_all}
 use Rattle.rev_syntax.specs.Trees.{Expression, Links}
 use Rattle.rev_syntax.specs.View.{expression, links}
@@ -21,11 +21,13 @@ module _ (n : Names) (rest : List Link) (i : ℕ) (acc : List (BinaryOp × Expre
         ap (λ ls. renamed_links n (links ls)) (drop_more rest i x h ∙ ap (λ y. y ∷ drop (i + 1) rest) (sym e))
         ∙ ap (renamed_links n) (links-first x (drop (i + 1) rest))
 
-    pub stops : (o : Option Expression) → o ≡ renamed n (expression x.part) → o ≡ None → None ≡ renamed_links n (links rest)
+    pub stops : (o : Option Expression) → o ≡ renamed n (expression x.part) → o ≡ None
+        → None ≡ renamed_links n (links rest)
     stops o is none =
         sym (so ∙ (ap (before_links acc) (here ∙ ap (λ p. with_link x.op p later) (sym is ∙ none)) ∙ before_none acc))
 
-    pub goes_on : (o : Option Expression) (t : Expression) (more : List (BinaryOp × Expression)) → o ≡ renamed n (expression x.part) → o ≡ Some t
+    pub goes_on : (o : Option Expression) (t : Expression) (more : List (BinaryOp × Expression))
+        → o ≡ renamed n (expression x.part) → o ≡ Some t
         → more ≡ acc ++ (x.op, t) ∷ [] → renamed_links n (links rest) ≡ before_links more later
     goes_on o t more is some pushed =
         so ∙ (ap (before_links acc) (here ∙ ap (λ p. with_link x.op p later) (sym is ∙ some))

@@ -1,7 +1,7 @@
 -- Links one after another.
-use Rattle.std.proofs.Common.{◌≡◌, ◌≢◌, ◌∙◌, ap, sym, refl, ℕ, suc, length, Bool, true, false, ◌&&◌, nat_eq, List, [], ◌∷◌, ◌++◌, Option, Some, None, arith}
+use Rattle.std.proofs.Common.{◌≡◌, ◌≢◌, ◌∙◌, ap, refl, suc, length, Bool, false, ◌&&◌, nat_eq, List, [], ◌∷◌, ◌++◌, Option, Some, None}
 use Rattle.std.proofs.Math.Bool.{and-false}
-use Rattle.rev_syntax.specs.Trees.{Expression, Links, no_links, link}
+use Rattle.rev_syntax.specs.Trees.{Expression, Links, no_links}
 use Rattle.rev_syntax.specs.View.{links_of}
 use Rattle.rev_syntax.specs.declared.tree.BinaryOp.{BinaryOp}
 use Rattle.merge_kernels.specs.Closing.{with_link}
@@ -26,7 +26,8 @@ before_all [] = refl
 before_all (x ∷ xs) = ap (with_link x.0 (Some x.1)) (before_all xs)
 
 -- lists of other lengths are not equal
-pub uneven : (xs ys : List (BinaryOp × Expression)) → length xs ≢ length ys → equal_links (links_of xs) (links_of ys) ≡ false
+pub uneven : (xs ys : List (BinaryOp × Expression)) → length xs ≢ length ys
+    → equal_links (links_of xs) (links_of ys) ≡ false
 uneven [] [] h = absurd (h refl)
 uneven [] (y ∷ ys) h = refl
 uneven (x ∷ xs) [] h = refl

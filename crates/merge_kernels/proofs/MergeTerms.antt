@@ -5,8 +5,8 @@ use Rattle.rev_syntax.specs.Trees.{Expression, Declaration, fun, merge, shared, 
 use Rattle.rev_syntax.specs.View.{declaration}
 use Rattle.merge_decl.specs.Names.{Name}
 use Rattle.merge_decl.specs.FunRules.{merge_decls}
-use Rattle.merge_decl.specs.Value.{FunDef, Funs, Answer, funs_of, inside, value_by}
-use Rattle.merge_decl.specs.Definitions.{MergeDef, fun_def, merges_after, merges_in, merged, merged_by, merge_value_of}
+use Rattle.merge_decl.specs.Value.{FunDef, Funs, funs_of, inside, value_by}
+use Rattle.merge_decl.specs.Definitions.{MergeDef, fun_def, merges_after, merges_in, merged_by, merge_value_of}
 use Rattle.merge_decl.specs.Evaluation.{merge_answer}
 use Rattle.merge_decl.specs.declared.expand.Expanded.{Expanded}
 use Rattle.merge_decl.specs.declared.expand.MergeRef.{MergeRef}
@@ -35,7 +35,8 @@ number_of e = ap or_zero e
 
 by_params : (fs : Funs) (ns : List Name) (body e : Expression) → term_over ns body ≡ Some e → (main join root : ℤ)
     → value_by fs (inside ns (v.Int main ∷ v.Int join ∷ v.Int root ∷ [])) body ≡ value_of e main join root
-by_params fs (m ∷ j ∷ r ∷ []) body e is main join root = keeps_value fs (record { main = m; join = j; root = r }) body e is main join root
+by_params fs (m ∷ j ∷ r ∷ []) body e is main join root =
+    keeps_value fs (record { main = m; join = j; root = r }) body e is main join root
 by_params fs [] body e is main join root = absurd (none_some is)
 by_params fs (m ∷ []) body e is main join root = absurd (none_some is)
 by_params fs (m ∷ j ∷ []) body e is main join root = absurd (none_some is)
@@ -44,7 +45,8 @@ by_params fs (m ∷ j ∷ r ∷ x ∷ xs) body e is main join root = absurd (non
 by_merge : (o : Option MergeDef) (e : Expression) → option_and_then term_by o ≡ Some e → (main join root : ℤ)
     → answer_of e main join root ≡ merge_answer (merged_by o (v.Int main) (v.Int join) (v.Int root))
 unfolding answer_of
-by_merge (Some d) e is main join root = ap merge_answer (sym (by_params (funs_of d.funs) d.params d.body e is main join root))
+by_merge (Some d) e is main join root =
+    ap merge_answer (sym (by_params (funs_of d.funs) d.params d.body e is main join root))
 by_merge None e is main join root = absurd (none_some is)
 
 pub has_value : HasMergesValue
@@ -55,17 +57,22 @@ has_value p k e is main join root = by_merge (slice_get (merges_in p) k) e is ma
 
 -- declaration number n, counted from d, has the term of merge number k
 abbrev Found : List FunDef → List Declaration → (d k n : ℕ) → Type 0
-Found fs es d k n = (i : ℕ) × (n ≡ d + i) × (option_and_then term_in (slice_get es i) ≡ option_and_then term_by (slice_get (merges_after fs es) k))
+Found fs es d k n =
+    (i : ℕ) × (n ≡ d + i)
+    × (option_and_then term_in (slice_get es i) ≡ option_and_then term_by (slice_get (merges_after fs es) k))
 
 further : (fs gs : List FunDef) (e : Declaration) (es : List Declaration) (d k l n : ℕ)
-    → slice_get (merges_after gs (e ∷ es)) l ≡ slice_get (merges_after fs es) k → Found fs es (d + 1) k n → Found gs (e ∷ es) d l n
+    → slice_get (merges_after gs (e ∷ es)) l ≡ slice_get (merges_after fs es) k → Found fs es (d + 1) k n
+    → Found gs (e ∷ es) d l n
 further fs gs e es d k l n same f =
     let at : n ≡ d + suc f.0 = (let a = f.1 in omega arith) in
     (suc f.0, at, f.2 ∙ ap (option_and_then term_by) (sym same))
 
-found : (fs : List FunDef) (es : List Declaration) (d k n : ℕ) → slice_get (merge_decls d es) k ≡ Some n → Found fs es d k n
+found : (fs : List FunDef) (es : List Declaration) (d k n : ℕ) → slice_get (merge_decls d es) k ≡ Some n
+    → Found fs es d k n
 found fs [] d k n is = absurd (none_some is)
-found fs (fun w params result body ∷ es) d k n is = further (fun_def w params body ∷ fs) fs _ es d k k n refl (found (fun_def w params body ∷ fs) es (d + 1) k n is)
+found fs (fun w params result body ∷ es) d k n is =
+    further (fun_def w params body ∷ fs) fs _ es d k k n refl (found (fun_def w params body ∷ fs) es (d + 1) k n is)
 found fs (merge w m j r body ∷ es) d zero n is = (0, (let e : d ≡ n = number_of is in omega arith), refl)
 found fs (merge w m j r body ∷ es) d (suc k) n is = further fs fs _ es d k (suc k) n refl (found fs es (d + 1) k n is)
 found fs (shared x ∷ es) d k n is = further fs fs _ es d k k n refl (found fs es (d + 1) k n is)
@@ -79,11 +86,13 @@ declared_term p k n is =
     let at : n ≡ f.0 = (let a = f.1 in omega arith) in
     ap (λ i. option_and_then term_in (slice_get p.declarations i)) at ∙ f.2
 
-merge_number : (ms : List MergeRef) (k : ℕ) (d : MergeRef) → k < length ms → slice_get (map (λ m. m.decl) ms) k ≡ Some ((get_or ms k d).decl)
+merge_number : (ms : List MergeRef) (k : ℕ) (d : MergeRef) → k < length ms
+    → slice_get (map (λ m. m.decl) ms) k ≡ Some ((get_or ms k d).decl)
 merge_number ms k d h = slice_get-map (λ m. m.decl) ms k ∙ ap (option_map (λ m. m.decl)) (slice_get-get_or ms k d h)
 
 pub listed : (x : Expanded) (ms : List MergeRef) (k : ℕ) → ms ≡ x.merges → k < length x.merges
-    → slice_get (merge_decls 0 (map declaration x.program.decls.items)) k ≡ Some ((get_or {A = MergeRef} ms k (record { decl = 0 })).decl)
+    → slice_get (merge_decls 0 (map declaration x.program.decls.items)) k
+    ≡ Some ((get_or {A = MergeRef} ms k (record { decl = 0 })).decl)
 listed x ms k e h =
     ap (λ ds. slice_get ds k) (sym x.merges_listed) ∙ merge_number x.merges k (record { decl = 0 }) h
     ∙ ap (λ l. Some ((get_or {A = MergeRef} l k (record { decl = 0 })).decl)) (sym e)

@@ -1,13 +1,12 @@
 -- One lane: a sum that wraps, and whether it did.
-use Rattle.std.proofs.Common.{◌≡◌, ◌∙◌, refl, ap, sym, subst, ℕ, suc, ◌+◌, ◌-◌, ◌*◌, ◌%◌, ◌^◌, ◌<◌, ◌≤◌, Bool, true, false, cond, ◌||◌, not, List, [], ◌∷◌, map, length, replicate, Option, Some, None, Result, Ok, Err, ℤ, pos, negsuc, ◌+ℤ◌, ◌-ℤ◌, w64, SFits, of_z, to_z, arith, nat_lt, bit_xor, bit_or, if◌then◌else◌}
+use Rattle.std.proofs.Common.{◌≡◌, ◌∙◌, refl, ap, sym, subst, ℕ, suc, ◌+◌, ◌-◌, ◌*◌, ◌%◌, ◌^◌, ◌<◌, ◌≤◌, Bool, true, false, cond, ◌||◌, not, List, [], ◌∷◌, map, length, replicate, Option, Some, None, Ok, Err, ℤ, pos, negsuc, ◌+ℤ◌, ◌-ℤ◌, w64, SFits, of_z, to_z, arith, bit_xor, bit_or, if◌then◌else◌}
 use Rattle.std.proofs.lemmas.Int.{ints, to_z-of_z}
 use Rattle.std.specs.Int.Signed.{lt_z}
 use lib.Signed.{◌≤ℤ◌, ◌<ℤ◌, mag}
 use lib.Lanes.{zip2, mask_l, top, Each1}
 use Rattle.std.proofs.lemmas.Simd.{Each1-from_get_or, mask_l-mod}
-use Rattle.rev_num.specs.declared.value.NumFault.{NumFault}
 use Rattle.rev_num.specs.declared.value.NumFault.TheVariants.{Overflow}
-use Rattle.rev_num.specs.Arith.{fits_i64, checked, sum_of, difference_of}
+use Rattle.rev_num.specs.Arith.{fits_i64, checked, difference_of}
 use Rattle.merge_kernels.specs.Lanes.{and_lanes, before, lanes_answer, AreLanes}
 use Rattle.merge_kernels.specs.Terms.{answer_of}
 use Rattle.merge_kernels.specs.Three.{sum_expression}
@@ -31,27 +30,31 @@ fits_no : (z : ℤ) → 2 ^ 63 ≤ mag z → fits_i64 z ≡ false
 fits_no (pos n) h = grind arith
 fits_no (negsuc n) h = grind arith
 
-sum_fits : (m j : ℤ) (p q : Bool) → SFits w64 m → SFits w64 j → lt_z (added m j) m ≡ p → lt_z j (pos 0) ≡ q → differ p q ≡ false
+sum_fits : (m j : ℤ) (p q : Bool) → SFits w64 m → SFits w64 j → lt_z (added m j) m ≡ p → lt_z j (pos 0) ≡ q
+    → differ p q ≡ false
     → (added m j ≡ m +ℤ j) × (mag (m +ℤ j) < 2 ^ 63)
 sum_fits m j true true h k a b e = grind (arith, ints)
 sum_fits m j false false h k a b e = grind (arith, ints)
 sum_fits m j true false h k a b e = grind (arith, ints)
 sum_fits m j false true h k a b e = grind (arith, ints)
 
-sum_past : (m j : ℤ) (p q : Bool) → SFits w64 m → SFits w64 j → lt_z (added m j) m ≡ p → lt_z j (pos 0) ≡ q → differ p q ≡ true → 2 ^ 63 ≤ mag (m +ℤ j)
+sum_past : (m j : ℤ) (p q : Bool) → SFits w64 m → SFits w64 j → lt_z (added m j) m ≡ p → lt_z j (pos 0) ≡ q
+    → differ p q ≡ true → 2 ^ 63 ≤ mag (m +ℤ j)
 sum_past m j true true h k a b e = grind (arith, ints)
 sum_past m j false false h k a b e = grind (arith, ints)
 sum_past m j true false h k a b e = grind (arith, ints)
 sum_past m j false true h k a b e = grind (arith, ints)
 
-take_fits : (s r : ℤ) (p q : Bool) → SFits w64 s → SFits w64 r → lt_z s (taken s r) ≡ p → lt_z r (pos 0) ≡ q → differ p q ≡ false
+take_fits : (s r : ℤ) (p q : Bool) → SFits w64 s → SFits w64 r → lt_z s (taken s r) ≡ p → lt_z r (pos 0) ≡ q
+    → differ p q ≡ false
     → (taken s r ≡ s -ℤ r) × (mag (s -ℤ r) < 2 ^ 63)
 take_fits m j true true h k a b e = grind (arith, ints)
 take_fits m j false false h k a b e = grind (arith, ints)
 take_fits m j true false h k a b e = grind (arith, ints)
 take_fits m j false true h k a b e = grind (arith, ints)
 
-take_past : (s r : ℤ) (p q : Bool) → SFits w64 s → SFits w64 r → lt_z s (taken s r) ≡ p → lt_z r (pos 0) ≡ q → differ p q ≡ true → 2 ^ 63 ≤ mag (s -ℤ r)
+take_past : (s r : ℤ) (p q : Bool) → SFits w64 s → SFits w64 r → lt_z s (taken s r) ≡ p → lt_z r (pos 0) ≡ q
+    → differ p q ≡ true → 2 ^ 63 ≤ mag (s -ℤ r)
 take_past m j true true h k a b e = grind (arith, ints)
 take_past m j false false h k a b e = grind (arith, ints)
 take_past m j true false h k a b e = grind (arith, ints)
@@ -72,7 +75,8 @@ sum_fit : (m j : ℤ) → SFits w64 m → SFits w64 j → SFits w64 (added m j)
 sum_fit m j h k = grind (arith, ints)
 
 lane_by : (m j r : ℤ) → SFits w64 m → SFits w64 j → SFits w64 r → (a b : Bool)
-    → differ (lt_z (added m j) m) (lt_z j (pos 0)) ≡ a → differ (lt_z (added m j) (taken (added m j) r)) (lt_z r (pos 0)) ≡ b
+    → differ (lt_z (added m j) m) (lt_z j (pos 0)) ≡ a
+    → differ (lt_z (added m j) (taken (added m j) r)) (lt_z r (pos 0)) ≡ b
     → sum_answer m j r ≡ (if a || b then Err Overflow else Ok (taken (added m j) r))
 lane_by m j r h k l true b e f =
     ap (λ o. then_minus o r) (checked_no (m +ℤ j) (sum_past m j _ _ h k refl refl e))
@@ -88,7 +92,8 @@ lane_by m j r h k l false false e f =
 
 lane : (m j r : ℤ) → SFits w64 m → SFits w64 j → SFits w64 r → (c : Bool) → past m j r ≡ c
     → sum_answer m j r ≡ (if c then Err Overflow else Ok (taken (added m j) r))
-lane m j r h k l c e = lane_by m j r h k l _ _ refl refl ∙ ap (λ b. if b then Err Overflow else Ok (taken (added m j) r)) e
+lane m j r h k l c e =
+    lane_by m j r h k l _ _ refl refl ∙ ap (λ b. if b then Err Overflow else Ok (taken (added m j) r)) e
 
 -- ---- all lanes
 
@@ -121,9 +126,11 @@ module _ (ms js rs : List ℤ) where
   D = zip2 SUB S R
 
   abbrev pub tests : ℕ → List ℕ
-  tests n = zip2 bit_or (zip2 bit_xor (zip2 LT S M) (zip2 LT J (replicate n 0))) (zip2 bit_xor (zip2 LT S D) (zip2 LT R (replicate n 0)))
+  tests n = zip2 bit_or (zip2 bit_xor (zip2 LT S M) (zip2 LT J (replicate n 0)))
+      (zip2 bit_xor (zip2 LT S D) (zip2 LT R (replicate n 0)))
 
-top_is : (a b c d : Bool) → top 63 (bit_or (bit_xor (full a) (full b)) (bit_xor (full c) (full d))) ≡ (differ a b || differ c d)
+top_is : (a b c d : Bool)
+    → top 63 (bit_or (bit_xor (full a) (full b)) (bit_xor (full c) (full d))) ≡ (differ a b || differ c d)
 top_is true true true true = refl
 top_is true true true false = refl
 top_is true true false true = refl
@@ -150,30 +157,37 @@ word_is m j = word_back ((of_z w64 m + of_z w64 j) % 2 ^ 64) (omega arith)
 -- the bit of one lane
 bit : (m j r : ℤ) → SFits w64 m → SFits w64 j → SFits w64 r
     → top 63 (bit_or (bit_xor (LT (ADD (of_z w64 m) (of_z w64 j)) (of_z w64 m)) (LT (of_z w64 j) 0))
-    (bit_xor (LT (ADD (of_z w64 m) (of_z w64 j)) (SUB (ADD (of_z w64 m) (of_z w64 j)) (of_z w64 r))) (LT (of_z w64 r) 0))) ≡ past m j r
+    (bit_xor (LT (ADD (of_z w64 m) (of_z w64 j)) (SUB (ADD (of_z w64 m) (of_z w64 j)) (of_z w64 r)))
+    (LT (of_z w64 r) 0)))
+    ≡ past m j r
 bit m j r h k l =
     let mm : to_z w64 (of_z w64 m) ≡ m = to_z-of_z w64 m h in
     let jj : to_z w64 (of_z w64 j) ≡ j = to_z-of_z w64 j k in
     let rr : to_z w64 (of_z w64 r) ≡ r = to_z-of_z w64 r l in
     (λ i. top 63 (bit_or (bit_xor (full (lt_z (added m j) (mm i))) (full (lt_z (jj i) (pos 0))))
     (bit_xor (full (lt_z (added m j) (to_z w64 (SUB (word_is m j i) (of_z w64 r))))) (full (lt_z (rr i) (pos 0))))))
-    ∙ top_is (lt_z (added m j) m) (lt_z j (pos 0)) (lt_z (added m j) (to_z w64 (SUB (of_z w64 (added m j)) (of_z w64 r)))) (lt_z r (pos 0))
+    ∙ top_is (lt_z (added m j) m) (lt_z j (pos 0))
+    (lt_z (added m j) (to_z w64 (SUB (of_z w64 (added m j)) (of_z w64 r)))) (lt_z r (pos 0))
 
 abbrev pub Told : ℕ → List ℕ → Option (List ℤ) → Type 0
 Told mask ds answer = (mask ≡ 0 → answer ≡ Some (map (to_z w64) ds)) × ((mask ≡ 0 → ⊥) → answer ≡ None)
 
 told_by : (m j r : ℤ) → SFits w64 m → SFits w64 j → SFits w64 r → (c b : Bool) → past m j r ≡ c → b ≡ past m j r
     → (mask : ℕ) (ds : List ℕ) (answer : Option (List ℤ)) → Told mask ds answer
-    → Told (cond {A = ℕ} b 1 0 + 2 * mask) (SUB (ADD (of_z w64 m) (of_z w64 j)) (of_z w64 r) ∷ ds) (and_lanes (sum_answer m j r) answer)
+    → Told (cond {A = ℕ} b 1 0 + 2 * mask) (SUB (ADD (of_z w64 m) (of_z w64 j)) (of_z w64 r) ∷ ds)
+    (and_lanes (sum_answer m j r) answer)
 told_by m j r h k l true b e f mask ds answer so =
     let one : ◌≡◌ {A = ℕ} (cond {A = ℕ} b 1 0) 1 = ap (λ x. cond {A = ℕ} x 1 0) (f ∙ e) in
     (λ zero. absurd (omega arith), λ no. ap (λ o. and_lanes o answer) (lane m j r h k l true e))
 told_by m j r h k l false b e f mask ds answer so =
     let none : ◌≡◌ {A = ℕ} (cond {A = ℕ} b 1 0) 0 = ap (λ x. cond {A = ℕ} x 1 0) (f ∙ e) in
-    let now : and_lanes (sum_answer m j r) answer ≡ before (to_z w64 (SUB (ADD (of_z w64 m) (of_z w64 j)) (of_z w64 r))) answer =
-    ap (λ o. and_lanes o answer) (lane m j r h k l false e) ∙ (λ i. before (to_z w64 (SUB (sym (word_is m j) i) (of_z w64 r))) answer) in (
+    let now :
+    and_lanes (sum_answer m j r) answer ≡ before (to_z w64 (SUB (ADD (of_z w64 m) (of_z w64 j)) (of_z w64 r))) answer =
+    ap (λ o. and_lanes o answer) (lane m j r h k l false e)
+    ∙ (λ i. before (to_z w64 (SUB (sym (word_is m j) i) (of_z w64 r))) answer) in (
       λ zero. now ∙ ap (before (to_z w64 (SUB (ADD (of_z w64 m) (of_z w64 j)) (of_z w64 r)))) (so.0 (omega arith)),
-      λ no. now ∙ ap (before (to_z w64 (SUB (ADD (of_z w64 m) (of_z w64 j)) (of_z w64 r)))) (so.1 (λ is. no (omega arith))),
+      λ no. now
+          ∙ ap (before (to_z w64 (SUB (ADD (of_z w64 m) (of_z w64 j)) (of_z w64 r)))) (so.1 (λ is. no (omega arith))),
     )
 
 pub lanes : (ms js rs : List ℤ) → Each1 (SFits w64) ms → Each1 (SFits w64) js → Each1 (SFits w64) rs
@@ -196,10 +210,16 @@ pub eight_lanes : (ms js rs : List ℤ) → AreLanes ms → AreLanes js → AreL
     → Told (mask_l (map (top 63) (tests ms js rs 8)) % 2 ^ 64) (D ms js rs) (lanes_answer sum_answer ms js rs)
 eight_lanes ms js rs h k l =
     let so = lanes ms js rs (each ms h) (each js k) (each rs l) (omega (arith, h.0, k.0)) (omega (arith, h.0, l.0)) in
-    let now = subst (λ n. Told (mask_l (map (top 63) (tests ms js rs n))) (D ms js rs) (lanes_answer sum_answer ms js rs) × (length (map (top 63) (tests ms js rs n)) ≡ n)) h.0
+    let now =
+    subst (λ n.
+    Told (mask_l (map (top 63) (tests ms js rs n))) (D ms js rs) (lanes_answer sum_answer ms js rs)
+    × (length (map (top 63) (tests ms js rs n)) ≡ n))
+    h.0
     (so.0, so.1) in
-    subst (λ k. Told k (D ms js rs) (lanes_answer sum_answer ms js rs)) (sym (mask_l-mod (map (top 63) (tests ms js rs 8)) 64 (omega (arith, now.1)))) now.0
+    subst (λ k. Told k (D ms js rs) (lanes_answer sum_answer ms js rs))
+    (sym (mask_l-mod (map (top 63) (tests ms js rs 8)) 64 (omega (arith, now.1)))) now.0
 
 -- the sums are the values of the definition
-pub by_definition : (ms js rs : List ℤ) → lanes_answer sum_answer ms js rs ≡ lanes_answer (answer_of sum_expression) ms js rs
+pub by_definition : (ms js rs : List ℤ)
+    → lanes_answer sum_answer ms js rs ≡ lanes_answer (answer_of sum_expression) ms js rs
 by_definition ms js rs = sym (λ i. lanes_answer (λ m j r. sum_is m j r i) ms js rs)

@@ -1,13 +1,13 @@
 -- The one choice of eight locations.
-use Rattle.std.proofs.Common.{◌≡◌, ◌∙◌, ap, sym, refl, subst, ℕ, zero, suc, ◌+◌, ◌<◌, ◌≤◌, Bool, true, false, ◌&&◌, nat_eq, nat_lt, if◌then◌else◌, List, [], ◌∷◌, length, take, drop, slice_get, Option, Some, None, option_and_then, arith}
+use Rattle.std.proofs.Common.{◌≡◌, ◌∙◌, ap, sym, refl, subst, ℕ, zero, suc, ◌+◌, ◌<◌, ◌≤◌, Bool, true, false, ◌&&◌, nat_lt, if◌then◌else◌, List, [], ◌∷◌, length, take, drop, slice_get, Option, Some, None, option_and_then, arith}
 use Rattle.std.proofs.lemmas.Bool.Decides.{nat_tests}
 use Rattle.rev_num.proofs.Lists.{false_no}
 use Rattle.rev_syntax.proofs.Lists.{same-number}
 use Rattle.rev_syntax.specs.Trees.{Expression}
-use Rattle.std.specs.Prelude.{IfSome}
+use Rattle.std.specs.Prelude.{IfSome, MatchBool}
 use Rattle.merge_kernels.specs.Equal.{equal}
 use Rattle.merge_kernels.proofs.Equality.{equal_is}
-use Rattle.merge_kernels.specs.Plans.{the_choice, choice_at, chosen_at, is_choice, have, if_all, row_choice, is_true, has_row, AreWithin, IsRowFor}
+use Rattle.merge_kernels.specs.Plans.{the_choice, choice_at, is_choice, have, if_all, row_choice, is_true, has_row, AreWithin, IsRowFor}
 
 pub both_true : (p q : Bool) → p && q ≡ true → (p ≡ true) × (q ≡ true)
 both_true true q h = (refl, h)
@@ -33,7 +33,8 @@ choice_is : (n : ℕ) (c : Option ℕ) → is_choice n c ≡ true → c ≡ Some
 choice_is n (Some m) h = ap Some (same-number m n h)
 choice_is n None h = false_no h
 
-have_at : (n : ℕ) (cs : List (Option ℕ)) → have n cs ≡ true → (k : ℕ) → k < length cs → the_choice (slice_get cs k) ≡ Some n
+have_at : (n : ℕ) (cs : List (Option ℕ)) → have n cs ≡ true → (k : ℕ) → k < length cs
+    → the_choice (slice_get cs k) ≡ Some n
 have_at n [] h k below = absurd (omega arith)
 have_at n (c ∷ cs) h zero below = choice_is n c (both_true (is_choice n c) (have n cs) h).0
 have_at n (c ∷ cs) h (suc k) below = have_at n cs (both_true (is_choice n c) (have n cs) h).1 k (omega arith)
@@ -65,11 +66,14 @@ if_all_is (Some m) cs n e = by (have m cs) refl e
     by false h e = none_some n e
 
 -- each of the eight has the choice
-pub all_choose : (choices : List (Option ℕ)) (first n : ℕ) → row_choice choices first ≡ Some n → (k : ℕ) → k < 8 → choice_at choices (first + k) ≡ Some n
+pub all_choose : (choices : List (Option ℕ)) (first n : ℕ) → row_choice choices first ≡ Some n → (k : ℕ) → k < 8
+    → choice_at choices (first + k) ≡ Some n
 unfolding row_choice
 all_choose choices first n e k h = by (nat_lt (length choices) (first + 8)) refl e
   where
-    by : (b : Bool) → nat_lt (length choices) (first + 8) ≡ b → (if b then None else if_all (choice_at choices first) (take 8 (drop first choices))) ≡ Some n → choice_at choices (first + k) ≡ Some n
+    by : (b : Bool) → nat_lt (length choices) (first + 8) ≡ b
+        → (if b then None else if_all (choice_at choices first) (take 8 (drop first choices))) ≡ Some n
+        → choice_at choices (first + k) ≡ Some n
     by true short e = none_some n e
     by false short e =
         let many : first + 8 ≤ length choices = grind (arith, nat_tests, short) in
@@ -80,7 +84,8 @@ all_choose choices first n e k h = by (nat_lt (length choices) (first + 8)) refl
 -- the definition of that kernel was chosen for each of the eight
 pub row_for : (choices : List (Option ℕ)) (kernels : List Expression) (first n : ℕ) (e : Expression)
     → row_choice choices first ≡ Some n → slice_get kernels n ≡ Some e → IsRowFor choices kernels first e
-row_for choices kernels first n e is at k h = ap (option_and_then (slice_get kernels)) (all_choose choices first n is k h) ∙ at
+row_for choices kernels first n e is at k h =
+    ap (option_and_then (slice_get kernels)) (all_choose choices first n is k h) ∙ at
 
 -- what the choice is, by how many locations there are
 pub short_is : (choices : List (Option ℕ)) (first : ℕ) → length choices < first + 8 → None ≡ row_choice choices first
@@ -89,33 +94,72 @@ short_is choices first h =
     let short : nat_lt (length choices) (first + 8) ≡ true = grind (arith, nat_tests, h) in
     sym (ap (λ b. if b then None else if_all (choice_at choices first) (take 8 (drop first choices))) short)
 
-pub long_is : (choices : List (Option ℕ)) (first : ℕ) → first + 8 ≤ length choices → if_all (choice_at choices first) (take 8 (drop first choices)) ≡ row_choice choices first
+pub long_is : (choices : List (Option ℕ)) (first : ℕ) → first + 8 ≤ length choices
+    → if_all (choice_at choices first) (take 8 (drop first choices)) ≡ row_choice choices first
 unfolding row_choice
 long_is choices first h =
     let enough : nat_lt (length choices) (first + 8) ≡ false = grind (arith, nat_tests, h) in
     sym (ap (λ b. if b then None else if_all (choice_at choices first) (take 8 (drop first choices))) enough)
 
-pub no_choice : (choices : List (Option ℕ)) (first : ℕ) → first + 8 ≤ length choices → choice_at choices first ≡ None → None ≡ row_choice choices first
+no_choice : (choices : List (Option ℕ)) (first : ℕ) → first + 8 ≤ length choices → choice_at choices first ≡ None
+    → None ≡ row_choice choices first
 no_choice choices first h none = ap (λ c. if_all c (take 8 (drop first choices))) (sym none) ∙ long_is choices first h
 
-pub one_choice : (choices : List (Option ℕ)) (first n : ℕ) (b : Bool) → first + 8 ≤ length choices → choice_at choices first ≡ Some n
+-- where the first has none
+pub none_here : (choices : List (Option ℕ)) (first : ℕ) → choice_at choices first ≡ None
+    → row_choice choices first ≡ None
+none_here choices first none = by (nat_lt (length choices) (first + 8)) refl
+  where
+    by : (b : Bool) → nat_lt (length choices) (first + 8) ≡ b → row_choice choices first ≡ None
+    by true short = sym (short_is choices first (grind (arith, nat_tests, short)))
+    by false long = sym (no_choice choices first (grind (arith, nat_tests, long)) none)
+
+one_choice : (choices : List (Option ℕ)) (first n : ℕ) (b : Bool) → first + 8 ≤ length choices
+    → choice_at choices first ≡ Some n
     → b ≡ have n (take 8 (drop first choices)) → (if b then Some n else None) ≡ row_choice choices first
 one_choice choices first n b h some is =
-    ap (λ c. if c then Some n else None) is ∙ ap (λ c. if_all c (take 8 (drop first choices))) (sym some) ∙ long_is choices first h
+    ap (λ c. if c then Some n else None) is ∙ ap (λ c. if_all c (take 8 (drop first choices))) (sym some)
+    ∙ long_is choices first h
 
--- the one choice is a place of the kernels
-pub within_row : (choices : List (Option ℕ)) (kernels : List Expression) (first n : ℕ) → row_choice choices first ≡ Some n → AreWithin choices kernels → n < length kernels
-within_row choices kernels first n is within = within (first + 0) n (all_choose choices first n is 0 (omega arith))
+-- where the first has one, by whether all have it
+pub by_all : (choices : List (Option ℕ)) (first n : ℕ) (b : Bool) → first + 8 ≤ length choices
+    → choice_at choices first ≡ Some n
+    → b ≡ have n (take 8 (drop first choices))
+    → MatchBool b (row_choice choices first ≡ Some n) (row_choice choices first ≡ None)
+by_all choices first n true h some is = sym (one_choice choices first n true h some is)
+by_all choices first n false h some is = sym (one_choice choices first n false h some is)
 
-pub row_told : (choices : List (Option ℕ)) (rows : List Bool) (first n : ℕ) (b : Bool) → row_choice choices first ≡ Some n → slice_get rows n ≡ Some b → b ≡ has_row choices rows first
+-- a choice is a place of the kernels
+pub within_here : (choices : List (Option ℕ)) (kernels : List Expression) (first n : ℕ)
+    → choice_at choices first ≡ Some n → AreWithin choices kernels → n < length kernels
+within_here choices kernels first n is within = within first n is
+
+pub row_told : (choices : List (Option ℕ)) (rows : List Bool) (first n : ℕ) (b : Bool)
+    → row_choice choices first ≡ Some n → slice_get rows n ≡ Some b → b ≡ has_row choices rows first
 row_told choices rows first n b is at = sym (ap (λ o. is_true (option_and_then (slice_get rows) o)) is ∙ ap is_true at)
 
-pub no_row_told : (choices : List (Option ℕ)) (rows : List Bool) (first : ℕ) → row_choice choices first ≡ None → false ≡ has_row choices rows first
+pub no_row_told : (choices : List (Option ℕ)) (rows : List Bool) (first : ℕ) → row_choice choices first ≡ None
+    → false ≡ has_row choices rows first
 no_row_told choices rows first is = sym (ap (λ o. is_true (option_and_then (slice_get rows) o)) is)
 
-pub row_same : (choices : List (Option ℕ)) (kernels : List Expression) (first n : ℕ) (d e : Expression) → equal d e ≡ true → row_choice choices first ≡ Some n → slice_get kernels n ≡ Some e
+-- the kernel of the first has no row
+pub none_told : (choices : List (Option ℕ)) (rows : List Bool) (first n : ℕ) → choice_at choices first ≡ Some n
+    → slice_get rows n ≡ Some false → false ≡ has_row choices rows first
+none_told choices rows first n some at = by (row_choice choices first) refl
+  where
+    by : (o : Option ℕ) → row_choice choices first ≡ o → false ≡ has_row choices rows first
+    by None is = no_row_told choices rows first is
+    by (Some k) is =
+        let here : first + 0 ≡ first = omega arith in
+        let same : n ≡ k =
+        some_is n k (sym some ∙ ap (choice_at choices) (sym here) ∙ all_choose choices first k is 0 (omega arith)) in
+        row_told choices rows first k false is (ap (slice_get rows) (sym same) ∙ at)
+
+pub row_same : (choices : List (Option ℕ)) (kernels : List Expression) (first n : ℕ) (d e : Expression)
+    → equal d e ≡ true → row_choice choices first ≡ Some n → slice_get kernels n ≡ Some e
     → IsRowFor choices kernels first d
-row_same choices kernels first n d e same is at = row_for choices kernels first n d is (at ∙ ap Some (sym (equal_is d e same)))
+row_same choices kernels first n d e same is at =
+    row_for choices kernels first n d is (at ∙ ap Some (sym (equal_is d e same)))
 
 pub some_weaker : {A : Type 0} (o : Option A) (P Q : A → Type 0) → ((x : A) → P x → Q x) → IfSome o P → IfSome o Q
 some_weaker (Some x) P Q h p = h x p

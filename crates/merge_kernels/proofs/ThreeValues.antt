@@ -2,10 +2,9 @@
 use Rattle.std.proofs.Common.{◌≡◌, ◌∙◌, refl, ap, ℤ, Bool, true, false, if◌then◌else◌, Result, Ok, Err, int_lt}
 use Rattle.rev_num.specs.declared.value.NumFault.{NumFault}
 use Rattle.rev_num.specs.declared.value.NumFault.TheVariants as fault
-use Rattle.rev_num.specs.declared.value.Value.{Value}
 use Rattle.rev_num.specs.declared.value.Value.TheVariants as v
 use Rattle.rev_num.specs.Arith.{sum_of, difference_of}
-use Rattle.merge_decl.specs.Value.{Answer, and_then, number, number_of}
+use Rattle.merge_decl.specs.Value.{and_then, number, number_of}
 use Rattle.merge_decl.specs.Evaluation.{merge_answer}
 use Rattle.merge_kernels.specs.Terms.{answer_of, value_of}
 use Rattle.merge_kernels.specs.Three.{sum_expression, greatest_expression, least_expression}
@@ -23,7 +22,8 @@ last (Err fault.Overflow) = refl
 last (Err fault.ZeroDivisor) = refl
 
 both : (o : Result ℤ NumFault) (root : ℤ)
-    → merge_answer (and_then (number o) (λ x. and_then (number (difference_of (number_of x) root)) (λ z. Ok z))) ≡ then_minus o root
+    → merge_answer (and_then (number o) (λ x. and_then (number (difference_of (number_of x) root)) (λ z. Ok z)))
+    ≡ then_minus o root
 both (Ok s) root = last (difference_of s root)
 both (Err fault.Overflow) root = refl
 both (Err fault.ZeroDivisor) root = refl
@@ -32,14 +32,17 @@ pub sum_is : (main join root : ℤ) → answer_of sum_expression main join root 
 unfolding answer_of value_of
 sum_is main join root = both (sum_of main join) root
 
-one_of : (b : Bool) (main join : ℤ) → merge_answer (if b then Ok (v.Int join) else Ok (v.Int main)) ≡ Ok (if b then join else main)
+one_of : (b : Bool) (main join : ℤ)
+    → merge_answer (if b then Ok (v.Int join) else Ok (v.Int main)) ≡ Ok (if b then join else main)
 one_of true main join = refl
 one_of false main join = refl
 
-pub greatest_is : (main join root : ℤ) (b : Bool) → int_lt main join ≡ b → answer_of greatest_expression main join root ≡ Ok (if b then join else main)
+pub greatest_is : (main join root : ℤ) (b : Bool) → int_lt main join ≡ b
+    → answer_of greatest_expression main join root ≡ Ok (if b then join else main)
 unfolding answer_of value_of
 greatest_is main join root b e = one_of (int_lt main join) main join ∙ ap (λ c. Ok (if c then join else main)) e
 
-pub least_is : (main join root : ℤ) (b : Bool) → int_lt join main ≡ b → answer_of least_expression main join root ≡ Ok (if b then join else main)
+pub least_is : (main join root : ℤ) (b : Bool) → int_lt join main ≡ b
+    → answer_of least_expression main join root ≡ Ok (if b then join else main)
 unfolding answer_of value_of
 least_is main join root b e = one_of (int_lt join main) main join ∙ ap (λ c. Ok (if c then join else main)) e

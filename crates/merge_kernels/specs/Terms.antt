@@ -3,11 +3,11 @@
 --   definition     the expression of a merge's definition
 --   value_of       its value for the joiner's, the joinee's and the root's number
 --   answer_of      what a merge answers for it: the number, or the fault of arithmetic
-use Rattle.std.specs.Prelude.{ℕ, ℤ, List, [], ◌∷◌, map, Result}
+use Rattle.std.specs.Prelude.{ℤ, List, [], ◌∷◌, map, Result}
 use Rattle.rev_num.specs.declared.value.Value.TheVariants as v
 use Rattle.rev_num.specs.declared.value.NumFault.{NumFault}
 use Rattle.rev_syntax.specs.Trees as t
-use Rattle.rev_syntax.specs.Trees.{PlacedName, Expression}
+use Rattle.rev_syntax.specs.Trees.{Expression}
 use Rattle.rev_syntax.specs.View.{links_of}
 use Rattle.rev_syntax.specs.declared.tree.BinaryOp.{BinaryOp}
 use Rattle.rev_syntax.specs.declared.tree.UnaryOp.TheVariants as u

@@ -1,6 +1,6 @@
 //! Which kernel merges which location.
 
-ghost use Rattle.std.specs.Prelude.{◌≡◌, ◌≤◌, ◌+◌, IfSome, drop, is_some, length, map, option_map, take};
+ghost use Rattle.std.specs.Prelude.{◌≡◌, ◌≤◌, ◌+◌, IfSome, MatchBool, None, Some, drop, is_some, length, map, option_map, take};
 ghost use Rattle.std.specs.Option.{option_copied};
 ghost use Rattle.merge_kernels.specs.Plans.{AreWithin, IsRowFor, choice_at, chosen_at, has_row, have, row_choice};
 ghost use Rattle.merge_kernels.specs.Terms.{definition};
@@ -57,29 +57,31 @@ impl<'k> KernelPlan<'k> {
         ensures row { IfSome result (λ r. IsRowFor self.now.choices.items
             (map (λ k. definition k.def) self.now.kernels.now) first (definition r.now.def)) }
     {
-        match self.one_choice(first) {
-            Some(n) => kernel_at(self.kernels, n as usize).row(),
-            None => None,
+        let Some(n) = self.choice(first) else {
+            return None;
+        };
+        let Some(row) = kernel_at(self.kernels, n as usize).row() else {
+            return None;
+        };
+        if self.is_one_choice(first, n) {
+            Some(row)
+        } else {
+            None
         }
     }
 
-    /// What was chosen for all eight locations from this one on.
-    fn one_choice(&self, first: u32) -> Option<u32>
-        ensures { result ≡ row_choice self.now.choices.items first }
+    /// Whether all eight locations from this one on have the choice that this one has.
+    fn is_one_choice(&self, first: u32, n: u32) -> bool
+        requires { choice_at self.now.choices.items first ≡ Some n }
+        ensures { MatchBool result (row_choice self.now.choices.items first ≡ Some n)
+            (row_choice self.now.choices.items first ≡ None) }
     {
         let at = first as usize;
         let choices = self.choices.as_slice();
         if choices.len() < at + 8 {
-            return None;
+            return false;
         }
-        let Some(n) = self.choice(first) else {
-            return None;
-        };
-        if all_have(&eight_choices(choices, at), n) {
-            Some(n)
-        } else {
-            None
-        }
+        all_have(&eight_choices(choices, at), n)
     }
 }
 

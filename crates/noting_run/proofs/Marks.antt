@@ -37,25 +37,31 @@ module _ {H : Type 0} (xs ys : List (Word H)) (inputs inputs' : List ℤ) where
   abbrev SamePosition : ℕ → Type 0
   SamePosition n = slice_get inputs' n ≡ slice_get inputs n
 
-  at_locations : (rs : List (Read H)) → AllAgree xs inputs rs → AllAgree ys inputs' rs → (n : ℕ) → has_location (marks_of rs) n ≡ true → SameLocation n
+  at_locations : (rs : List (Read H)) → AllAgree xs inputs rs → AllAgree ys inputs' rs → (n : ℕ)
+      → has_location (marks_of rs) n ≡ true → SameLocation n
   at_locations [] h k n e = false_not e
-  at_locations (location m w ∷ rs) h k n e = here_or SameLocation m n (has_location (marks_of rs) n) (k.0 ∙ sym h.0) (at_locations rs h.1 k.1 n) e
+  at_locations (location m w ∷ rs) h k n e =
+      here_or SameLocation m n (has_location (marks_of rs) n) (k.0 ∙ sym h.0) (at_locations rs h.1 k.1 n) e
   at_locations (input m z ∷ rs) h k n e = at_locations rs h.1 k.1 n e
   at_locations (count m ∷ rs) h k n e = at_locations rs h.1 k.1 n e
 
-  at_positions : (rs : List (Read H)) → AllAgree xs inputs rs → AllAgree ys inputs' rs → (n : ℕ) → has_input (marks_of rs) n ≡ true → SamePosition n
+  at_positions : (rs : List (Read H)) → AllAgree xs inputs rs → AllAgree ys inputs' rs → (n : ℕ)
+      → has_input (marks_of rs) n ≡ true → SamePosition n
   at_positions [] h k n e = false_not e
   at_positions (location m w ∷ rs) h k n e = at_positions rs h.1 k.1 n e
-  at_positions (input m z ∷ rs) h k n e = here_or SamePosition m n (has_input (marks_of rs) n) (k.0 ∙ sym h.0) (at_positions rs h.1 k.1 n) e
+  at_positions (input m z ∷ rs) h k n e =
+      here_or SamePosition m n (has_input (marks_of rs) n) (k.0 ∙ sym h.0) (at_positions rs h.1 k.1 n) e
   at_positions (count m ∷ rs) h k n e = at_positions rs h.1 k.1 n e
 
-  at_count : (rs : List (Read H)) → AllAgree xs inputs rs → AllAgree ys inputs' rs → has_count (marks_of rs) ≡ true → length inputs' ≡ length inputs
+  at_count : (rs : List (Read H)) → AllAgree xs inputs rs → AllAgree ys inputs' rs → has_count (marks_of rs) ≡ true
+      → length inputs' ≡ length inputs
   at_count [] h k e = false_not e
   at_count (location m w ∷ rs) h k e = at_count rs h.1 k.1 e
   at_count (input m z ∷ rs) h k e = at_count rs h.1 k.1 e
   at_count (count m ∷ rs) h k e = k.0 ∙ sym h.0
 
-  back : (rs : List (Read H)) → AllAgree xs inputs rs → MarksAgree xs ys inputs inputs' (marks_of rs) → AllAgree ys inputs' rs
+  back : (rs : List (Read H)) → AllAgree xs inputs rs → MarksAgree xs ys inputs inputs' (marks_of rs)
+      → AllAgree ys inputs' rs
   back [] h m = tt
   back (location n w ∷ rs) h m = (
     m.locations n (or_left (nat_eq n n) (has_location (marks_of rs) n) (is_same n)) ∙ h.0,
@@ -80,6 +86,10 @@ module _ {H : Type 0} (xs ys : List (Word H)) (inputs inputs' : List ℤ) where
 
 pub agrees_by_marks : {H : Type 0} → AgreesByMarks H
 agrees_by_marks xs ys inputs inputs' rs h = (
-  (λ k. record { locations = at_locations xs ys inputs inputs' rs h k; positions = at_positions xs ys inputs inputs' rs h k; counts = at_count xs ys inputs inputs' rs h k }),
+  (λ k. record {
+    locations = at_locations xs ys inputs inputs' rs h k;
+    positions = at_positions xs ys inputs inputs' rs h k;
+    counts = at_count xs ys inputs inputs' rs h k;
+  }),
   back xs ys inputs inputs' rs h,
 )

@@ -15,11 +15,13 @@ outside [] n h = refl
 outside (x ∷ xs) zero h = absurd (omega (arith, h))
 outside (x ∷ xs) (suc n) h = outside xs n (omega (arith, h))
 
-pub index_inside : (inputs : List ℤ) (w : ℕ) → w < length inputs → length inputs < 2 ^ 32 → index_marks inputs (int_of w) ≡ input w ∷ []
+pub index_inside : (inputs : List ℤ) (w : ℕ) → w < length inputs → length inputs < 2 ^ 32
+    → index_marks inputs (int_of w) ≡ input w ∷ []
 index_inside inputs w h few =
     let small : w < 2 ^ 63 = omega (arith, h, few) in
     let t : nat_lt w (2 ^ 63) ≡ true = grind (arith, nat_tests, small) in
-    ap (λ d. index_marks inputs (if d then pos w else negsuc (2 ^ 64 - 1 - w))) t ∙ ap (position_marks w) (inside inputs w h).1
+    ap (λ d. index_marks inputs (if d then pos w else negsuc (2 ^ 64 - 1 - w))) t
+    ∙ ap (position_marks w) (inside inputs w h).1
 
 pub index_outside : (inputs : List ℤ) (w : ℕ) → length inputs ≤ w → index_marks inputs (int_of w) ≡ count ∷ []
 index_outside inputs w h = by (nat_lt w (2 ^ 63))

@@ -3,6 +3,7 @@
 --   AgreesByMarks     where these have what was read, others have it exactly where they agree with these on what is noted
 use Rattle.std.specs.Prelude.{◌≡◌, ◌↔◌, ℕ, ℤ, true, List, length, slice_get}
 use Rattle.rev_code.specs.Words.{Word}
+pub use Rattle.code_reads.specs.Legs.{leg_reads}
 use Rattle.code_reads.specs.Reads.{Read}
 use Rattle.code_reads.specs.Moved.{AllAgree}
 use Rattle.noting_run.specs.Marks.{Mark, marks_of, has_location, has_input, has_count}

@@ -10,13 +10,14 @@ ghost use Rattle.block_run.specs.Area.{count, IsTable};
 ghost use Rattle.block_run.specs.Standing.{Here, IsRoomy, Mode};
 ghost use Rattle.noting_run.specs.Runs.{EndsNoting};
 
-use crate::marking::note;
 use crate::notes::Noted;
-use block_run::{Act, Memory, Registers, Stop, Variable, act};
+use crate::reading::act_noting;
+use block_run::{Act, Memory, Registers, Stop, Variable};
 use rev_code::{Code, CodeBlock, Instr};
 use version_map::Snapshot;
 
 /// The instruction at a place.
+#[inline(always)]
 fn fetch(instrs: &[Instr], at: u32) -> &Instr
     requires { at < length instrs.now }
     ensures { slice_get instrs.now at ≡ Some result.now }
@@ -24,7 +25,9 @@ fn fetch(instrs: &[Instr], at: u32) -> &Instr
     &instrs[at as usize]
 }
 
-/// Does as `run_block` does, and notes what the instructions read.
+/// Does as `run_block` does, and notes what the instructions read. It is not made a part of its
+/// caller, whose own variables would take the registers of the processor.
+#[inline(never)]
 pub fn run_block_noting<P: Snapshot>(
     code: &Code,
     table: &[Variable],
@@ -71,8 +74,7 @@ pub fn run_block_noting<P: Snapshot>(
     let instrs = b.instrs.as_slice();
     loop {
         let x = fetch(instrs, r.at);
-        note(code, table, inputs, b, memory, words, &r, x, noted);
-        match act(code, table, inputs, b, memory, words, &mut r, x) {
+        match act_noting(code, table, inputs, b, memory, words, &mut r, x, noted) {
             Act::Goes => {},
             last => {
                 registers.at = r.at;

@@ -6,6 +6,7 @@ ghost use Rattle.noting_run.specs.ByMarks.{AgreesByMarks};
 mod block;
 mod marking;
 mod notes;
+mod reading;
 
 pub use block::run_block_noting;
 pub use marking::note;

@@ -16,6 +16,7 @@ use rev_code::{Code, CodeBlock, Instr};
 use version_map::Snapshot;
 
 /// Notes a location that is read, unless the revision has written it.
+#[inline(always)]
 fn note_location<P: Snapshot>(memory: &Memory<P>, location: u32, noted: &mut Noted)
     requires within { location < P.size memory.now.snapshot }
     requires size { locations noted.old.locations ≡ P.size memory.now.snapshot }
@@ -29,6 +30,7 @@ fn note_location<P: Snapshot>(memory: &Memory<P>, location: u32, noted: &mut Not
 }
 
 /// Notes a position of the input.
+#[inline(always)]
 fn note_input(index: u32, noted: &mut Noted)
     requires within { index < locations noted.old.inputs }
     ensures { HasMarked noted.old noted.new (marks.input index ∷ []) }
@@ -37,6 +39,7 @@ fn note_input(index: u32, noted: &mut Noted)
 }
 
 /// Notes the count of inputs.
+#[inline(always)]
 fn note_count(noted: &mut Noted)
     ensures { HasMarked noted.old noted.new (marks.count ∷ []) }
 {
@@ -44,6 +47,7 @@ fn note_count(noted: &mut Noted)
 }
 
 /// Notes a position of the input that is read, or the count where it is out of range.
+#[inline(always)]
 fn note_position(inputs: &[i64], index: u64, noted: &mut Noted)
     requires few { length inputs.now < 2 ^ 32 }
     requires positions { locations noted.old.inputs ≡ length inputs.now }
@@ -57,6 +61,7 @@ fn note_position(inputs: &[i64], index: u64, noted: &mut Noted)
 }
 
 /// The word on top.
+#[inline(always)]
 fn top(b: &CodeBlock, words: &[u64], r: &Registers) -> u64
     requires placed { IsPlaced b.now r.now (length words.now) 1 }
     ensures { (rest : _) × ((run_of b.now words.now r.now).stack ≡ result ∷ rest) }
@@ -65,6 +70,7 @@ fn top(b: &CodeBlock, words: &[u64], r: &Registers) -> u64
 }
 
 /// The location of a cell, where the index is inside.
+#[inline(always)]
 fn cell(t: Variable, index: u64) -> Option<u32>
     requires { t.first + t.cells < 2 ^ 32 }
     ensures value { (p : Place) → p.first ≡ t.first → p.var.cells ≡ t.cells
@@ -79,6 +85,7 @@ fn cell(t: Variable, index: u64) -> Option<u32>
 }
 
 /// Notes a cell that is read, where the index is inside.
+#[inline(always)]
 fn note_cell<P: Snapshot>(memory: &Memory<P>, t: Variable, index: u64, noted: &mut Noted)
     requires within { t.first + t.cells ≤ P.size memory.now.snapshot }
     requires few { t.first + t.cells < 2 ^ 32 }
@@ -94,6 +101,7 @@ fn note_cell<P: Snapshot>(memory: &Memory<P>, t: Variable, index: u64, noted: &m
 }
 
 /// Where a scalar lies.
+#[inline(always)]
 fn scalar_at(code: &Code, table: &[Variable], v: u16) -> Variable
     requires table { IsTable code.now.vars table.now }
     requires operand { (p : Place) × (scalar code.now.vars v ≡ Some p) }
@@ -103,6 +111,7 @@ fn scalar_at(code: &Code, table: &[Variable], v: u16) -> Variable
 }
 
 /// Where an array lies.
+#[inline(always)]
 fn array_at(code: &Code, table: &[Variable], v: u16) -> Variable
     requires table { IsTable code.now.vars table.now }
     requires operand { (p : Place) × (array code.now.vars v ≡ Some p) }
@@ -112,6 +121,7 @@ fn array_at(code: &Code, table: &[Variable], v: u16) -> Variable
 }
 
 /// Notes a scalar that is read.
+#[inline(always)]
 fn note_scalar<P: Snapshot>(code: &Code, memory: &Memory<P>, t: Variable, v: u16, noted: &mut Noted)
     requires variable { IsVariable (scalar code.now.vars v) t (P.size memory.now.snapshot) }
     requires size { locations noted.old.locations ≡ P.size memory.now.snapshot }
@@ -122,6 +132,7 @@ fn note_scalar<P: Snapshot>(code: &Code, memory: &Memory<P>, t: Variable, v: u16
 }
 
 /// Notes a cell that is read, by the index on top.
+#[inline(always)]
 fn note_element<P: Snapshot>(
     code: &Code,
     b: &CodeBlock,
@@ -143,6 +154,7 @@ fn note_element<P: Snapshot>(
 }
 
 /// Notes what an instruction reads that is about to be done.
+#[inline(always)]
 pub fn note<P: Snapshot>(
     code: &Code,
     table: &[Variable],

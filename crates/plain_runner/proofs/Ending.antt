@@ -18,13 +18,20 @@ use Rattle.plain_runner.specs.Shows.{main_end}
 
 module _ (s : Setting) (fuel : ℕ) (g : Global Local) (end : IsEnd (calculus s) (main s fuel) g) where
   pub has_outcome : (o : Outcome) → Some o ≡ outcome s g → HasOutcome s fuel o
-  has_outcome o e = record { by = end.by; end = g; complete = end.complete; each = λ rs h c. ap (outcome s) (end.only rs h c) ∙ sym e }
+  has_outcome o e = record {
+    by = end.by;
+    end = g;
+    complete = end.complete;
+    each = λ rs h c. ap (outcome s) (end.only rs h c) ∙ sym e;
+  }
 
   pub not_none : None ≡ outcome s g → ⊥
-  not_none e = let one = one_outcome s fuel in let clash : None ≡ Some one.is = e ∙ one.has.each end.by g end.complete in cc
+  not_none e =
+      let one = one_outcome s fuel in let clash : None ≡ Some one.is = e ∙ one.has.each end.by g end.complete in cc
 
 -- with `main` at a place of the list, its local state decides
-pub by_main : (s : Setting) (ss : List (Revision Local)) (i : ℕ) (x : Revision Local) → IsDistinct (paths ss) → IsAt ss i [] → Reads ss i x → main_end s x.state ≡ outcome s (Live (globe ss))
+pub by_main : (s : Setting) (ss : List (Revision Local)) (i : ℕ) (x : Revision Local) → IsDistinct (paths ss)
+    → IsAt ss i [] → Reads ss i x → main_end s x.state ≡ outcome s (Live (globe ss))
 by_main s ss i x distinct at r = sym (ap (main_outcome s) (shown_at ss i [] x distinct at r) ∙ either x.joined)
   where
     either : (b : Bool) → main_outcome s (Some (entry_with b x.state)) ≡ main_end s x.state

@@ -9,8 +9,6 @@
 mod language;
 mod outcome;
 mod run;
-mod values;
 
 pub use language::PlainLanguage;
 pub use run::run_plain;
-pub use values::shown_values;

@@ -7,8 +7,8 @@ ghost use Rattle.plain_runner.specs.Shows.{main_end};
 ghost use Rattle.plain_runner.specs.Views.{setting_of};
 
 use crate::language::PlainLanguage;
-use crate::values::shown_values;
 use rev_num::{Items, Outcome, Path};
+use revision_data::shown_values;
 use revision_machine::GlobalState;
 use revision_steps::Local;
 use std::alloc::{AllocError, Global};

@@ -44,7 +44,8 @@ word_back (negsuc n) h =
 -- ---- results fit
 
 module _ (y : ℤ) where
-  if_fits : (d : Bool) (z : ℤ) (f : NumFault) → (fits_i64 z ≡ d) → (if d then Ok z else Err f) ≡ Ok y → fits_i64 y ≡ true
+  if_fits : (d : Bool) (z : ℤ) (f : NumFault) → (fits_i64 z ≡ d) → (if d then Ok z else Err f) ≡ Ok y
+      → fits_i64 y ≡ true
   if_fits true z f e h = let g : z ≡ y = ok_is h in sym (ap fits_i64 g) ∙ e
   if_fits false z f e h = absurd (err_no h)
 
@@ -55,14 +56,28 @@ module _ (y : ℤ) where
 
 quotient_fits : (a b y : ℤ) → quotient_of a b ≡ Ok y → fits_i64 y ≡ true
 quotient_fits a (pos zero) y h = absurd (err_no h)
-quotient_fits a (pos (suc b)) y h = if_fits y (fits_i64 (int_div a (pos (suc b)))) (int_div a (pos (suc b))) fault.Overflow refl h
-quotient_fits a (negsuc b) y h = if_fits y (fits_i64 (int_div a (negsuc b))) (int_div a (negsuc b)) fault.Overflow refl h
+quotient_fits a (pos (suc b)) y h =
+    if_fits y (fits_i64 (int_div a (pos (suc b)))) (int_div a (pos (suc b))) fault.Overflow refl h
+quotient_fits a (negsuc b) y h =
+    if_fits y (fits_i64 (int_div a (negsuc b))) (int_div a (negsuc b)) fault.Overflow refl h
 
 below_fits : (r b : ℤ) → fits_i64 b ≡ true → unsigned_abs r < unsigned_abs b → fits_i64 r ≡ true
-below_fits (pos r) (pos b) h l = let m : b < 2 ^ 63 = grind (arith, nat_tests, h) in let n : r < 2 ^ 63 = omega (arith, l, m) in grind (arith, nat_tests, n)
-below_fits (pos r) (negsuc b) h l = let m : b < 2 ^ 63 = grind (arith, nat_tests, h) in let n : r < 2 ^ 63 = omega (arith, l, m) in grind (arith, nat_tests, n)
-below_fits (negsuc r) (pos b) h l = let m : b < 2 ^ 63 = grind (arith, nat_tests, h) in let n : r < 2 ^ 63 = omega (arith, l, m) in grind (arith, nat_tests, n)
-below_fits (negsuc r) (negsuc b) h l = let m : b < 2 ^ 63 = grind (arith, nat_tests, h) in let n : r < 2 ^ 63 = omega (arith, l, m) in grind (arith, nat_tests, n)
+below_fits (pos r) (pos b) h l =
+    let m : b < 2 ^ 63 = grind (arith, nat_tests, h) in
+    let n : r < 2 ^ 63 = omega (arith, l, m) in
+    grind (arith, nat_tests, n)
+below_fits (pos r) (negsuc b) h l =
+    let m : b < 2 ^ 63 = grind (arith, nat_tests, h) in
+    let n : r < 2 ^ 63 = omega (arith, l, m) in
+    grind (arith, nat_tests, n)
+below_fits (negsuc r) (pos b) h l =
+    let m : b < 2 ^ 63 = grind (arith, nat_tests, h) in
+    let n : r < 2 ^ 63 = omega (arith, l, m) in
+    grind (arith, nat_tests, n)
+below_fits (negsuc r) (negsuc b) h l =
+    let m : b < 2 ^ 63 = grind (arith, nat_tests, h) in
+    let n : r < 2 ^ 63 = omega (arith, l, m) in
+    grind (arith, nat_tests, n)
 
 ok_if : (d : Bool) (z y : ℤ) (f : NumFault) → (if d then Ok z else Err f) ≡ Ok y → z ≡ y
 ok_if true z y f h = ok_is h
@@ -73,8 +88,10 @@ rem_fits a b y h some e = ap fits_i64 (sym e) ∙ below_fits (int_rem a b) b h (
 
 remainder_fits : (a b y : ℤ) → fits_i64 b ≡ true → remainder_of a b ≡ Ok y → fits_i64 y ≡ true
 remainder_fits a (pos zero) y g h = absurd (err_no h)
-remainder_fits a (pos (suc b)) y g h = rem_fits a (pos (suc b)) y g (λ e. suc_no e) (ok_if (fits_i64 (int_div a (pos (suc b)))) _ y fault.Overflow h)
-remainder_fits a (negsuc b) y g h = rem_fits a (negsuc b) y g (λ e. negsuc_no e) (ok_if (fits_i64 (int_div a (negsuc b))) _ y fault.Overflow h)
+remainder_fits a (pos (suc b)) y g h =
+    rem_fits a (pos (suc b)) y g (λ e. suc_no e) (ok_if (fits_i64 (int_div a (pos (suc b)))) _ y fault.Overflow h)
+remainder_fits a (negsuc b) y g h =
+    rem_fits a (negsuc b) y g (λ e. negsuc_no e) (ok_if (fits_i64 (int_div a (negsuc b))) _ y fault.Overflow h)
 
 -- ---- what arithmetic gives for numbers of 64 bits has 64 bits
 
@@ -106,7 +123,10 @@ int_fits w h = by (nat_lt w (2 ^ 63)) refl
   where
     by : (d : Bool) → nat_lt w (2 ^ 63) ≡ d → fits_i64 (if d then pos w else negsuc (2 ^ 64 - 1 - w)) ≡ true
     by true e = e
-    by false e = let m : 2 ^ 63 ≤ w = grind (arith, nat_tests, e) in let n : 2 ^ 64 - 1 - w < 2 ^ 63 = omega (arith, m, h) in grind (arith, nat_tests, n)
+    by false e =
+        let m : 2 ^ 63 ≤ w = grind (arith, nat_tests, e) in
+        let n : 2 ^ 64 - 1 - w < 2 ^ 63 = omega (arith, m, h) in
+        grind (arith, nat_tests, n)
 
 -- two words are equal where their numbers are
 pub same_words : (v w : ℕ) → v < 2 ^ 64 → w < 2 ^ 64 → same_number (int_of v) (int_of w) ≡ nat_eq v w
@@ -115,10 +135,20 @@ same_words v w g h = by (nat_lt v (2 ^ 63)) (nat_lt w (2 ^ 63)) refl refl
     number_of : Bool → ℕ → ℤ
     number_of d u = if d then pos u else negsuc (2 ^ 64 - 1 - u)
 
-    by : (d e : Bool) → nat_lt v (2 ^ 63) ≡ d → nat_lt w (2 ^ 63) ≡ e → same_number (if d then pos v else negsuc (2 ^ 64 - 1 - v)) (if e then pos w else negsuc (2 ^ 64 - 1 - w)) ≡ nat_eq v w
+    by : (d e : Bool) → nat_lt v (2 ^ 63) ≡ d → nat_lt w (2 ^ 63) ≡ e
+        → same_number (if d then pos v else negsuc (2 ^ 64 - 1 - v)) (if e then pos w else negsuc (2 ^ 64 - 1 - w))
+        ≡ nat_eq v w
     by true true a b = refl
-    by true false a b = (let m : v < 2 ^ 63 = grind (arith, nat_tests, a) in let n : 2 ^ 63 ≤ w = grind (arith, nat_tests, b) in let o : v ≢ w = omega (arith, m, n) in grind (arith, nat_tests, o))
-    by false true a b = (let m : w < 2 ^ 63 = grind (arith, nat_tests, b) in let n : 2 ^ 63 ≤ v = grind (arith, nat_tests, a) in let o : v ≢ w = omega (arith, m, n) in grind (arith, nat_tests, o))
+    by true false a b =
+        (let m : v < 2 ^ 63 = grind (arith, nat_tests, a) in
+        let n : 2 ^ 63 ≤ w = grind (arith, nat_tests, b) in
+        let o : v ≢ w = omega (arith, m, n) in
+        grind (arith, nat_tests, o))
+    by false true a b =
+        (let m : w < 2 ^ 63 = grind (arith, nat_tests, b) in
+        let n : 2 ^ 63 ≤ v = grind (arith, nat_tests, a) in
+        let o : v ≢ w = omega (arith, m, n) in
+        grind (arith, nat_tests, o))
     by false false a b = grind (arith, nat_tests)
 
 pub same_flags : (d e : Bool) → same_truth d e ≡ nat_eq (flag d) (flag e)

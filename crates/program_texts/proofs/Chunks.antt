@@ -6,14 +6,14 @@
 --   HasPieces    the text has the bytes of these pieces at this place
 use Rattle.std.proofs.Common.{◌≡◌, ℕ, zero, suc, ◌+◌, ◌-◌, List, [], ◌∷◌, ◌++◌, length, take, drop, refl, sym, ap, ◌∙◌, subst, arith}
 use Rattle.std.specs.Prelude.{Option, Some, None}
-use Rattle.std.proofs.lemmas.List.{append_assoc, append-nil, length-append}
+use Rattle.std.proofs.lemmas.List.{append_assoc, length-append}
 use Rattle.std.proofs.Math.Seq.{take-append_seam, drop-append_seam}
 use Rattle.rev_syntax.specs.declared.token.Token.{Token}
 use Rattle.rev_syntax.specs.declared.token.TokenKind.TheVariants as k
-use Rattle.rev_syntax.specs.Tokens.{Piece, Leads, array_size, token_of, tokens_of}
+use Rattle.rev_syntax.specs.Tokens.{Piece, Leads, array_size, tokens_of}
 use Rattle.rev_syntax.specs.Trees.{PlacedName}
 use Rattle.rev_expressions.specs.Source.{slice, word_of}
-use Rattle.program_texts.proofs.Cuts.{cut_some, cut_leads, leads_append, tokens_append}
+use Rattle.program_texts.proofs.Cuts.{cut_some, leads_append, tokens_append}
 
 -- ---- chunks
 
@@ -46,7 +46,8 @@ AllCut (c ∷ cs) = IsCut c × AllCut cs
 
 pub all_leads : (cs : List Chunk) → AllCut cs → Leads (pieces_of cs) (text_of cs) []
 all_leads [] h = refl
-all_leads (c ∷ cs) h = leads_append c.pieces (pieces_of cs) (c.text ++ text_of cs) (text_of cs) [] (h.0 (text_of cs)) (all_leads cs h.1)
+all_leads (c ∷ cs) h =
+    leads_append c.pieces (pieces_of cs) (c.text ++ text_of cs) (text_of cs) [] (h.0 (text_of cs)) (all_leads cs h.1)
 
 -- ---- their tokens
 
@@ -57,7 +58,8 @@ tokens_in at (c ∷ cs) rest = tokens_of at c.pieces ++ tokens_in (at + array_si
 pub tokens_of_all : (at : ℕ) (cs : List Chunk) → tokens_of at (pieces_of cs) ≡ tokens_in at cs []
 tokens_of_all at [] = refl
 tokens_of_all at (c ∷ cs) =
-    tokens_append at c.pieces (pieces_of cs) ∙ ap (λ l. tokens_of at c.pieces ++ l) (tokens_of_all (at + array_size c.pieces) cs)
+    tokens_append at c.pieces (pieces_of cs)
+    ∙ ap (λ l. tokens_of at c.pieces ++ l) (tokens_of_all (at + array_size c.pieces) cs)
 
 -- ---- names
 
@@ -80,7 +82,8 @@ named at ps i = record { at = place at ps i; text = bytes_at ps i }
 
 abbrev pub HasPieces : List ℕ → ℕ → List Piece → Type 0
 HasPieces bytes at [] = Unit {0}
-HasPieces bytes at (p ∷ ps) = (slice bytes at (at + length p.bytes) ≡ p.bytes) × HasPieces bytes (at + length p.bytes) ps
+HasPieces bytes at (p ∷ ps) =
+    (slice bytes at (at + length p.bytes) ≡ p.bytes) × HasPieces bytes (at + length p.bytes) ps
 
 none_between : (bytes : List ℕ) (at : ℕ) → slice bytes at at ≡ []
 none_between bytes at = let z : at - at ≡ 0 = omega arith in ap (λ n. take n (drop at bytes)) z
@@ -89,7 +92,8 @@ start_of : (at : ℕ) (ps : List Piece) → place at ps 0 ≡ at
 start_of at [] = refl
 start_of at (p ∷ ps) = refl
 
-has_bytes : (bytes : List ℕ) (at : ℕ) (ps : List Piece) → HasPieces bytes at ps → (i : ℕ) → slice bytes (place at ps i) (place at ps (suc i)) ≡ bytes_at ps i
+has_bytes : (bytes : List ℕ) (at : ℕ) (ps : List Piece) → HasPieces bytes at ps → (i : ℕ)
+    → slice bytes (place at ps i) (place at ps (suc i)) ≡ bytes_at ps i
 has_bytes bytes at [] h i = none_between bytes at
 has_bytes bytes at (p ∷ ps) h zero = ap (slice bytes at) (start_of (at + length p.bytes) ps) ∙ h.0
 has_bytes bytes at (p ∷ ps) h (suc i) = has_bytes bytes (at + length p.bytes) ps h.1 i
@@ -113,14 +117,16 @@ has_pieces (p ∷ ps) front s end l =
     let next : length (front ++ w) ≡ length front + length w = length-append front w in
     let r : HasPieces ((front ++ w) ++ l.0) (length (front ++ w)) ps = has_pieces ps (front ++ w) l.0 end l.2 in
     let more : HasPieces (front ++ s) (length front + length w) ps =
-    subst (λ v. HasPieces v (length front + length w) ps) (append_assoc front w l.0 ∙ sym whole) (subst (λ n. HasPieces ((front ++ w) ++ l.0) n ps) next r) in
+    subst (λ v. HasPieces v (length front + length w) ps) (append_assoc front w l.0 ∙ sym whole)
+    (subst (λ n. HasPieces ((front ++ w) ++ l.0) n ps) next r) in
     (ap (λ v. slice v (length front) (length front + length w)) whole ∙ middle front w l.0, more)
 
 abbrev pub HasIn : List ℕ → ℕ → List Chunk → Type 0
 HasIn bytes at [] = Unit {0}
 HasIn bytes at (c ∷ cs) = HasPieces bytes at c.pieces × HasIn bytes (at + array_size c.pieces) cs
 
-has_split : (bytes : List ℕ) (at : ℕ) (ps qs : List Piece) → HasPieces bytes at (ps ++ qs) → HasPieces bytes at ps × HasPieces bytes (at + array_size ps) qs
+has_split : (bytes : List ℕ) (at : ℕ) (ps qs : List Piece) → HasPieces bytes at (ps ++ qs)
+    → HasPieces bytes at ps × HasPieces bytes (at + array_size ps) qs
 has_split bytes at [] qs h = let z : at + 0 ≡ at = omega arith in (tt, subst (λ n. HasPieces bytes n qs) (sym z) h)
 has_split bytes at (p ∷ ps) qs h =
     let r = has_split bytes (at + length p.bytes) ps qs h.1 in

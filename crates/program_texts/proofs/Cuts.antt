@@ -4,9 +4,8 @@
 --   tokens_of    the tokens of pieces behind pieces
 use Rattle.std.proofs.Common.{◌≡◌, ℕ, zero, suc, ◌+◌, ◌≤◌, List, [], ◌∷◌, ◌++◌, length, take, drop, refl, sym, ap, ◌∙◌, subst, arith}
 use Rattle.std.specs.Prelude.{Option, Some, None, Ok, Err}
-use Rattle.std.proofs.lemmas.List.{append_assoc, append_cancel_left, length-append}
+use Rattle.std.proofs.lemmas.List.{append_assoc, append_cancel_left}
 use Rattle.std.proofs.Math.Seq.{take-append_seam}
-use Rattle.rev_syntax.specs.declared.token.Token.{Token}
 use Rattle.rev_syntax.specs.Tokens.{Spells, Piece, Leads, Next, array_size, token_of, tokens_of}
 use Rattle.rev_syntax.specs.Scan.{Scanned, scan_from, piece_at, Answers}
 use Rattle.rev_syntax.proofs.Exact.{exact}
@@ -34,7 +33,8 @@ abbrev Sound : List ℕ → SomeCut → Type 0
 Sound s None = Unit {0}
 Sound s (Some x) = Leads x.0 s x.1
 
-sound_behind : (s : List ℕ) (p : Piece) (rest : List ℕ) (o : SomeCut) → Next s p rest → Sound rest o → Sound s (behind p o)
+sound_behind : (s : List ℕ) (p : Piece) (rest : List ℕ) (o : SomeCut) → Next s p rest → Sound rest o
+    → Sound s (behind p o)
 sound_behind s p rest None n h = tt
 sound_behind s p rest (Some x) n h = (rest, n, h)
 
@@ -43,27 +43,34 @@ cut_sound zero s = refl
 cut_sound (suc n) [] = tt
 cut_sound (suc n) (b ∷ bs) = by_answer (cut_some n) (cut_sound n) (scan_from 0 b bs) (exact 0 b bs)
   where
-    by_answer : (go : List ℕ → SomeCut) → ((rest : List ℕ) → Sound rest (go rest)) → (r : Scanned) → Answers 0 (b ∷ bs) r → Sound (b ∷ bs) (next_cut (λ p rest. behind p (go rest)) (b ∷ bs) r)
-    by_answer go each (Ok c) a = sound_behind (b ∷ bs) (piece_at c (b ∷ bs)) (drop c.length (b ∷ bs)) (go (drop c.length (b ∷ bs))) a.0 (each (drop c.length (b ∷ bs)))
+    by_answer : (go : List ℕ → SomeCut) → ((rest : List ℕ) → Sound rest (go rest)) → (r : Scanned)
+        → Answers 0 (b ∷ bs) r → Sound (b ∷ bs) (next_cut (λ p rest. behind p (go rest)) (b ∷ bs) r)
+    by_answer go each (Ok c) a =
+        sound_behind (b ∷ bs) (piece_at c (b ∷ bs)) (drop c.length (b ∷ bs)) (go (drop c.length (b ∷ bs))) a.0
+        (each (drop c.length (b ∷ bs)))
     by_answer go each (Err f) a = tt
 
 -- so these pieces lead from the text to the rest
-pub cut_leads : (n : ℕ) (s : List ℕ) (ps : List Piece) (rest : List ℕ) → cut_some n s ≡ Some (ps, rest) → Leads ps s rest
+pub cut_leads : (n : ℕ) (s : List ℕ) (ps : List Piece) (rest : List ℕ) → cut_some n s ≡ Some (ps, rest)
+    → Leads ps s rest
 cut_leads n s ps rest is = subst (Sound s) is (cut_sound n s)
 
 -- ---- pieces behind pieces
 
-pub leads_append : (ps qs : List Piece) (s middle end : List ℕ) → Leads ps s middle → Leads qs middle end → Leads (ps ++ qs) s end
+pub leads_append : (ps qs : List Piece) (s middle end : List ℕ) → Leads ps s middle → Leads qs middle end
+    → Leads (ps ++ qs) s end
 leads_append [] qs s middle end e m = subst (λ v. Leads qs v end) (sym e) m
 leads_append (p ∷ ps) qs s middle end l m = (l.0, l.1, leads_append ps qs l.0 middle end l.2 m)
 
-pub tokens_append : (at : ℕ) (ps qs : List Piece) → tokens_of at (ps ++ qs) ≡ tokens_of at ps ++ tokens_of (at + array_size ps) qs
+pub tokens_append : (at : ℕ) (ps qs : List Piece)
+    → tokens_of at (ps ++ qs) ≡ tokens_of at ps ++ tokens_of (at + array_size ps) qs
 tokens_append at [] qs = let z : at + 0 ≡ at = omega arith in ap (λ n. tokens_of n qs) (sym z)
 tokens_append at (p ∷ ps) qs =
     let next = at + length p.bytes in
     let e : next + array_size ps ≡ at + (length p.bytes + array_size ps) = omega arith in
     ap (λ l. token_of p.kind at next ++ l) (tokens_append next ps qs ∙ ap (λ n. tokens_of next ps ++ tokens_of n qs) e)
-    ∙ sym (append_assoc (token_of p.kind at next) (tokens_of next ps) (tokens_of (at + (length p.bytes + array_size ps)) qs))
+    ∙ sym (append_assoc (token_of p.kind at next) (tokens_of next ps)
+    (tokens_of (at + (length p.bytes + array_size ps)) qs))
 
 -- ---- two ways to cut a text
 

@@ -1,18 +1,17 @@
 -- The text of `load` in chunks, line by line, and how each is cut into pieces.
-use Rattle.std.proofs.Common.{◌≡◌, ℕ, zero, suc, ◌+◌, ◌*◌, ◌<◌, ◌≤◌, ◌^◌, Bool, true, false, ◌&&◌, List, [], ◌∷◌, ◌++◌, length, take, drop, map, refl, sym, ap, ◌∙◌, subst, arith, append_assoc}
-use Rattle.std.specs.Prelude.{Option, Some, None, Ok, Err, pos, codes, ◌%◌, ◌/◌, ◌==◌, if◌then◌else◌}
+use Rattle.std.proofs.Common.{◌≡◌, ℕ, ◌+◌, ◌*◌, ◌<◌, ◌≤◌, ◌^◌, Bool, true, false, ◌&&◌, List, [], ◌∷◌, ◌++◌, length, take, drop, map, refl, sym, ap, ◌∙◌, subst, arith, append_assoc}
+use Rattle.std.specs.Prelude.{Some, Ok, pos, codes, ◌%◌, ◌==◌, if◌then◌else◌}
 use Rattle.std.specs.Fmt.{decimal}
 use Rattle.std.specs.List.{list_all, prefix_len, range_with_len}
 use Rattle.std.proofs.Math.Nat.{mod-lt}
 use Rattle.std.specs.Str.{all_ascii_digits}
 use Rattle.std.proofs.lemmas.Fmt.{decimal_nonempty, digits_decimal}
 use Rattle.std.proofs.Math.Seq.{take-append_seam, drop-append_seam}
-use Rattle.rev_num.specs.Arith.{fits_i64}
 use Rattle.rev_num.specs.Decimal.{decimal_in}
 use Rattle.rev_num.proofs.Decimals.{own, decimal_in-signed_decimal, fits_pos}
-use Rattle.rev_syntax.specs.Bytes.{is_digit, is_letter, is_blank}
+use Rattle.rev_syntax.specs.Bytes.{is_digit, is_letter}
 use Rattle.rev_syntax.specs.Tokens.{Piece, Leads, Next, begins_with_letter}
-use Rattle.rev_syntax.specs.Scan.{scan_from, number_scan, number_cut, cut, piece_at, Scanned, Answers}
+use Rattle.rev_syntax.specs.Scan.{scan_from, number_scan, number_cut, cut, Answers}
 use Rattle.rev_syntax.specs.declared.token.PieceKind.TheVariants as piece
 use Rattle.rev_syntax.specs.declared.token.TokenKind.TheVariants as k
 use Rattle.rev_syntax.proofs.Exact.{exact}
@@ -35,41 +34,57 @@ only_digits (d ∷ ds) h =
     ap (λ b. b && list_all is_digit ds) parts.0 ∙ only_digits ds parts.1
 
 -- what is scanned where the text begins with digits
-scanned : (d : ℕ) (ds rest : List ℕ) (n : ℕ) → list_all is_digit (d ∷ ds) ≡ true → decimal_in (d ∷ ds) ≡ Some (pos n) → first_passes is_digit rest ≡ false → begins_with_letter rest ≡ false
+scanned : (d : ℕ) (ds rest : List ℕ) (n : ℕ) → list_all is_digit (d ∷ ds) ≡ true → decimal_in (d ∷ ds) ≡ Some (pos n)
+    → first_passes is_digit rest ≡ false → begins_with_letter rest ≡ false
     → scan_from 0 d (ds ++ rest) ≡ Ok (cut (piece.Token (k.Int (pos n))) (length (d ∷ ds)))
 scanned d ds rest n digits value stop plain =
     let first = (both (is_digit d) (list_all is_digit ds) digits).0 in
     let no_blank = blank-no_digit d first in
     let no_letter = letter-no_digit d first in
-    let size : prefix_len is_digit ((d ∷ ds) ++ rest) ≡ length (d ∷ ds) = exact-prefix is_digit (d ∷ ds) rest digits stop in
+    let size : prefix_len is_digit ((d ∷ ds) ++ rest) ≡ length (d ∷ ds) =
+    exact-prefix is_digit (d ∷ ds) rest digits stop in
     let front : take (length (d ∷ ds)) ((d ∷ ds) ++ rest) ≡ d ∷ ds = take-append_seam (d ∷ ds) rest in
     let back : drop (length (d ∷ ds)) ((d ∷ ds) ++ rest) ≡ rest = drop-append_seam (d ∷ ds) rest in
     let scan : scan_from 0 d (ds ++ rest) ≡ number_scan 0 ((d ∷ ds) ++ rest) = rw (no_blank, no_letter, first) refl in
     scan
-    ∙ ap (λ m. number_cut m (decimal_in (take m ((d ∷ ds) ++ rest))) (begins_with_letter (drop m ((d ∷ ds) ++ rest))) 0) size
-    ∙ ap (λ l. number_cut (length (d ∷ ds)) (decimal_in l) (begins_with_letter (drop (length (d ∷ ds)) ((d ∷ ds) ++ rest))) 0) front
+    ∙ ap (λ m. number_cut m (decimal_in (take m ((d ∷ ds) ++ rest))) (begins_with_letter (drop m ((d ∷ ds) ++ rest))) 0)
+    size
+    ∙ ap (λ l.
+    number_cut (length (d ∷ ds)) (decimal_in l) (begins_with_letter (drop (length (d ∷ ds)) ((d ∷ ds) ++ rest))) 0)
+    front
     ∙ ap (λ o. number_cut (length (d ∷ ds)) o (begins_with_letter (drop (length (d ∷ ds)) ((d ∷ ds) ++ rest))) 0) value
     ∙ ap (λ l. number_cut (length (d ∷ ds)) (Some (pos n)) (begins_with_letter l) 0) back
     ∙ ap (λ b. number_cut (length (d ∷ ds)) (Some (pos n)) b 0) plain
 
-next_number : (w rest : List ℕ) (n : ℕ) → 0 < length w → list_all is_digit w ≡ true → decimal_in w ≡ Some (pos n) → first_passes is_digit rest ≡ false → begins_with_letter rest ≡ false
+next_number : (w rest : List ℕ) (n : ℕ) → 0 < length w → list_all is_digit w ≡ true → decimal_in w ≡ Some (pos n)
+    → first_passes is_digit rest ≡ false → begins_with_letter rest ≡ false
     → Next (w ++ rest) (record { kind = piece.Token (k.Int (pos n)); bytes = w }) rest
 next_number [] rest n some digits value stop plain = absurd (omega arith)
 next_number (d ∷ ds) rest n some digits value stop plain =
-    let a : Answers 0 (d ∷ (ds ++ rest)) (Ok (cut (piece.Token (k.Int (pos n))) (length (d ∷ ds)))) = subst (Answers 0 (d ∷ (ds ++ rest))) (scanned d ds rest n digits value stop plain) (exact 0 d (ds ++ rest)) in
+    let a : Answers 0 (d ∷ (ds ++ rest)) (Ok (cut (piece.Token (k.Int (pos n))) (length (d ∷ ds)))) =
+    subst (Answers 0 (d ∷ (ds ++ rest))) (scanned d ds rest n digits value stop plain) (exact 0 d (ds ++ rest)) in
     let front : take (length (d ∷ ds)) ((d ∷ ds) ++ rest) ≡ d ∷ ds = take-append_seam (d ∷ ds) rest in
     let back : drop (length (d ∷ ds)) ((d ∷ ds) ++ rest) ≡ rest = drop-append_seam (d ∷ ds) rest in
     subst (λ l. Next ((d ∷ ds) ++ rest) (record { kind = piece.Token (k.Int (pos n)); bytes = d ∷ ds }) l) back
-    (subst (λ l. Next ((d ∷ ds) ++ rest) (record { kind = piece.Token (k.Int (pos n)); bytes = l }) (drop (length (d ∷ ds)) ((d ∷ ds) ++ rest))) front a.0)
+    (subst (λ l.
+    Next ((d ∷ ds) ++ rest) (record { kind = piece.Token (k.Int (pos n)); bytes = l })
+    (drop (length (d ∷ ds)) ((d ∷ ds) ++ rest)))
+    front a.0)
 
 abbrev most : ℕ
 most = 500
 
-number_leads : (n : ℕ) → n ≤ most → (b : ℕ) (rest : List ℕ) → is_digit b ≡ false → is_letter b ≡ false → Leads (number n ∷ []) (decimal n ++ b ∷ rest) (b ∷ rest)
+number_leads : (n : ℕ) → n ≤ most → (b : ℕ) (rest : List ℕ) → is_digit b ≡ false → is_letter b ≡ false
+    → Leads (number n ∷ []) (decimal n ++ b ∷ rest) (b ∷ rest)
 number_leads n few b rest no_digit no_letter =
     let small : n < 2 ^ 64 = omega (arith, few) in
-    let fits = fits_pos n (omega (arith, few)) in
-    (b ∷ rest, next_number (decimal n) (b ∷ rest) n (decimal_nonempty n small) (only_digits (decimal n) (digits_decimal own n small)) (decimal_in-signed_decimal (pos n) fits) no_digit no_letter, refl)
+    let fits = fits_pos n (omega (arith, few)) in (
+      b ∷ rest,
+      next_number (decimal n) (b ∷ rest) n (decimal_nonempty n small)
+          (only_digits (decimal n) (digits_decimal own n small)) (decimal_in-signed_decimal (pos n) fits) no_digit
+          no_letter,
+      refl,
+    )
 
 -- ---- the statements
 
@@ -94,11 +109,16 @@ cut_pieces n w = (chunk n w).pieces
 
 abbrev pub statement_pieces : Line → List Piece
 statement_pieces (add_remainder x c) =
-    cut_pieces 2 (codes "a[") ++ number x ∷ (cut_pieces 6 (codes "] = a[") ++ number x ∷ (cut_pieces 9 (codes "] + k % (") ++ number c ∷ cut_pieces 7 (line (codes " + 1);"))))
+    cut_pieces 2 (codes "a[") ++ number x
+    ∷ (cut_pieces 6 (codes "] = a[") ++ number x
+    ∷ (cut_pieces 9 (codes "] + k % (") ++ number c ∷ cut_pieces 7 (line (codes " + 1);"))))
 statement_pieces (add_constant x c) =
-    cut_pieces 2 (codes "b[") ++ number x ∷ (cut_pieces 6 (codes "] = b[") ++ number x ∷ (cut_pieces 4 (codes "] + ") ++ number c ∷ cut_pieces 2 (line (codes ";"))))
+    cut_pieces 2 (codes "b[") ++ number x
+    ∷ (cut_pieces 6 (codes "] = b[") ++ number x
+    ∷ (cut_pieces 4 (codes "] + ") ++ number c ∷ cut_pieces 2 (line (codes ";"))))
 statement_pieces (set_product x c) =
-    cut_pieces 2 (codes "v[") ++ number x ∷ (cut_pieces 8 (codes "] = k * ") ++ number c ∷ cut_pieces 2 (line (codes ";")))
+    cut_pieces 2 (codes "v[") ++ number x
+    ∷ (cut_pieces 8 (codes "] = k * ") ++ number c ∷ cut_pieces 2 (line (codes ";")))
 
 abbrev pub statement_chunk : Line → Chunk
 statement_chunk s = record { text = line (line_text s); pieces = statement_pieces s }
@@ -114,30 +134,57 @@ over : (ds r more : List ℕ) → ((ds ++ r) ++ 10 ∷ []) ++ more ≡ ds ++ ((r
 over ds r more = ap (λ l. l ++ more) (append_assoc ds r (10 ∷ [])) ∙ append_assoc ds (r ++ 10 ∷ []) more
 
 -- fixed bytes, a number, and the rest
-number_behind : (m : ℕ) (w : List ℕ) (ps : List Piece) (n : ℕ) (b : ℕ) (r more : List ℕ) (qs : List Piece) (end : List ℕ) → n ≤ most → is_digit b ≡ false → is_letter b ≡ false
+number_behind : (m : ℕ) (w : List ℕ) (ps : List Piece) (n : ℕ) (b : ℕ) (r more : List ℕ) (qs : List Piece)
+    (end : List ℕ)
+    → n ≤ most → is_digit b ≡ false → is_letter b ≡ false
     → ((v : List ℕ) → Leads ps (w ++ (decimal n ++ v)) (decimal n ++ v)) → Leads qs (((b ∷ r) ++ 10 ∷ []) ++ more) end
     → Leads (ps ++ number n ∷ qs) ((line (w ++ (decimal n ++ b ∷ r))) ++ more) end
 number_behind m w ps n b r more qs end few no_digit no_letter first rest =
     let whole : (line (w ++ (decimal n ++ b ∷ r))) ++ more ≡ w ++ (decimal n ++ (((b ∷ r) ++ 10 ∷ []) ++ more)) =
     over w (decimal n ++ b ∷ r) more ∙ ap (λ l. w ++ l) (over (decimal n) (b ∷ r) more) in
     subst (λ v. Leads (ps ++ number n ∷ qs) v end) (sym whole)
-    (leads_append ps (number n ∷ qs) (w ++ (decimal n ++ (((b ∷ r) ++ 10 ∷ []) ++ more))) (decimal n ++ (((b ∷ r) ++ 10 ∷ []) ++ more)) end (first (((b ∷ r) ++ 10 ∷ []) ++ more))
-    (leads_append (number n ∷ []) qs (decimal n ++ (((b ∷ r) ++ 10 ∷ []) ++ more)) (((b ∷ r) ++ 10 ∷ []) ++ more) end (number_leads n few b ((r ++ 10 ∷ []) ++ more) no_digit no_letter) rest))
+    (leads_append ps (number n ∷ qs) (w ++ (decimal n ++ (((b ∷ r) ++ 10 ∷ []) ++ more)))
+    (decimal n ++ (((b ∷ r) ++ 10 ∷ []) ++ more)) end (first (((b ∷ r) ++ 10 ∷ []) ++ more))
+    (leads_append (number n ∷ []) qs (decimal n ++ (((b ∷ r) ++ 10 ∷ []) ++ more)) (((b ∷ r) ++ 10 ∷ []) ++ more) end
+    (number_leads n few b ((r ++ 10 ∷ []) ++ more) no_digit no_letter) rest))
 
 statement_cut : (s : Line) → IsSmall s → IsCut (statement_chunk s)
 statement_cut (add_remainder x c) h more =
-    number_behind 2 (codes "a[") (cut_pieces 2 (codes "a[")) x 93 (codes " = a[" ++ (decimal x ++ (codes "] + k % (" ++ (decimal c ++ codes " + 1);")))) more (cut_pieces 6 (codes "] = a[") ++ number x ∷ (cut_pieces 9 (codes "] + k % (") ++ number c ∷ cut_pieces 7 (line (codes " + 1);")))) more h.0 refl refl (λ v. cut_leads 2 (codes "a[" ++ (decimal x ++ v)) (cut_pieces 2 (codes "a[")) (decimal x ++ v) refl)
-    (number_behind 6 (codes "] = a[") (cut_pieces 6 (codes "] = a[")) x 93 (codes " + k % (" ++ (decimal c ++ codes " + 1);")) more (cut_pieces 9 (codes "] + k % (") ++ number c ∷ cut_pieces 7 (line (codes " + 1);"))) more h.0 refl refl (λ v. cut_leads 6 (codes "] = a[" ++ (decimal x ++ v)) (cut_pieces 6 (codes "] = a[")) (decimal x ++ v) refl)
-    (number_behind 9 (codes "] + k % (") (cut_pieces 9 (codes "] + k % (")) c 32 (codes "+ 1);") more (cut_pieces 7 (line (codes " + 1);"))) more h.1 refl refl (λ v. cut_leads 9 (codes "] + k % (" ++ (decimal c ++ v)) (cut_pieces 9 (codes "] + k % (")) (decimal c ++ v) refl)
+    number_behind 2 (codes "a[") (cut_pieces 2 (codes "a[")) x 93
+    (codes " = a[" ++ (decimal x ++ (codes "] + k % (" ++ (decimal c ++ codes " + 1);")))) more
+    (cut_pieces 6 (codes "] = a[") ++ number x
+    ∷ (cut_pieces 9 (codes "] + k % (") ++ number c ∷ cut_pieces 7 (line (codes " + 1);"))))
+    more h.0 refl refl
+    (λ v. cut_leads 2 (codes "a[" ++ (decimal x ++ v)) (cut_pieces 2 (codes "a[")) (decimal x ++ v) refl)
+    (number_behind 6 (codes "] = a[") (cut_pieces 6 (codes "] = a[")) x 93
+    (codes " + k % (" ++ (decimal c ++ codes " + 1);")) more
+    (cut_pieces 9 (codes "] + k % (") ++ number c ∷ cut_pieces 7 (line (codes " + 1);"))) more h.0 refl refl
+    (λ v. cut_leads 6 (codes "] = a[" ++ (decimal x ++ v)) (cut_pieces 6 (codes "] = a[")) (decimal x ++ v) refl)
+    (number_behind 9 (codes "] + k % (") (cut_pieces 9 (codes "] + k % (")) c 32 (codes "+ 1);") more
+    (cut_pieces 7 (line (codes " + 1);"))) more h.1 refl refl
+    (λ v. cut_leads 9 (codes "] + k % (" ++ (decimal c ++ v)) (cut_pieces 9 (codes "] + k % (")) (decimal c ++ v) refl)
     (cut_leads 7 (line (codes " + 1);") ++ more) (cut_pieces 7 (line (codes " + 1);"))) more refl)))
 statement_cut (add_constant x c) h more =
-    number_behind 2 (codes "b[") (cut_pieces 2 (codes "b[")) x 93 (codes " = b[" ++ (decimal x ++ (codes "] + " ++ (decimal c ++ codes ";")))) more (cut_pieces 6 (codes "] = b[") ++ number x ∷ (cut_pieces 4 (codes "] + ") ++ number c ∷ cut_pieces 2 (line (codes ";")))) more h.0 refl refl (λ v. cut_leads 2 (codes "b[" ++ (decimal x ++ v)) (cut_pieces 2 (codes "b[")) (decimal x ++ v) refl)
-    (number_behind 6 (codes "] = b[") (cut_pieces 6 (codes "] = b[")) x 93 (codes " + " ++ (decimal c ++ codes ";")) more (cut_pieces 4 (codes "] + ") ++ number c ∷ cut_pieces 2 (line (codes ";"))) more h.0 refl refl (λ v. cut_leads 6 (codes "] = b[" ++ (decimal x ++ v)) (cut_pieces 6 (codes "] = b[")) (decimal x ++ v) refl)
-    (number_behind 4 (codes "] + ") (cut_pieces 4 (codes "] + ")) c 59 ([]) more (cut_pieces 2 (line (codes ";"))) more h.1 refl refl (λ v. cut_leads 4 (codes "] + " ++ (decimal c ++ v)) (cut_pieces 4 (codes "] + ")) (decimal c ++ v) refl)
+    number_behind 2 (codes "b[") (cut_pieces 2 (codes "b[")) x 93
+    (codes " = b[" ++ (decimal x ++ (codes "] + " ++ (decimal c ++ codes ";")))) more
+    (cut_pieces 6 (codes "] = b[") ++ number x
+    ∷ (cut_pieces 4 (codes "] + ") ++ number c ∷ cut_pieces 2 (line (codes ";"))))
+    more h.0 refl refl
+    (λ v. cut_leads 2 (codes "b[" ++ (decimal x ++ v)) (cut_pieces 2 (codes "b[")) (decimal x ++ v) refl)
+    (number_behind 6 (codes "] = b[") (cut_pieces 6 (codes "] = b[")) x 93 (codes " + " ++ (decimal c ++ codes ";"))
+    more (cut_pieces 4 (codes "] + ") ++ number c ∷ cut_pieces 2 (line (codes ";"))) more h.0 refl refl
+    (λ v. cut_leads 6 (codes "] = b[" ++ (decimal x ++ v)) (cut_pieces 6 (codes "] = b[")) (decimal x ++ v) refl)
+    (number_behind 4 (codes "] + ") (cut_pieces 4 (codes "] + ")) c 59 ([]) more (cut_pieces 2 (line (codes ";"))) more
+    h.1 refl refl
+    (λ v. cut_leads 4 (codes "] + " ++ (decimal c ++ v)) (cut_pieces 4 (codes "] + ")) (decimal c ++ v) refl)
     (cut_leads 2 (line (codes ";") ++ more) (cut_pieces 2 (line (codes ";"))) more refl)))
 statement_cut (set_product x c) h more =
-    number_behind 2 (codes "v[") (cut_pieces 2 (codes "v[")) x 93 (codes " = k * " ++ (decimal c ++ codes ";")) more (cut_pieces 8 (codes "] = k * ") ++ number c ∷ cut_pieces 2 (line (codes ";"))) more h.0 refl refl (λ v. cut_leads 2 (codes "v[" ++ (decimal x ++ v)) (cut_pieces 2 (codes "v[")) (decimal x ++ v) refl)
-    (number_behind 8 (codes "] = k * ") (cut_pieces 8 (codes "] = k * ")) c 59 ([]) more (cut_pieces 2 (line (codes ";"))) more h.1 refl refl (λ v. cut_leads 8 (codes "] = k * " ++ (decimal c ++ v)) (cut_pieces 8 (codes "] = k * ")) (decimal c ++ v) refl)
+    number_behind 2 (codes "v[") (cut_pieces 2 (codes "v[")) x 93 (codes " = k * " ++ (decimal c ++ codes ";")) more
+    (cut_pieces 8 (codes "] = k * ") ++ number c ∷ cut_pieces 2 (line (codes ";"))) more h.0 refl refl
+    (λ v. cut_leads 2 (codes "v[" ++ (decimal x ++ v)) (cut_pieces 2 (codes "v[")) (decimal x ++ v) refl)
+    (number_behind 8 (codes "] = k * ") (cut_pieces 8 (codes "] = k * ")) c 59 ([]) more
+    (cut_pieces 2 (line (codes ";"))) more h.1 refl refl
+    (λ v. cut_leads 8 (codes "] = k * " ++ (decimal c ++ v)) (cut_pieces 8 (codes "] = k * ")) (decimal c ++ v) refl)
     (cut_leads 2 (line (codes ";") ++ more) (cut_pieces 2 (line (codes ";"))) more refl))
 
 -- ---- the other lines
@@ -187,7 +234,10 @@ go_lines = chunk 57 (
     ++ (line (codes "}")))
 
 abbrev pub start_line : ℕ → Chunk
-start_line size = record { text = line (load.start size); pieces = cut_pieces 4 (codes "call go(") ++ number size ∷ cut_pieces 3 (line (codes ");")) }
+start_line size = record {
+  text = line (load.start size);
+  pieces = cut_pieces 4 (codes "call go(") ++ number size ∷ cut_pieces 3 (line (codes ");"));
+}
 
 abbrev pub a_low : Chunk
 a_low = chunk 50 (line (codes "print a[0], a[1], a[2], a[3], a[4], a[5], a[6], a[7];"))
@@ -209,8 +259,10 @@ v_high = chunk 50 (line (codes "print v[8], v[9], v[10], v[11], v[12], v[13], v[
 
 start_cut : (size : ℕ) → size ≤ most → IsCut (start_line size)
 start_cut size few more =
-    number_behind 4 (codes "call go(") (cut_pieces 4 (codes "call go(")) size 41 (codes ";") more (cut_pieces 3 (line (codes ");"))) more few refl refl
-    (λ v. cut_leads 4 (codes "call go(" ++ (decimal size ++ v)) (cut_pieces 4 (codes "call go(")) (decimal size ++ v) refl)
+    number_behind 4 (codes "call go(") (cut_pieces 4 (codes "call go(")) size 41 (codes ";") more
+    (cut_pieces 3 (line (codes ");"))) more few refl refl
+    (λ v. cut_leads 4 (codes "call go(" ++ (decimal size ++ v)) (cut_pieces 4 (codes "call go(")) (decimal size ++ v)
+    refl)
     (cut_leads 3 (line (codes ");") ++ more) (cut_pieces 3 (line (codes ");"))) more refl)
 
 -- ---- all of them
@@ -243,15 +295,18 @@ abbrev pub lines_from : ℕ → List Line
 lines_from seed = map (line_at seed) (range_with_len 0 32)
 
 -- it has the text of the statement
-same_line : (first second third : ℕ) (x y : Bool) → (first % 3 == 0) ≡ x → (first % 3 == 1) ≡ y → load.statement_text (load.statement_of first second third) ≡ line_text (line_of first second third)
+same_line : (first second third : ℕ) (x y : Bool) → (first % 3 == 0) ≡ x → (first % 3 == 1) ≡ y
+    → load.statement_text (load.statement_of first second third) ≡ line_text (line_of first second third)
 same_line first second third true y e f = rw e refl
 same_line first second third false true e f = rw (e, f) refl
 same_line first second third false false e f = rw (e, f) refl
 
-same_lines : (seed : ℕ) (is : List ℕ) → map load.statement_text (map (load.statement_at seed) is) ≡ map line_text (map (line_at seed) is)
+same_lines : (seed : ℕ) (is : List ℕ)
+    → map load.statement_text (map (load.statement_at seed) is) ≡ map line_text (map (line_at seed) is)
 same_lines seed [] = refl
 same_lines seed (i ∷ is) =
-    ap (λ l. l ∷ map load.statement_text (map (load.statement_at seed) is)) (same_line (load.draw seed (3 * i + 1)) (load.draw seed (3 * i + 2)) (load.draw seed (3 * i + 3)) _ _ refl refl)
+    ap (λ l. l ∷ map load.statement_text (map (load.statement_at seed) is))
+    (same_line (load.draw seed (3 * i + 1)) (load.draw seed (3 * i + 2)) (load.draw seed (3 * i + 3)) _ _ refl refl)
     ∙ ap (λ ls. line_text (line_at seed i) ∷ ls) (same_lines seed is)
 
 statements_same : (seed : ℕ) → map load.statement_text (load.statements_from seed 32) ≡ map line_text (lines_from seed)
@@ -261,7 +316,8 @@ statements_same seed = same_lines seed (range_with_len 0 32)
 abbrev pub all_chunks : ℕ → ℕ → List Chunk
 all_chunks seed size = first_chunks (statement_chunks (lines_from seed) (last_chunks size))
 
-statements_text : (ss : List Line) (ls : List (List ℕ)) (cs : List Chunk) → load.lines ls ≡ text_of cs → load.lines (map line_text ss ++ ls) ≡ text_of (statement_chunks ss cs)
+statements_text : (ss : List Line) (ls : List (List ℕ)) (cs : List Chunk) → load.lines ls ≡ text_of cs
+    → load.lines (map line_text ss ++ ls) ≡ text_of (statement_chunks ss cs)
 statements_text [] ls cs h = h
 statements_text (s ∷ ss) ls cs h = ap (λ l. line (line_text s) ++ l) (statements_text ss ls cs h)
 
@@ -272,14 +328,19 @@ last_text size = refl
 pub whole_text : (seed size : ℕ) → load.load_text seed size ≡ text_of (all_chunks seed size)
 unfolding load_text declarations
 whole_text seed size =
-    ap (λ l. text_of (first_chunks []) ++ load.lines (l ++ (load.procedures ++ (load.start size ∷ load.prints)))) (statements_same seed)
-    ∙ ap (λ l. text_of (first_chunks []) ++ l) (statements_text (lines_from seed) (load.procedures ++ (load.start size ∷ load.prints)) (last_chunks size) (last_text size))
+    ap (λ l. text_of (first_chunks []) ++ load.lines (l ++ (load.procedures ++ (load.start size ∷ load.prints))))
+    (statements_same seed)
+    ∙ ap (λ l. text_of (first_chunks []) ++ l)
+    (statements_text (lines_from seed) (load.procedures ++ (load.start size ∷ load.prints)) (last_chunks size)
+    (last_text size))
 
 abbrev AllSmall : List Line → Type 0
 AllSmall [] = Unit {0}
 AllSmall (s ∷ ss) = IsSmall s × AllSmall ss
 
-small_made : (x y : Bool) (cell constant : ℕ) → cell ≤ most → constant ≤ most → IsSmall (if x then add_remainder cell constant else if y then add_constant cell constant else set_product cell constant)
+small_made : (x y : Bool) (cell constant : ℕ) → cell ≤ most → constant ≤ most
+    → IsSmall
+    (if x then add_remainder cell constant else if y then add_constant cell constant else set_product cell constant)
 small_made true y cell constant m n = (m, n)
 small_made false true cell constant m n = (m, n)
 small_made false false cell constant m n = (m, n)
@@ -306,10 +367,67 @@ statements_cut (s ∷ ss) cs small h = (statement_cut s small.0, statements_cut 
 
 last_cut : (size : ℕ) → size ≤ most → AllCut (last_chunks size)
 last_cut size few =
-    let fixed : (c : Chunk) (n : ℕ) → ((more : List ℕ) → cut_some n (c.text ++ more) ≡ Some (c.pieces, more)) → IsCut c = λ c n is more. cut_leads n (c.text ++ more) c.pieces more (is more) in
-    (fixed step_line 11 (λ more. refl), (fixed end_line 2 (λ more. refl), (fixed end_line 2 (λ more. refl), (fixed go_lines 57 (λ more. refl), (fixed main_line 4 (λ more. refl), (start_cut size few, (fixed a_low 50 (λ more. refl), (fixed a_high 50 (λ more. refl), (fixed b_low 50 (λ more. refl), (fixed b_high 50 (λ more. refl), (fixed v_low 50 (λ more. refl), (fixed v_high 50 (λ more. refl), (fixed end_line 2 (λ more. refl), tt)))))))))))))
+    let fixed : (c : Chunk) (n : ℕ) → ((more : List ℕ) → cut_some n (c.text ++ more) ≡ Some (c.pieces, more))
+    → IsCut c = λ c n is more. cut_leads n (c.text ++ more) c.pieces more (is more) in (
+      fixed step_line 11 (λ more. refl),
+      (
+        fixed end_line 2 (λ more. refl),
+        (
+          fixed end_line 2 (λ more. refl),
+          (
+            fixed go_lines 57 (λ more. refl),
+            (
+              fixed main_line 4 (λ more. refl),
+              (
+                start_cut size few,
+                (
+                  fixed a_low 50 (λ more. refl),
+                  (
+                    fixed a_high 50 (λ more. refl),
+                    (
+                      fixed b_low 50 (λ more. refl),
+                      (
+                        fixed b_high 50 (λ more. refl),
+                        (
+                          fixed v_low 50 (λ more. refl),
+                          (fixed v_high 50 (λ more. refl), (fixed end_line 2 (λ more. refl), tt)),
+                        ),
+                      ),
+                    ),
+                  ),
+                ),
+              ),
+            ),
+          ),
+        ),
+      ),
+    )
 
 pub all_cut : (seed size : ℕ) → size ≤ most → AllCut (all_chunks seed size)
 all_cut seed size few =
-    let fixed : (c : Chunk) (n : ℕ) → ((more : List ℕ) → cut_some n (c.text ++ more) ≡ Some (c.pieces, more)) → IsCut c = λ c n is more. cut_leads n (c.text ++ more) c.pieces more (is more) in
-    (fixed sum_line 26 (λ more. refl), (fixed most_line 31 (λ more. refl), (fixed a_line 16 (λ more. refl), (fixed b_line 16 (λ more. refl), (fixed v_line 12 (λ more. refl), (fixed work_line 12 (λ more. refl), (fixed let_line 9 (λ more. refl), (fixed while_line 10 (λ more. refl), statements_cut (lines_from seed) (last_chunks size) (all_small seed) (last_cut size few)))))))))
+    let fixed : (c : Chunk) (n : ℕ) → ((more : List ℕ) → cut_some n (c.text ++ more) ≡ Some (c.pieces, more))
+    → IsCut c = λ c n is more. cut_leads n (c.text ++ more) c.pieces more (is more) in (
+      fixed sum_line 26 (λ more. refl),
+      (
+        fixed most_line 31 (λ more. refl),
+        (
+          fixed a_line 16 (λ more. refl),
+          (
+            fixed b_line 16 (λ more. refl),
+            (
+              fixed v_line 12 (λ more. refl),
+              (
+                fixed work_line 12 (λ more. refl),
+                (
+                  fixed let_line 9 (λ more. refl),
+                  (
+                    fixed while_line 10 (λ more. refl),
+                    statements_cut (lines_from seed) (last_chunks size) (all_small seed) (last_cut size few),
+                  ),
+                ),
+              ),
+            ),
+          ),
+        ),
+      ),
+    )

@@ -1,20 +1,20 @@
 -- The tree of the text of `load` breaks no rule.
-use Rattle.std.proofs.Common.{◌≡◌, ℕ, zero, suc, ◌+◌, Bool, true, false, List, [], ◌∷◌, ◌++◌, length, refl, sym, ap, ◌∙◌, subst, append-nil}
-use Rattle.std.specs.Prelude.{Option, Some, None, pos, codes}
+use Rattle.std.proofs.Common.{◌≡◌, ℕ, ◌+◌, List, [], ◌∷◌, ◌++◌, refl, ap, ◌∙◌}
+use Rattle.std.specs.Prelude.{Some, None, codes}
 use Rattle.rev_num.specs.declared.value.ValueKind.TheVariants as kinds
 use Rattle.rev_syntax.specs.Trees as t
 use Rattle.rev_syntax.specs.Trees.{PlacedName, Parameter, Declaration, ProgramTree, Statements}
 use Rattle.rev_syntax.specs.Tokens.{array_size}
 use Rattle.rev_syntax.specs.View.{statements_of}
-use Rattle.merge_decl.specs.FunRules.{statements_uses, statement_uses, uses_in, broken_in, fun_named, fun_faults}
+use Rattle.merge_decl.specs.FunRules.{statements_uses, statement_uses, broken_in, fun_named, fun_faults}
 use Rattle.rev_kinds.specs.declared.fault.TypeFault.{TypeFault}
 use Rattle.rev_kinds.specs.Kinds.{Names, Locals}
 use Rattle.rev_types.specs.Scopes.{outside, locals_after}
 use Rattle.rev_types.specs.Statements.{broken_in_statement, broken_in_statements, left_after}
-use Rattle.rev_types.specs.Program.{faults, broken_in_declarations}
+use Rattle.rev_types.specs.Program.{faults}
 use Rattle.program_texts.proofs.Chunks.{Chunk, place, named}
-use Rattle.program_texts.proofs.LoadChunks.{Line, add_remainder, add_constant, set_product, statement_chunk, sum_line, most_line, a_line, b_line, v_line, work_line, let_line, while_line, step_line, end_line, go_lines, main_line, start_line, a_low, a_high, b_low, b_high, v_low, v_high}
-use Rattle.program_texts.proofs.LoadTrees.{sum_tree, most_tree, array_tree, let_tree, while_test, step_tree, go_tree, start_tree, print_tree, statement_tree, lines_at, chunk_statement, statement_trees}
+use Rattle.program_texts.proofs.LoadChunks.{Line, add_remainder, add_constant, set_product, statement_chunk, sum_line, most_line, a_line, b_line, v_line, work_line, let_line, while_line, step_line, go_lines, main_line, start_line, a_low, a_high, b_low, b_high, v_low, v_high}
+use Rattle.program_texts.proofs.LoadTrees.{sum_tree, most_tree, array_tree, let_tree, while_test, step_tree, go_tree, start_tree, print_tree, lines_at, chunk_statement, statement_trees}
 
 -- ---- the program
 
@@ -54,7 +54,12 @@ module _ (bytes : List ℕ) (size : ℕ) (at : Places) where
       ∷ ds
 
   abbrev work_parameter : List Parameter
-  work_parameter = record { name = named at.work_at work_line.pieces 4; kind_at = place at.work_at work_line.pieces 7; kind = kinds.Int } ∷ []
+  work_parameter =
+      record {
+        name = named at.work_at work_line.pieces 4;
+        kind_at = place at.work_at work_line.pieces 7;
+        kind = kinds.Int;
+      } ∷ []
 
   abbrev pub loop : Statements → t.Statement
   loop inside =
@@ -118,31 +123,45 @@ module _ (bytes : List ℕ) (size : ℕ) (at : Places) where
     abbrev broken_all : Locals → ℕ → List TypeFault → Statements → List TypeFault
     broken_all l left found xs = broken_in_statements [] (λ f. f ∷ []) (λ xs ys. xs ++ ys) known None l left found xs
 
-    one_more : (left : ℕ) (x : t.Statement) (xs : Statements) → IsFine left x → broken_all work_locals left [] xs ≡ [] → broken_all work_locals left [] (t.statements x xs) ≡ []
+    one_more : (left : ℕ) (x : t.Statement) (xs : Statements) → IsFine left x → broken_all work_locals left [] xs ≡ []
+        → broken_all work_locals left [] (t.statements x xs) ≡ []
     one_more left x xs h more =
         ap (λ m. broken_all (locals_after known work_locals x) (left_after left x) m xs) h.none
         ∙ ap (λ l. broken_all l (left_after left x) [] xs) h.locals
         ∙ ap (λ n. broken_all work_locals n [] xs) h.lets
         ∙ more
 
-    none_inside : (left n : ℕ) (xs : List Line) → broken_all work_locals left [] (statements_of (statement_trees bytes n xs (of_chunk step_tree at.step_at step_line ∷ []))) ≡ []
-    none_inside left n [] = one_more left (of_chunk step_tree at.step_at step_line) t.no_statements (fine_step left) refl
+    none_inside : (left n : ℕ) (xs : List Line)
+        → broken_all work_locals left []
+        (statements_of (statement_trees bytes n xs (of_chunk step_tree at.step_at step_line ∷ [])))
+        ≡ []
+    none_inside left n [] =
+        one_more left (of_chunk step_tree at.step_at step_line) t.no_statements (fine_step left) refl
     none_inside left n (x ∷ xs) =
         let after = n + array_size (statement_chunk x).pieces in
-        one_more left (chunk_statement bytes n x) (statements_of (statement_trees bytes after xs (of_chunk step_tree at.step_at step_line ∷ []))) (fine_statement left n x) (none_inside left after xs)
+        one_more left (chunk_statement bytes n x)
+        (statements_of (statement_trees bytes after xs (of_chunk step_tree at.step_at step_line ∷ [])))
+        (fine_statement left n x) (none_inside left after xs)
 
-    no_uses : (d n : ℕ) (xs : List Line) → statements_uses d (statements_of (statement_trees bytes n xs (of_chunk step_tree at.step_at step_line ∷ []))) ≡ []
+    no_uses : (d n : ℕ) (xs : List Line)
+        → statements_uses d (statements_of (statement_trees bytes n xs (of_chunk step_tree at.step_at step_line ∷ [])))
+        ≡ []
     no_uses d n [] = refl
     no_uses d n (x ∷ xs) =
         let after = n + array_size (statement_chunk x).pieces in
-        ap (λ u. u ++ statements_uses d (statements_of (statement_trees bytes after xs (of_chunk step_tree at.step_at step_line ∷ [])))) ((fine_statement 0 n x).uses d) ∙ no_uses d after xs
+        ap (λ u. u
+        ++ statements_uses d
+        (statements_of (statement_trees bytes after xs (of_chunk step_tree at.step_at step_line ∷ []))))
+        ((fine_statement 0 n x).uses d)
+        ∙ no_uses d after xs
 
   -- ---- the whole
 
   abbrev left_inside : ℕ
   left_inside = 63
 
-  none_broken : (inside : Statements) → broken_all inside work_locals left_inside [] inside ≡ [] → faults (program_tree inside) ≡ []
+  none_broken : (inside : Statements) → broken_all inside work_locals left_inside [] inside ≡ []
+      → faults (program_tree inside) ≡ []
   none_broken inside h = ap (λ x. (x ++ []) ++ []) h
 
   none_applied : (inside : Statements) → statements_uses 7 inside ≡ [] → fun_faults (program_tree inside) ≡ []

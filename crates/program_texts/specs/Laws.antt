@@ -10,7 +10,7 @@ use Rattle.rev_syntax.specs.declared.token.Token.{Token}
 use Rattle.rev_parse.specs.Verdicts.{IsProgram}
 use Rattle.rev_types.specs.Accepted.{IsWellTyped}
 use Rattle.static_rules.specs.Funs.{KeepsFunRules}
-use Rattle.trace_source.specs.Dividing.{IsCutAt}
+use Rattle.trace_diagram.specs.Dividing.{IsCutAt}
 
 -- the text has tokens, which are one tree, and the tree keeps the rules on funs and is well typed
 pub record IsProgramText (text : List ℕ) : Type 0 where

@@ -37,11 +37,13 @@ has_most x (y ∷ xs) n h e = by (has_parts y xs n e) (λ there. has_most x xs n
     by (inr there) later = later there
 
 -- what is least comes first
-pub least_first : (x : ℕ) (xs : List ℕ) (n : ℕ) → IsUpperBound nat_cmp x xs → n < 2 ^ 32 → has xs (above n) ≡ true → 4294967295 - x ≤ n
+pub least_first : (x : ℕ) (xs : List ℕ) (n : ℕ) → IsUpperBound nat_cmp x xs → n < 2 ^ 32 → has xs (above n) ≡ true
+    → 4294967295 - x ≤ n
 least_first x xs n h less e =
     let m : above n ≤ x = has_most x xs (above n) (le_from_greatest x xs h) e in omega (arith, m, less)
 
-pub taken_or_left : (x : ℕ) (xs ys : List ℕ) (n : ℕ) → IsPermutation xs (x ∷ ys) → n < 2 ^ 32 → has xs (above n) ≡ true → (n ≡ 4294967295 - x) ⊎ (has ys (above n) ≡ true)
+pub taken_or_left : (x : ℕ) (xs ys : List ℕ) (n : ℕ) → IsPermutation xs (x ∷ ys) → n < 2 ^ 32 → has xs (above n) ≡ true
+    → (n ≡ 4294967295 - x) ⊎ (has ys (above n) ≡ true)
 taken_or_left x xs ys n p less e = by (has_parts x ys (above n) (has_permuted xs (x ∷ ys) (above n) p e))
   where
     by : (x ≡ above n) ⊎ (has ys (above n) ≡ true) → (n ≡ 4294967295 - x) ⊎ (has ys (above n) ≡ true)
@@ -49,8 +51,13 @@ taken_or_left x xs ys n p less e = by (has_parts x ys (above n) (has_permuted xs
     by (inr there) = inr there
 
 -- one number more, and one less
-pub one_more : (n : ℕ) (xs ys : List ℕ) → n < 2 ^ 32 → IsPermutation ((4294967295 - n) ∷ xs) ys → IsPermutation (n ∷ map above xs) (map above ys)
-one_more n xs ys less p = let back : 4294967295 - (4294967295 - n) ≡ n = omega (arith, less) in subst (λ x. IsPermutation (x ∷ map above xs) (map above ys)) back (IsPermutation-map above ((4294967295 - n) ∷ xs) ys p)
+pub one_more : (n : ℕ) (xs ys : List ℕ) → n < 2 ^ 32 → IsPermutation ((4294967295 - n) ∷ xs) ys
+    → IsPermutation (n ∷ map above xs) (map above ys)
+one_more n xs ys less p =
+    let back : 4294967295 - (4294967295 - n) ≡ n = omega (arith, less) in
+    subst (λ x. IsPermutation (x ∷ map above xs) (map above ys)) back
+    (IsPermutation-map above ((4294967295 - n) ∷ xs) ys p)
 
-pub one_less : (x : ℕ) (xs ys : List ℕ) → IsPermutation xs (x ∷ ys) → IsPermutation (map above xs) ((4294967295 - x) ∷ map above ys)
+pub one_less : (x : ℕ) (xs ys : List ℕ) → IsPermutation xs (x ∷ ys)
+    → IsPermutation (map above xs) ((4294967295 - x) ∷ map above ys)
 one_less x xs ys p = IsPermutation-map above xs (x ∷ ys) p

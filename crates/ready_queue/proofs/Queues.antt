@@ -40,10 +40,13 @@ has_end [] n = has_first n [] n refl
 has_end (x ∷ xs) n = has_later x (xs ++ n ∷ []) n (has_end xs n)
 
 -- one more of the first
-pub has_more : (xs : List ℕ) (at n : ℕ) → at < length xs → has (take (at + 1) xs) n ≡ true → (get_or xs at 0 ≡ n) ⊎ (has (take at xs) n ≡ true)
-has_more xs at n less e = by xs at less (let z : at + 1 ≡ suc at = omega arith in subst (λ k. has (take k xs) n ≡ true) z e)
+pub has_more : (xs : List ℕ) (at n : ℕ) → at < length xs → has (take (at + 1) xs) n ≡ true
+    → (get_or xs at 0 ≡ n) ⊎ (has (take at xs) n ≡ true)
+has_more xs at n less e =
+    by xs at less (let z : at + 1 ≡ suc at = omega arith in subst (λ k. has (take k xs) n ≡ true) z e)
   where
-    by : (xs : List ℕ) (at : ℕ) → at < length xs → has (take (suc at) xs) n ≡ true → (get_or xs at 0 ≡ n) ⊎ (has (take at xs) n ≡ true)
+    by : (xs : List ℕ) (at : ℕ) → at < length xs → has (take (suc at) xs) n ≡ true
+        → (get_or xs at 0 ≡ n) ⊎ (has (take at xs) n ≡ true)
     by [] at less e = absurd (omega (arith, less))
     by (x ∷ xs) zero less e = first (has_parts x [] n e)
       where
@@ -51,12 +54,14 @@ has_more xs at n less e = by xs at less (let z : at + 1 ≡ suc at = omega arith
         first h = h
     by (x ∷ xs) (suc at) less e = later (has_parts x (take (suc at) xs) n e) (λ h. by xs at (omega (arith, less)) h)
       where
-        later : (x ≡ n) ⊎ (has (take (suc at) xs) n ≡ true) → (has (take (suc at) xs) n ≡ true → (get_or xs at 0 ≡ n) ⊎ (has (take at xs) n ≡ true))
+        later : (x ≡ n) ⊎ (has (take (suc at) xs) n ≡ true)
+            → (has (take (suc at) xs) n ≡ true → (get_or xs at 0 ≡ n) ⊎ (has (take at xs) n ≡ true))
             → (get_or xs at 0 ≡ n) ⊎ (has (x ∷ take at xs) n ≡ true)
         later (inl is) rec = inr (has_first x (take at xs) n is)
         later (inr h) rec = again (rec h)
           where
-            again : (get_or xs at 0 ≡ n) ⊎ (has (take at xs) n ≡ true) → (get_or xs at 0 ≡ n) ⊎ (has (x ∷ take at xs) n ≡ true)
+            again : (get_or xs at 0 ≡ n) ⊎ (has (take at xs) n ≡ true)
+                → (get_or xs at 0 ≡ n) ⊎ (has (x ∷ take at xs) n ≡ true)
             again (inl is) = inl is
             again (inr h) = inr (has_later x (take at xs) n h)
 

@@ -58,15 +58,18 @@ count_sub a b (e ∷ es) q h =
 -- ---- a name apart
 
 -- a name that is used, and is not live after that
-pub count_use : (b : Name → Bool) (w : Name) (x : Value) (es : Table Value) (q : Path) → b w ≡ false → find w es ≡ Some x → hit x q + count b es q ≤ count (λ n. or (same n w) (b n)) es q
+pub count_use : (b : Name → Bool) (w : Name) (x : Value) (es : Table Value) (q : Path) → b w ≡ false
+    → find w es ≡ Some x → hit x q + count b es q ≤ count (λ n. or (same n w) (b n)) es q
 count_use b w x [] q h found = absurd cc
 count_use b w x (e ∷ es) q h found = by (λ a g f. count_use a w x es q g f) (same w e.0) refl found
   where
     c : Name → Bool
     c n = or (same n w) (b n)
 
-    by : ((a : Name → Bool) → a w ≡ false → find w es ≡ Some x → hit x q + count a es q ≤ count (λ n. or (same n w) (a n)) es q)
-        → (d : Bool) → same w e.0 ≡ d → cond d (Some e.1) (find w es) ≡ Some x → hit x q + count b (e ∷ es) q ≤ count c (e ∷ es) q
+    by : ((a : Name → Bool) → a w ≡ false → find w es ≡ Some x
+        → hit x q + count a es q ≤ count (λ n. or (same n w) (a n)) es q)
+        → (d : Bool) → same w e.0 ≡ d → cond d (Some e.1) (find w es) ≡ Some x
+        → hit x q + count b (e ∷ es) q ≤ count c (e ∷ es) q
     by later true s f =
         let is : e.1 ≡ x = cc in
         let name : w ≡ e.0 = same_equal w e.0 s in
@@ -74,7 +77,8 @@ count_use b w x (e ∷ es) q h found = by (λ a g f. count_use a w x es q g f) (
         let new : c e.0 ≡ true = ap (λ m. or (same m w) (b m)) (sym name) ∙ or_left (same w w) (b w) (same-self w) in
         let p : cond (b e.0) (hit e.1 q) 0 ≡ 0 = ap (λ d. cond d (hit e.1 q) 0) old in
         let r : cond (c e.0) (hit e.1 q) 0 ≡ hit x q = ap (λ d. cond d (hit e.1 q) 0) new ∙ ap (λ y. hit y q) is in
-        let rest = count_sub (without b e.0) (without c e.0) es q (without_sub b c e.0 (λ n i. or_right (same n w) (b n) i)) in
+        let rest =
+        count_sub (without b e.0) (without c e.0) es q (without_sub b c e.0 (λ n i. or_right (same n w) (b n) i)) in
         omega (arith, p, r, rest)
     by later false s f =
         let first = cond_less (b e.0) (c e.0) (hit e.1 q) (λ i. or_right (same e.0 w) (b e.0) i) in
@@ -86,7 +90,8 @@ count_use b w x (e ∷ es) q h found = by (λ a g f. count_use a w x es q g f) (
         swap : Sub (λ n. or (same n w) (without b e.0 n)) (without c e.0)
         swap n i = on (same n e.0) refl (same n w) refl i
           where
-            on : (d : Bool) → same n e.0 ≡ d → (m : Bool) → same n w ≡ m → or m (cond d false (b n)) ≡ true → cond d false (or m (b n)) ≡ true
+            on : (d : Bool) → same n e.0 ≡ d → (m : Bool) → same n w ≡ m → or m (cond d false (b n)) ≡ true
+                → cond d false (or m (b n)) ≡ true
             on true p true o j = absurd (true≢false (sym p ∙ ap (λ y. same y e.0) (same_equal n w o) ∙ s))
             on true p false o j = j
             on false p m o j = j
@@ -107,26 +112,31 @@ swap_without b m w n i = by (same n w) (same n m) i
     by false false j = j
 
 -- a name that is not there
-pub count_absent : (b : Name → Bool) (w : Name) (es : Table Value) (q : Path) → find w es ≡ None → count b es q ≤ count (without b w) es q
+pub count_absent : (b : Name → Bool) (w : Name) (es : Table Value) (q : Path) → find w es ≡ None
+    → count b es q ≤ count (without b w) es q
 count_absent b w [] q found = omega arith
 count_absent b w (e ∷ es) q found = by (λ a f. count_absent a w es q f) (same w e.0) refl found
   where
     by : ((a : Name → Bool) → find w es ≡ None → count a es q ≤ count (without a w) es q)
-        → (d : Bool) → same w e.0 ≡ d → cond d (Some e.1) (find w es) ≡ None → count b (e ∷ es) q ≤ count (without b w) (e ∷ es) q
+        → (d : Bool) → same w e.0 ≡ d → cond d (Some e.1) (find w es) ≡ None
+        → count b (e ∷ es) q ≤ count (without b w) (e ∷ es) q
     by later true s f = absurd cc
     by later false s f =
-        let first = cond_less (b e.0) (without b w e.0) (hit e.1 q) (λ i. not_in w e.0 (b e.0) (other_way w e.0 s) ∙ i) in
+        let first =
+        cond_less (b e.0) (without b w e.0) (hit e.1 q) (λ i. not_in w e.0 (b e.0) (other_way w e.0 s) ∙ i) in
         let rest = later (without b e.0) f in
         let wide = count_sub (without (without b e.0) w) (without (without b w) e.0) es q (swap_without b e.0 w) in
         omega (arith, first, rest, wide)
 
 -- a name that gets a value
-pub count_set : (b : Name → Bool) (w : Name) (x : Value) (es : Table Value) (q : Path) → count b (with_local es w x) q ≤ hit x q + count (without b w) es q
+pub count_set : (b : Name → Bool) (w : Name) (x : Value) (es : Table Value) (q : Path)
+    → count b (with_local es w x) q ≤ hit x q + count (without b w) es q
 count_set b w x [] q = let most = cond_most (b w) (hit x q) in omega (arith, most)
 count_set b w x (e ∷ es) q = by (λ a. count_set a w x es q) (same w e.0) refl
   where
     by : ((a : Name → Bool) → count a (with_local es w x) q ≤ hit x q + count (without a w) es q)
-        → (d : Bool) → same w e.0 ≡ d → count b (cond d ((e.0, x) ∷ es) (e ∷ with_local es w x)) q ≤ hit x q + count (without b w) (e ∷ es) q
+        → (d : Bool) → same w e.0 ≡ d
+        → count b (cond d ((e.0, x) ∷ es) (e ∷ with_local es w x)) q ≤ hit x q + count (without b w) (e ∷ es) q
     by later true s =
         let first = cond_most (b e.0) (hit x q) in
         let wide = count_sub (without b e.0) (without (without b w) e.0) es q same_sub in
@@ -135,17 +145,20 @@ count_set b w x (e ∷ es) q = by (λ a. count_set a w x es q) (same w e.0) refl
         same_sub : Sub (without b e.0) (without (without b w) e.0)
         same_sub n i = on (same n e.0) refl i
           where
-            on : (f : Bool) → same n e.0 ≡ f → cond f false (b n) ≡ true → cond f false (cond (same n w) false (b n)) ≡ true
+            on : (f : Bool) → same n e.0 ≡ f → cond f false (b n) ≡ true
+                → cond f false (cond (same n w) false (b n)) ≡ true
             on true p j = j
             on false p j = ap (λ y. cond (same n y) false (b n)) (same_equal w e.0 s) ∙ not_in e.0 n (b n) p ∙ j
     by later false s =
-        let first = cond_less (b e.0) (without b w e.0) (hit e.1 q) (λ i. not_in w e.0 (b e.0) (other_way w e.0 s) ∙ i) in
+        let first =
+        cond_less (b e.0) (without b w e.0) (hit e.1 q) (λ i. not_in w e.0 (b e.0) (other_way w e.0 s) ∙ i) in
         let rest = later (without b e.0) in
         let wide = count_sub (without (without b e.0) w) (without (without b w) e.0) es q (swap_without b e.0 w) in
         omega (arith, first, rest, wide)
 
 -- parameters
-pub count_params : (b : Name → Bool) (ps : List Name) (xs : List Value) (q : Path) → count b (locals_of ps xs) q ≤ hits xs q
+pub count_params : (b : Name → Bool) (ps : List Name) (xs : List Value) (q : Path)
+    → count b (locals_of ps xs) q ≤ hits xs q
 count_params b [] xs q = omega arith
 count_params b (p ∷ ps) [] q = omega arith
 count_params b (p ∷ ps) (x ∷ xs) q =

@@ -8,7 +8,11 @@ use Rattle.audit_rules.specs.Parts.{places}
 use Rattle.audit_rules.proofs.Meets.{places_length}
 
 pub accepted : (t : Setting) → IsAccepted (given t).program
-accepted t = record { small = t.typed.now.expanded.small; funs = t.typed.now.expanded.keeps_rules; rules = t.typed.now.well_typed }
+accepted t = record {
+  small = t.typed.now.expanded.small;
+  funs = t.typed.now.expanded.keeps_rules;
+  rules = t.typed.now.well_typed;
+}
 
 pub few_places : (t : Setting) → length (places (given t)) < 2 ^ 32
 few_places t =

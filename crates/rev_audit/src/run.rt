@@ -14,7 +14,7 @@ use audit_rules::Computed;
 use rev_num::Path;
 use revision_alone::{Alone, LocalState, join_alone, step_alone};
 use std::alloc::{AllocError, Global};
-use trace_making::part_of;
+use trace_parts::part_of;
 
 /// Where a run stands that goes no further by itself.
 #[derive(Drop)]

@@ -20,7 +20,7 @@ use rev_types::Typed;
 use revision_state::Setting;
 use std::alloc::{AllocError, Global};
 use trace_diagram::Part;
-use trace_making::places_of;
+use trace_parts::places_of;
 
 /// A program with its fuel, and the parts that are stated of its revisions.
 #[derive(Drop)]

@@ -1,10 +1,12 @@
-//! The program: the standard streams as source and sinks, the words behind the program's name, and
-//! the status of the call as exit status.
+//! The program: the standard streams as source and sinks, the words behind the program's name,
+//! three kernels, and the status of the call as exit status.
 #![tactic(auto)]
 
-use hub_workers::OpenGate;
+mod calling;
+
+use calling::call;
 use rev_io::{StdSink, StdSource};
-use rev_top::{out_of_memory, rev_main};
+use rev_top::out_of_memory;
 use std::env::Env;
 use std::process::ExitCode;
 use std::{env, io};
@@ -30,14 +32,10 @@ fn main(rt: HostRuntime) -> ExitCode {
         // A word that is no UTF-8 is wrong usage, as no words are.
         Err(_) => Vec::new(rt.alloc()),
     };
-    let mut ran = None;
-    ExitCode::from(rev_main(
-        &rt,
-        words.as_slice(),
-        &mut source,
-        &mut out,
-        &mut err,
-        &OpenGate,
-        &mut ran,
-    ))
+    ExitCode::from(
+        match call(&rt, words.as_slice(), &mut source, &mut out, &mut err) {
+            Ok(status) => status,
+            Err(_) => out_of_memory(&mut err),
+        },
+    )
 }

@@ -50,11 +50,13 @@ with_body (shared x ∷ es) (suc d) body h = with_body es d body h
 with_body (proc w params result b ∷ es) (suc d) body h = with_body es d body h
 
 -- a fun's body with those before it
-pub bodies_to-body : (es : List Declaration) (d : ℕ) (body : Expression) → body_at es d ≡ Some body → bodies_before es d + 8 * expression_count body ≤ bodies_to es (Some d)
+pub bodies_to-body : (es : List Declaration) (d : ℕ) (body : Expression) → body_at es d ≡ Some body
+    → bodies_before es d + 8 * expression_count body ≤ bodies_to es (Some d)
 unfolding bodies_before body_at
 bodies_to-body es d body h = with_body es d body h
 
 -- the bodies up to a fun are among those before a number above it
-pub bodies_to-before : (es : List Declaration) (f : Option ℕ) (n : ℕ) → IfSome f (λ d. d < n) → bodies_to es f ≤ bodies_before es n
+pub bodies_to-before : (es : List Declaration) (f : Option ℕ) (n : ℕ) → IfSome f (λ d. d < n)
+    → bodies_to es f ≤ bodies_before es n
 bodies_to-before es None n h = omega arith
 bodies_to-before es (Some d) n h = bodies_before-le es (suc d) n (omega arith)

@@ -90,10 +90,6 @@ listing F = either (listed F) (nothing [])
 
 -- ---- expressions
 
--- the place of an expression's first token
-abbrev pub at_of : Expression → ℕ
-at_of (t.placed at s) = at
-
 -- the same expression, from another token on
 abbrev pub moved : ℕ → Expression → Expression
 moved to (t.placed at s) = t.placed to s
@@ -101,7 +97,7 @@ moved to (t.placed at s) = t.placed to s
 -- an expression alone, or a chain that begins with it
 abbrev pub joined : Expression → List (BinaryOp × Expression) → Expression
 joined first [] = first
-joined first (l ∷ ls) = t.placed (at_of first) (t.chain first (links_of (l ∷ ls)))
+joined first (l ∷ ls) = t.placed (t.expression_place first) (t.chain first (links_of (l ∷ ls)))
 
 abbrev pub operator : Fixed → BinaryOp → Rule BinaryOp
 operator s op = token (class.fixed s) (λ t. op)

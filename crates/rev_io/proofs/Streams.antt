@@ -8,7 +8,8 @@ use Rattle.rev_io.specs.Stream.{Stream, Gave, Leave, Reads, Took}
 
 pub took_more : (a b c : Stream) (x y xy : List ℕ) → Took a x b → Took b y c → xy ≡ x ++ y → Took a xy c
 took_more a b c x y xy first second whole = record {
-  told = λ held is. second.told _ (first.told held is) ∙ ap Some (append_assoc held x y ∙ ap (λ bytes. held ++ bytes) (sym whole));
+  told = λ held is.
+      second.told _ (first.told held is) ∙ ap Some (append_assoc held x y ∙ ap (λ bytes. held ++ bytes) (sym whole));
   calm = second.calm ∙ first.calm;
 }
 
@@ -25,13 +26,18 @@ gave_more a b c x y first second = record {
 }
 
 -- the bytes done, and the first n of the slice behind them
-pub taken : (done n : ℕ) (bytes : List ℕ) → take (done + n) bytes ≡ take done bytes ++ take n (take (length bytes - done) (drop done bytes))
-taken done n bytes = rw (take_all (length bytes - done) (drop done bytes) (omega (arith, length-drop done bytes))) (take-add done n bytes)
+pub taken : (done n : ℕ) (bytes : List ℕ)
+    → take (done + n) bytes ≡ take done bytes ++ take n (take (length bytes - done) (drop done bytes))
+taken done n bytes =
+    rw (take_all (length bytes - done) (drop done bytes) (omega (arith, length-drop done bytes)))
+    (take-add done n bytes)
 
 -- a call that moved the first n bytes to the front of the room
 pub moved : (left rest before after : List ℕ) (n faults faults' : ℕ) → n ≤ length before → n ≤ length left
-    → after ≡ take n left ++ drop n before → rest ≡ drop n left → faults' ≡ faults → (n ≡ 0 → 0 < length before → left ≡ [])
-    → Reads (record { told = Some left; faults = faults }) (record { told = Some rest; faults = faults' }) before after (Ok n)
+    → after ≡ take n left ++ drop n before → rest ≡ drop n left → faults' ≡ faults
+    → (n ≡ 0 → 0 < length before → left ≡ [])
+    → Reads (record { told = Some left; faults = faults }) (record { told = Some rest; faults = faults' }) before after
+    (Ok n)
 moved left rest before after n faults faults' room has front behind_ same at_end = (
   room,
   record {

@@ -10,7 +10,8 @@ use Rattle.rev_io.specs.declared.SinkFault.TheVariants as sink
 pub all_taken : (old new : Stream) (bytes : List ℕ) → Took old bytes new → TookSome old bytes new
 all_taken old new bytes took held is = (length bytes, rw take-length (took.told held is))
 
-pub some_taken : (old new : Stream) (bytes : List ℕ) (r : Result ⊤ SinkFault) → WritesAll old new bytes r → TookSome old bytes new
+pub some_taken : (old new : Stream) (bytes : List ℕ) (r : Result ⊤ SinkFault) → WritesAll old new bytes r
+    → TookSome old bytes new
 some_taken old new bytes (Ok u) h = all_taken old new bytes h
 some_taken old new bytes (Err sink.Failed) h = h.1
 some_taken old new bytes (Err sink.OutOfMemory) h = h.1

@@ -15,6 +15,9 @@ uses_parts P [] ys h = (tt, h)
 uses_parts P (x ∷ xs) ys h = let rest = uses_parts P xs ys h.1 in ((h.0, rest.0), rest.1)
 
 -- what holds of each that breaks no rule holds of all where none breaks one
-pub uses_fine : (P : Use → Type 0) (funs : Name → Option FunHead) → ((x : Use) → broken_by x (funs x.name.text) ≡ [] → P x) → (xs : List Use) → broken_in funs xs ≡ [] → OfUses P xs
+pub uses_fine : (P : Use → Type 0) (funs : Name → Option FunHead)
+    → ((x : Use) → broken_by x (funs x.name.text) ≡ [] → P x) → (xs : List Use) → broken_in funs xs ≡ [] → OfUses P xs
 uses_fine P funs each [] fine = tt
-uses_fine P funs each (x ∷ xs) fine = let both = parts (broken_by x (funs x.name.text)) (broken_in funs xs) fine in (each x both.0, uses_fine P funs each xs both.1)
+uses_fine P funs each (x ∷ xs) fine =
+    let both = parts (broken_by x (funs x.name.text)) (broken_in funs xs) fine in
+    (each x both.0, uses_fine P funs each xs both.1)

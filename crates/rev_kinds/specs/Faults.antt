@@ -1,8 +1,8 @@
 -- The places and the numbers of the static rules and limits.
-use Rattle.std.specs.Prelude.{◌≡◌, ℕ}
-use Rattle.rev_report.specs.Limits.{most}
+use Rattle.std.specs.Prelude.{◌≡◌, ℕ, [], codes}
+use Rattle.rev_report.specs.Limits.{limit_row, more_than, most}
+use Rattle.merge_decl.specs.Least.{Row}
 use Rattle.rev_report.specs.declared.limit.Limit.{Limit}
-use Rattle.rev_report.specs.declared.limit.Limit.TheVariants.{Locations, Procedures, Funs, Parameters, Locals, Items, Weight}
 use Rattle.rev_kinds.specs.declared.fault.TypeFault.{TypeFault}
 use Rattle.rev_kinds.specs.declared.fault.TypeFault.TheVariants.{UnknownName, Redeclared, WrongType, WrongCount, NoReturn, LimitOf, OutOfMemory}
 
@@ -10,34 +10,26 @@ use Rattle.rev_kinds.specs.declared.fault.TypeFault.TheVariants.{UnknownName, Re
 abbrev pub exceeded : ℕ → Limit → TypeFault
 exceeded at which = LimitOf at which (most which)
 
-abbrev pub place : TypeFault → ℕ
-place (UnknownName at) = at
-place (Redeclared at) = at
-place (WrongType at) = at
-place (WrongCount at) = at
-place (NoReturn at) = at
-place (LimitOf at which limit) = at
-place OutOfMemory = 0
-
--- limits have the numbers from 6 on; of two at one place the earlier in the list of limits counts
+-- the rank of a limit
 abbrev pub order : Limit → ℕ
-order Locations = 6
-order Procedures = 7
-order Funs = 8
-order Parameters = 9
-order Locals = 10
-order Items = 11
-order Weight = 12
+order which = (limit_row which).0
 
--- the number of a rule, by which two at one place are told apart
+-- the place of a fault, the number of its rule, by which two at one place are told apart, and what is
+-- said of it; of two limits at one place the earlier in the list of limits counts
+abbrev pub row : TypeFault → Row
+row (UnknownName at) = (at, 1, codes "unknown name")
+row (Redeclared at) = (at, 2, codes "redeclared name")
+row (WrongType at) = (at, 3, codes "wrong type")
+row (WrongCount at) = (at, 4, codes "wrong count")
+row (NoReturn at) = (at, 5, codes "missing return")
+row (LimitOf at which limit) = (at, (limit_row which).0, more_than limit which)
+row OutOfMemory = (0, 13, [])
+
+abbrev pub place : TypeFault → ℕ
+place f = (row f).0
+
 abbrev pub rank : TypeFault → ℕ
-rank (UnknownName at) = 1
-rank (Redeclared at) = 2
-rank (WrongType at) = 3
-rank (WrongCount at) = 4
-rank (NoReturn at) = 5
-rank (LimitOf at which limit) = order which
-rank OutOfMemory = 13
+rank f = (row f).1
 
 -- a limit that is passed, and no other rule
 abbrev pub IsLimit : TypeFault → Type 0

@@ -1,7 +1,8 @@
 -- What names mean, and the kind of an expression, which its outermost form fixes.
-use Rattle.std.specs.Prelude.{ℕ, Bool, Option, Some, None, List}
+use Rattle.std.specs.Prelude.{ℕ, Bool, true, false, if◌then◌else◌, unwrap_or, Option, Some, None, option_map, List}
 use Rattle.rev_num.specs.declared.value.ValueKind.{ValueKind}
 use Rattle.rev_num.specs.declared.value.ValueKind.TheVariants as k
+pub use Rattle.rev_syntax.specs.Trees.{expression_place}
 use Rattle.rev_syntax.specs.Trees.{Parameter, Expression, placed, ExpressionForm, Links, int, bool, no_rev, var, cell, apply, input, inputs, pick, unary, chain, no_links, link, RightSide, plain, called, forked, tried, PrintItem, text, shown}
 use Rattle.rev_syntax.specs.declared.tree.UnaryOp.{UnaryOp}
 use Rattle.rev_syntax.specs.declared.tree.UnaryOp.TheVariants as u
@@ -31,8 +32,7 @@ Locals = Table (Option ValueKind)
 -- the kind of a name: of a local, or else of a shared variable
 abbrev pub name_kind : Option (Option ValueKind) → Option Holder → Option ValueKind
 name_kind (Some found) h = found
-name_kind None (Some h) = Some h.kind
-name_kind None None = None
+name_kind None h = option_map (λ x. x.kind) h
 
 abbrev pub result_of : Option Callee → Option ValueKind
 result_of (Some f) = f.result
@@ -42,21 +42,27 @@ abbrev pub operand_kind : UnaryOp → ValueKind
 operand_kind u.Neg = k.Int
 operand_kind u.Not = k.Bool
 
--- the kind of what an operator gives
+-- the kind that an operator wants of both its operands, if it wants one
+abbrev pub operands : BinaryOp → Option ValueKind
+operands b.Eq = None
+operands b.Ne = None
+operands b.And = Some k.Bool
+operands b.Or = Some k.Bool
+operands _ = Some k.Int
+
+-- whether an operator compares its operands, which are to be of one kind
+abbrev pub compares : BinaryOp → Bool
+compares b.Eq = true
+compares b.Ne = true
+compares b.Lt = true
+compares b.Le = true
+compares b.Gt = true
+compares b.Ge = true
+compares _ = false
+
+-- the kind of what an operator gives: a bool where it compares, and else what its operands are
 abbrev pub given_kind : BinaryOp → ValueKind
-given_kind b.Add = k.Int
-given_kind b.Sub = k.Int
-given_kind b.Mul = k.Int
-given_kind b.Div = k.Int
-given_kind b.Rem = k.Int
-given_kind b.Eq = k.Bool
-given_kind b.Ne = k.Bool
-given_kind b.Lt = k.Bool
-given_kind b.Le = k.Bool
-given_kind b.Gt = k.Bool
-given_kind b.Ge = k.Bool
-given_kind b.And = k.Bool
-given_kind b.Or = k.Bool
+given_kind op = if compares op then k.Bool else unwrap_or (operands op) k.Bool
 
 abbrev pub links_kind : Links → Option ValueKind
 links_kind no_links = None
@@ -85,9 +91,6 @@ right_side_kind c l (plain e) = kind_in c l e
 right_side_kind c l (called at w args) = result_of (c.procs w.text)
 right_side_kind c l (forked at w args) = Some k.Rev
 right_side_kind c l (tried at handle) = Some k.Bool
-
-abbrev pub expression_place : Expression → ℕ
-expression_place (placed at s) = at
 
 abbrev pub right_side_place : RightSide → ℕ
 right_side_place (plain e) = expression_place e

@@ -9,6 +9,7 @@ schedule_text-cons : (n : ℕ) (rest : List ℕ) → schedule_text (n ∷ rest) 
 schedule_text-cons n [] = grind (arith, rules)
 schedule_text-cons n (m ∷ rest) = ap (λ t. decimal n ++ (44 ∷ t)) (schedule_text-cons m rest)
 
-pub schedule_text-split : (ns : List ℕ) → 1 ≤ length ns → schedule_text ns ≡ decimal (get_or ns 0 0) ++ flat_map behind_comma (drop 1 ns)
+pub schedule_text-split : (ns : List ℕ) → 1 ≤ length ns
+    → schedule_text ns ≡ decimal (get_or ns 0 0) ++ flat_map behind_comma (drop 1 ns)
 schedule_text-split [] some = absurd (omega arith)
 schedule_text-split (n ∷ rest) some = schedule_text-cons n rest

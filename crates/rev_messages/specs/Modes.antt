@@ -2,8 +2,8 @@
 --
 -- `accepted` is the answer of `check` to a text that keeps all rules; `summary` is what `load` writes of the
 -- outcome of its program, `traced` what `trace` writes of a trace and an outcome, `ordered` what `order` writes of
--- a schedule and an outcome, and `agreed` the answer of `audit` to a trace that is the run's own. A mode that
--- makes bytes writes them and nothing else (`done`).
+-- a schedule and an outcome, `reused` what `repeat` writes of a count and an outcome, and `agreed` the answer of
+-- `audit` to a trace that is the run's own. A mode that makes bytes writes them and nothing else (`done`).
 use Rattle.std.specs.Prelude.{ℕ, List, ◌∷◌, ◌++◌, codes, false, map}
 use Rattle.std.specs.Fmt.{decimal}
 use Rattle.std.specs.List.{join_with_byte}
@@ -32,6 +32,17 @@ summary seed size (o.Done text values) =
 summary seed size (o.Trapped text values t) =
     behind (first_line seed size) (report false (o.Trapped text values t))
 summary seed size o.Twice = twice_report
+
+-- `reused N`
+abbrev pub reused_line : ℕ → List ℕ
+reused_line count = codes "reused " ++ decimal count
+
+-- the report of an outcome behind that line, without the values of `main`; nothing but the message where a
+-- revision was joined twice
+abbrev pub reused : ℕ → Outcome → Output
+reused count (o.Done text values) = behind (reused_line count) (report false (o.Done text values))
+reused count (o.Trapped text values t) = behind (reused_line count) (report false (o.Trapped text values t))
+reused count o.Twice = twice_report
 
 -- a trace in place of what `main` printed, and the message and status of the outcome; nothing but the
 -- message where a revision was joined twice

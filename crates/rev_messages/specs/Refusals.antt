@@ -1,15 +1,14 @@
 -- What is written of a refusal.
-use Rattle.std.specs.Prelude.{ℕ, List, [], ◌++◌, codes, Result, Ok, Err}
+use Rattle.std.specs.Prelude.{ℕ, List, ◌++◌, codes, Result, Ok, Err}
 use Rattle.std.specs.Fmt.{decimal}
 use Rattle.rev_num.specs.Path.{Path}
 use Rattle.rev_num.specs.Text.{path_text}
 use Rattle.rev_report.specs.Status.{read_fault_status, refused_status, usage_status}
 use Rattle.rev_report.specs.Lines.{with_line_feed}
-use Rattle.rev_report.specs.Report.{Output}
+use Rattle.rev_report.specs.Report.{Output, failed}
 use Rattle.rev_messages.specs.Faults.{name_of_fault, name_of_file_fault, name_of_instruction_fault}
-use Rattle.rev_report.specs.Limits.{name_of_limit}
+pub use Rattle.rev_report.specs.Limits.{more_than}
 use Rattle.rev_messages.specs.declared.fault.Place.{Place}
-use Rattle.rev_report.specs.declared.limit.Limit.{Limit}
 use Rattle.rev_messages.specs.declared.refusal.Refusal.{Refusal}
 use Rattle.rev_messages.specs.declared.refusal.Refusal.TheVariants as refusals
 
@@ -17,9 +16,6 @@ use Rattle.rev_messages.specs.declared.refusal.Refusal.TheVariants as refusals
 abbrev pub at_place : Place → List ℕ → List ℕ
 at_place p what =
     codes "error: line " ++ (decimal p.line ++ (codes " column " ++ (decimal p.column ++ (codes ": " ++ what))))
-
-abbrev pub more_than : ℕ → Limit → List ℕ
-more_than limit which = codes "more than " ++ (decimal limit ++ (codes " " ++ name_of_limit which))
 
 -- what is said of a byte of a code file
 abbrev pub at_byte : ℕ → List ℕ → List ℕ
@@ -73,7 +69,7 @@ status_of (refusals.Differs revision) = refused_status
 
 -- the message and a line feed on standard error
 abbrev pub refused : Refusal → Output
-refused f = record { out = []; err = with_line_feed (message f); status = status_of f }
+refused f = failed (status_of f) (message f)
 
 -- what is written of an answer: of an output itself, or of a refusal
 abbrev pub shown : Result Output Refusal → Output

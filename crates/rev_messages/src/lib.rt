@@ -13,6 +13,8 @@ mod refusal;
 
 pub use code_fault::{FileFault, InstructionFault};
 pub use fault::{Place, TextFault};
-pub use modes::{accepted_report, agreed_report, done_report, summary_report, trace_report};
+pub use modes::{
+    accepted_report, agreed_report, done_report, reused_report, summary_report, trace_report,
+};
 pub use order::order_report;
 pub use refusal::{Refusal, no_memory_message, refusal_bytes};

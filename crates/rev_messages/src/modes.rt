@@ -72,6 +72,26 @@ pub fn summary_report(
     }
 }
 
+/// The line that tells how many revisions were kept of the run before, without its line feed.
+fn reused_line(alloc: Global, count: u64) -> Result<String, AllocError>
+    ensures { IfOk result (λ s. string_bytes s ≡ spec.reused_line count) }
+{
+    format!(in alloc; "reused {count}")
+}
+
+/// The report of the outcome of a repeated run, behind a line that tells how many revisions were
+/// kept of the run before. Where a revision was joined twice, nothing is written on standard output.
+pub fn reused_report(alloc: Global, count: u64, outcome: &Outcome) -> Result<Report, AllocError>
+    ensures { IfOk result (λ r. output r ≡ spec.reused count outcome.now) }
+{
+    let report = outcome_bytes(alloc, outcome, false)?;
+    match outcome {
+        Outcome::Done { .. } => behind(reused_line(alloc, count)?, report),
+        Outcome::Trapped { .. } => behind(reused_line(alloc, count)?, report),
+        Outcome::Twice => Ok(report),
+    }
+}
+
 /// The report of an outcome, with the text of a trace in place of what `main` printed. Where a
 /// revision was joined twice, nothing is written on standard output.
 pub fn trace_report(alloc: Global, trace: Vec<u8>, outcome: &Outcome) -> Result<Report, AllocError>

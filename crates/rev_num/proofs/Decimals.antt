@@ -43,7 +43,8 @@ digits_pass (d ∷ ds) h = let all = digits_all (d ∷ ds) h.each in grind (arit
 -- ---- the function is exact for the grammar
 
 -- a guarded value is there only where both guards hold
-pub both_guards : {A : Type 0} (a b : Bool) (z n : A) → (if a && b then Some z else None) ≡ Some n → (a ≡ true) × (b ≡ true) × (n ≡ z)
+pub both_guards : {A : Type 0} (a b : Bool) (z n : A) → (if a && b then Some z else None) ≡ Some n
+    → (a ≡ true) × (b ≡ true) × (n ≡ z)
 both_guards true true z n h = (refl, refl, sym (some_eq h))
 both_guards true false z n h = none_some h
 both_guards false b z n h = none_some h
@@ -67,10 +68,15 @@ pub decimal_in-is : (bytes : List ℕ) (n : ℤ) → decimal_in bytes ≡ Some n
 decimal_in-is [] n h = grind (arith, rules)
 decimal_in-is (c ∷ cs) n h = by_sign (c == 45) refl h
   where
-    by_sign : (b : Bool) → (c == 45) ≡ b → (if b then number_behind cs (neg_ℤ (pos (spelled cs))) else number_behind (c ∷ cs) (pos (spelled (c ∷ cs)))) ≡ Some n → (fits_i64 n ≡ true) × IsDecimal (c ∷ cs) n
+    by_sign : (b : Bool) → (c == 45) ≡ b
+        → (if b then number_behind cs (neg_ℤ (pos (spelled cs))) else number_behind (c ∷ cs) (pos (spelled (c ∷ cs))))
+        ≡ Some n
+        → (fits_i64 n ≡ true) × IsDecimal (c ∷ cs) n
     by_sign true minus found =
-        let found_is = behind_some cs (neg_ℤ (pos (spelled cs))) n found in
-        (found_is.1, inr (record { behind = cs; minus = grind (arith, rules); digits = found_is.0; value = found_is.2 }))
+        let found_is = behind_some cs (neg_ℤ (pos (spelled cs))) n found in (
+          found_is.1,
+          inr (record { behind = cs; minus = grind (arith, rules); digits = found_is.0; value = found_is.2 }),
+        )
     by_sign false plain found =
         let found_is = behind_some (c ∷ cs) (pos (spelled (c ∷ cs))) n found in
         (found_is.1, inl (record { digits = found_is.0; value = found_is.2 }))
@@ -79,14 +85,17 @@ unsigned_read : (bytes : List ℕ) (n : ℤ) → fits_i64 n ≡ true → IsUnsig
 unsigned_read [] n fits h = absurd (omega (arith, h.digits.some))
 unsigned_read (c ∷ cs) n fits h = by_sign (c == 45) refl
   where
-    by_sign : (b : Bool) → (c == 45) ≡ b → (if b then number_behind cs (neg_ℤ (pos (spelled cs))) else number_behind (c ∷ cs) (pos (spelled (c ∷ cs)))) ≡ Some n
+    by_sign : (b : Bool) → (c == 45) ≡ b
+        → (if b then number_behind cs (neg_ℤ (pos (spelled cs))) else number_behind (c ∷ cs) (pos (spelled (c ∷ cs))))
+        ≡ Some n
     by_sign true minus = absurd (no_minus c cs (grind (arith, rules)) h.digits)
     by_sign false plain = behind_fits (c ∷ cs) (pos (spelled (c ∷ cs))) n h.digits fits h.value
 
 pub is-decimal_in : (bytes : List ℕ) (n : ℤ) → fits_i64 n ≡ true → IsDecimal bytes n → decimal_in bytes ≡ Some n
 is-decimal_in bytes n fits (inl h) = unsigned_read bytes n fits h
 is-decimal_in bytes n fits (inr h) =
-    subst (λ b. decimal_in b ≡ Some n) (sym h.minus) (behind_fits h.behind (neg_ℤ (pos (spelled h.behind))) n h.digits fits h.value)
+    subst (λ b. decimal_in b ≡ Some n) (sym h.minus)
+    (behind_fits h.behind (neg_ℤ (pos (spelled h.behind))) n h.digits fits h.value)
 
 -- ---- std's `parse` reads the grammar, with a plus in front beside
 
@@ -135,16 +144,20 @@ parsed_minus {E} cs (Err e) h = λ n fits d.
     parse_signed_minus own {E = E} w64 (45 ∷ cs) (Err e) h refl
     (digits_all cs parts.0.each, parts.0.some, negated_fits (spelled cs) (ap fits_i64 (sym parts.1) ∙ fits))
 
-parsed_plain : {E : Type 0} (bytes : List ℕ) (r : Result ℤ E) → get_or bytes 0 0 ≢ 43 → get_or bytes 0 0 ≢ 45 → ParsesSigned w64 10 bytes r → Reads bytes r
+parsed_plain : {E : Type 0} (bytes : List ℕ) (r : Result ℤ E) → get_or bytes 0 0 ≢ 43 → get_or bytes 0 0 ≢ 45
+    → ParsesSigned w64 10 bytes r → Reads bytes r
 parsed_plain {E} bytes (Ok x) plus minus h =
-    let is = parse_signed_plain own {E = E} w64 bytes (Ok x) h plus minus in
-    (ap fits_i64 is.1 ∙ fits_pos (spelled bytes) is.0.2, inl (record { digits = digits_from bytes is.0.0 is.0.1; value = is.1 }))
+    let is = parse_signed_plain own {E = E} w64 bytes (Ok x) h plus minus in (
+      ap fits_i64 is.1 ∙ fits_pos (spelled bytes) is.0.2,
+      inl (record { digits = digits_from bytes is.0.0 is.0.1; value = is.1 }),
+    )
 parsed_plain {E} bytes (Err e) plus minus h = λ n fits d.
     let is = with_no_minus bytes n minus d in
     parse_signed_plain own {E = E} w64 bytes (Err e) h plus minus
     (digits_all bytes is.digits.each, is.digits.some, pos_fits (spelled bytes) (ap fits_i64 (sym is.value) ∙ fits))
 
-parsed : {E : Type 0} (bytes : List ℕ) (r : Result ℤ E) → get_or bytes 0 0 ≢ 43 → ParsesSigned w64 10 bytes r → Reads bytes r
+parsed : {E : Type 0} (bytes : List ℕ) (r : Result ℤ E) → get_or bytes 0 0 ≢ 43 → ParsesSigned w64 10 bytes r
+    → Reads bytes r
 parsed [] r plus h = parsed_plain [] r plus (omega arith) h
 parsed (c ∷ cs) r plus h = by_sign (c == 45) refl
   where
@@ -164,7 +177,8 @@ reads_is bytes (Ok n) h = sym (is-decimal_in bytes n h.0 h.1)
 reads_is bytes (Err e) h =
     sym (none_unless (decimal_in bytes) (λ n found. let is = decimal_in-is bytes n found in h n is.0 is.1))
 
-pub decimal_in-parses : {E : Type 0} (bytes : List ℕ) (r : Result ℤ E) → get_or bytes 0 0 ≢ 43 → ParsesSigned w64 10 bytes r → result_ok r ≡ decimal_in bytes
+pub decimal_in-parses : {E : Type 0} (bytes : List ℕ) (r : Result ℤ E) → get_or bytes 0 0 ≢ 43
+    → ParsesSigned w64 10 bytes r → result_ok r ≡ decimal_in bytes
 decimal_in-parses bytes r plus h = reads_is bytes r (parsed bytes r plus h)
 
 -- ---- bytes that are no text
@@ -172,16 +186,19 @@ decimal_in-parses bytes r plus h = reads_is bytes r (parsed bytes r plus h)
 digits_ascii : (ds : List ℕ) → all_ascii_digits ds ≡ true → IsAscii ds
 digits_ascii [] h = IsAscii-nil
 digits_ascii (d ∷ ds) h =
-    let parts = tells_all_ascii_digits.parts d ds h in IsAscii-cons d ds (omega (arith, parts.0)) (digits_ascii ds parts.1)
+    let parts = tells_all_ascii_digits.parts d ds h in
+    IsAscii-cons d ds (omega (arith, parts.0)) (digits_ascii ds parts.1)
 
 decimal_ascii : (bytes : List ℕ) (n : ℤ) → IsDecimal bytes n → IsAscii bytes
 decimal_ascii bytes n (inl d) = digits_ascii bytes (digits_all bytes d.digits.each)
 decimal_ascii bytes n (inr d) =
-    subst IsAscii (sym d.minus) (IsAscii-cons 45 d.behind (omega arith) (digits_ascii d.behind (digits_all d.behind d.digits.each)))
+    subst IsAscii (sym d.minus)
+    (IsAscii-cons 45 d.behind (omega arith) (digits_ascii d.behind (digits_all d.behind d.digits.each)))
 
 pub decimal_in-no_text : (bytes : List ℕ) → ¬ (IsUtf8 bytes) → decimal_in bytes ≡ None
 decimal_in-no_text bytes h =
-    none_unless (decimal_in bytes) (λ n found. h (IsUtf8-from_ascii bytes (decimal_ascii bytes n (decimal_in-is bytes n found).1)))
+    none_unless (decimal_in bytes)
+    (λ n found. h (IsUtf8-from_ascii bytes (decimal_ascii bytes n (decimal_in-is bytes n found).1)))
 
 -- ---- what the answer says of the grammar
 
@@ -189,7 +206,8 @@ pub is_spelled : (bytes : List ℕ) (o : Option ℤ) → o ≡ decimal_in bytes 
 is_spelled bytes None is = tt
 is_spelled bytes (Some n) is = (decimal_in-is bytes n (sym is)).1
 
-pub is_none : (bytes : List ℕ) (o : Option ℤ) → o ≡ decimal_in bytes → IfNone o ((n : ℤ) → IsTrue (fits_i64 n) → IsDecimal bytes n → ⊥)
+pub is_none : (bytes : List ℕ) (o : Option ℤ) → o ≡ decimal_in bytes
+    → IfNone o ((n : ℤ) → IsTrue (fits_i64 n) → IsDecimal bytes n → ⊥)
 is_none bytes None is = λ n fits d. grind (arith, rules, is, is-decimal_in bytes n fits d)
 is_none bytes (Some n) is = tt
 

@@ -48,9 +48,11 @@ quotient_fits (negsuc a) (negsuc zero) fits other =
     let not_least : a ≢ 2 ^ 63 - 1 = λ is. other (ap negsuc is) refl in
     fits_pos (suc a / 1) (omega (arith, negsuc_fits a fits, div-le_self (suc a) 1, not_least))
 quotient_fits (negsuc a) (negsuc (suc b)) fits other =
-    fits_pos (suc a / suc (suc b)) (omega (arith, negsuc_fits a fits, div-lt_self {n = suc a} {k = suc (suc b)} (omega arith) (omega arith)))
+    fits_pos (suc a / suc (suc b))
+    (omega (arith, negsuc_fits a fits, div-lt_self {n = suc a} {k = suc (suc b)} (omega arith) (omega arith)))
 
-results : (a b : ℤ) → fits_i64 a ≡ true → b ≢ pos 0 → (a ≡ least_i64 → b ≢ negsuc 0) → (quotient_of a b ≡ Ok (int_div a b)) × (remainder_of a b ≡ Ok (int_rem a b))
+results : (a b : ℤ) → fits_i64 a ≡ true → b ≢ pos 0 → (a ≡ least_i64 → b ≢ negsuc 0)
+    → (quotient_of a b ≡ Ok (int_div a b)) × (remainder_of a b ≡ Ok (int_rem a b))
 results a (pos zero) fits some other = absurd (some refl)
 results a (pos (suc b)) fits some other = let q = quotient_fits a (pos (suc b)) fits other in (rw q, rw q)
 results a (negsuc b) fits some other = let q = quotient_fits a (negsuc b) fits other in (rw q, rw q)

@@ -9,6 +9,7 @@ pub path_text-cons : (k : ℕ) (r : List ℕ) → path_text (k ∷ r) ≡ decima
 path_text-cons k [] = grind (arith, rules)
 path_text-cons k (m ∷ r) = ap (λ t. decimal k ++ (46 ∷ t)) (path_text-cons m r)
 
-pub path_text-split : (r : List ℕ) → 1 ≤ length r → path_text r ≡ decimal (get_or r 0 0) ++ flat_map behind_dot (drop 1 r)
+pub path_text-split : (r : List ℕ) → 1 ≤ length r
+    → path_text r ≡ decimal (get_or r 0 0) ++ flat_map behind_dot (drop 1 r)
 path_text-split [] some = absurd (omega arith)
 path_text-split (k ∷ r) some = path_text-cons k r

@@ -6,3 +6,4 @@ pub mod Lists
 pub mod Options
 pub mod Maps
 pub mod SameKinds
+pub mod Totals

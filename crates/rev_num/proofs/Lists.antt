@@ -6,10 +6,12 @@ use Rattle.std.proofs.lemmas.List.{drop_more}
 use Rattle.rev_num.proofs.Options.{none_some}
 
 -- a list from a place on, by what stands there
-pub all_more : {A : Type 0} (f : A → Bool) (xs : List A) (n : ℕ) (d : A) → n < length xs → f (get_or xs n d) ≡ true → list_all f (drop n xs) ≡ list_all f (drop (n + 1) xs)
+pub all_more : {A : Type 0} (f : A → Bool) (xs : List A) (n : ℕ) (d : A) → n < length xs → f (get_or xs n d) ≡ true
+    → list_all f (drop n xs) ≡ list_all f (drop (n + 1) xs)
 all_more f xs n d h e = ap (list_all f) (drop_more xs n d h) ∙ ap (λ y. y && list_all f (drop (n + 1) xs)) e
 
-pub all_none : {A : Type 0} (f : A → Bool) (xs : List A) (n : ℕ) (d : A) → n < length xs → f (get_or xs n d) ≡ false → list_all f (drop n xs) ≡ false
+pub all_none : {A : Type 0} (f : A → Bool) (xs : List A) (n : ℕ) (d : A) → n < length xs → f (get_or xs n d) ≡ false
+    → list_all f (drop n xs) ≡ false
 all_none f xs n d h e = ap (list_all f) (drop_more xs n d h) ∙ ap (λ y. y && list_all f (drop (n + 1) xs)) e
 
 -- what is appended changes nothing at a place
@@ -18,7 +20,8 @@ get_append [] ys n h = absurd (omega (arith, h))
 get_append (x ∷ xs) ys zero h = refl
 get_append (x ∷ xs) ys (suc n) h = get_append xs ys n (omega (arith, h))
 
-pub get_append_left : {A : Type 0} (xs ys : List A) (n : ℕ) (x : A) → slice_get xs n ≡ Some x → slice_get (xs ++ ys) n ≡ Some x
+pub get_append_left : {A : Type 0} (xs ys : List A) (n : ℕ) (x : A) → slice_get xs n ≡ Some x
+    → slice_get (xs ++ ys) n ≡ Some x
 get_append_left [] ys n x h = absurd (none_some h)
 get_append_left (y ∷ xs) ys zero x h = h
 get_append_left (y ∷ xs) ys (suc n) x h = get_append_left xs ys n x h
@@ -35,7 +38,8 @@ get_set [] n x h = absurd (omega (arith, h))
 get_set (z ∷ xs) zero x h = refl
 get_set (z ∷ xs) (suc n) x h = get_set xs n x (omega (arith, h))
 
-pub get_set_other : {A : Type 0} (xs : List A) (m n : ℕ) (x : A) → m ≢ n → slice_get (slice_set xs n x) m ≡ slice_get xs m
+pub get_set_other : {A : Type 0} (xs : List A) (m n : ℕ) (x : A) → m ≢ n
+    → slice_get (slice_set xs n x) m ≡ slice_get xs m
 get_set_other [] m n x d = refl
 get_set_other (z ∷ xs) zero zero x d = absurd (d refl)
 get_set_other (z ∷ xs) zero (suc n) x d = refl

@@ -21,7 +21,8 @@ apart_keys : (w p k : List ℕ) → same w p ≡ false → is_eq (slice_cmp nat_
 apart_keys w p k h e =
     let wk : w ≡ k = same-eq w k (sym (is_eq-slice_cmp w k) ∙ e) in
     is_eq-slice_cmp p k
-    ∙ false_from_ne_true (same p k) (λ f. true≢false (sym (subst (λ v. same w v ≡ true) (wk ∙ sym (same-eq p k f)) (same_refl w)) ∙ h))
+    ∙ false_from_ne_true (same p k)
+    (λ f. true≢false (sym (subst (λ v. same w v ≡ true) (wk ∙ sym (same-eq p k f)) (same_refl w)) ∙ h))
 
 -- what another query finds
 others : {K X : Type 0} (eq : K → K → Bool) (test : K → Bool) (old new : List (K × X)) → KeepsOthers eq test old new
@@ -31,7 +32,8 @@ others eq test old new h = h
 
 pub other_found : {X : Type 0} (m n : BTreeMap Key X) (key : Key) (o : Option X) (p : List ℕ)
     → same key.items p ≡ false
-    → UpdatesBy (λ (a b : Key). slice_cmp nat_cmp a.items b.items) (λ (k : Key). slice_cmp nat_cmp key.items k.items) m n o
+    → UpdatesBy (λ (a b : Key). slice_cmp nat_cmp a.items b.items) (λ (k : Key). slice_cmp nat_cmp key.items k.items) m
+    n o
     → get_by (λ (k : Key). slice_cmp nat_cmp p k.items) n ≡ get_by (λ (k : Key). slice_cmp nat_cmp p k.items) m
 other_found m n key o p e h =
     others _ _ m.entries n.entries h.3 (λ k. is_eq (slice_cmp nat_cmp p k.items))

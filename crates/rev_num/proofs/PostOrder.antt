@@ -35,7 +35,8 @@ pub by_less : (x y : ℕ) (q r : Path) → x < y → before (x ∷ q) (y ∷ r) 
 by_less x y q r h = ap (λ b. b || (nat_eq x y && before q r)) (lt-ltb x y h)
 
 pub by_rest : (x y : ℕ) (q r : Path) → x ≡ y → before q r ≡ true → before (x ∷ q) (y ∷ r) ≡ true
-by_rest x y q r e h = or_right (nat_lt x y) (nat_eq x y && before q r) (and_from (nat_eq x y) (before q r) (eq-eqb x y e) h)
+by_rest x y q r e h =
+    or_right (nat_lt x y) (nat_eq x y && before q r) (and_from (nat_eq x y) (before q r) (eq-eqb x y e) h)
 
 -- ---- a strict total order
 
@@ -45,7 +46,8 @@ before_trans (x ∷ p) [] r e f = absurd cc
 before_trans (x ∷ p) (y ∷ q) [] e f = refl
 before_trans (x ∷ p) (y ∷ q) (z ∷ r) e f = go (before_trans p q r) (heads x y p q e) (heads y z q r f)
   where
-    go : (before p q ≡ true → before q r ≡ true → before p r ≡ true) → (x < y) ⊎ ((x ≡ y) × (before p q ≡ true)) → (y < z) ⊎ ((y ≡ z) × (before q r ≡ true)) → before (x ∷ p) (z ∷ r) ≡ true
+    go : (before p q ≡ true → before q r ≡ true → before p r ≡ true) → (x < y) ⊎ ((x ≡ y) × (before p q ≡ true))
+        → (y < z) ⊎ ((y ≡ z) × (before q r ≡ true)) → before (x ∷ p) (z ∷ r) ≡ true
     go later (inl a) (inl b) = by_less x z p r (omega arith)
     go later (inl a) (inr b) = by_less x z p r (omega (arith, b.0))
     go later (inr a) (inl b) = by_less x z p r (omega (arith, a.0))
@@ -65,10 +67,12 @@ before_total [] (y ∷ q) apart = inr refl
 before_total (x ∷ p) [] apart = inl refl
 before_total (x ∷ p) (y ∷ q) apart = go (before_total p q) (cases_order x y)
   where
-    go : (p ≢ q → (before p q ≡ true) ⊎ (before q p ≡ true)) → (x ≡ y) ⊎ ((x < y) ⊎ (y < x)) → (before (x ∷ p) (y ∷ q) ≡ true) ⊎ (before (y ∷ q) (x ∷ p) ≡ true)
+    go : (p ≢ q → (before p q ≡ true) ⊎ (before q p ≡ true)) → (x ≡ y) ⊎ ((x < y) ⊎ (y < x))
+        → (before (x ∷ p) (y ∷ q) ≡ true) ⊎ (before (y ∷ q) (x ∷ p) ≡ true)
     go later (inl head) = either (later (λ tail. apart (λ i. head i ∷ tail i)))
       where
-        either : (before p q ≡ true) ⊎ (before q p ≡ true) → (before (x ∷ p) (y ∷ q) ≡ true) ⊎ (before (y ∷ q) (x ∷ p) ≡ true)
+        either : (before p q ≡ true) ⊎ (before q p ≡ true)
+            → (before (x ∷ p) (y ∷ q) ≡ true) ⊎ (before (y ∷ q) (x ∷ p) ≡ true)
         either (inl first) = inl (by_rest x y p q head first)
         either (inr first) = inr (by_rest y x q p (sym head) first)
     go later (inr (inl less)) = inl (by_less x y p q less)
@@ -106,7 +110,8 @@ before-comes (x ∷ q) (y ∷ r) e = go (before-comes q r) (heads x y q r e)
     go later (inr h) = longer h.0 (later h.1)
       where
         longer : x ≡ y → ComesBefore q r → ComesBefore (x ∷ q) (y ∷ r)
-        longer head (inl d) = let tail = d.is in inl (record { first = d.first; rest = d.rest; is = λ i. head i ∷ tail i })
+        longer head (inl d) =
+            let tail = d.is in inl (record { first = d.first; rest = d.rest; is = λ i. head i ∷ tail i })
         longer head (inr d) = let tail = d.q_is in inr (record {
           front = y ∷ d.front;
           lesser = d.lesser;
@@ -144,6 +149,7 @@ before-used_up (x ∷ q) [] ends = grind (arith, rules)
 before-used_up (x ∷ q) (y ∷ r) ends = grind (arith, rules)
 
 -- the same behind a common front
-pub before-drop_all : (q r : List ℕ) (i : ℕ) → i ≤ length q → i ≤ length r → (length q ≤ i) ⊎ (length r ≤ i) → before (drop i q) (drop i r) ≡ nat_lt (length r) (length q)
+pub before-drop_all : (q r : List ℕ) (i : ℕ) → i ≤ length q → i ≤ length r → (length q ≤ i) ⊎ (length r ≤ i)
+    → before (drop i q) (drop i r) ≡ nat_lt (length r) (length q)
 before-drop_all q r i in_q in_r ends =
     grind (arith, rules, before-used_up (drop i q) (drop i r), length-drop i q, length-drop i r)

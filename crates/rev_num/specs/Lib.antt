@@ -7,3 +7,5 @@ pub mod PostOrder
 pub mod Text
 pub mod Value
 pub mod Words
+pub mod Sums
+pub mod SumLaws

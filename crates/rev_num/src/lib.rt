@@ -1,5 +1,5 @@
 //! Values of a program, checked numbers of 64 bits, the paths that name revisions, traps and
-//! outcomes.
+//! outcomes, and sums over lists.
 #![tactic(auto)]
 
 mod items;
@@ -9,6 +9,7 @@ mod limits;
 mod number;
 mod outcome;
 mod path;
+mod sums;
 mod text;
 mod value;
 
@@ -19,5 +20,6 @@ pub use limits::MOST_FRAMES;
 pub use number::{add, div, int_of_word, mul, neg, rem, sub, word_of_int};
 pub use outcome::{Cause, Outcome, Shown, Trap};
 pub use path::Path;
+pub use sums::sum_laws;
 pub use text::{append_decimal, append_path, fault_name, read_decimal};
 pub use value::{NumFault, Value, ValueKind};

@@ -11,7 +11,11 @@ use Rattle.rev_parse.proofs.Complete.{complete}
 
 module _ (bytes : List ℕ) where
   rules_decided : (i : Inner) → is_decided alphabet going_on classes (inner bytes i) ≡ true
-  unfolding rank_sign bracketed choice name name_tail primary unary product sum comparison conjunction expr parens index arguments parts block actual application right_side item assigned assignment arm else_part else_parts let_form if_form while_form call_form return_form fork_form join_form print_form assert_form statement statements body kind constant cells size first_value param params names formal head meaning fun_form merge_form variable versioned_form cumulative_form proc_form declaration declarations program inner
+  unfolding rank_sign bracketed choice name name_tail primary unary product sum comparison conjunction expr parens index
+      arguments parts block actual application right_side item assigned assignment arm else_part else_parts let_form
+      if_form while_form call_form return_form fork_form join_form print_form assert_form statement statements body kind
+      constant cells size first_value param params names formal head meaning fun_form merge_form variable versioned_form
+      cumulative_form proc_form declaration declarations program inner
   rules_decided Operand = refl
   rules_decided Parens = refl
   rules_decided Index = refl
@@ -23,7 +27,11 @@ module _ (bytes : List ℕ) where
   rules_decided Cells = refl
 
   rules_plain : (i : Inner) → is_plain alphabet going_on (inner bytes i) ≡ true
-  unfolding rank_sign bracketed choice name name_tail primary unary product sum comparison conjunction expr parens index arguments parts block actual application right_side item assigned assignment arm else_part else_parts let_form if_form while_form call_form return_form fork_form join_form print_form assert_form statement statements body kind constant cells size first_value param params names formal head meaning fun_form merge_form variable versioned_form cumulative_form proc_form declaration declarations program inner
+  unfolding rank_sign bracketed choice name name_tail primary unary product sum comparison conjunction expr parens index
+      arguments parts block actual application right_side item assigned assignment arm else_part else_parts let_form
+      if_form while_form call_form return_form fork_form join_form print_form assert_form statement statements body kind
+      constant cells size first_value param params names formal head meaning fun_form merge_form variable versioned_form
+      cumulative_form proc_form declaration declarations program inner
   rules_plain Operand = refl
   rules_plain Parens = refl
   rules_plain Index = refl
@@ -35,8 +43,13 @@ module _ (bytes : List ℕ) where
   rules_plain Cells = refl
 
   -- an inner rule goes on with no other kinds
-  extends_only : (i : Inner) → list_all (λ k. not (extends alphabet going_on (inner bytes i) k) || going_on i k) classes ≡ true
-  unfolding rank_sign bracketed choice name name_tail primary unary product sum comparison conjunction expr parens index arguments parts block actual application right_side item assigned assignment arm else_part else_parts let_form if_form while_form call_form return_form fork_form join_form print_form assert_form statement statements body kind constant cells size first_value param params names formal head meaning fun_form merge_form variable versioned_form cumulative_form proc_form declaration declarations program inner
+  extends_only : (i : Inner)
+      → list_all (λ k. not (extends alphabet going_on (inner bytes i) k) || going_on i k) classes ≡ true
+  unfolding rank_sign bracketed choice name name_tail primary unary product sum comparison conjunction expr parens index
+      arguments parts block actual application right_side item assigned assignment arm else_part else_parts let_form
+      if_form while_form call_form return_form fork_form join_form print_form assert_form statement statements body kind
+      constant cells size first_value param params names formal head meaning fun_form merge_form variable versioned_form
+      cumulative_form proc_form declaration declarations program inner
   extends_only Operand = refl
   extends_only Parens = refl
   extends_only Index = refl
@@ -52,14 +65,20 @@ module _ (bytes : List ℕ) where
   implied false b e h = absurd cc
 
   pub program_decided : is_decided alphabet going_on classes (program bytes) ≡ true
-  unfolding rank_sign bracketed choice name name_tail primary unary product sum comparison conjunction expr parens index arguments parts block actual application right_side item assigned assignment arm else_part else_parts let_form if_form while_form call_form return_form fork_form join_form print_form assert_form statement statements body kind constant cells size first_value param params names formal head meaning fun_form merge_form variable versioned_form cumulative_form proc_form declaration declarations program inner
+  unfolding rank_sign bracketed choice name name_tail primary unary product sum comparison conjunction expr parens index
+      arguments parts block actual application right_side item assigned assignment arm else_part else_parts let_form
+      if_form while_form call_form return_form fork_form join_form print_form assert_form statement statements body kind
+      constant cells size first_value param params names formal head meaning fun_form merge_form variable versioned_form
+      cumulative_form proc_form declaration declarations program inner
   program_decided = refl
 
   pub choices : Choices bytes
   choices = record {
     complete = complete;
     decided = rules_decided;
-    extended = λ i k h. implied (extends alphabet going_on (inner bytes i) k) (going_on i k) (complete (λ k. not (extends alphabet going_on (inner bytes i) k) || going_on i k) (extends_only i) k) h;
+    extended = λ i k h.
+        implied (extends alphabet going_on (inner bytes i) k) (going_on i k)
+        (complete (λ k. not (extends alphabet going_on (inner bytes i) k) || going_on i k) (extends_only i) k) h;
     plain = rules_plain;
     whole = program_decided;
   }

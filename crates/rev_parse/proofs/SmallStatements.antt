@@ -83,7 +83,8 @@ record AreSmallElses (n w : ℕ) (xs : List Else) : Type 0 where
 
 -- what follows a name that begins a statement, at each name
 record IsSmallAssignment (n w : ℕ) (f : PlacedName → StatementForm) : Type 0 where
-  at_name : (u : ℕ) (x : PlacedName) → IsSmallName n u x → (1 + statement_form_count (f x) ≤ 3 * (u + w)) × (statement_form_small (f x) ≡ true)
+  at_name : (u : ℕ) (x : PlacedName) → IsSmallName n u x
+      → (1 + statement_form_count (f x) ≤ 3 * (u + w)) × (statement_form_small (f x) ≡ true)
 
 -- ---- what the parts make
 
@@ -91,7 +92,8 @@ pub shallow : (n w : ℕ) (x : Expression) → n ≤ most_levels → IsSmallExpr
 shallow n w x levels h = record { few = h.few; small = expression_is_small n w x levels h }
 
 shallow_inside : (n w : ℕ) (x : Expression) → n ≤ most_levels → Within (IsSmallExpression 5) n w x → IsShallow n w x
-shallow_inside n w x levels h = record { few = h.inside.few; small = expression_is_small h.below w x (omega arith) h.inside }
+shallow_inside n w x levels h =
+    record { few = h.inside.few; small = expression_is_small h.below w x (omega arith) h.inside }
 
 items_grow : Grows IsSmallItem AreSmallItems
 items_grow n u v x xs levels one more = record { few = omega arith; small = and_from _ _ one.small more.small }
@@ -100,16 +102,20 @@ statements_grow : Grows IsSmallStatement AreSmallStatements
 statements_grow n u v x xs levels one more = record { few = omega arith; small = and_from _ _ one.small more.small }
 
 elses_grow : GrowsTo is_last IsSmallElse AreSmallElses
-elses_grow n u v (Test x) xs levels one more ends = record { few = omega arith; tests = and_from _ _ (and_from _ _ one.test one.body) more.tests; last = more.last }
+elses_grow n u v (Test x) xs levels one more ends =
+    record { few = omega arith; tests = and_from _ _ (and_from _ _ one.test one.body) more.tests; last = more.last }
 elses_grow n u v (Last b) xs levels one more ends = record { few = omega arith; tests = more.tests; last = one.small }
 
-choice_small : (n w : ℕ) (arms : Arms) (last : Option Statements) → arms_count arms + last_count last ≤ 3 * w → arms_small arms ≡ true → last_small last ≡ true → IsSmallStatementForm n w (choice arms last)
+choice_small : (n w : ℕ) (arms : Arms) (last : Option Statements) → arms_count arms + last_count last ≤ 3 * w
+    → arms_small arms ≡ true → last_small last ≡ true → IsSmallStatementForm n w (choice arms last)
 choice_small n w arms None few tests last = record { few = omega arith; small = tests }
 choice_small n w arms (Some b) few tests last = record { few = few; small = and_from _ _ tests last }
 
-conditional_small : (n u v : ℕ) (first : Expression × Statements) (xs : List Else) → IsSmallArm n u first → AreSmallElses n v xs → IsSmallStatementForm n (u + v) (conditional first xs)
+conditional_small : (n u v : ℕ) (first : Expression × Statements) (xs : List Else) → IsSmallArm n u first
+    → AreSmallElses n v xs → IsSmallStatementForm n (u + v) (conditional first xs)
 conditional_small n u v first xs one more =
-    choice_small n (u + v) (arms_of (first ∷ tests_of xs)) (last_of xs) (omega arith) (and_from _ _ (and_from _ _ one.test one.body) more.tests) more.last
+    choice_small n (u + v) (arms_of (first ∷ tests_of xs)) (last_of xs) (omega arith)
+    (and_from _ _ (and_from _ _ one.test one.body) more.tests) more.last
 
 -- ---- the rules
 
@@ -122,29 +128,42 @@ module _ (bytes : List ℕ) (I : (i : Inner) → Lang alphabet (Value i)) (insid
 
   pub holds_block : Holds bytes I IsSmallBlock block
   unfolding block
-  holds_block = holds_as bytes I (holds_within bytes I {Has = Has} inside (class.fixed s.OpenBrace) Body) (λ n w x levels h. record { few = h.inside.few; small = h.inside.small })
+  holds_block =
+      holds_as bytes I (holds_within bytes I {Has = Has} inside (class.fixed s.OpenBrace) Body)
+      (λ n w x levels h. record { few = h.inside.few; small = h.inside.small })
 
   holds_actual : Holds bytes I AreShallow (actual bytes)
   unfolding actual
-  holds_actual = holds_as bytes I (holds_within bytes I {Has = Has} inside (class.fixed s.OpenParen) Arguments) (λ n w x levels h. record { few = h.inside.few; small = h.inside.small })
+  holds_actual =
+      holds_as bytes I (holds_within bytes I {Has = Has} inside (class.fixed s.OpenParen) Arguments)
+      (λ n w x levels h. record { few = h.inside.few; small = h.inside.small })
 
   holds_application : Holds bytes I IsSmallApplication (application bytes)
   unfolding application
-  holds_application = holds_both bytes I (holds_name bytes I) holds_actual (λ n u v x args levels word more. record { few = omega arith; formed = word.formed; small = more.small })
+  holds_application = holds_both bytes I (holds_name bytes I) holds_actual
+      (λ n u v x args levels word more. record { few = omega arith; formed = word.formed; small = more.small })
 
   holds_right_side : Holds bytes I IsSmallRightSide (right_side bytes)
   unfolding right_side
   holds_right_side =
-      holds_either bytes I (holds_both bytes I (holds_place bytes I) holds_application (λ n u v at x levels some h. record { few = omega arith; small = and_from _ _ h.formed h.small }))
-      (holds_either bytes I (holds_both bytes I (holds_place bytes I) holds_application (λ n u v at x levels some h. record { few = omega arith; small = and_from _ _ h.formed h.small }))
-      (holds_either bytes I (holds_both bytes I (holds_place bytes I) holds_shallow (λ n u v at x levels some h. record { few = omega arith; small = h.small }))
-      (holds_both bytes I holds_shallow (holds_any bytes I) (λ n u v x y levels h none. record { few = omega arith; small = h.small }))))
+      holds_either bytes I (holds_both bytes I (holds_place bytes I) holds_application
+      (λ n u v at x levels some h. record { few = omega arith; small = and_from _ _ h.formed h.small }))
+      (holds_either bytes I (holds_both bytes I (holds_place bytes I) holds_application
+      (λ n u v at x levels some h. record { few = omega arith; small = and_from _ _ h.formed h.small }))
+      (holds_either bytes I (holds_both bytes I (holds_place bytes I) holds_shallow
+      (λ n u v at x levels some h. record { few = omega arith; small = h.small }))
+      (holds_both bytes I holds_shallow (holds_any bytes I)
+      (λ n u v x y levels h none. record { few = omega arith; small = h.small }))))
 
   holds_item : Holds bytes I IsSmallItem (item bytes)
   unfolding item
   holds_item =
-      holds_either bytes I (holds_token bytes I (λ n w x h e weight. let some : x.start < x.end = h.some in record { few = omega (arith, text_length bytes x); small = proper_text bytes x h e }))
-      (holds_both bytes I holds_shallow (holds_any bytes I) (λ n u v x y levels h none. record { few = omega arith; small = h.small }))
+      holds_either bytes I (holds_token bytes I
+      (λ n w x h e weight.
+      let some : x.start < x.end = h.some in
+      record { few = omega (arith, text_length bytes x); small = proper_text bytes x h e }))
+      (holds_both bytes I holds_shallow (holds_any bytes I)
+      (λ n u v x y levels h none. record { few = omega arith; small = h.small }))
 
   holds_assigned : Holds bytes I IsSmallRightSide (assigned bytes)
   unfolding assigned
@@ -153,67 +172,92 @@ module _ (bytes : List ℕ) (I : (i : Inner) → Lang alphabet (Value i)) (insid
   holds_assignment : Holds bytes I IsSmallAssignment (assignment bytes)
   unfolding assignment
   holds_assignment =
-      holds_either bytes I (holds_both bytes I holds_assigned (holds_any bytes I) (λ n u v x y levels h none. record { at_name = λ m w word. (let few = word.few in omega arith, and_from _ _ word.formed h.small) }))
-      (holds_both bytes I holds_shallow_index (holds_behind bytes I (holds_before bytes I holds_shallow)) (λ n u v i e levels index h. record { at_name = λ m w word. (let few = word.few in omega arith, and_from _ _ (and_from _ _ word.formed index.small) h.small) }))
+      holds_either bytes I (holds_both bytes I holds_assigned (holds_any bytes I) (λ n u v x y levels h none.
+      record { at_name = λ m w word. (let few = word.few in omega arith, and_from _ _ word.formed h.small) }))
+      (holds_both bytes I holds_shallow_index (holds_behind bytes I (holds_before bytes I holds_shallow))
+      (λ n u v i e levels index h. record {
+        at_name = λ m w word.
+            (let few = word.few in omega arith, and_from _ _ (and_from _ _ word.formed index.small) h.small);
+      }))
 
   holds_arm : Holds bytes I IsSmallArm (arm bytes)
   unfolding arm
-  holds_arm = holds_both bytes I holds_shallow holds_block (λ n u v x b levels test body. record { few = omega arith; test = test.small; body = body.small })
+  holds_arm = holds_both bytes I holds_shallow holds_block
+      (λ n u v x b levels test body. record { few = omega arith; test = test.small; body = body.small })
 
   holds_else : Holds bytes I IsSmallElse (else_part bytes)
   unfolding else_part
   holds_else =
-      holds_behind bytes I (holds_either bytes I (holds_both bytes I (holds_any bytes I) holds_arm (λ n u v x a levels none h. record { few = omega arith; test = h.test; body = h.body }))
-      (holds_both bytes I holds_block (holds_any bytes I) (λ n u v b x levels h none. record { few = omega arith; small = h.small })))
+      holds_behind bytes I (holds_either bytes I
+      (holds_both bytes I (holds_any bytes I) holds_arm
+      (λ n u v x a levels none h. record { few = omega arith; test = h.test; body = h.body }))
+      (holds_both bytes I holds_block (holds_any bytes I)
+      (λ n u v b x levels h none. record { few = omega arith; small = h.small })))
 
   holds_elses : Holds bytes I AreSmallElses (else_parts bytes)
   unfolding else_parts
-  holds_elses = holds_many bytes I holds_else (λ n w. record { few = omega arith; tests = refl; last = refl }) elses_grow (λ n w xs h. h)
+  holds_elses =
+      holds_many bytes I holds_else (λ n w. record { few = omega arith; tests = refl; last = refl }) elses_grow
+      (λ n w xs h. h)
 
   -- ---- statements
 
-  holds_stmt : {s : Fixed} {F : Rule StatementForm} → Holds bytes I IsSmallStatementForm F → Holds bytes I IsSmallStatement (stmt bytes s F)
-  holds_stmt h = holds_both bytes I (holds_place bytes I) h (λ n u v at x levels some one. record { few = omega arith; small = one.small })
+  holds_stmt : {s : Fixed} {F : Rule StatementForm} → Holds bytes I IsSmallStatementForm F
+      → Holds bytes I IsSmallStatement (stmt bytes s F)
+  holds_stmt h = holds_both bytes I (holds_place bytes I) h
+      (λ n u v at x levels some one. record { few = omega arith; small = one.small })
 
   holds_let : Holds bytes I IsSmallStatementForm (let_form bytes)
   unfolding let_form
-  holds_let = holds_both bytes I (holds_name bytes I) holds_assigned (λ n u v x r levels word h. record { few = omega arith; small = and_from _ _ word.formed h.small })
+  holds_let = holds_both bytes I (holds_name bytes I) holds_assigned
+      (λ n u v x r levels word h. record { few = omega arith; small = and_from _ _ word.formed h.small })
 
   holds_if : Holds bytes I IsSmallStatementForm (if_form bytes)
   unfolding if_form
-  holds_if = holds_both bytes I holds_arm holds_elses (λ n u v x xs levels one more. conditional_small n u v x xs one more)
+  holds_if = holds_both bytes I holds_arm holds_elses
+      (λ n u v x xs levels one more. conditional_small n u v x xs one more)
 
   holds_while : Holds bytes I IsSmallStatementForm (while_form bytes)
   unfolding while_form
-  holds_while = holds_both bytes I holds_shallow holds_block (λ n u v x b levels test body. record { few = omega arith; small = and_from _ _ test.small body.small })
+  holds_while = holds_both bytes I holds_shallow holds_block
+      (λ n u v x b levels test body. record { few = omega arith; small = and_from _ _ test.small body.small })
 
   holds_call : Holds bytes I IsSmallStatementForm (call_form bytes)
   unfolding call_form
-  holds_call = holds_both bytes I holds_application (holds_any bytes I) (λ n u v x y levels h none. record { few = omega arith; small = and_from _ _ h.formed h.small })
+  holds_call = holds_both bytes I holds_application (holds_any bytes I)
+      (λ n u v x y levels h none. record { few = omega arith; small = and_from _ _ h.formed h.small })
 
   holds_return : Holds bytes I IsSmallStatementForm (return_form bytes)
   unfolding return_form
   holds_return =
-      holds_both bytes I (holds_either bytes I (holds_both bytes I {R = λ n w e. IsSmallStatementForm n w (t.return e)} holds_shallow (holds_any bytes I) (λ n u v x y levels h none. record { few = omega arith; small = h.small }))
+      holds_both bytes I (holds_either bytes I
+      (holds_both bytes I {R = λ n w e. IsSmallStatementForm n w (t.return e)} holds_shallow (holds_any bytes I)
+      (λ n u v x y levels h none. record { few = omega arith; small = h.small }))
       (holds_nothing bytes I (λ n w. record { few = omega arith; small = refl })))
-      (holds_any bytes I) (λ n u v e y levels h none. record { few = let few : statement_form_count (t.return e) ≤ 3 * u = h.few in omega arith; small = h.small })
+      (holds_any bytes I) (λ n u v e y levels h none.
+      record { few = let few : statement_form_count (t.return e) ≤ 3 * u = h.few in omega arith; small = h.small })
 
   holds_fork : Holds bytes I IsSmallStatementForm (fork_form bytes)
   unfolding fork_form
-  holds_fork = holds_both bytes I holds_application (holds_any bytes I) (λ n u v x y levels h none. record { few = omega arith; small = and_from _ _ h.formed h.small })
+  holds_fork = holds_both bytes I holds_application (holds_any bytes I)
+      (λ n u v x y levels h none. record { few = omega arith; small = and_from _ _ h.formed h.small })
 
   holds_join : Holds bytes I IsSmallStatementForm (join_form bytes)
   unfolding join_form
-  holds_join = holds_both bytes I holds_shallow (holds_any bytes I) (λ n u v x y levels h none. record { few = omega arith; small = h.small })
+  holds_join = holds_both bytes I holds_shallow (holds_any bytes I)
+      (λ n u v x y levels h none. record { few = omega arith; small = h.small })
 
   holds_print : Holds bytes I IsSmallStatementForm (print_form bytes)
   unfolding print_form
   holds_print =
-      holds_both bytes I (holds_listing bytes I holds_item (λ n w. record { few = omega arith; small = refl }) items_grow) (holds_any bytes I) (λ n u v xs y levels h none. record { few = omega arith; small = h.small })
+      holds_both bytes I
+      (holds_listing bytes I holds_item (λ n w. record { few = omega arith; small = refl }) items_grow)
+      (holds_any bytes I) (λ n u v xs y levels h none. record { few = omega arith; small = h.small })
 
   holds_assert : Holds bytes I IsSmallStatementForm (assert_form bytes)
   unfolding assert_form
-  holds_assert = holds_both bytes I holds_shallow (holds_any bytes I) (λ n u v x y levels h none. record { few = omega arith; small = h.small })
+  holds_assert = holds_both bytes I holds_shallow (holds_any bytes I)
+      (λ n u v x y levels h none. record { few = omega arith; small = h.small })
 
   -- a token that is a name
   abbrev IsNamed : Property Token
@@ -223,7 +267,10 @@ module _ (bytes : List ℕ) (I : (i : Inner) → Lang alphabet (Value i)) (insid
   unfolding statement
   holds_statement =
       holds_either bytes I (holds_stmt holds_let)
-      (holds_either bytes I (holds_both bytes I {P = IsNamed} (holds_token bytes I (λ n w x h e weight. name_small bytes n w x h (proper_name bytes x h e) weight)) holds_assignment (λ n u v x f levels word h. let r = h.at_name u (word_of bytes x) word in record { few = r.0; small = r.1 }))
+      (holds_either bytes I (holds_both bytes I {P = IsNamed}
+      (holds_token bytes I (λ n w x h e weight. name_small bytes n w x h (proper_name bytes x h e) weight))
+      holds_assignment
+      (λ n u v x f levels word h. let r = h.at_name u (word_of bytes x) word in record { few = r.0; small = r.1 }))
       (holds_either bytes I (holds_stmt holds_if)
       (holds_either bytes I (holds_stmt holds_while)
       (holds_either bytes I (holds_stmt holds_call)
@@ -235,8 +282,10 @@ module _ (bytes : List ℕ) (I : (i : Inner) → Lang alphabet (Value i)) (insid
 
   holds_statements : Holds bytes I AreSmallStatements (statements bytes)
   unfolding statements
-  holds_statements = holds_all bytes I holds_statement (λ n w. record { few = omega arith; small = refl }) statements_grow
+  holds_statements =
+      holds_all bytes I holds_statement (λ n w. record { few = omega arith; small = refl }) statements_grow
 
   pub holds_body : Holds bytes I IsSmallBlock (body bytes)
   unfolding body
-  holds_body = holds_both bytes I holds_statements (holds_any bytes I) (λ n u v xs x levels h none. record { few = omega arith; small = h.small })
+  holds_body = holds_both bytes I holds_statements (holds_any bytes I)
+      (λ n u v xs x levels h none. record { few = omega arith; small = h.small })

@@ -1,4 +1,5 @@
--- What is shown of the values that are parsed: they have few parts, in their forms, and lie no deeper than the levels allow.
+-- What is shown of the values that are parsed: they have few parts, in their forms, and lie no deeper than the levels
+-- allow.
 --
 -- Each property is of a value with n levels left for it, whose tokens have at most w bytes.
 use Rattle.std.proofs.Common.{◌≡◌, ℕ, suc, ◌+◌, ◌*◌, ◌≤◌, true, ◌&&◌, List, Some}

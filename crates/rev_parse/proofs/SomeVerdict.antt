@@ -24,7 +24,9 @@ module _ (bytes : List ℕ) (ts : List Token) where
   of_answer (Failed TooDeep rest) h = (too_deep (place_of bytes (drop h.0 ts)), (h.0, h.1, refl))
 
   here : (v : Verdict) × IsVerdict bytes ts v
-  here = of_answer (parse bytes most_levels (program bytes) ts) (whole.verdict alphabet (inner bytes) going_on classes (grammar_decided bytes) (program bytes) (program_decided bytes) most_levels ts)
+  here = of_answer (parse bytes most_levels (program bytes) ts)
+      (whole.verdict alphabet (inner bytes) going_on classes (grammar_decided bytes) (program bytes)
+      (program_decided bytes) most_levels ts)
 
 pub some_verdict : SomeVerdict
 some_verdict bytes ts = here bytes ts

@@ -89,7 +89,8 @@ sound_kind : (kd : TokenKind) (rest : List ℕ) → IsSound (piece.Token kd) res
 sound_kind (k.Int n) rest h = h.0
 sound_kind _ rest h = tt
 
-sound_piece : (kd : PieceKind) (rest : List ℕ) (at end : ℕ) (ts : List Token) → IsSound kd rest → AreWithinRange ts → AreWithinRange (token_of kd at end ++ ts)
+sound_piece : (kd : PieceKind) (rest : List ℕ) (at end : ℕ) (ts : List Token) → IsSound kd rest → AreWithinRange ts
+    → AreWithinRange (token_of kd at end ++ ts)
 sound_piece piece.WhiteSpace rest at end ts h a = a
 sound_piece piece.Comment rest at end ts h a = a
 sound_piece (piece.Token kd) rest at end ts h a = (sound_kind kd rest h, a)
@@ -97,29 +98,39 @@ sound_piece (piece.Token kd) rest at end ts h a = (sound_kind kd rest h, a)
 sound_pieces : (ps : List Piece) (s end : List ℕ) (at : ℕ) → Leads ps s end → AreWithinRange (tokens_of at ps)
 sound_pieces [] s end at l = tt
 sound_pieces (p ∷ ps) s end at l =
-    sound_piece p.kind l.0 at (at + length p.bytes) (tokens_of (at + length p.bytes) ps) l.1.sound (sound_pieces ps l.0 end (at + length p.bytes) l.2)
+    sound_piece p.kind l.0 at (at + length p.bytes) (tokens_of (at + length p.bytes) ps) l.1.sound
+    (sound_pieces ps l.0 end (at + length p.bytes) l.2)
 
-all_proper : (bytes : List ℕ) (from : ℕ) (ts : List Token) → Ascend from ts (length bytes) → All (IsToken bytes) ts → AreWithinRange ts → AreProper bytes ts
+all_proper : (bytes : List ℕ) (from : ℕ) (ts : List Token) → Ascend from ts (length bytes) → All (IsToken bytes) ts
+    → AreWithinRange ts → AreProper bytes ts
 all_proper bytes from [] a h r = tt
 all_proper bytes from (t ∷ ts) a h r = (
-  record { spelled = All-head (IsToken bytes) t ts h; some = a.1; inside = end_inside from t ts (length bytes) a; fits = r.0 },
+  record {
+    spelled = All-head (IsToken bytes) t ts h;
+    some = a.1;
+    inside = end_inside from t ts (length bytes) a;
+    fits = r.0;
+  },
   all_proper bytes t.end ts a.2 (All-tail (IsToken bytes) t ts h) r.1,
 )
 
 pub text_tokens : (bytes : List ℕ) (ts : List Token) → IsTokens bytes ts → AreProper bytes ts
 text_tokens bytes ts h =
-    all_proper bytes 0 ts (tokens-ascend bytes ts h) (tokens-kinds bytes ts h) (subst AreWithinRange (sym h.tokens) (sound_pieces h.pieces bytes [] 0 h.leads))
+    all_proper bytes 0 ts (tokens-ascend bytes ts h) (tokens-kinds bytes ts h)
+    (subst AreWithinRange (sym h.tokens) (sound_pieces h.pieces bytes [] 0 h.leads))
 
 pub text_spans : (bytes : List ℕ) (ts : List Token) → IsTokens bytes ts → spans ts ≤ length bytes
 text_spans bytes ts h = let a = ascend_spans 0 ts (length bytes) (tokens-ascend bytes ts h) in omega arith
 
 -- ---- what a token of a kind is
 
-name_kind : (kd : TokenKind) (w : List ℕ) → is_same class.name (class_of kd) ≡ true → Spells (piece.Token kd) w → IsTrue (is_name w)
+name_kind : (kd : TokenKind) (w : List ℕ) → is_same class.name (class_of kd) ≡ true → Spells (piece.Token kd) w
+    → IsTrue (is_name w)
 name_kind k.Name w e h = h
 name_kind _ w e h = absurd cc
 
-pub proper_name : (bytes : List ℕ) (t : Token) → IsProper bytes t → is_same class.name (class_of t.kind) ≡ true → is_name (word_of bytes t).text ≡ true
+pub proper_name : (bytes : List ℕ) (t : Token) → IsProper bytes t → is_same class.name (class_of t.kind) ≡ true
+    → is_name (word_of bytes t).text ≡ true
 proper_name bytes t h e = name_kind t.kind (slice_range bytes t.start t.end) e h.spelled
 
 pub word_length : (bytes : List ℕ) (t : Token) → length (word_of bytes t).text ≤ span t
@@ -130,14 +141,17 @@ small_number n w u fits =
     let below : nat_lt (spelled w) (2 ^ 63) ≡ true = subst (λ n. fits_i64 n ≡ true) u.value fits in
     (spelled w, u.value, omega (arith, ltb-true (spelled w) (2 ^ 63) below))
 
-number_kind : (kd : TokenKind) (w : List ℕ) → is_same class.number (class_of kd) ≡ true → Spells (piece.Token kd) w → IsWithinRange kd → IsNumber (int_of kd)
+number_kind : (kd : TokenKind) (w : List ℕ) → is_same class.number (class_of kd) ≡ true → Spells (piece.Token kd) w
+    → IsWithinRange kd → IsNumber (int_of kd)
 number_kind (k.Int n) w e h r = small_number n w h r
 number_kind _ w e h r = absurd cc
 
-pub proper_number : (bytes : List ℕ) (t : Token) → IsProper bytes t → is_same class.number (class_of t.kind) ≡ true → IsNumber (int_of t.kind)
+pub proper_number : (bytes : List ℕ) (t : Token) → IsProper bytes t → is_same class.number (class_of t.kind) ≡ true
+    → IsNumber (int_of t.kind)
 proper_number bytes t h e = number_kind t.kind (slice_range bytes t.start t.end) e h.spelled h.fits
 
-text_kind : (kd : TokenKind) (w : List ℕ) → is_same class.text (class_of kd) ≡ true → Spells (piece.Token kd) w → IsQuoted w
+text_kind : (kd : TokenKind) (w : List ℕ) → is_same class.text (class_of kd) ≡ true → Spells (piece.Token kd) w
+    → IsQuoted w
 text_kind k.Text w e h = h
 text_kind _ w e h = absurd cc
 
@@ -149,18 +163,24 @@ between l body n e h =
     let same : length (take n l) ≡ length (34 ∷ (body ++ 34 ∷ [])) = ap length e in
     let size : n ≡ 1 + (length body + 1) = omega arith in
     let less : n - 2 ≡ length body = omega arith in
-    let behind : take (length body + 1) (drop 1 l) ≡ body ++ 34 ∷ [] = sym (drop-take 1 (length body + 1) l) ∙ ap (λ m. drop 1 (take m l)) (sym size) ∙ ap (drop 1) e in
-    ap (λ m. take m (drop 1 l)) less ∙ sym (take-take (length body) (length body + 1) (drop 1 l) (omega arith)) ∙ ap (take (length body)) behind ∙ take-append_seam body (34 ∷ [])
+    let behind : take (length body + 1) (drop 1 l) ≡ body ++ 34 ∷ [] =
+    sym (drop-take 1 (length body + 1) l) ∙ ap (λ m. drop 1 (take m l)) (sym size) ∙ ap (drop 1) e in
+    ap (λ m. take m (drop 1 l)) less ∙ sym (take-take (length body) (length body + 1) (drop 1 l) (omega arith))
+    ∙ ap (take (length body)) behind ∙ take-append_seam body (34 ∷ [])
 
-pub proper_text : (bytes : List ℕ) (t : Token) → IsProper bytes t → is_same class.text (class_of t.kind) ≡ true → list_all is_text_byte (text_of bytes t) ≡ true
+pub proper_text : (bytes : List ℕ) (t : Token) → IsProper bytes t → is_same class.text (class_of t.kind) ≡ true
+    → list_all is_text_byte (text_of bytes t) ≡ true
 proper_text bytes t h e =
     let some : t.start < t.end = h.some in
     let inside : t.end ≤ length bytes = h.inside in
     let quoted = text_kind t.kind (slice_range bytes t.start t.end) e h.spelled in
     let room : t.end - t.start ≤ length (drop t.start bytes) = omega (arith, length-drop t.start bytes) in
-    let body : take (t.end - t.start - 2) (drop 1 (drop t.start bytes)) ≡ quoted.body = between (drop t.start bytes) quoted.body (t.end - t.start) quoted.quotes room in
+    let body : take (t.end - t.start - 2) (drop 1 (drop t.start bytes)) ≡ quoted.body =
+    between (drop t.start bytes) quoted.body (t.end - t.start) quoted.quotes room in
     let count : t.end - 1 - (t.start + 1) ≡ t.end - t.start - 2 = omega arith in
-    let same : text_of bytes t ≡ quoted.body = ap (λ n. take n (drop (t.start + 1) bytes)) count ∙ ap (take (t.end - t.start - 2)) (sym (drop-drop 1 t.start bytes)) ∙ body in
+    let same : text_of bytes t ≡ quoted.body =
+    ap (λ n. take n (drop (t.start + 1) bytes)) count
+    ∙ ap (take (t.end - t.start - 2)) (sym (drop-drop 1 t.start bytes)) ∙ body in
     subst (λ l. list_all is_text_byte l ≡ true) (sym same) quoted.inside
 
 pub text_length : (bytes : List ℕ) (t : Token) → length (text_of bytes t) ≤ span t

@@ -5,10 +5,8 @@ use Rattle.rev_syntax.specs.declared.token.Token.{Token}
 use Rattle.token_grammar.specs.First as first
 use Rattle.rev_expressions.specs.Grammar.{alphabet}
 use Rattle.rev_expressions.specs.Declarations.{inner, program}
-
 -- how many levels may be open at once
-abbrev pub most_levels : ℕ
-most_levels = 200
+pub use Rattle.rev_parse.specs.declared.whole.TheConstants.{MOST_LEVELS as most_levels}
 
 -- The tokens are a program, no more levels are open at once than may be, and no other tree of any nesting is derived.
 abbrev pub IsProgram : List ℕ → List Token → ProgramTree → Type 0

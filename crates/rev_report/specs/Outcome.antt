@@ -2,10 +2,10 @@
 --
 -- `value_text` is a value, as `print` and the values of `main` show it; `place_of` is a location by its name; `report`
 -- is what a call writes of an outcome, with the values of `main` where they are asked for.
-use Rattle.std.specs.Prelude.{ℕ, List, [], ◌++◌, codes, Bool, true, false, Option, Some, None, slice_get}
+use Rattle.std.specs.Prelude.{ℕ, List, [], ◌++◌, codes, Bool, true, false, if◌then◌else◌, Option, Some, None, slice_get}
 use Rattle.std.specs.Fmt.{decimal, signed_decimal}
 use Rattle.std.specs.List.{flat_map}
-use Rattle.rev_num.specs.Path.{Path}
+use Rattle.std.specs.Option.{option_map_or}
 use Rattle.rev_num.specs.Text.{path_text}
 use Rattle.rev_num.specs.Text as texts
 use Rattle.rev_num.specs.declared.value.Value.{Value}
@@ -18,7 +18,7 @@ use Rattle.rev_num.specs.declared.outcome.Outcome.{Outcome}
 use Rattle.rev_num.specs.declared.outcome.Outcome.TheVariants as o
 use Rattle.rev_num.specs.declared.outcome.Shown.{Shown}
 use Rattle.rev_report.specs.Lines.{with_line_feed}
-use Rattle.rev_report.specs.Report.{Output, done}
+use Rattle.rev_report.specs.Report.{Output, done, failed}
 use Rattle.rev_report.specs.Status.{trapped_status, twice_status}
 
 -- ---- values and places
@@ -36,8 +36,7 @@ place_of name None = name
 place_of name (Some i) = name ++ (codes "[" ++ (decimal i ++ codes "]"))
 
 abbrev pub place_text : Option Shown → List ℕ
-place_text None = []
-place_text (Some x) = place_of x.name x.cell
+place_text found = option_map_or (λ x. place_of x.name x.cell) found []
 
 -- ---- the values of `main`
 
@@ -45,19 +44,15 @@ place_text (Some x) = place_of x.name x.cell
 abbrev pub value_line : Shown → List ℕ
 value_line x = with_line_feed (place_of x.name x.cell ++ (codes " = " ++ value_text x.value))
 
-abbrev pub value_lines : List Shown → List ℕ
-value_lines values = flat_map value_line values
-
 -- where they are asked for
 abbrev pub asked_lines : Bool → List Shown → List ℕ
-asked_lines true values = value_lines values
-asked_lines false values = []
+asked_lines asked values = if asked then flat_map value_line values else []
 
 -- ---- messages
 
 -- the place of the location whose merge faulted
 abbrev pub merge_place : List Shown → Cause → List ℕ
-merge_place values (cause.Merge n f) = place_text (slice_get values n)
+merge_place values (cause.Merge n f) = option_map_or (λ x. place_of x.name x.cell) (slice_get values n) []
 merge_place values _ = []
 
 abbrev pub merge_text : List Shown → ℕ → NumFault → List ℕ
@@ -66,18 +61,10 @@ merge_text values n f = texts.cause_text (cause.Merge n f) (place_text (slice_ge
 abbrev pub cause_text : List Shown → Cause → List ℕ
 cause_text values c = texts.cause_text c (merge_place values c)
 
-abbrev pub line_text : ℕ → List ℕ
-line_text line = codes " at line " ++ decimal line
-
-abbrev pub revision_text : Path → List ℕ
-revision_text origin = codes " in revision " ++ path_text origin
-
 abbrev pub trap_text : List Shown → Trap → List ℕ
 trap_text values t =
-    codes "trap: " ++ (cause_text values t.cause ++ (line_text t.line ++ revision_text t.origin))
-
-abbrev pub twice_text : List ℕ
-twice_text = codes "error: a revision was joined twice"
+    codes "trap: " ++ (cause_text values t.cause
+    ++ ((codes " at line " ++ decimal t.line) ++ (codes " in revision " ++ path_text t.origin)))
 
 -- ---- reports
 
@@ -87,7 +74,7 @@ trap_report out message = record { out = out; err = with_line_feed message; stat
 
 -- of a run in which a revision was joined twice: nothing of what `main` printed
 abbrev pub twice_report : Output
-twice_report = record { out = []; err = with_line_feed twice_text; status = twice_status }
+twice_report = failed twice_status (codes "error: a revision was joined twice")
 
 -- the report of an outcome, with the values of `main` where they are asked for
 abbrev pub report : Bool → Outcome → Output

@@ -1,5 +1,8 @@
 //! What is written of the outcome of a run.
-ghost use Rattle.std.specs.Prelude.{◌≡◌, ◌++◌, IfOk, OnOk, slice_get};
+ghost use Rattle.std.specs.Prelude.{◌≡◌, ◌++◌, IfOk, OnOk, codes, slice_get};
+ghost use Rattle.std.specs.Fmt.{decimal};
+ghost use Rattle.std.specs.List.{flat_map};
+ghost use Rattle.rev_num.specs.Text.{path_text};
 ghost use Rattle.rev_report.specs.Report.{output};
 ghost use Rattle.rev_report.specs.Lines.{with_line_feed};
 ghost use Rattle.rev_report.specs.Outcome as spec;
@@ -54,7 +57,7 @@ fn append_value_line(text: &mut Vec<u8>, shown: &Shown) -> Result<(), AllocError
 }
 
 fn append_values(text: &mut Vec<u8>, values: &[Shown]) -> Result<(), AllocError>
-    ensures { OnOk result (text.new.items ≡ text.old.items ++ spec.value_lines values.now) }
+    ensures { OnOk result (text.new.items ≡ text.old.items ++ flat_map spec.value_line values.now) }
 {
     for shown in values {
         append_value_line(text, shown)?;
@@ -124,7 +127,8 @@ fn append_cause(text: &mut Vec<u8>, values: &[Shown], cause: Cause) -> Result<()
 }
 
 fn append_line_number(text: &mut Vec<u8>, line: u32) -> Result<(), AllocError>
-    ensures { OnOk result (text.new.items ≡ text.old.items ++ spec.line_text line) }
+    ensures { OnOk result (text.new.items ≡ text.old.items
+        ++ (codes " at line " ++ decimal line)) }
 {
     text.extend_from_slice(b" at line ")?;
     append_decimal(text, line as i64)?;
@@ -132,7 +136,8 @@ fn append_line_number(text: &mut Vec<u8>, line: u32) -> Result<(), AllocError>
 }
 
 fn append_revision(text: &mut Vec<u8>, path: &Path) -> Result<(), AllocError>
-    ensures { OnOk result (text.new.items ≡ text.old.items ++ spec.revision_text path.now) }
+    ensures { OnOk result (text.new.items ≡ text.old.items
+        ++ (codes " in revision " ++ path_text path.now)) }
 {
     text.extend_from_slice(b" in revision ")?;
     append_path(text, path)?;

@@ -24,7 +24,9 @@ use Rattle.rev_syntax.proofs.Lists.{both, also, on, find-none, find-passes, find
 use Rattle.rev_syntax.proofs.PieceKinds.{lead, blank, letter, digit, quote, other, LedBy, from-lead, led, lead-blank, lead-letter, lead-digit, pass-digits, spells-some, is_sign}
 
 -- A bound on the pieces that begin with the text's first byte is a bound on all with which the text begins.
-pub longest-from : (b : ℕ) (bs : List ℕ) (n : ℕ) (each : (c more : List ℕ) → LedBy (lead b) b c → bs ≡ c ++ more → suc (length c) ≤ n) → (f : PieceKind) (w more : List ℕ) → Spells f w → b ∷ bs ≡ w ++ more → length w ≤ n
+pub longest-from : (b : ℕ) (bs : List ℕ) (n : ℕ)
+    (each : (c more : List ℕ) → LedBy (lead b) b c → bs ≡ c ++ more → suc (length c) ≤ n)
+    → (f : PieceKind) (w more : List ℕ) → Spells f w → b ∷ bs ≡ w ++ more → length w ≤ n
 longest-from b bs n each f [] more h e = omega arith
 longest-from b bs n each f (c ∷ v) more h e =
     let same : c ≡ b = cc in
@@ -32,7 +34,8 @@ longest-from b bs n each f (c ∷ v) more h e =
     each v more (subst (λ (x : ℕ). LedBy (lead x) x v) same (led f c v h)) rest
 
 -- Where none of these begins the text, no piece does.
-pub none-from : (b : ℕ) (bs : List ℕ) (each : (c more : List ℕ) → LedBy (lead b) b c → bs ≡ c ++ more → ⊥) → (f : PieceKind) (w more : List ℕ) → Spells f w → b ∷ bs ≡ w ++ more → ⊥
+pub none-from : (b : ℕ) (bs : List ℕ) (each : (c more : List ℕ) → LedBy (lead b) b c → bs ≡ c ++ more → ⊥)
+    → (f : PieceKind) (w more : List ℕ) → Spells f w → b ∷ bs ≡ w ++ more → ⊥
 none-from b bs each f [] more h e = spells-some f h
 none-from b bs each f (c ∷ v) more h e =
     let same : c ≡ b = cc in
@@ -52,7 +55,8 @@ front-longest s f n h = record {
   longest = λ q more i e. let l = length-take-le n s h.fits in rw l (h.longest q.kind q.bytes more i e);
 }
 
-pub front-next : (at : ℕ) (s : List ℕ) (f : PieceKind) (n : ℕ) → Front s f n → IsSound f (drop n s) → Answers at s (Ok (cut f n))
+pub front-next : (at : ℕ) (s : List ℕ) (f : PieceKind) (n : ℕ) → Front s f n → IsSound f (drop n s)
+    → Answers at s (Ok (cut f n))
 front-next at s f n h sound =
     (record { split = sym (take-append-drop n s); longest = front-longest s f n h; sound = sound }, h.some, h.fits)
 
@@ -75,7 +79,8 @@ pub record IsKind (x : TokenKind) (w rest : List ℕ) : Type 0 where
 word-spells : (w rest : List ℕ) → is_word w ≡ true → IsKind (word_kind w) w rest
 word-spells w rest h = found (find (has_spelling w) words) w rest refl h
   where
-    found : (o : Option Fixed) (w rest : List ℕ) → find (has_spelling w) words ≡ o → is_word w ≡ true → IsKind (fixed_or_name o) w rest
+    found : (o : Option Fixed) (w rest : List ℕ) → find (has_spelling w) words ≡ o → is_word w ≡ true
+        → IsKind (fixed_or_name o) w rest
     found (Some x) w rest e h =
         let same = same_text (spelling x) w (sym (find-passes (has_spelling w) words x e)) in
         record { spells = sym same; sound = tt }
@@ -88,7 +93,8 @@ word-passes [] h = refl
 word-passes (b ∷ bs) h =
     let w = both (is_letter b) (list_all is_name_byte bs) h in rw w.0 w.1
 
-word-front : (b : ℕ) (bs : List ℕ) → is_letter b ≡ true → is_word (take (prefix_len is_name_byte (b ∷ bs)) (b ∷ bs)) ≡ true
+word-front : (b : ℕ) (bs : List ℕ) → is_letter b ≡ true
+    → is_word (take (prefix_len is_name_byte (b ∷ bs)) (b ∷ bs)) ≡ true
 word-front b bs h =
     let o : 1 + prefix_len is_name_byte bs ≡ suc (prefix_len is_name_byte bs) = omega arith in
     rw (h, o, h) (passed-all is_name_byte bs)
@@ -116,9 +122,11 @@ no_minus b h = grind (arith, nat_tests)
 ascii-digits : (ds : List ℕ) → list_all is_digit ds ≡ true → all_ascii_digits ds ≡ true
 ascii-digits [] h = refl
 ascii-digits (d ∷ ds) h =
-    let p = both (is_digit d) (list_all is_digit ds) h in also (is_digit d) (all_ascii_digits ds) p.0 (ascii-digits ds p.1)
+    let p = both (is_digit d) (list_all is_digit ds) h in
+    also (is_digit d) (all_ascii_digits ds) p.0 (ascii-digits ds p.1)
 
-decimal-digits : (d : ℕ) (ds : List ℕ) → list_all is_digit (d ∷ ds) ≡ true → decimal_in (d ∷ ds) ≡ cond (fits_i64 (pos (spelled (d ∷ ds)))) (Some (pos (spelled (d ∷ ds)))) None
+decimal-digits : (d : ℕ) (ds : List ℕ) → list_all is_digit (d ∷ ds) ≡ true
+    → decimal_in (d ∷ ds) ≡ cond (fits_i64 (pos (spelled (d ∷ ds)))) (Some (pos (spelled (d ∷ ds)))) None
 decimal-digits d ds h =
     let p = both (is_digit d) (list_all is_digit ds) h in
     let m = no_minus d p.0 in
@@ -126,11 +134,13 @@ decimal-digits d ds h =
     let some : nat_lt 0 (suc (length ds)) ≡ true = grind (arith, nat_tests) in
     rw (m, some, p.0, a) refl
 
-decimal-some : (w : List ℕ) → list_all is_digit w ≡ true → 0 < length w → decimal_in w ≡ cond (fits_i64 (pos (spelled w))) (Some (pos (spelled w))) None
+decimal-some : (w : List ℕ) → list_all is_digit w ≡ true → 0 < length w
+    → decimal_in w ≡ cond (fits_i64 (pos (spelled w))) (Some (pos (spelled w))) None
 decimal-some [] h some = absurd (omega arith)
 decimal-some (d ∷ ds) h some = decimal-digits d ds h
 
-number-answer : (at : ℕ) (s : List ℕ) (n : ℕ) (z : ℤ) (t u : Bool) → Front s (piece.Token (k.Int z)) n → fits_i64 z ≡ t → begins_with_letter (drop n s) ≡ u → Answers at s (number_cut n (cond t (Some z) None) u at)
+number-answer : (at : ℕ) (s : List ℕ) (n : ℕ) (z : ℤ) (t u : Bool) → Front s (piece.Token (k.Int z)) n → fits_i64 z ≡ t
+    → begins_with_letter (drop n s) ≡ u → Answers at s (number_cut n (cond t (Some z) None) u at)
 number-answer at s n z true false f t u = front-next at s (piece.Token (k.Int z)) n f (t, u)
 number-answer at s n z true true f t u = (
   refl,
@@ -169,10 +179,13 @@ exact-number at b bs h =
       some = some;
       fits = fits;
       spells = record { digits = record { some = long; each = pass-digits w d }; value = refl };
-      longest = longest-from b bs n (λ c more l e. let p = from-lead b c digit (lead-digit b h) l in rw e (within-prefix is_digit (b ∷ c) more p));
+      longest = longest-from b bs n
+          (λ c more l e.
+          let p = from-lead b c digit (lead-digit b h) l in rw e (within-prefix is_digit (b ∷ c) more p));
     } in
     let u = begins_with_letter (drop n s) in
-    subst (λ (o : Option ℤ). Answers at s (number_cut n o u at)) (sym e) (number-answer at s n z (fits_i64 z) u front refl refl)
+    subst (λ (o : Option ℤ). Answers at s (number_cut n o u at)) (sym e)
+    (number-answer at s n z (fits_i64 z) u front refl refl)
 
 -- ---- texts in quotes
 
@@ -192,13 +205,16 @@ fits-quote (suc n) (b ∷ bs) h = let r = fits-quote n bs h in omega arith
 quoted-length : (bs c more : List ℕ) → IsQuoted (34 ∷ c) → bs ≡ c ++ more → length c ≡ prefix_len is_text_byte bs + 1
 quoted-length bs c more h e =
     let body : c ≡ h.body ++ 34 ∷ [] = cc in
-    let whole : bs ≡ h.body ++ (34 ∷ more) = e ∙ ap (λ (v : List ℕ). v ++ more) body ∙ append_assoc h.body (34 ∷ []) more in
-    let p : prefix_len is_text_byte (h.body ++ (34 ∷ more)) ≡ length h.body = exact-prefix is_text_byte h.body (34 ∷ more) h.inside refl in
+    let whole : bs ≡ h.body ++ (34 ∷ more) =
+    e ∙ ap (λ (v : List ℕ). v ++ more) body ∙ append_assoc h.body (34 ∷ []) more in
+    let p : prefix_len is_text_byte (h.body ++ (34 ∷ more)) ≡ length h.body =
+    exact-prefix is_text_byte h.body (34 ∷ more) h.inside refl in
     let n : prefix_len is_text_byte bs ≡ length h.body = ap (prefix_len is_text_byte) whole ∙ p in
     let l : length c ≡ length h.body + 1 = ap (λ (v : List ℕ). length v) body ∙ length-append h.body (34 ∷ []) in
     omega arith
 
-closed-front : (bs : List ℕ) → begins_with_quote (drop (prefix_len is_text_byte bs) bs) ≡ true → Front (34 ∷ bs) (piece.Token k.Text) (prefix_len is_text_byte bs + 2)
+closed-front : (bs : List ℕ) → begins_with_quote (drop (prefix_len is_text_byte bs) bs) ≡ true
+    → Front (34 ∷ bs) (piece.Token k.Text) (prefix_len is_text_byte bs + 2)
 closed-front bs h =
     let n = prefix_len is_text_byte bs in
     let fits = fits-quote n bs h in
@@ -215,14 +231,17 @@ closed-front bs h =
           let q = from-lead 34 c quote refl l in let len = quoted-length bs c more q e in omega arith);
     }
 
-cut-off : (rest : List ℕ) → first_passes is_text_byte rest ≡ false → begins_with_quote rest ≡ false → is_cut_off rest ≡ true
+cut-off : (rest : List ℕ) → first_passes is_text_byte rest ≡ false → begins_with_quote rest ≡ false
+    → is_cut_off rest ≡ true
 cut-off [] h q = refl
 cut-off (b ∷ bs) h q = also (not (is_text_byte b)) (not (b == 34)) (on (is_text_byte b) h) (on (b == 34) q)
 
 exact-text : (at : ℕ) (bs : List ℕ) → Answers at (34 ∷ bs) (text_scan at bs)
 exact-text at bs =
     let n = prefix_len is_text_byte bs in
-    elim (begins_with_quote (drop n bs)) as (λ t. begins_with_quote (drop n bs) ≡ t → Answers at (34 ∷ bs) (cond t (Ok (cut (piece.Token k.Text) (n + 2))) (Err (fault.OpenText at)))) [
+    elim (begins_with_quote (drop n bs)) as (λ t.
+    begins_with_quote (drop n bs) ≡ t
+    → Answers at (34 ∷ bs) (cond t (Ok (cut (piece.Token k.Text) (n + 2))) (Err (fault.OpenText at)))) [
       | true ↦ λ h. front-next at (34 ∷ bs) (piece.Token k.Text) (n + 2) (closed-front bs h) tt
       | false ↦ λ h. (
         refl,
@@ -239,7 +258,8 @@ exact-text at bs =
 -- ---- comments
 
 -- The text begins with two slashes.
-two-slashes : (b : ℕ) (bs : List ℕ) → starts_with nat_eq (b ∷ bs) (codes "//") ≡ true → (rest : List ℕ) × (b ≡ 47) × (bs ≡ 47 ∷ rest)
+two-slashes : (b : ℕ) (bs : List ℕ) → starts_with nat_eq (b ∷ bs) (codes "//") ≡ true
+    → (rest : List ℕ) × (b ≡ 47) × (bs ≡ 47 ∷ rest)
 two-slashes b [] h = let e = same_text (codes "//") (b ∷ []) (sym h) in absurd (cc)
 two-slashes b (c ∷ cs) h =
     let e = same_text (codes "//") (b ∷ c ∷ []) (sym h) in
@@ -255,10 +275,13 @@ sign-short w h =
     let l : nat_le (length w) 2 ≡ true = rw (← e) t in
     grind (arith, nat_tests)
 
-comment-longest : (bs c more : List ℕ) → LedBy other 47 c → 47 ∷ bs ≡ c ++ more → suc (length c) ≤ prefix_len is_no_line_feed (47 ∷ 47 ∷ bs)
+comment-longest : (bs c more : List ℕ) → LedBy other 47 c → 47 ∷ bs ≡ c ++ more
+    → suc (length c) ≤ prefix_len is_no_line_feed (47 ∷ 47 ∷ bs)
 comment-longest bs c more (inl h) e =
-    let p : list_all is_no_line_feed (47 ∷ c) ≡ true = subst (λ (v : List ℕ). list_all is_no_line_feed v ≡ true) (sym h.opens) h.inside in
-    subst (λ (v : List ℕ). suc (length c) ≤ prefix_len is_no_line_feed (47 ∷ v)) (sym e) (within-prefix is_no_line_feed (47 ∷ c) more p)
+    let p : list_all is_no_line_feed (47 ∷ c) ≡ true =
+    subst (λ (v : List ℕ). list_all is_no_line_feed v ≡ true) (sym h.opens) h.inside in
+    subst (λ (v : List ℕ). suc (length c) ≤ prefix_len is_no_line_feed (47 ∷ v)) (sym e)
+    (within-prefix is_no_line_feed (47 ∷ c) more p)
 comment-longest bs c more (inr i) e = let l : suc (length c) ≤ 2 = sign-short (47 ∷ c) i in omega arith
 
 comment-front : (bs : List ℕ) → Front (47 ∷ 47 ∷ bs) piece.Comment (prefix_len is_no_line_feed (47 ∷ 47 ∷ bs))
@@ -269,15 +292,19 @@ comment-front bs =
       some = omega arith;
       fits = prefix_len-le-length is_no_line_feed (47 ∷ 47 ∷ bs);
       spells = record { body = take m bs; opens = rw o refl; inside = passed-all is_no_line_feed bs };
-      longest = longest-from 47 (47 ∷ bs) (1 + (1 + m)) (λ c more l e. comment-longest bs c more (from-lead 47 c other refl l) e);
+      longest = longest-from 47 (47 ∷ bs) (1 + (1 + m))
+          (λ c more l e. comment-longest bs c more (from-lead 47 c other refl l) e);
     }
 
-exact-comment : (at b : ℕ) (bs : List ℕ) → starts_with nat_eq (b ∷ bs) (codes "//") ≡ true → Answers at (b ∷ bs) (Ok (cut piece.Comment (prefix_len is_no_line_feed (b ∷ bs))))
+exact-comment : (at b : ℕ) (bs : List ℕ) → starts_with nat_eq (b ∷ bs) (codes "//") ≡ true
+    → Answers at (b ∷ bs) (Ok (cut piece.Comment (prefix_len is_no_line_feed (b ∷ bs))))
 exact-comment at b bs h =
     let t = two-slashes b bs h in
-    let from = front-next at (47 ∷ 47 ∷ t.0) piece.Comment (prefix_len is_no_line_feed (47 ∷ 47 ∷ t.0)) (comment-front t.0) tt in
+    let from =
+    front-next at (47 ∷ 47 ∷ t.0) piece.Comment (prefix_len is_no_line_feed (47 ∷ 47 ∷ t.0)) (comment-front t.0) tt in
     subst (λ (x : ℕ). Answers at (x ∷ bs) (Ok (cut piece.Comment (prefix_len is_no_line_feed (x ∷ bs))))) (sym t.1)
-    (subst (λ (v : List ℕ). Answers at (47 ∷ v) (Ok (cut piece.Comment (prefix_len is_no_line_feed (47 ∷ v))))) (sym t.2) from)
+    (subst (λ (v : List ℕ). Answers at (47 ∷ v) (Ok (cut piece.Comment (prefix_len is_no_line_feed (47 ∷ v)))))
+    (sym t.2) from)
 
 -- ---- signs
 
@@ -287,38 +314,56 @@ descends [] = true
 descends (x ∷ xs) = list_all (λ y. nat_le (length (spelling y)) (length (spelling x))) xs && descends xs
 
 -- the first of these that passes is at least as long as each other one
-longest-found : (p : Fixed → Bool) (m : ℕ) (xs : List Fixed) (x : Fixed) → descends xs ≡ true → find p xs ≡ Some x → list_any (λ y. p y && (length (spelling y) == m)) xs ≡ true → m ≤ length (spelling x)
+longest-found : (p : Fixed → Bool) (m : ℕ) (xs : List Fixed) (x : Fixed) → descends xs ≡ true → find p xs ≡ Some x
+    → list_any (λ y. p y && (length (spelling y) == m)) xs ≡ true → m ≤ length (spelling x)
 longest-found p m [] x d f h = absurd (cc)
 longest-found p m (z ∷ zs) x d f h =
     let e = both (list_all (λ y. nat_le (length (spelling y)) (length (spelling z))) zs) (descends zs) d in
-    elim (p z) as (λ b. cond b (Some z) (find p zs) ≡ Some x → ((b && (length (spelling z) == m)) || list_any (λ y. p y && (length (spelling y) == m)) zs) ≡ true → m ≤ length (spelling x)) [
-      | true ↦ λ g i. let same : z ≡ x = cc in subst (λ (v : Fixed). m ≤ length (spelling v)) same (longest-first p m z zs e.0 i)
+    elim (p z) as (λ b.
+    cond b (Some z) (find p zs) ≡ Some x
+    → ((b && (length (spelling z) == m)) || list_any (λ y. p y && (length (spelling y) == m)) zs) ≡ true
+    → m ≤ length (spelling x)) [
+      | true ↦ λ g i.
+          let same : z ≡ x = cc in subst (λ (v : Fixed). m ≤ length (spelling v)) same (longest-first p m z zs e.0 i)
       | false ↦ λ g i. longest-found p m zs x e.1 g i
     ] f h
   where
-    longest-first : (p : Fixed → Bool) (m : ℕ) (z : Fixed) (zs : List Fixed) → list_all (λ y. nat_le (length (spelling y)) (length (spelling z))) zs ≡ true → ((length (spelling z) == m) || list_any (λ y. p y && (length (spelling y) == m)) zs) ≡ true → m ≤ length (spelling z)
+    longest-first : (p : Fixed → Bool) (m : ℕ) (z : Fixed) (zs : List Fixed)
+        → list_all (λ y. nat_le (length (spelling y)) (length (spelling z))) zs ≡ true
+        → ((length (spelling z) == m) || list_any (λ y. p y && (length (spelling y) == m)) zs) ≡ true
+        → m ≤ length (spelling z)
     longest-first p m z zs a h =
-        elim (length (spelling z) == m) as (λ b. (length (spelling z) == m) ≡ b → (b || list_any (λ y. p y && (length (spelling y) == m)) zs) ≡ true → m ≤ length (spelling z)) [
+        elim (length (spelling z) == m) as (λ b.
+        (length (spelling z) == m) ≡ b → (b || list_any (λ y. p y && (length (spelling y) == m)) zs) ≡ true
+        → m ≤ length (spelling z)) [
           | true ↦ λ e _. let same : length (spelling z) ≡ m = same-number (length (spelling z)) m e in omega arith
           | false ↦ λ _ i.
-              let y = any-both (λ y. nat_le (length (spelling y)) (length (spelling z))) (λ y. p y && (length (spelling y) == m)) zs a i in
-              let same : length (spelling y.0) ≡ m = same-number (length (spelling y.0)) m (both (p y.0) (length (spelling y.0) == m) y.1).1 in
+              let y = any-both (λ y. nat_le (length (spelling y)) (length (spelling z)))
+              (λ y. p y && (length (spelling y) == m)) zs a i in
+              let same : length (spelling y.0) ≡ m =
+              same-number (length (spelling y.0)) m (both (p y.0) (length (spelling y.0) == m) y.1).1 in
               let le : nat_le (length (spelling y.0)) (length (spelling z)) ≡ true = y.2 in
               grind (arith, nat_tests)
         ] refl h
 
-sign-begins : (s w more : List ℕ) → is_sign w ≡ true → s ≡ w ++ more → list_any (λ y. starts_with nat_eq s (spelling y) && (length (spelling y) == length w)) signs ≡ true
-sign-begins s w more h e = any-map (has_spelling w) (λ y. starts_with nat_eq s (spelling y) && (length (spelling y) == length w)) signs (spelled-begins s w more e) h
+sign-begins : (s w more : List ℕ) → is_sign w ≡ true → s ≡ w ++ more
+    → list_any (λ y. starts_with nat_eq s (spelling y) && (length (spelling y) == length w)) signs ≡ true
+sign-begins s w more h e =
+    any-map (has_spelling w) (λ y. starts_with nat_eq s (spelling y) && (length (spelling y) == length w)) signs
+    (spelled-begins s w more e) h
   where
-    spelled-begins : (s w more : List ℕ) → s ≡ w ++ more → (y : Fixed) → has_spelling w y ≡ true → (starts_with nat_eq s (spelling y) && (length (spelling y) == length w)) ≡ true
+    spelled-begins : (s w more : List ℕ) → s ≡ w ++ more → (y : Fixed) → has_spelling w y ≡ true
+        → (starts_with nat_eq s (spelling y) && (length (spelling y) == length w)) ≡ true
     spelled-begins s w more e y h =
         let same = same_text (spelling y) w (sym h) in
         let front : starts_with nat_eq (w ++ more) w ≡ true = rw take-append_seam (same-self w) in
         let begins : starts_with nat_eq s (spelling y) ≡ true = rw (same, e) front in
-        also (starts_with nat_eq s (spelling y)) (length (spelling y) == length w) begins (eq-eqb (length (spelling y)) (length w) (ap (λ (v : List ℕ). length v) same))
+        also (starts_with nat_eq s (spelling y)) (length (spelling y) == length w) begins
+        (eq-eqb (length (spelling y)) (length w) (ap (λ (v : List ℕ). length v) same))
 
 -- The text begins with no comment.
-no_comment : (b : ℕ) (bs c more : List ℕ) → starts_with nat_eq (b ∷ bs) (codes "//") ≡ false → IsComment (b ∷ c) → bs ≡ c ++ more → ⊥
+no_comment : (b : ℕ) (bs c more : List ℕ) → starts_with nat_eq (b ∷ bs) (codes "//") ≡ false → IsComment (b ∷ c)
+    → bs ≡ c ++ more → ⊥
 no_comment b bs c more n h e =
     let f : b ≡ 47 = cc in
     let g : c ≡ 47 ∷ h.body = cc in
@@ -329,16 +374,21 @@ no_comment b bs c more n h e =
 abbrev sign_passes : List ℕ → Fixed → Bool
 sign_passes s x = starts_with nat_eq s (spelling x)
 
-sign-longest : (b : ℕ) (bs : List ℕ) (x : Fixed) → starts_with nat_eq (b ∷ bs) (codes "//") ≡ false → find (sign_passes (b ∷ bs)) signs ≡ Some x → (c more : List ℕ) → LedBy other b c → bs ≡ c ++ more → suc (length c) ≤ length (spelling x)
+sign-longest : (b : ℕ) (bs : List ℕ) (x : Fixed) → starts_with nat_eq (b ∷ bs) (codes "//") ≡ false
+    → find (sign_passes (b ∷ bs)) signs ≡ Some x → (c more : List ℕ) → LedBy other b c → bs ≡ c ++ more
+    → suc (length c) ≤ length (spelling x)
 sign-longest b bs x n f c more (inl h) e = absurd (no_comment b bs c more n h e)
 sign-longest b bs x n f c more (inr i) e =
-    longest-found (sign_passes (b ∷ bs)) (suc (length c)) signs x refl f (sign-begins (b ∷ bs) (b ∷ c) more i (ap (λ (v : List ℕ). b ∷ v) e))
+    longest-found (sign_passes (b ∷ bs)) (suc (length c)) signs x refl f
+    (sign-begins (b ∷ bs) (b ∷ c) more i (ap (λ (v : List ℕ). b ∷ v) e))
 
-found-sign : (at b : ℕ) (bs : List ℕ) (x : Fixed) → lead b ≡ other → starts_with nat_eq (b ∷ bs) (codes "//") ≡ false → find (sign_passes (b ∷ bs)) signs ≡ Some x → Answers at (b ∷ bs) (sign_cut at (Some x))
+found-sign : (at b : ℕ) (bs : List ℕ) (x : Fixed) → lead b ≡ other → starts_with nat_eq (b ∷ bs) (codes "//") ≡ false
+    → find (sign_passes (b ∷ bs)) signs ≡ Some x → Answers at (b ∷ bs) (sign_cut at (Some x))
 found-sign at b bs x l n f =
     let s = b ∷ bs in
     let m = length (spelling x) in
-    let same : spelling x ≡ take m s = same_text (spelling x) (take m s) (sym (find-passes (sign_passes s) signs x f)) in
+    let same : spelling x ≡ take m s =
+    same_text (spelling x) (take m s) (sym (find-passes (sign_passes s) signs x f)) in
     let some : nat_lt 0 m ≡ true = find-both (λ y. nat_lt 0 (length (spelling y))) (sign_passes s) signs x refl f in
     let len : m ≡ min m (length s) = ap (λ (v : List ℕ). length v) same ∙ length-take m s in
     front-next at s (piece.Token (k.Fixed x)) m (record {
@@ -348,19 +398,22 @@ found-sign at b bs x l n f =
       longest = longest-from b bs m (λ c more i e. sign-longest b bs x n f c more (from-lead b c other l i) e);
     }) tt
 
-no-sign : (b : ℕ) (bs : List ℕ) → starts_with nat_eq (b ∷ bs) (codes "//") ≡ false → find (sign_passes (b ∷ bs)) signs ≡ None → (c more : List ℕ) → LedBy other b c → bs ≡ c ++ more → ⊥
+no-sign : (b : ℕ) (bs : List ℕ) → starts_with nat_eq (b ∷ bs) (codes "//") ≡ false
+    → find (sign_passes (b ∷ bs)) signs ≡ None → (c more : List ℕ) → LedBy other b c → bs ≡ c ++ more → ⊥
 no-sign b bs n f c more (inl h) e = no_comment b bs c more n h e
 no-sign b bs n f c more (inr i) e =
     let s = b ∷ bs in
     let k = sign-begins s (b ∷ c) more i (ap (λ (v : List ℕ). b ∷ v) e) in
-    let a = any-map (λ y. sign_passes s y && (length (spelling y) == suc (length c))) (sign_passes s) signs (λ y h. (both (sign_passes s y) (length (spelling y) == suc (length c)) h).0) k in
+    let a = any-map (λ y. sign_passes s y && (length (spelling y) == suc (length c))) (sign_passes s) signs
+    (λ y h. (both (sign_passes s y) (length (spelling y) == suc (length c)) h).0) k in
     let z = find-none (sign_passes s) signs f in
     cc
 
 other-no_quote : (b : ℕ) → lead b ≡ other → b ≡ 34 → ⊥
 other-no_quote b l e = let q : lead b ≡ quote = rw e refl in cc
 
-exact-sign : (at b : ℕ) (bs : List ℕ) → lead b ≡ other → starts_with nat_eq (b ∷ bs) (codes "//") ≡ false → Answers at (b ∷ bs) (sign_cut at (first_sign (b ∷ bs)))
+exact-sign : (at b : ℕ) (bs : List ℕ) → lead b ≡ other → starts_with nat_eq (b ∷ bs) (codes "//") ≡ false
+    → Answers at (b ∷ bs) (sign_cut at (first_sign (b ∷ bs)))
 exact-sign at b bs l n = found (find (sign_passes (b ∷ bs)) signs) refl
   where
     found : (o : Option Fixed) → find (sign_passes (b ∷ bs)) signs ≡ o → Answers at (b ∷ bs) (sign_cut at o)
@@ -371,7 +424,8 @@ exact-sign at b bs l n = found (find (sign_passes (b ∷ bs)) signs) refl
         byte = b;
         more = bs;
         split = refl;
-        none = λ q more h e. none-from b bs (λ c v i j. no-sign b bs n f c v (from-lead b c other l i) j) q.kind q.bytes more h e;
+        none = λ q more h e.
+            none-from b bs (λ c v i j. no-sign b bs n f c v (from-lead b c other l i) j) q.kind q.bytes more h e;
         plain = other-no_quote b l;
       },
     )
@@ -380,35 +434,45 @@ exact-sign at b bs l n = found (find (sign_passes (b ∷ bs)) signs) refl
 
 exact-other : (at b : ℕ) (bs : List ℕ) → lead b ≡ other → Answers at (b ∷ bs) (scan_other at b bs)
 exact-other at b bs l =
-    elim (starts_with nat_eq (b ∷ bs) (codes "//")) as (λ t. starts_with nat_eq (b ∷ bs) (codes "//") ≡ t → Answers at (b ∷ bs) (cond t (Ok (cut piece.Comment (prefix_len is_no_line_feed (b ∷ bs)))) (sign_cut at (first_sign (b ∷ bs))))) [
+    elim (starts_with nat_eq (b ∷ bs) (codes "//")) as (λ t.
+    starts_with nat_eq (b ∷ bs) (codes "//") ≡ t
+    → Answers at (b ∷ bs)
+    (cond t (Ok (cut piece.Comment (prefix_len is_no_line_feed (b ∷ bs)))) (sign_cut at (first_sign (b ∷ bs))))) [
       | true ↦ λ h. exact-comment at b bs h
       | false ↦ λ h. exact-sign at b bs l h
     ] refl
 
-exact-no_digit : (at b : ℕ) (bs : List ℕ) → is_blank b ≡ false → is_letter b ≡ false → is_digit b ≡ false → Answers at (b ∷ bs) (scan_no_digit at b bs)
+exact-no_digit : (at b : ℕ) (bs : List ℕ) → is_blank b ≡ false → is_letter b ≡ false → is_digit b ≡ false
+    → Answers at (b ∷ bs) (scan_no_digit at b bs)
 exact-no_digit at b bs x y z =
     elim (b == 34) as (λ t. (b == 34) ≡ t → Answers at (b ∷ bs) (cond t (text_scan at bs) (scan_other at b bs))) [
-      | true ↦ λ h. let e : b ≡ 34 = same-number b 34 h in subst (λ (v : ℕ). Answers at (v ∷ bs) (text_scan at bs)) (sym e) (exact-text at bs)
+      | true ↦ λ h.
+          let e : b ≡ 34 = same-number b 34 h in
+          subst (λ (v : ℕ). Answers at (v ∷ bs) (text_scan at bs)) (sym e) (exact-text at bs)
       | false ↦ λ h. let l : lead b ≡ other = rw (x, y, z, h) refl in exact-other at b bs l
     ] refl
 
-exact-no_letter : (at b : ℕ) (bs : List ℕ) → is_blank b ≡ false → is_letter b ≡ false → Answers at (b ∷ bs) (scan_no_letter at b bs)
+exact-no_letter : (at b : ℕ) (bs : List ℕ) → is_blank b ≡ false → is_letter b ≡ false
+    → Answers at (b ∷ bs) (scan_no_letter at b bs)
 exact-no_letter at b bs x y =
-    elim (is_digit b) as (λ t. is_digit b ≡ t → Answers at (b ∷ bs) (cond t (number_scan at (b ∷ bs)) (scan_no_digit at b bs))) [
+    elim (is_digit b) as (λ t.
+    is_digit b ≡ t → Answers at (b ∷ bs) (cond t (number_scan at (b ∷ bs)) (scan_no_digit at b bs))) [
       | true ↦ λ h. exact-number at b bs h
       | false ↦ λ h. exact-no_digit at b bs x y h
     ] refl
 
 exact-no_blank : (at b : ℕ) (bs : List ℕ) → is_blank b ≡ false → Answers at (b ∷ bs) (scan_no_blank at b bs)
 exact-no_blank at b bs x =
-    elim (is_letter b) as (λ t. is_letter b ≡ t → Answers at (b ∷ bs) (cond t (Ok (word_cut (b ∷ bs))) (scan_no_letter at b bs))) [
+    elim (is_letter b) as (λ t.
+    is_letter b ≡ t → Answers at (b ∷ bs) (cond t (Ok (word_cut (b ∷ bs))) (scan_no_letter at b bs))) [
       | true ↦ λ h. exact-word at b bs h
       | false ↦ λ h. exact-no_letter at b bs x h
     ] refl
 
 pub exact : (at b : ℕ) (bs : List ℕ) → Answers at (b ∷ bs) (scan_from at b bs)
 exact at b bs =
-    elim (is_blank b) as (λ t. is_blank b ≡ t → Answers at (b ∷ bs) (cond t (Ok (cut piece.WhiteSpace 1)) (scan_no_blank at b bs))) [
+    elim (is_blank b) as (λ t.
+    is_blank b ≡ t → Answers at (b ∷ bs) (cond t (Ok (cut piece.WhiteSpace 1)) (scan_no_blank at b bs))) [
       | true ↦ λ h. exact-blank at b bs h
       | false ↦ λ h. exact-no_blank at b bs h
     ] refl

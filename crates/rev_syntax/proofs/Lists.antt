@@ -52,12 +52,14 @@ passed-stops {X} p (x ∷ xs) =
     ] refl
 
 -- what passes goes no further than the elements from the front on that pass
-pub within-prefix : {X : Type 0} (p : X → Bool) (xs ys : List X) → list_all p xs ≡ true → length xs ≤ prefix_len p (xs ++ ys)
+pub within-prefix : {X : Type 0} (p : X → Bool) (xs ys : List X) → list_all p xs ≡ true
+    → length xs ≤ prefix_len p (xs ++ ys)
 within-prefix p [] ys h = omega arith
 within-prefix p (x ∷ xs) ys h =
     let b = both (p x) (list_all p xs) h in let r = within-prefix p xs ys b.1 in rw b.0 (omega arith)
 
-pub exact-prefix : {X : Type 0} (p : X → Bool) (xs ys : List X) → list_all p xs ≡ true → first_passes p ys ≡ false → prefix_len p (xs ++ ys) ≡ length xs
+pub exact-prefix : {X : Type 0} (p : X → Bool) (xs ys : List X) → list_all p xs ≡ true → first_passes p ys ≡ false
+    → prefix_len p (xs ++ ys) ≡ length xs
 exact-prefix p [] [] h s = refl
 exact-prefix p [] (y ∷ ys) h s = rw s refl
 exact-prefix p (x ∷ xs) ys h s =
@@ -72,7 +74,8 @@ find-passes {X} p (y ∷ ys) x h =
     ] refl h
 
 -- what each element passes is passed by the one that is found
-pub find-both : {X : Type 0} (q p : X → Bool) (xs : List X) (x : X) → list_all q xs ≡ true → find p xs ≡ Some x → q x ≡ true
+pub find-both : {X : Type 0} (q p : X → Bool) (xs : List X) (x : X) → list_all q xs ≡ true → find p xs ≡ Some x
+    → q x ≡ true
 find-both q p [] x a h = absurd (cc)
 find-both {X} q p (y ∷ ys) x a h =
     let k = both (q y) (list_all q ys) a in
@@ -94,7 +97,8 @@ find-no p [] h = refl
 find-no p (y ∷ ys) h = let k = neither (p y) (list_any p ys) h in rw k.0 (find-no p ys k.1)
 
 -- some element passes, and it passes also what each element passes
-pub any-both : {X : Type 0} (q p : X → Bool) (xs : List X) → list_all q xs ≡ true → list_any p xs ≡ true → (x : X) × (p x ≡ true) × (q x ≡ true)
+pub any-both : {X : Type 0} (q p : X → Bool) (xs : List X) → list_all q xs ≡ true → list_any p xs ≡ true
+    → (x : X) × (p x ≡ true) × (q x ≡ true)
 any-both q p [] a h = absurd (cc)
 any-both {X} q p (y ∷ ys) a h =
     let k = both (q y) (list_all q ys) a in
@@ -104,7 +108,8 @@ any-both {X} q p (y ∷ ys) a h =
     ] refl h
 
 -- where one test passes only what another passes
-pub any-map : {X : Type 0} (p q : X → Bool) (xs : List X) → ((x : X) → p x ≡ true → q x ≡ true) → list_any p xs ≡ true → list_any q xs ≡ true
+pub any-map : {X : Type 0} (p q : X → Bool) (xs : List X) → ((x : X) → p x ≡ true → q x ≡ true) → list_any p xs ≡ true
+    → list_any q xs ≡ true
 any-map p q [] f h = h
 any-map {X} p q (y ∷ ys) f h =
     elim (p y) as (λ b. p y ≡ b → (b || list_any p ys) ≡ true → (q y || list_any q ys) ≡ true) [

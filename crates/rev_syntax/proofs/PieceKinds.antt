@@ -133,7 +133,8 @@ led piece.WhiteSpace b bs h = led-white b bs h
 led piece.Comment b bs h = led-comment b bs h
 led (piece.Token k.Name) b bs h = led-word b bs (both (is_word (b ∷ bs)) (not (is_reserved (b ∷ bs))) h).0
 led (piece.Token (k.Int n)) b bs h =
-    let d = digits-pass (b ∷ bs) h.digits.each in at-lead b bs digit (lead-digit b (both (is_digit b) (list_all is_digit bs) d).0) d
+    let d = digits-pass (b ∷ bs) h.digits.each in
+    at-lead b bs digit (lead-digit b (both (is_digit b) (list_all is_digit bs) d).0) d
 led (piece.Token k.Text) b bs h = led-quoted b bs h
 led (piece.Token (k.Fixed f)) b bs h = led-spelled b bs (spelling f) h (word-or-sign f)
 

@@ -10,7 +10,9 @@ use Rattle.rev_syntax.specs.declared.tree.Stmt.{Stmt}
 use Rattle.rev_syntax.specs.declared.tree.Form.TheFolds.{fold_out-Stmt, fold_out-Block}
 
 pub stmt_is : (s : Stmt) → stmt s ≡ statement s.at s.line (statement_form s.form)
-stmt_is s = fold_out-Stmt StatementForm (Expression × Statements) Statements Statement statement_form_level arm_level block_level statement_level s
+stmt_is s = fold_out-Stmt StatementForm (Expression × Statements) Statements Statement statement_form_level arm_level
+    block_level statement_level s
 
 pub block_is : (b : Block) → block b ≡ stmts (out-Block b).stmts.items
-block_is b = fold_out-Block StatementForm (Expression × Statements) Statements Statement statement_form_level arm_level block_level statement_level b
+block_is b = fold_out-Block StatementForm (Expression × Statements) Statements Statement statement_form_level arm_level
+    block_level statement_level b

@@ -17,7 +17,8 @@ use Rattle.rev_syntax.proofs.Exact.{none-from, exact}
 use Rattle.rev_syntax.proofs.Reading.{cut-start, cut-more, leads-within}
 
 -- Two longest pieces are one.
-longest-same : (s : List ℕ) (p q : Piece) (a b : List ℕ) → s ≡ p.bytes ++ a → IsLongest s p → s ≡ q.bytes ++ b → IsLongest s q → (p ≡ q) × (a ≡ b)
+longest-same : (s : List ℕ) (p q : Piece) (a b : List ℕ) → s ≡ p.bytes ++ a → IsLongest s p → s ≡ q.bytes ++ b
+    → IsLongest s q → (p ≡ q) × (a ≡ b)
 longest-same s p q a b e l f m =
     let x : length q.bytes ≤ length p.bytes = l.longest q b m.spells f in
     let y : length p.bytes ≤ length q.bytes = m.longest p a l.spells e in
@@ -53,20 +54,27 @@ cut_off-stops [] h = refl
 cut_off-stops (b ∷ bs) h = off (is_text_byte b) (both (not (is_text_byte b)) (not (b == 34)) h).0
 
 -- A text that is not closed is no text in quotes.
-open-not_closed : (s : List ℕ) (c more : List ℕ) → (h : IsOpenText s) → IsQuoted (34 ∷ c) → h.body ++ h.rest ≡ c ++ more → ⊥
+open-not_closed : (s : List ℕ) (c more : List ℕ) → (h : IsOpenText s) → IsQuoted (34 ∷ c) → h.body ++ h.rest ≡ c ++ more
+    → ⊥
 open-not_closed s c more h q e =
     let body : c ≡ q.body ++ 34 ∷ [] = cc in
-    let whole : h.body ++ h.rest ≡ q.body ++ (34 ∷ more) = e ∙ ap (λ (v : List ℕ). v ++ more) body ∙ append_assoc q.body (34 ∷ []) more in
-    let m : prefix_len is_text_byte (h.body ++ h.rest) ≡ length h.body = exact-prefix is_text_byte h.body h.rest h.inside (cut_off-stops h.rest h.cut_off) in
-    let n : prefix_len is_text_byte (q.body ++ (34 ∷ more)) ≡ length q.body = exact-prefix is_text_byte q.body (34 ∷ more) q.inside refl in
+    let whole : h.body ++ h.rest ≡ q.body ++ (34 ∷ more) =
+    e ∙ ap (λ (v : List ℕ). v ++ more) body ∙ append_assoc q.body (34 ∷ []) more in
+    let m : prefix_len is_text_byte (h.body ++ h.rest) ≡ length h.body =
+    exact-prefix is_text_byte h.body h.rest h.inside (cut_off-stops h.rest h.cut_off) in
+    let n : prefix_len is_text_byte (q.body ++ (34 ∷ more)) ≡ length q.body =
+    exact-prefix is_text_byte q.body (34 ∷ more) q.inside refl in
     let l : length h.body ≡ length q.body = sym m ∙ ap (prefix_len is_text_byte) whole ∙ n in
-    let r : h.rest ≡ 34 ∷ more = sym (drop-append_seam h.body h.rest) ∙ ap (λ (v : List ℕ). drop (length h.body) v) whole ∙ ap (λ (i : ℕ). drop i (q.body ++ (34 ∷ more))) l ∙ drop-append_seam q.body (34 ∷ more) in
+    let r : h.rest ≡ 34 ∷ more =
+    sym (drop-append_seam h.body h.rest) ∙ ap (λ (v : List ℕ). drop (length h.body) v) whole
+    ∙ ap (λ (i : ℕ). drop i (q.body ++ (34 ∷ more))) l ∙ drop-append_seam q.body (34 ∷ more) in
     let no : is_cut_off (34 ∷ more) ≡ true = subst (λ (v : List ℕ). is_cut_off v ≡ true) r h.cut_off in
     cc
 
 open-none : (s : List ℕ) → IsOpenText s → BeginsNone s
 open-none s h p more i e =
-    none-from 34 (h.body ++ h.rest) (λ c v l j. open-not_closed s c v h (from-lead 34 c quote refl l) j) p.kind p.bytes more i (sym h.split ∙ e)
+    none-from 34 (h.body ++ h.rest) (λ c v l j. open-not_closed s c v h (from-lead 34 c quote refl l) j) p.kind p.bytes
+    more i (sym h.split ∙ e)
 
 stuck-number : (s : List ℕ) → IsBadNumber s → Stuck s
 stuck-number s h p rest n =
@@ -75,7 +83,8 @@ stuck-number s h p rest n =
     h.unsound (subst (λ (q : Piece). IsSound q.kind h.rest) (sym e.0) sound)
 
 -- Two ways to cut a text up to where no piece comes next are one.
-leads-same : (ps qs : List Piece) (s a b : List ℕ) → Leads ps s a → Stuck a → Leads qs s b → Stuck b → (ps ≡ qs) × (a ≡ b)
+leads-same : (ps qs : List Piece) (s a b : List ℕ) → Leads ps s a → Stuck a → Leads qs s b → Stuck b
+    → (ps ≡ qs) × (a ≡ b)
 leads-same [] [] s a b l x m y = (refl, sym l ∙ m)
 leads-same [] (q ∷ qs) s a b l x m y = absurd (x q m.0 (subst (λ (v : List ℕ). Next v q m.0) l m.1))
 leads-same (p ∷ ps) [] s a b l x m y = absurd (y p l.0 (subst (λ (v : List ℕ). Next v p l.0) m l.1))
@@ -84,12 +93,14 @@ leads-same (p ∷ ps) (q ∷ qs) s a b l x m y =
     let r = leads-same ps qs m.0 a b (subst (λ (v : List ℕ). Leads ps v a) e.1 l.2) x m.2 y in
     (λ i. e.0 i ∷ r.0 i, r.1)
 
-pub record Same (s : List ℕ) (at : ℕ) (a : List ℕ) (ts : List Token) (up : ℕ) (b : List ℕ) (us : List Token) : Type 0 where
+pub record Same (s : List ℕ) (at : ℕ) (a : List ℕ) (ts : List Token) (up : ℕ) (b : List ℕ)
+    (us : List Token) : Type 0 where
   pub place : at ≡ up
   pub rest : a ≡ b
   pub tokens : ts ≡ us
 
-cut-same : (s : List ℕ) (at : ℕ) (a : List ℕ) (ts : List Token) (up : ℕ) (b : List ℕ) (us : List Token) → CutTo s at a ts → Stuck a → CutTo s up b us → Stuck b → Same s at a ts up b us
+cut-same : (s : List ℕ) (at : ℕ) (a : List ℕ) (ts : List Token) (up : ℕ) (b : List ℕ) (us : List Token)
+    → CutTo s at a ts → Stuck a → CutTo s up b us → Stuck b → Same s at a ts up b us
 cut-same s at a ts up b us c x d y =
     let e = leads-same c.pieces d.pieces s a b c.leads x d.leads y in
     record {
@@ -102,9 +113,11 @@ pub one-list : (s : List ℕ) (ts us : List Token) → IsTokens s ts → IsToken
 one-list s ts us c d = (cut-same s (length s) [] ts (length s) [] us c stuck-end d stuck-end).tokens
 
 -- Two faults of a text stand at one place.
-stops-same : {P Q : List ℕ → Type 0} (s : List ℕ) (a b : ℕ) → ((r : List ℕ) → P r → Stuck r) → ((r : List ℕ) → Q r → Stuck r) → (h : Stops P s a) → (i : Stops Q s b) → (a ≡ b) × (h.rest ≡ i.rest)
+stops-same : {P Q : List ℕ → Type 0} (s : List ℕ) (a b : ℕ) → ((r : List ℕ) → P r → Stuck r)
+    → ((r : List ℕ) → Q r → Stuck r) → (h : Stops P s a) → (i : Stops Q s b) → (a ≡ b) × (h.rest ≡ i.rest)
 stops-same s a b p q h i =
-    let e = cut-same s a h.rest h.tokens b i.rest i.tokens h.before (p h.rest h.bad) i.before (q i.rest i.bad) in (e.place, e.rest)
+    let e = cut-same s a h.rest h.tokens b i.rest i.tokens h.before (p h.rest h.bad) i.before (q i.rest i.bad) in
+    (e.place, e.rest)
 
 stuck-byte : (s : List ℕ) → IsBadByte s → Stuck s
 stuck-byte s h = stuck-none s h.none
@@ -127,27 +140,35 @@ number-open s n o = open-none s o n.number n.rest n.longest.spells n.split
 abbrev Differs : (List ℕ → Type 0) → (List ℕ → Type 0) → Type 0
 Differs P Q = (r : List ℕ) → P r → Q r → ⊥
 
-stops-differ : {P Q : List ℕ → Type 0} (s : List ℕ) (a b : ℕ) → ((r : List ℕ) → P r → Stuck r) → ((r : List ℕ) → Q r → Stuck r) → Differs P Q → Stops P s a → Stops Q s b → ⊥
+stops-differ : {P Q : List ℕ → Type 0} (s : List ℕ) (a b : ℕ) → ((r : List ℕ) → P r → Stuck r)
+    → ((r : List ℕ) → Q r → Stuck r) → Differs P Q → Stops P s a → Stops Q s b → ⊥
 stops-differ {P} {Q} s a b p q d h i =
     let e = stops-same {P = P} {Q = Q} s a b p q h i in d i.rest (subst P e.1 h.bad) i.bad
 
 pub one-fault : (s : List ℕ) (f g : LexFault) → IsFirstFault s f → IsFirstFault s g → f ≡ g
 one-fault s (fault.BadByte a) (fault.BadByte b) h i = ap fault.BadByte (stops-same s a b stuck-byte stuck-byte h i).0
-one-fault s (fault.BadNumber a) (fault.BadNumber b) h i = ap fault.BadNumber (stops-same s a b stuck-number stuck-number h i).0
+one-fault s (fault.BadNumber a) (fault.BadNumber b) h i =
+    ap fault.BadNumber (stops-same s a b stuck-number stuck-number h i).0
 one-fault s (fault.OpenText a) (fault.OpenText b) h i = ap fault.OpenText (stops-same s a b stuck-open stuck-open h i).0
-one-fault s (fault.BadByte a) (fault.BadNumber b) h i = absurd (stops-differ s a b stuck-byte stuck-number byte-number h i)
+one-fault s (fault.BadByte a) (fault.BadNumber b) h i =
+    absurd (stops-differ s a b stuck-byte stuck-number byte-number h i)
 one-fault s (fault.BadByte a) (fault.OpenText b) h i = absurd (stops-differ s a b stuck-byte stuck-open byte-open h i)
-one-fault s (fault.BadNumber a) (fault.OpenText b) h i = absurd (stops-differ s a b stuck-number stuck-open number-open h i)
-one-fault s (fault.BadNumber a) (fault.BadByte b) h i = absurd (stops-differ s b a stuck-byte stuck-number byte-number i h)
+one-fault s (fault.BadNumber a) (fault.OpenText b) h i =
+    absurd (stops-differ s a b stuck-number stuck-open number-open h i)
+one-fault s (fault.BadNumber a) (fault.BadByte b) h i =
+    absurd (stops-differ s b a stuck-byte stuck-number byte-number i h)
 one-fault s (fault.OpenText a) (fault.BadByte b) h i = absurd (stops-differ s b a stuck-byte stuck-open byte-open i h)
-one-fault s (fault.OpenText a) (fault.BadNumber b) h i = absurd (stops-differ s b a stuck-number stuck-open number-open i h)
+one-fault s (fault.OpenText a) (fault.BadNumber b) h i =
+    absurd (stops-differ s b a stuck-number stuck-open number-open i h)
 one-fault s fault.OutOfMemory g h i = absurd h
 one-fault s f fault.OutOfMemory h i = absurd i
 
 -- At the end of a text nothing is bad.
-end-good : (P : List ℕ → Type 0) (s : List ℕ) (ts : List Token) (a : ℕ) → ((r : List ℕ) → P r → Stuck r) → (P [] → ⊥) → IsTokens s ts → Stops P s a → ⊥
+end-good : (P : List ℕ → Type 0) (s : List ℕ) (ts : List Token) (a : ℕ) → ((r : List ℕ) → P r → Stuck r) → (P [] → ⊥)
+    → IsTokens s ts → Stops P s a → ⊥
 end-good P s ts a p none c h =
-    let e = cut-same s (length s) [] ts a h.rest h.tokens c stuck-end h.before (p h.rest h.bad) in none (subst P (sym e.rest) h.bad)
+    let e = cut-same s (length s) [] ts a h.rest h.tokens c stuck-end h.before (p h.rest h.bad) in
+    none (subst P (sym e.rest) h.bad)
 
 number-some : IsBadNumber [] → ⊥
 number-some h = no-piece h.number.kind h.number.bytes h.rest h.longest.spells h.split
@@ -165,7 +186,8 @@ no-fault s ts (fault.OpenText a) c h = end-good IsOpenText s ts a stuck-open ope
 no-fault s ts fault.OutOfMemory c h = h
 
 -- where the scanner stops is the first fault
-pub first-fault : (s : List ℕ) (at : ℕ) (r : List ℕ) (ts : List Token) (f : LexFault) → CutTo s at (drop at s) ts → r ≡ drop at s → Answers at r (Err f) → IsFirstFault s f
+pub first-fault : (s : List ℕ) (at : ℕ) (r : List ℕ) (ts : List Token) (f : LexFault) → CutTo s at (drop at s) ts
+    → r ≡ drop at s → Answers at r (Err f) → IsFirstFault s f
 first-fault s at r ts (fault.BadByte a) c e h = rw h.0 (record { rest = r; tokens = ts; before = rw e c; bad = h.1 })
 first-fault s at r ts (fault.BadNumber a) c e h = rw h.0 (record { rest = r; tokens = ts; before = rw e c; bad = h.1 })
 first-fault s at r ts (fault.OpenText a) c e h = rw h.0 (record { rest = r; tokens = ts; before = rw e c; bad = h.1 })
@@ -182,22 +204,31 @@ cut-end s at ts c =
     rw e at c
 
 -- one more piece, or the first fault
-reading-step : (n : ℕ) (s : List ℕ) (at b : ℕ) (bs : List ℕ) (ts : List Token) → length (b ∷ bs) ≤ suc n → CutTo s at (b ∷ bs) ts → ((up : ℕ) (rest : List ℕ) (us : List Token) → length rest ≤ n → CutTo s up rest us → Reading s) → (r : Scanned) → Answers at (b ∷ bs) r → Reading s
+reading-step : (n : ℕ) (s : List ℕ) (at b : ℕ) (bs : List ℕ) (ts : List Token) → length (b ∷ bs) ≤ suc n
+    → CutTo s at (b ∷ bs) ts
+    → ((up : ℕ) (rest : List ℕ) (us : List Token) → length rest ≤ n → CutTo s up rest us → Reading s) → (r : Scanned)
+    → Answers at (b ∷ bs) r → Reading s
 reading-step n s at b bs ts h c later (Ok x) a =
     let p = piece_at x (b ∷ bs) in
     let rest = drop x.length (b ∷ bs) in
     let l : length rest ≡ length (b ∷ bs) - x.length = length-drop x.length (b ∷ bs) in
     let some : 0 < x.length = a.1 in
-    later (at + length p.bytes) rest (ts ++ token_of p.kind at (at + length p.bytes)) (omega arith) (cut-more s at (b ∷ bs) rest ts p c a.0)
-reading-step n s at b bs ts h c later (Err (fault.BadByte x)) a = inr (fault.BadByte at, record { rest = b ∷ bs; tokens = ts; before = c; bad = a.1 })
-reading-step n s at b bs ts h c later (Err (fault.BadNumber x)) a = inr (fault.BadNumber at, record { rest = b ∷ bs; tokens = ts; before = c; bad = a.1 })
-reading-step n s at b bs ts h c later (Err (fault.OpenText x)) a = inr (fault.OpenText at, record { rest = b ∷ bs; tokens = ts; before = c; bad = a.1 })
+    later (at + length p.bytes) rest (ts ++ token_of p.kind at (at + length p.bytes)) (omega arith)
+    (cut-more s at (b ∷ bs) rest ts p c a.0)
+reading-step n s at b bs ts h c later (Err (fault.BadByte x)) a =
+    inr (fault.BadByte at, record { rest = b ∷ bs; tokens = ts; before = c; bad = a.1 })
+reading-step n s at b bs ts h c later (Err (fault.BadNumber x)) a =
+    inr (fault.BadNumber at, record { rest = b ∷ bs; tokens = ts; before = c; bad = a.1 })
+reading-step n s at b bs ts h c later (Err (fault.OpenText x)) a =
+    inr (fault.OpenText at, record { rest = b ∷ bs; tokens = ts; before = c; bad = a.1 })
 reading-step n s at b bs ts h c later (Err fault.OutOfMemory) a = absurd a
 
-reading-from : (n : ℕ) (s : List ℕ) (at : ℕ) (rest : List ℕ) (ts : List Token) → length rest ≤ n → CutTo s at rest ts → Reading s
+reading-from : (n : ℕ) (s : List ℕ) (at : ℕ) (rest : List ℕ) (ts : List Token) → length rest ≤ n → CutTo s at rest ts
+    → Reading s
 reading-from n s at [] ts h c = inl (ts, cut-end s at ts c)
 reading-from zero s at (b ∷ bs) ts h c = absurd (omega arith)
-reading-from (suc n) s at (b ∷ bs) ts h c = reading-step n s at b bs ts h c (reading-from n s) (scan_from at b bs) (exact at b bs)
+reading-from (suc n) s at (b ∷ bs) ts h c =
+    reading-step n s at b bs ts h c (reading-from n s) (scan_from at b bs) (exact at b bs)
 
 pub some-reading : (s : List ℕ) → Reading s
 some-reading s = reading-from (length s) s 0 s [] (omega arith) (cut-start s)

@@ -113,3 +113,7 @@ pub record ProgramTree : Type 0 where
   pub declarations : List Declaration
   pub main_at : ℕ
   pub main : Statements
+
+-- the place of an expression's first token
+abbrev pub expression_place : Expression → ℕ
+expression_place (placed at s) = at

@@ -2,11 +2,13 @@
 --   spelling: the bytes of a reserved word or a sign
 --   words, signs, fixed: all of them
 --   is_reserved, is_name: bytes that are a reserved word, and those that are a name
-use Rattle.std.specs.Prelude.{ℕ, Bool, not, ◌&&◌, List, [], ◌∷◌, ◌++◌, nat_eq, codes}
+use Rattle.std.specs.Prelude.{ℕ, Bool, not, ◌&&◌, List, ◌++◌, nat_eq, codes}
 use Rattle.std.specs.List.{list_any}
 use Rattle.std.specs.Cmp.Lexicographic.{pointwise}
 use Rattle.rev_syntax.specs.declared.token.Fixed.{Fixed}
 use Rattle.rev_syntax.specs.declared.token.Fixed.TheVariants as s
+-- the reserved words, and the signs, the longer ones first, each list once, as a constant of the code
+pub use Rattle.rev_syntax.specs.declared.token.TheConstants.{WORDS as words, SIGNS as signs}
 use Rattle.rev_syntax.specs.Bytes.{is_word}
 
 -- the bytes of a reserved word or a sign
@@ -62,22 +64,6 @@ spelling s.Percent = codes "%"
 spelling s.Bang = codes "!"
 spelling s.Less = codes "<"
 spelling s.Greater = codes ">"
-
--- the reserved words
-abbrev pub words : List Fixed
-words =
-    s.Fun ∷ s.Merge ∷ s.Versioned ∷ s.Cumulative ∷ s.By ∷ s.Proc ∷ s.Main ∷ s.KindInt ∷
-    s.KindBool ∷ s.KindRev ∷ s.Let ∷ s.If ∷ s.Else ∷ s.While ∷ s.Call ∷ s.Return ∷ s.Fork ∷
-    s.Join ∷ s.TryJoin ∷ s.Print ∷ s.Assert ∷ s.True ∷ s.False ∷ s.NoRev ∷ s.Input ∷ s.Inputs ∷
-    s.Pick ∷ []
-
--- the signs, the longer ones first
-abbrev pub signs : List Fixed
-signs =
-    s.Equal ∷ s.NotEqual ∷ s.LessEqual ∷ s.GreaterEqual ∷ s.And ∷ s.Or ∷ s.OpenParen ∷
-    s.CloseParen ∷ s.OpenBrace ∷ s.CloseBrace ∷ s.OpenBracket ∷ s.CloseBracket ∷ s.Comma ∷
-    s.Semicolon ∷ s.Colon ∷ s.Assign ∷ s.Plus ∷ s.Minus ∷ s.Star ∷ s.Slash ∷ s.Percent ∷ s.Bang ∷
-    s.Less ∷ s.Greater ∷ []
 
 -- all of them
 abbrev pub fixed : List Fixed

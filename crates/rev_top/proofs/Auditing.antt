@@ -11,14 +11,14 @@ use Rattle.revision_calculus.specs.Kinded.{IsAccepted}
 use Rattle.trace_diagram.specs.Traces.{IsFirstFault, IsTextOf, IsTraceText}
 use Rattle.trace_diagram.specs.declared.diagram.Trace.{Trace}
 use Rattle.trace_diagram.proofs.Faults.{fault_is_no_text, one_fault}
-use Rattle.trace_readings.proofs.Texts.{each_is_read_or_fails}
-use Rattle.trace_source.specs.Dividing.{Divides, DividesOnce}
-use Rattle.trace_source.proofs.Dividing.{sources_divide_once}
+use Rattle.trace_laws.proofs.Texts.{each_is_read_or_fails}
+use Rattle.trace_diagram.specs.Dividing.{Divides, DividesOnce}
+use Rattle.trace_diagram.proofs.Dividing.{sources_divide_once}
 use Rattle.audit_rules.specs.declared.verdict.Verdict.{Verdict}
 use Rattle.audit_rules.specs.declared.verdict.Verdict.TheVariants as verdict
 use Rattle.audit_rules.proofs.Verdicts.{each_has_one}
-use Rattle.trace_verdicts.specs.Verdicts.{SameVerdict}
-use Rattle.trace_verdicts.proofs.OneVerdict.{text_has_one}
+use Rattle.trace_laws.specs.Verdicts.{SameVerdict}
+use Rattle.trace_laws.proofs.OneVerdict.{text_has_one}
 use Rattle.rev_top.specs.Answer.{Answer, AuditsTrace, setting}
 use Rattle.rev_top.specs.Stages.{Onward}
 use Rattle.rev_top.specs.Traces.{Judges, Parts, ReadsTrace, Splits, answer_of}
@@ -33,7 +33,8 @@ one_parts all p q h k =
     let b = one.only q.text q.trace k in
     let text : p.text ≡ q.text = a.0 ∙ sym b.0 in
     let trace : p.trace ≡ q.trace = a.1 ∙ sym b.1 in
-    ap (λ (x : List ℕ). record { text = x; trace = p.trace }) text ∙ ap (λ (x : List ℕ). record { text = q.text; trace = x }) trace
+    ap (λ (x : List ℕ). record { text = x; trace = p.trace }) text
+    ∙ ap (λ (x : List ℕ). record { text = q.text; trace = x }) trace
 
 pub one_split : (all : List ℕ) → One (Splits all)
 one_split all (Ok p) (Ok q) h k = ap (λ (x : Parts). Ok x) (one_parts all p q h.0 k.0)
@@ -85,7 +86,10 @@ module _ (w : Words) (p : ProgramTree) (accepted : IsAccepted p) (bytes : List �
       go (Ok t) (Err g) r s on on2 = absurd (fault_is_no_text bytes s.0 s.1 (t, r))
       go (Err f) (Ok u) r s on on2 = absurd (fault_is_no_text bytes r.0 r.1 (u, s))
       go (Err f) (Err g) r s on on2 =
-          on ∙ ap (λ (x : Refusal). Err x) (r.2 ∙ ap (λ (n : ℕ). refusals.Trace n) (one_fault bytes r.0 s.0 r.1 s.1) ∙ sym s.2) ∙ sym on2
+          on
+          ∙ ap (λ (x : Refusal). Err x)
+          (r.2 ∙ ap (λ (n : ℕ). refusals.Trace n) (one_fault bytes r.0 s.0 r.1 s.1) ∙ sym s.2)
+          ∙ sym on2
 
   pub some_audited : (a : Answer) × AuditsTrace w bytes p a
   some_audited = go (each_is_read_or_fails bytes)

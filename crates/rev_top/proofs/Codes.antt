@@ -32,13 +32,15 @@ abbrev failed : ReadFault → Reading Code
 failed f = Failed f
 
 one_file : (bytes : List ℕ) → One (ReadsFile bytes)
-one_file bytes (Ok c) (Ok d) h k = let e : Got c [] ≡ Got d [] = sym h ∙ k in let same : c ≡ d = cc in ap (λ (x : Code). Ok x) same
+one_file bytes (Ok c) (Ok d) h k =
+    let e : Got c [] ≡ Got d [] = sym h ∙ k in let same : c ≡ d = cc in ap (λ (x : Code). Ok x) same
 one_file bytes (Ok c) (Err s) h k = let e : Got c [] ≡ Failed k.fault = sym h ∙ k.comes in absurd (cc)
 one_file bytes (Err r) (Ok d) h k = let e : Got d [] ≡ Failed h.fault = sym k ∙ h.comes in absurd (cc)
 one_file bytes (Err r) (Err s) h k =
     let e : failed h.fault ≡ failed k.fault = sym h.comes ∙ k.comes in
     let same : h.fault ≡ k.fault = cc in
-    ap (λ (x : Refusal). Err x) (one_some r s (report_of_file k.fault) (ap report_of_file (sym same) ∙ h.reported) k.reported)
+    ap (λ (x : Refusal). Err x)
+    (one_some r s (report_of_file k.fault) (ap report_of_file (sym same) ∙ h.reported) k.reported)
 
 -- a refusal that is reported is the first fault of the code
 found_fault : (c : Code) (e : CodeFault) (r : Refusal) → IsRefusal c e → report_of_code e ≡ Some r
@@ -65,7 +67,8 @@ one_rules c (Err r) (Err s) h k =
     let both : Some f.0 ≡ Some g.0 = sym f.1 ∙ g.1 in
     let same : f.0 ≡ g.0 = cc in
     let faults : h.fault ≡ k.fault = f.2 ∙ ap fault_of same ∙ sym g.2 in
-    ap (λ (x : Refusal). Err x) (one_some r s (report_of_code k.fault) (ap report_of_code (sym faults) ∙ h.reported) k.reported)
+    ap (λ (x : Refusal). Err x)
+    (one_some r s (report_of_code k.fault) (ap report_of_code (sym faults) ∙ h.reported) k.reported)
 
 pub one_code : (bytes : List ℕ) → One (ChecksCode bytes)
 unfolding ChecksCode
@@ -84,7 +87,8 @@ file_told read.OutOfMemory real = absurd (real refl)
 some_file : (bytes : List ℕ) → (found : Result Code Refusal) × ReadsFile bytes found
 some_file bytes = go (each_read bytes)
   where
-    go : ((c : Code) × (reading bytes ≡ Got c [])) ⊎ ((f : ReadFault) × (reading bytes ≡ Failed f) × (f ≢ read.OutOfMemory))
+    go : ((c : Code) × (reading bytes ≡ Got c []))
+        ⊎ ((f : ReadFault) × (reading bytes ≡ Failed f) × (f ≢ read.OutOfMemory))
         → (found : Result Code Refusal) × ReadsFile bytes found
     go (inl h) = (Ok h.0, h.1)
     go (inr h) = let told = file_told h.0 h.2 in (Err told.0, record { fault = h.0; comes = h.1; reported = told.1 })
@@ -92,13 +96,20 @@ some_file bytes = go (each_read bytes)
 -- a fault of code is reported
 fault_told : (c : Code) (r : Rule) (block at : ℕ) → first_fault c ≡ Some (record { block = block; at = at; rule = r })
     → (s : Refusal) × Reports (IsRefusal c) report_of_code s
-fault_told c rule.BadJump block at is = (_, record { fault = code.BadJump block at; comes = (_, is, refl); reported = refl })
-fault_told c rule.BadOperand block at is = (_, record { fault = code.BadOperand block at; comes = (_, is, refl); reported = refl })
-fault_told c rule.StackShape block at is = (_, record { fault = code.StackShape block at; comes = (_, is, refl); reported = refl })
-fault_told c rule.WrongKind block at is = (_, record { fault = code.WrongKind block at; comes = (_, is, refl); reported = refl })
-fault_told c rule.BadLocal block at is = (_, record { fault = code.BadLocal block at; comes = (_, is, refl); reported = refl })
-fault_told c rule.FallsOff block at is = (_, record { fault = code.FallsOff block at; comes = (_, is, refl); reported = refl })
-fault_told c rule.LimitOf block at is = (_, record { fault = code.LimitOf block at; comes = (_, is, refl); reported = refl })
+fault_told c rule.BadJump block at is =
+    (_, record { fault = code.BadJump block at; comes = (_, is, refl); reported = refl })
+fault_told c rule.BadOperand block at is =
+    (_, record { fault = code.BadOperand block at; comes = (_, is, refl); reported = refl })
+fault_told c rule.StackShape block at is =
+    (_, record { fault = code.StackShape block at; comes = (_, is, refl); reported = refl })
+fault_told c rule.WrongKind block at is =
+    (_, record { fault = code.WrongKind block at; comes = (_, is, refl); reported = refl })
+fault_told c rule.BadLocal block at is =
+    (_, record { fault = code.BadLocal block at; comes = (_, is, refl); reported = refl })
+fault_told c rule.FallsOff block at is =
+    (_, record { fault = code.FallsOff block at; comes = (_, is, refl); reported = refl })
+fault_told c rule.LimitOf block at is =
+    (_, record { fault = code.LimitOf block at; comes = (_, is, refl); reported = refl })
 
 some_rules : (c : Code) → (found : Result Code Refusal) × KeepsCodeRules c found
 some_rules c = go (first_fault c) refl
@@ -111,7 +122,8 @@ pub some_code : (bytes : List ℕ) → (found : Result Code Refusal) × ChecksCo
 unfolding ChecksCode
 some_code bytes = let one = some_file bytes in go one.0 one.1
   where
-    go : (found : Result Code Refusal) → ReadsFile bytes found → (last : Result Code Refusal) × Then (ReadsFile bytes) KeepsCodeRules last
+    go : (found : Result Code Refusal) → ReadsFile bytes found
+        → (last : Result Code Refusal) × Then (ReadsFile bytes) KeepsCodeRules last
     go (Ok c) h = let next = some_rules c in (next.0, (Ok c, h, next.1))
     go (Err f) h = (Err f, (Err f, h, refl))
 
@@ -163,7 +175,8 @@ module _ {X : Type 0} (view : X → Code) where
   pub no_file : (bytes : List ℕ) (f : ReadFault) (e : Stop) → e ≡ stop_of (report_of_file f)
       → (f ≢ read.OutOfMemory → reading bytes ≡ Failed f) → Meets view (Err e) (ReadsFile bytes)
   no_file bytes f e is h =
-      refuses report_of_file read.OutOfMemory refl (λ g. reading bytes ≡ Failed g) (ReadsFile bytes) (λ r x. x) view f e is h
+      refuses report_of_file read.OutOfMemory refl (λ g. reading bytes ≡ Failed g) (ReadsFile bytes) (λ r x. x) view f e
+      is h
 
   pub no_rules : (c : Code) (f : CodeFault) (e : Stop) → e ≡ stop_of (report_of_code f) → IsRefusal c f
       → Meets view (Err e) (KeepsCodeRules c)

@@ -45,11 +45,14 @@ use Rattle.rev_top.proofs.Stages.{One, one_then, refusal_of, refuses}
 
 module _ {F : Type 0} (place rank : F → ℕ) (report : F → Option Refusal) (by : ℕ → ℕ → Option Refusal) (fs : List F)
     (by_rank : (f : F) → Among fs f → report f ≡ by (place f) (rank f)) where
-  one_report : (r s : Refusal) → Reports (IsFirst place rank fs) report r → Reports (IsFirst place rank fs) report s → r ≡ s
+  one_report : (r s : Refusal) → Reports (IsFirst place rank fs) report r → Reports (IsFirst place rank fs) report s
+      → r ≡ s
   one_report r s h k =
       let both = one_first place rank fs h.fault k.fault h.comes k.comes in
-      let same : by (place h.fault) (rank h.fault) ≡ by (place k.fault) (rank k.fault) = ap (λ n. by n (rank h.fault)) both.0 ∙ ap (λ n. by (place k.fault) n) both.1 in
-      let some : Some r ≡ Some s = sym h.reported ∙ by_rank h.fault h.comes.among ∙ same ∙ sym (by_rank k.fault k.comes.among) ∙ k.reported in
+      let same : by (place h.fault) (rank h.fault) ≡ by (place k.fault) (rank k.fault) =
+      ap (λ n. by n (rank h.fault)) both.0 ∙ ap (λ n. by (place k.fault) n) both.1 in
+      let some : Some r ≡ Some s =
+      sym h.reported ∙ by_rank h.fault h.comes.among ∙ same ∙ sym (by_rank k.fault k.comes.among) ∙ k.reported in
       cc
 
 -- the report of a fault by its place and its rank
@@ -97,14 +100,16 @@ limits_by_rank text at limits.Locals = refl
 limits_by_rank text at limits.Items = refl
 limits_by_rank text at limits.Weight = refl
 
-types_by_rank : (text : List ℕ) (f : TypeFault) → types.HasLimit f → report_of_types text f ≡ types_by text (types.place f) (types.rank f)
+types_by_rank : (text : List ℕ) (f : TypeFault) → types.HasLimit f
+    → report_of_types text f ≡ types_by text (types.place f) (types.rank f)
 unfolding over limits_by types_by
 types_by_rank text (type.UnknownName at) own = refl
 types_by_rank text (type.Redeclared at) own = refl
 types_by_rank text (type.WrongType at) own = refl
 types_by_rank text (type.WrongCount at) own = refl
 types_by_rank text (type.NoReturn at) own = refl
-types_by_rank text (type.LimitOf at w n) own = ap (λ (x : ℕ). Some (refusals.OverLimit (place_in text at) x w)) own ∙ limits_by_rank text at w
+types_by_rank text (type.LimitOf at w n) own =
+    ap (λ (x : ℕ). Some (refusals.OverLimit (place_in text at) x w)) own ∙ limits_by_rank text at w
 types_by_rank text type.OutOfMemory own = refl
 
 -- ---- each stage has one value or refusal at most
@@ -132,7 +137,9 @@ one_funs text p (Ok q) (Ok r) h k = ap (λ (x : ProgramTree). Ok x) (h.0 ∙ sym
 one_funs text p (Ok q) (Err s) h k = absurd (h.1 k.fault k.comes.broken)
 one_funs text p (Err r) (Ok q) h k = absurd (k.1 h.fault h.comes.broken)
 one_funs text p (Err r) (Err s) h k =
-    ap (λ (x : Refusal). Err x) (one_report funs.place funs.rank (report_of_funs text) (funs_by text) (funs.fun_faults p) (λ f among. funs_by_rank text f) r s (of_fun_list text p r h) (of_fun_list text p s k))
+    ap (λ (x : Refusal). Err x)
+    (one_report funs.place funs.rank (report_of_funs text) (funs_by text) (funs.fun_faults p)
+    (λ f among. funs_by_rank text f) r s (of_fun_list text p r h) (of_fun_list text p s k))
 
 -- the first rule that is broken is the first of the checker's list
 of_list : (text : List ℕ) (p : ProgramTree) (r : Refusal)
@@ -143,11 +150,15 @@ of_list text p r h = record { fault = h.fault; comes = (same_first p h.fault).1 
 one_types : (text : List ℕ) (p : ProgramTree) → One (KeepsTypes text p)
 one_types text p (Ok q) (Ok r) h k = ap (λ (x : ProgramTree). Ok x) (h.0 ∙ sym k.0)
 one_types text p (Ok q) (Err s) h k =
-    absurd (no_first types.place types.rank (program.faults p) k.fault (none_listed p h.1) ((same_first p k.fault).1 k.comes))
+    absurd (no_first types.place types.rank (program.faults p) k.fault (none_listed p h.1)
+    ((same_first p k.fault).1 k.comes))
 one_types text p (Err r) (Ok q) h k =
-    absurd (no_first types.place types.rank (program.faults p) h.fault (none_listed p k.1) ((same_first p h.fault).1 h.comes))
+    absurd (no_first types.place types.rank (program.faults p) h.fault (none_listed p k.1)
+    ((same_first p h.fault).1 h.comes))
 one_types text p (Err r) (Err s) h k =
-    ap (λ (x : Refusal). Err x) (one_report types.place types.rank (report_of_types text) (types_by text) (program.faults p) (λ f among. types_by_rank text f (own_limits p f among)) r s (of_list text p r h) (of_list text p s k))
+    ap (λ (x : Refusal). Err x)
+    (one_report types.place types.rank (report_of_types text) (types_by text) (program.faults p)
+    (λ f among. types_by_rank text f (own_limits p f among)) r s (of_list text p r h) (of_list text p s k))
 
 pub one_check : (text : List ℕ) → One (Checks text)
 unfolding Checks
@@ -197,8 +208,10 @@ lexical_of_text text lex.OutOfMemory r is = cc
 
 syntax_of_text : (text : List ℕ) (v : Verdict) (r : Refusal) → Err r ≡ reading text v → IsOfText r
 syntax_of_text text (tree p) r is = cc
-syntax_of_text text (unexpected at) r is = let e : Some (fault_at text at (unexpected_at text at)) ≡ Some r = cc in same_refusal _ r tt e
-syntax_of_text text (too_deep at) r is = let e : Some (fault_at text at fault.TooDeep) ≡ Some r = cc in same_refusal _ r tt e
+syntax_of_text text (unexpected at) r is =
+    let e : Some (fault_at text at (unexpected_at text at)) ≡ Some r = cc in same_refusal _ r tt e
+syntax_of_text text (too_deep at) r is =
+    let e : Some (fault_at text at fault.TooDeep) ≡ Some r = cc in same_refusal _ r tt e
 
 funs_of_text : (text : List ℕ) (f : MergeFault) (r : Refusal) → report_of_funs text f ≡ Some r → IsOfText r
 funs_of_text text (fun.UnknownFun at) r is = same_refusal _ r tt is
@@ -232,22 +245,28 @@ text_refused text r h = status_of_text r (check_of_text text r h)
 module _ {X : Type 0} (text : List ℕ) where
   pub no_tokens : (view : X → List Token) (f : LexFault) (e : Stop) → e ≡ stop_of (report_of_lexical text f)
       → (f ≢ lex.OutOfMemory → IsFirstFault text f) → Meets view (Err e) (Cuts text)
-  no_tokens view f e is h = refuses (report_of_lexical text) lex.OutOfMemory refl (IsFirstFault text) (Cuts text) (λ r x. x) view f e is h
+  no_tokens view f e is h =
+      refuses (report_of_lexical text) lex.OutOfMemory refl (IsFirstFault text) (Cuts text) (λ r x. x) view f e is h
 
   module _ (view : X → ProgramTree) where
     pub no_tree : (ts : List Token) (f : SyntaxFault) (e : Stop) → e ≡ stop_of (report_of_syntax text f)
         → Parses text ts (Err f) → Meets view (Err e) (Reads text ts)
     no_tree ts f e is h = subst (λ (x : Stop). Meets view (Err x) (Reads text ts)) (sym is) (go f h)
       where
-        go : (g : SyntaxFault) → Parses text ts (Err g) → Meets view (Err (stop_of (report_of_syntax text g))) (Reads text ts)
+        go : (g : SyntaxFault) → Parses text ts (Err g)
+            → Meets view (Err (stop_of (report_of_syntax text g))) (Reads text ts)
         go (syntax.Unexpected at) k = (unexpected at, k, refl)
         go (syntax.TooDeep at) k = (too_deep at, k, refl)
         go syntax.OutOfMemory k = tt
 
     pub no_funs : (p : ProgramTree) (f : MergeFault) (e : Stop) → e ≡ stop_of (report_of_funs text f)
         → expands.Refuses p f → Meets view (Err e) (KeepsFuns text p)
-    no_funs p f e is h = refuses (report_of_funs text) fun.OutOfMemory refl (IsFirstBrokenFun p) (KeepsFuns text p) (λ r x. x) view f e is (λ n. (same_first_fun p f).0 (h n))
+    no_funs p f e is h =
+        refuses (report_of_funs text) fun.OutOfMemory refl (IsFirstBrokenFun p) (KeepsFuns text p) (λ r x. x) view f e
+        is (λ n. (same_first_fun p f).0 (h n))
 
     pub no_types : (p : ProgramTree) (f : TypeFault) (e : Stop) → e ≡ stop_of (report_of_types text f)
         → tables.Refuses p f → Meets view (Err e) (KeepsTypes text p)
-    no_types p f e is h = refuses (report_of_types text) type.OutOfMemory refl (IsFirstBroken p) (KeepsTypes text p) (λ r x. x) view f e is (λ n. (same_first p f).0 (h n))
+    no_types p f e is h =
+        refuses (report_of_types text) type.OutOfMemory refl (IsFirstBroken p) (KeepsTypes text p) (λ r x. x) view f e
+        is (λ n. (same_first p f).0 (h n))

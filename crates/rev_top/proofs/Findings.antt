@@ -37,7 +37,8 @@ module _ (text : List ℕ) (short : length text ≤ source_limit) where
   no_tokens : {X : Type 0} (f : LexFault) (v : Verdict) → IsFirstFault text f → HasVerdict text v → X
   no_tokens f v h k = absurd (no-fault text k.tokens f k.cut h)
 
-  no_tree : {X : Type 0} (v : Verdict) (p : ProgramTree) → HasVerdict text v → IsSyntaxFault v → HasVerdict text (tree p) → X
+  no_tree : {X : Type 0} (v : Verdict) (p : ProgramTree) → HasVerdict text v → IsSyntaxFault v
+      → HasVerdict text (tree p) → X
   no_tree v p h is k = absurd (subst (λ (w : Verdict). IsSyntaxFault w) (one_of_verdicts v (tree p) h k) is)
 
   small : (p : ProgramTree) → HasVerdict text (tree p) → IsSmall p
@@ -74,7 +75,8 @@ module _ (text : List ℕ) (short : length text ≤ source_limit) where
   finding_by p (None, Some g) = of_rules p g
   finding_by p (None, None) = accepted p
 
-  found_by : (p : ProgramTree) → HasVerdict text (tree p) → (o : Outcome p) → IsFinding text (finding_by p (fault_in p o))
+  found_by : (p : ProgramTree) → HasVerdict text (tree p) → (o : Outcome p)
+      → IsFinding text (finding_by p (fault_in p o))
   unfolding finding_by
   found_by p h (outcome.of_funs f k) = (h, k)
   found_by p h (outcome.accepted kept k) = (h, kept, k)
@@ -89,9 +91,15 @@ module _ (text : List ℕ) (short : length text ≤ source_limit) where
     unfolding finding_by
     of_this (lexical g) k = no_tokens g (tree p) k h
     of_this (syntax v) k = no_tree v p k.0 k.1 h
-    of_this (of_funs q g) k = subst (λ (r : ProgramTree). IsFinding text (of_funs r g) → of_funs r g ≡ finding_by p (fault_in p o)) (sym (one_tree p q h k.0)) (λ l. same_outcome (outcome.of_funs g l.1)) k
-    of_this (of_rules q g) k = subst (λ (r : ProgramTree). IsFinding text (of_rules r g) → of_rules r g ≡ finding_by p (fault_in p o)) (sym (one_tree p q h k.0)) (λ l. same_outcome (outcome.of_types l.1 g l.2)) k
-    of_this (accepted q) k = subst (λ (r : ProgramTree). IsFinding text (accepted r) → accepted r ≡ finding_by p (fault_in p o)) (sym (one_tree p q h k.0)) (λ l. same_outcome (outcome.accepted l.1 l.2)) k
+    of_this (of_funs q g) k =
+        subst (λ (r : ProgramTree). IsFinding text (of_funs r g) → of_funs r g ≡ finding_by p (fault_in p o))
+        (sym (one_tree p q h k.0)) (λ l. same_outcome (outcome.of_funs g l.1)) k
+    of_this (of_rules q g) k =
+        subst (λ (r : ProgramTree). IsFinding text (of_rules r g) → of_rules r g ≡ finding_by p (fault_in p o))
+        (sym (one_tree p q h k.0)) (λ l. same_outcome (outcome.of_types l.1 g l.2)) k
+    of_this (accepted q) k =
+        subst (λ (r : ProgramTree). IsFinding text (accepted r) → accepted r ≡ finding_by p (fault_in p o))
+        (sym (one_tree p q h k.0)) (λ l. same_outcome (outcome.accepted l.1 l.2)) k
 
   -- ---- all cases
 
@@ -99,11 +107,14 @@ module _ (text : List ℕ) (short : length text ≤ source_limit) where
   of_verdict (tree p) h =
       let o = (has_one p (small p h)).outcome in
       record { finding = finding_by p (fault_in p o); found = found_by p h o; each = of_this p h o }
-  of_verdict (unexpected at) h = record { finding = syntax (unexpected at); found = (h, tt); each = at_syntax (unexpected at) h tt }
-  of_verdict (too_deep at) h = record { finding = syntax (too_deep at); found = (h, tt); each = at_syntax (too_deep at) h tt }
+  of_verdict (unexpected at) h =
+      record { finding = syntax (unexpected at); found = (h, tt); each = at_syntax (unexpected at) h tt }
+  of_verdict (too_deep at) h =
+      record { finding = syntax (too_deep at); found = (h, tt); each = at_syntax (too_deep at) h tt }
 
   of_reading : Reading text → IsOnly
-  of_reading (inl h) = let v = some_verdict text h.0 in of_verdict v.0 (record { tokens = h.0; cut = h.1; verdict = v.1 })
+  of_reading (inl h) =
+      let v = some_verdict text h.0 in of_verdict v.0 (record { tokens = h.0; cut = h.1; verdict = v.1 })
   of_reading (inr h) = record { finding = lexical h.0; found = h.1; each = at_lexical h.0 h.1 }
 
   -- ---- what is accepted
@@ -111,7 +122,9 @@ module _ (text : List ℕ) (short : length text ≤ source_limit) where
   is_ready : (p : ProgramTree) → IsFinding text (accepted p) → IsReady p
   is_ready p h = record { small = small p h.0; funs = (funs_kept p).1 h.1; rules = accepts p h.2 }
 
-  of_kept : (ts : List Token) (p q : ProgramTree) → IsTokens text ts → IsVerdict text ts (tree p) → (a : Result ProgramTree Refusal) → KeepsFuns text p a → Onward (KeepsTypes text) a (Ok q) → IsFinding text (accepted q)
+  of_kept : (ts : List Token) (p q : ProgramTree) → IsTokens text ts → IsVerdict text ts (tree p)
+      → (a : Result ProgramTree Refusal) → KeepsFuns text p a → Onward (KeepsTypes text) a (Ok q)
+      → IsFinding text (accepted q)
   of_kept ts p q cut v (Ok r) h k =
       let e : q ≡ p = k.0 ∙ h.0 in
       let d : r ≡ p = h.0 in
@@ -120,13 +133,17 @@ module _ (text : List ℕ) (short : length text ≤ source_limit) where
       (here, h.1, (typed_where_none p (small p here) h.1).0 (subst (λ (x : ProgramTree). BreaksNone x) d k.1)))
   of_kept ts p q cut v (Err f) h k = cc
 
-  of_read : (ts : List Token) (q : ProgramTree) → IsTokens text ts → (v : Verdict) → IsVerdict text ts v → Onward (ChecksTree text) (reading text v) (Ok q) → IsFinding text (accepted q)
+  of_read : (ts : List Token) (q : ProgramTree) → IsTokens text ts → (v : Verdict) → IsVerdict text ts v
+      → Onward (ChecksTree text) (reading text v) (Ok q) → IsFinding text (accepted q)
   of_read ts q cut (tree p) v k = of_kept ts p q cut v k.0 k.1 k.2
   of_read ts q cut (unexpected at) v k = cc
   of_read ts q cut (too_deep at) v k = cc
 
-  of_cut : (q : ProgramTree) (c : Result (List Token) Refusal) → Cuts text c → Onward (ChecksTokens text) c (Ok q) → IsFinding text (accepted q)
-  of_cut q (Ok ts) cut k = of_read ts q cut k.1.0 k.1.1 (subst (λ (a : Result ProgramTree Refusal). Onward (ChecksTree text) a (Ok q)) k.1.2 k.2)
+  of_cut : (q : ProgramTree) (c : Result (List Token) Refusal) → Cuts text c → Onward (ChecksTokens text) c (Ok q)
+      → IsFinding text (accepted q)
+  of_cut q (Ok ts) cut k =
+      of_read ts q cut k.1.0 k.1.1
+      (subst (λ (a : Result ProgramTree Refusal). Onward (ChecksTree text) a (Ok q)) k.1.2 k.2)
   of_cut q (Err f) cut k = cc
 
   of_check : (q : ProgramTree) → Checks text (Ok q) → IsFinding text (accepted q)
@@ -135,7 +152,8 @@ module _ (text : List ℕ) (short : length text ≤ source_limit) where
 
   to_check : (q : ProgramTree) → IsFinding text (accepted q) → Checks text (Ok q)
   unfolding Checks
-  to_check q h = (Ok h.0.tokens, h.0.cut, (Ok q, (tree q, h.0.verdict, refl), (Ok q, (refl, h.1), (refl, none_broken q h.2))))
+  to_check q h =
+      (Ok h.0.tokens, h.0.cut, (Ok q, (tree q, h.0.verdict, refl), (Ok q, (refl, h.1), (refl, none_broken q h.2))))
 
   front : HasOneFinding text
   front =

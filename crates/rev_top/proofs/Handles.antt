@@ -2,12 +2,11 @@
 use Rattle.std.proofs.Common.{◌≡◌, ◌∙◌, ◌<◌, ◌≤◌, ◌⊎◌, inl, inr, refl, sym, subst, ap, ℕ, List, arith}
 use Rattle.std.specs.Prelude.{Option, Some, None, Result, Ok, Err}
 use Rattle.rev_syntax.specs.Trees.{ProgramTree}
-use Rattle.merge_decl.specs.Least.{IsBefore}
 use Rattle.rev_messages.specs.Refusals.{status_of}
 use Rattle.rev_messages.specs.declared.refusal.Refusal.{Refusal}
 use Rattle.revision_calculus.specs.Kinded.{IsAccepted}
 use Rattle.revision_calculus.proofs.FunKinds.{rules_kept}
-use Rattle.rev_affine.specs.Affine.{Breach, copied, stored, used_twice, in_loop, Breakage, IsAffine, IsFirstBroken, number}
+use Rattle.rev_affine.specs.Affine.{Breach, copied, stored, used_twice, in_loop, Breakage, IsFirstBroken, number}
 use Rattle.rev_affine.specs.Laws.{Decides}
 use Rattle.rev_affine.specs.Places.{first_breakage}
 use Rattle.rev_affine.proofs.Places.{decided}
@@ -44,11 +43,14 @@ same_pair a b m n (inl x) (inr y) = absurd (let e = y.0 in omega (arith, x, e))
 same_pair a b m n (inr x) (inl y) = absurd (let e = x.0 in omega (arith, y, e))
 same_pair a b m n (inr x) (inr y) = (x.0, (let p = x.1 in let q = y.1 in omega (arith, p, q)))
 
-one_first : (text : List ℕ) (p : ProgramTree) (f g : Breakage) → IsFirstBroken p f → IsFirstBroken p g → fault_at text f.at (breach_fault f.how) ≡ fault_at text g.at (breach_fault g.how)
+one_first : (text : List ℕ) (p : ProgramTree) (f g : Breakage) → IsFirstBroken p f → IsFirstBroken p g
+    → fault_at text f.at (breach_fault f.how) ≡ fault_at text g.at (breach_fault g.how)
 one_first text p f g h k =
-    let pair = same_pair f.at g.at (number f.how) (number g.how) (h.first g.how g.at k.broken) (k.first f.how f.at h.broken) in
+    let pair =
+    same_pair f.at g.at (number f.how) (number g.how) (h.first g.how g.at k.broken) (k.first f.how f.at h.broken) in
     let how = same_breach f.how g.how pair.1 in
-    ap (λ (n : ℕ). fault_at text n (breach_fault f.how)) pair.0 ∙ ap (λ (b : Breach). fault_at text g.at (breach_fault b)) how
+    ap (λ (n : ℕ). fault_at text n (breach_fault f.how)) pair.0
+    ∙ ap (λ (b : Breach). fault_at text g.at (breach_fault b)) how
 
 pub one_affine : (text : List ℕ) (p : ProgramTree) → One (KeepsAffine text p)
 one_affine text p (Ok q) (Ok r) h k = ap (λ (x : ProgramTree). Ok x) (h.0 ∙ sym k.0)
@@ -56,7 +58,8 @@ one_affine text p (Ok q) (Err s) h k = absurd (h.1 k.0.how k.0.at k.1.broken)
 one_affine text p (Err r) (Ok q) h k = absurd (k.1 h.0.how h.0.at h.1.broken)
 one_affine text p (Err r) (Err s) h k = ap (λ (x : Refusal). Err x) (h.2 ∙ one_first text p h.0 k.0 h.1 k.1 ∙ sym k.2)
 
-pub some_affine : (text : List ℕ) (p : ProgramTree) → IsAccepted p → (found : Result ProgramTree Refusal) × KeepsAffine text p found
+pub some_affine : (text : List ℕ) (p : ProgramTree) → IsAccepted p
+    → (found : Result ProgramTree Refusal) × KeepsAffine text p found
 some_affine text p accepted = by (first_breakage p) (decided p (rules_kept p accepted))
   where
     by : (o : Option Breakage) → Decides p o → (found : Result ProgramTree Refusal) × KeepsAffine text p found
@@ -67,7 +70,8 @@ pub affine_refused : (text : List ℕ) (p : ProgramTree) (f : Refusal) → Keeps
 affine_refused text p f h = ap status_of h.2
 
 -- what the checker refuses is refused
-pub refuses_affine : {X : Type 0} (view : X → ProgramTree) (text : List ℕ) (p : ProgramTree) (f : AffineFault) (e : Stop)
+pub refuses_affine :
+    {X : Type 0} (view : X → ProgramTree) (text : List ℕ) (p : ProgramTree) (f : AffineFault) (e : Stop)
     → e ≡ stop_of (report_of_affine text f) → Refuses p f → Meets view (Err e) (KeepsAffine text p)
 refuses_affine view text p f e is h = subst (λ (x : Stop). Meets view (Err x) (KeepsAffine text p)) (sym is) (go f h)
   where

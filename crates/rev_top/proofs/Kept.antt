@@ -13,6 +13,7 @@ use Rattle.rev_top.specs.Promises.{Calm, Cut, Feeds, IsPartOf, IsRefused, IsWrit
 use Rattle.rev_top.specs.Rans.{Happened, answered, no_report}
 use Rattle.rev_top.proofs.Answering.{Why, answer_to, at_most_5, failed, out_of, plain, unread, why}
 use Rattle.rev_top.proofs.OneAnswers.{one_answer_to}
+use Rattle.rev_top.proofs.Writing.{written}
 
 has_none : (w : Option Words) → is_some w ≡ true → w ≡ None → ⊥
 has_none None some none = cc
@@ -22,13 +23,18 @@ unread_of : (r : Option ℕ) (old new : Stream) → Takes r old new → r ≡ No
 unread_of None old new h is = h
 unread_of (Some limit) old new h is = cc
 
-most_of : (r : Option ℕ) (old new : Stream) → Takes r old new → (limit : ℕ) → r ≡ Some limit → GaveAtMost (limit + 1) old new
+most_of : (r : Option ℕ) (old new : Stream) → Takes r old new → (limit : ℕ) → r ≡ Some limit
+    → GaveAtMost (limit + 1) old new
 most_of None old new h limit is = cc
-most_of (Some most) old new h limit is = let same : most ≡ limit = cc in subst (λ (n : ℕ). GaveAtMost (n + 1) old new) same h
+most_of (Some most) old new h limit is =
+    let same : most ≡ limit = cc in subst (λ (n : ℕ). GaveAtMost (n + 1) old new) same h
 
 -- what took all took a first part, and so did what took nothing
 some_of : (old new : Stream) (bytes : List ℕ) → Took old bytes new → TookSome old bytes new
-some_of old new bytes h held told = (length bytes, h.told held told ∙ ap (λ (t : List ℕ). Some (held ++ t)) (sym (take_all (length bytes) bytes (omega arith))))
+some_of old new bytes h held told = (
+  length bytes,
+  h.told held told ∙ ap (λ (t : List ℕ). Some (held ++ t)) (sym (take_all (length bytes) bytes (omega arith))),
+)
 
 none_of : (old new : Stream) (bytes : List ℕ) → new ≡ old → TookSome old bytes new
 none_of old new bytes same held told = (0, ap (λ (x : Stream). x.told) same ∙ told ∙ grind rules)
@@ -59,7 +65,8 @@ module _ (w : Option Words) (old new : Stream) (Sinks : Type 0) (status : ℕ) w
   read_fault_of (inr (inl both)) at = absurd (omega (arith, both.0))
   read_fault_of (inr (inr is)) at = absurd (omega arith)
 
-  source_failed_of : (w ≡ None → new ≡ old) → Causes w old new Sinks status → old.faults < new.faults → (status ≡ 5) ⊎ Cut status
+  source_failed_of : (w ≡ None → new ≡ old) → Causes w old new Sinks status → old.faults < new.faults
+      → (status ≡ 5) ⊎ Cut status
   source_failed_of same (inl (unread none is)) rose = absurd (omega (arith, ap (λ (x : Stream). x.faults) (same none)))
   source_failed_of same (inl (failed a b c is)) rose = inl is
   source_failed_of same (inl (plain a calm most)) rose = absurd (omega arith)
@@ -72,8 +79,10 @@ module _ (w : Option Words) (old new : Stream) (Sinks : Type 0) (status : ℕ) w
   write_fault_of (inr (inr is)) at = absurd (omega arith)
 
 module _ (w : Option Words) (source source' out out' err err' : Stream) (ran : Option Ran) (status : ℕ) where
-  causes : Happened w source source' out out' err err' ran status → Causes w source source' (Rose out out' ⊎ Rose err err') status
-  causes (answered a h l (all_written wrote)) = inl (subst (λ (n : ℕ). Why w source source' n) (sym wrote.ends) (why w source source' a h))
+  causes : Happened w source source' out out' err err' ran status
+      → Causes w source source' (Rose out out' ⊎ Rose err err') status
+  causes (answered a h l (all_written wrote)) =
+      inl (subst (λ (n : ℕ). Why w source source' n) (sym wrote.ends) (why w source source' a h))
   causes (answered a h l (out_failed is d)) = inr (inl (is, inl d.rose))
   causes (answered a h l (err_failed is d)) = inr (inl (is, inr d.rose))
   causes (answered a h l (no_room_at_out is d)) = inr (inr is)
@@ -103,7 +112,11 @@ module _ (w : Option Words) (source source' out out' err err' : Stream) (ran : O
       → (all : List ℕ) → Feeds (reads w) source source' all → IsWritten w all out out' err err' status
   headline_of h calm all fed =
       let one = written_of h (not_cut h calm) in
-      record { answer = one.0; says = answer_to w source source' one.0 one.1 all fed; wrote = one.2 }
+      record {
+        output = shown one.0;
+        writes = written w all one.0 (answer_to w source source' one.0 one.1 all fed);
+        wrote = one.2;
+      }
 
   out_failed_of : Happened w source source' out out' err err' ran status → out.faults < out'.faults → status ≡ 6
   out_failed_of (answered a h l (all_written wrote)) rose = absurd (omega (arith, wrote.on_out.calm))
@@ -137,22 +150,43 @@ module _ (w : Option Words) (source source' out out' err err' : Stream) (ran : O
 
 -- a first part of an answer, where memory ran out
 module _ (texts : List (List ℕ)) (source source' out out' err err' : Stream) (ran : Option Ran) (status : ℕ) where
-  no_room_of : Happened (reading texts) source source' out out' err err' ran status → status ≡ 7 → (all : List ℕ) → Feeds (reads (reading texts)) source source' all
+  no_room_of : Happened (reading texts) source source' out out' err err' ran status → status ≡ 7 → (all : List ℕ)
+      → Feeds (reads (reading texts)) source source' all
       → IsPartOf (reading texts) all out out' err err'
   no_room_of (answered a h l (all_written wrote)) at all fed =
-      absurd (omega (arith, wrote.ends, at_most_5 (reading texts) source source' (shown a).status (why (reading texts) source source' a h)))
+      absurd (omega (
+        arith,
+        wrote.ends,
+        at_most_5 (reading texts) source source' (shown a).status (why (reading texts) source source' a h),
+      ))
   no_room_of (answered a h l (out_failed is d)) at all fed = absurd (omega arith)
   no_room_of (answered a h l (err_failed is d)) at all fed = absurd (omega arith)
   no_room_of (answered a h l (no_room_at_out is d)) at all fed =
-      record { answer = a; says = answer_to (reading texts) source source' a h all fed; on_out = d.part; on_err = inr d.message }
+      record {
+        answer = a;
+        says = answer_to (reading texts) source source' a h all fed;
+        on_out = d.part;
+        on_err = inr d.message;
+      }
   no_room_of (answered a h l (no_room_at_err is d)) at all fed =
-      record { answer = a; says = answer_to (reading texts) source source' a h all fed; on_out = some_of out out' (shown a).out d.on_out; on_err = inl d.part }
+      record {
+        answer = a;
+        says = answer_to (reading texts) source source' a h all fed;
+        on_out = some_of out out' (shown a).out d.on_out;
+        on_err = inl d.part;
+      }
   no_room_of (no_report is none d) at all fed =
       let one = one_answer_to texts all in
-      record { answer = one.answer; says = one.says; on_out = none_of out out' (shown one.answer).out d.untouched; on_err = inr d.message }
+      record {
+        answer = one.answer;
+        says = one.says;
+        on_out = none_of out out' (shown one.answer).out d.untouched;
+        on_err = inr d.message;
+      }
 
 pub keeps : (texts : List (List ℕ)) (source source' out out' err err' : Stream) (ran : Option Ran) (status : ℕ)
-    → Happened (reading texts) source source' out out' err err' ran status → Takes (reads (reading texts)) source source'
+    → Happened (reading texts) source source' out out' err err' ran status
+    → Takes (reads (reading texts)) source source'
     → Keeps (reading texts) source source' out out' err err' ran status
 keeps texts source source' out out' err err' ran status h takes =
     let w : Option Words = reading texts in
@@ -166,7 +200,9 @@ keeps texts source source' out out' err err' ran status h takes =
       unread = untouched;
       most_read = most_of (reads w) source source' takes;
       read_fault = read_fault_of w source source' (Rose out out' ⊎ Rose err err') status cause;
-      source_failed = source_failed_of w source source' (Rose out out' ⊎ Rose err err') status (λ none. untouched (ap reads none)) cause;
+      source_failed =
+          source_failed_of w source source' (Rose out out' ⊎ Rose err err') status (λ none. untouched (ap reads none))
+          cause;
       write_fault = write_fault_of w source source' (Rose out out' ⊎ Rose err err') status cause;
       out_failed = out_failed_of w source source' out out' err err' ran status h;
       err_failed = err_failed_of w source source' out out' err err' ran status h;

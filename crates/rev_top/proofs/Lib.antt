@@ -12,6 +12,7 @@ pub mod Listings
 pub mod OneAnswers
 pub mod Rans
 pub mod Real
+pub mod Repeating
 pub mod Replaying
 pub mod Stages
 pub mod StreamAnswers
@@ -21,3 +22,4 @@ pub mod WhyStatus
 pub mod Auditing
 pub mod TraceTexts
 pub mod TextLaws
+pub mod Writing

@@ -23,7 +23,8 @@ checked : (bytes : List ℕ) (c : Code) → ChecksCode bytes (Ok c) → (reading
 unfolding ChecksCode
 checked bytes c h = go h.0 h.1 h.2
   where
-    go : (found : Result Code Refusal) → ReadsFile bytes found → Onward KeepsCodeRules found (Ok c) → (reading bytes ≡ Got c []) × KeepsRules c
+    go : (found : Result Code Refusal) → ReadsFile bytes found → Onward KeepsCodeRules found (Ok c)
+        → (reading bytes ≡ Got c []) × KeepsRules c
     go (Ok d) is on =
         (is ∙ ap (λ (x : Code). Got x []) (sym on.0), subst (λ (x : Code). KeepsRules x) (sym on.0) on.1)
     go (Err f) is on = absurd (cc)
@@ -36,7 +37,8 @@ module _ (exact : ReadIsFile) (back : ReadsBack) (w : Words) (all : List ℕ) (b
   abbrev IsListed : Type 0
   IsListed = (c : Code) × IsSoundFile all c × (o ≡ done (listing c))
 
-  of_code : (found : Result Code Refusal) → ChecksCode all found → Onward Lists found (Ok o) → length all ≤ file_limit → IsListed
+  of_code : (found : Result Code Refusal) → ChecksCode all found → Onward Lists found (Ok o) → length all ≤ file_limit
+      → IsListed
   of_code (Ok c) h on short =
       let e : o ≡ done (listing c) = cc in
       let both = checked all c h in
@@ -46,7 +48,8 @@ module _ (exact : ReadIsFile) (back : ReadsBack) (w : Words) (all : List ℕ) (b
   of_listing : Then (ChecksCode all) Lists (Ok o) → length all ≤ file_limit → IsListed
   of_listing h short = of_code h.0 h.1 h.2 short
 
-  of_read : (found : Result (List ℕ) Refusal) → Fits (reads_of modes.Dis) all found → Onward (SaysAs modes.Dis w) found (Ok o) → IsListed
+  of_read : (found : Result (List ℕ) Refusal) → Fits (reads_of modes.Dis) all found
+      → Onward (SaysAs modes.Dis w) found (Ok o) → IsListed
   unfolding SaysAs
   of_read (Ok read) fits on = of_listing (subst (λ (t : List ℕ). Then (ChecksCode t) Lists (Ok o)) fits.0 on) fits.1
   of_read (Err f) fits on = absurd (cc)
@@ -54,8 +57,11 @@ module _ (exact : ReadIsFile) (back : ReadsBack) (w : Words) (all : List ℕ) (b
   says : IsListed → Then (Fits (reads_of modes.Dis) all) (SaysAs modes.Dis w) (Ok o)
   unfolding SaysAs
   says h =
-      let sound = h.1 in
-      (Ok all, (refl, sound.fits), (Ok h.0, checks all h.0 (is_read back all h.0 sound.spelled) sound.keeps, ap (λ (x : Output). Ok x) h.2))
+      let sound = h.1 in (
+        Ok all,
+        (refl, sound.fits),
+        (Ok h.0, checks all h.0 (is_read back all h.0 sound.spelled) sound.keeps, ap (λ (x : Output). Ok x) h.2),
+      )
 
   listed : (m : Mode) → m ≡ modes.Dis → Then (Fits (reads_of m) all) (SaysAs m w) (Ok o) ↔ IsListed
   listed m is =

@@ -15,7 +15,7 @@ use Rattle.rev_syntax.specs.declared.scan.LexFault.{LexFault}
 use Rattle.rev_parse.specs.Verdicts.{Verdict, tree, unexpected, too_deep}
 use Rattle.rev_report.specs.Report.{Output}
 use Rattle.rev_report.specs.Outcome.{report}
-use Rattle.rev_messages.specs.Modes.{accepted, ordered, summary, traced}
+use Rattle.rev_messages.specs.Modes.{accepted, ordered, reused, summary, traced}
 use Rattle.rev_messages.specs.Refusals.{shown}
 use Rattle.rev_messages.specs.declared.refusal.Refusal.{Refusal}
 use Rattle.rev_messages.specs.declared.refusal.Refusal.TheVariants as refusals
@@ -31,12 +31,14 @@ use Rattle.rev_top.specs.Codes.{ChecksCode}
 use Rattle.rev_top.specs.Stages.{Onward, Then}
 use Rattle.rev_top.specs.Texts.{Checks, ChecksTree, reading as read_of}
 use Rattle.rev_top.specs.Findings.{Finding, lexical, syntax, of_funs, of_rules, accepted as accepts, HasVerdict, IsFinding, IsSyntaxFault}
-use Rattle.rev_top.specs.Answer.{Accepts, Answer, AuditsParts, AuditsTrace, Emits, Fits, IsWithin, Lists, Orders, Replays, RunsCode, RunsTo, Says, SaysAs, Streams, Traces, code_run, reads_of, setting, source_limit}
+use Rattle.rev_top.specs.Answer.{Accepts, Answer, AuditsParts, AuditsTrace, Emits, Fits, IsWithin, Lists, Orders, Repeats, Replays, RunsCode, RunsTo, Says, SaysAs, Streams, Traces, code_run, code_run_before, reads_of, setting, source_limit}
 use Rattle.rev_top.specs.Schedules.{ReplaysCode}
 use Rattle.code_verifier.specs.Verdicts.{KeepsRules}
-use Rattle.code_outcomes.proofs.Outcomes.{each_has_one}
+use Rattle.code_machine_laws.proofs.Outcomes.{each_has_one}
+use Rattle.memo_runs.proofs.Making.{each_has_memo, each_is_reused}
+use Rattle.memo_runs.proofs.OneNumber.{one_reused}
 use Rattle.rev_top.specs.Statuses.{EndAlike, HasOneAnswer, IsOrder, OneAnswer}
-use Rattle.program_outcomes.proofs.Outcomes.{of_code}
+use Rattle.program_meaning.proofs.Outcomes.{of_code}
 use Rattle.rev_top.specs.Traces.{Splits, text_of}
 use Rattle.rev_top.proofs.Auditing.{one_audited, one_split, some_audited, some_split}
 use Rattle.rev_top.proofs.Codes.{kept_of, one_code, some_code}
@@ -83,15 +85,29 @@ one_traces w p accepted a b h k =
     let one = one_outcome (setting w p) w.fuel in
     let same : h.outcome ≡ k.outcome = one.only h.outcome h.has_outcome ∙ sym (one.only k.outcome k.has_outcome) in
     let text = one_trace (setting w p) w.fuel accepted h.trace k.trace h.has_trace k.has_trace in
-    h.writes ∙ ap (λ (x : Outcome). Ok (traced (text_of h.trace) x)) same ∙ ap (λ (x : List ℕ). Ok (traced x k.outcome)) text ∙ sym k.writes
+    h.writes ∙ ap (λ (x : Outcome). Ok (traced (text_of h.trace) x)) same
+    ∙ ap (λ (x : List ℕ). Ok (traced x k.outcome)) text ∙ sym k.writes
 
 one_replays : (w : Words) (p : ProgramTree) → IsAccepted p → One (Replays w p)
 one_replays w p accepted =
     one_then (ReplaysCode (code_run w (code_of p)) w.fuel w.schedule) (λ v. RunsTo w (report w.values) p)
-    (one_replay (code_run w (code_of p)) w.fuel w.schedule (program_verified w p accepted)) (λ v. one_run w (report w.values) p)
+    (one_replay (code_run w (code_of p)) w.fuel w.schedule (program_verified w p accepted))
+    (λ v. one_run w (report w.values) p)
+
+one_repeats : (w : Words) (p : ProgramTree) → IsAccepted p → One (Repeats w p)
+one_repeats w p accepted a b h k =
+    let verified = program_verified w p accepted in
+    let one = one_outcome (setting w p) w.fuel in
+    let same : h.outcome ≡ k.outcome = one.only h.outcome h.has_outcome ∙ sym (one.only k.outcome k.has_outcome) in
+    let count : h.count ≡ k.count =
+    one_reused (code_run_before w (code_of p)) (code_run w (code_of p)) verified verified w.fuel w.fuel h.entries
+    k.entries h.memo k.memo h.count k.count h.reuses k.reuses in
+    h.writes ∙ ap (λ (x : Outcome). Ok (reused h.count x)) same ∙ ap (λ (n : ℕ). Ok (reused n k.outcome)) count
+    ∙ sym k.writes
 
 one_streams : (w : Words) (text : List ℕ) (p : ProgramTree) → One (Streams w text p)
-one_streams w text p = one_then (KeepsAffine text p) (RunsTo w (report false)) (one_affine text p) (one_run w (report false))
+one_streams w text p =
+    one_then (KeepsAffine text p) (RunsTo w (report false)) (one_affine text p) (one_run w (report false))
 
 one_audit : (w : Words) (all : List ℕ) → One (SaysAs modes.Audit w all)
 unfolding SaysAs
@@ -101,12 +117,15 @@ one_audit w all =
     (λ t c. one_audited w t (accepted_of p.text s.1 t c) p.trace))
 
 -- one line for each mode but `order`
-pub one_as : (m : Mode) (w : Words) (read : List ℕ) → (m ≡ modes.Order → ⊥) → IsWithin (reads_of m) (length read) → One (SaysAs m w read)
+pub one_as : (m : Mode) (w : Words) (read : List ℕ) → (m ≡ modes.Order → ⊥) → IsWithin (reads_of m) (length read)
+    → One (SaysAs m w read)
 unfolding SaysAs
-one_as modes.Run w read other short = one_then (Checks read) (RunsTo w (report w.values)) (one_check read) (one_run w (report w.values))
+one_as modes.Run w read other short =
+    one_then (Checks read) (RunsTo w (report w.values)) (one_check read) (one_run w (report w.values))
 one_as modes.Check w read other short = one_then (Checks read) Accepts (one_check read) one_accept
 one_as modes.Load w read other short =
-    one_then (Checks (load_text w.seed w.size)) (RunsTo w (summary w.seed w.size)) (one_check (load_text w.seed w.size)) (one_run w (summary w.seed w.size))
+    one_then (Checks (load_text w.seed w.size)) (RunsTo w (summary w.seed w.size)) (one_check (load_text w.seed w.size))
+    (one_run w (summary w.seed w.size))
 one_as modes.Dis w read other short = one_then (ChecksCode read) Lists (one_code read) one_list
 one_as modes.Exec w read other short =
     one_after (ChecksCode read) (RunsCode w) (one_code read) (λ c h. one_code_run w c (kept_of read c h))
@@ -118,6 +137,8 @@ one_as modes.Replay w read other short =
     one_after (Checks read) (Replays w) (one_check read) (λ p h. one_replays w p (accepted_of read short p h))
 one_as modes.Order w read other short = absurd (other refl)
 one_as modes.Stream w read other short = one_then (Checks read) (Streams w read) (one_check read) (one_streams w read)
+one_as modes.Repeat w read other short =
+    one_after (Checks read) (Repeats w) (one_check read) (λ p h. one_repeats w p (accepted_of read short p h))
 
 pub one_fits : (r : Option ℕ) (all : List ℕ) → One (Fits r all)
 one_fits None all a b h k = h ∙ sym k
@@ -139,7 +160,8 @@ one_says (Some w) other all a b h k =
 -- ---- all end alike
 
 same_end : (a b : Answer) → a ≡ b → EndAlike a b
-same_end a b same = record { err = ap (λ (x : Answer). (shown x).err) same; status = ap (λ (x : Answer). (shown x).status) same }
+same_end a b same =
+    record { err = ap (λ (x : Answer). (shown x).err) same; status = ap (λ (x : Answer). (shown x).status) same }
 
 -- one stage, and a second one of which all answers end alike
 alike_after : {X : Type 0} (Stage : Result X Refusal → Type 0) → One Stage → (Second : X → Answer → Type 0)
@@ -166,7 +188,8 @@ orders_alike w p a b h k =
           ∙ sym (ap (λ (x : Answer). (shown x).status) k.writes);
     }
 
-order_alike : (w : Words) (read : List ℕ) (a b : Answer) → SaysAs modes.Order w read a → SaysAs modes.Order w read b → EndAlike a b
+order_alike : (w : Words) (read : List ℕ) (a b : Answer) → SaysAs modes.Order w read a → SaysAs modes.Order w read b
+    → EndAlike a b
 unfolding SaysAs
 order_alike w read = alike_after (Checks read) (one_check read) (Orders w) (λ p s. orders_alike w p)
 
@@ -182,13 +205,16 @@ order_or modes.Audit = inr (λ is. cc)
 order_or modes.Replay = inr (λ is. cc)
 order_or modes.Order = inl refl
 order_or modes.Stream = inr (λ is. cc)
+order_or modes.Repeat = inr (λ is. cc)
 
 says_alike : (m : Mode) (w : Words) (read : List ℕ) → IsWithin (reads_of m) (length read)
     → (a b : Answer) → SaysAs m w read a → SaysAs m w read b → EndAlike a b
 says_alike m w read short a b h k = go (order_or m)
   where
     go : (m ≡ modes.Order) ⊎ (m ≡ modes.Order → ⊥) → EndAlike a b
-    go (inl is) = order_alike w read a b (subst (λ (x : Mode). SaysAs x w read a) is h) (subst (λ (x : Mode). SaysAs x w read b) is k)
+    go (inl is) =
+        order_alike w read a b (subst (λ (x : Mode). SaysAs x w read a) is h)
+        (subst (λ (x : Mode). SaysAs x w read b) is k)
     go (inr other) = same_end a b (one_as m w read other short a b h k)
 
 pub all_alike : (w : Option Words) (all : List ℕ) (a b : Answer) → Says w all a → Says w all b → EndAlike a b
@@ -214,10 +240,13 @@ module _ (text : List ℕ) where
 
   of_lexical : (f : LexFault) → IsFirstFault text f → IsChecked
   unfolding Checks
-  of_lexical f h = let told = lexical_told text f h in (Err told.0, (Err told.0, record { fault = f; comes = h; reported = told.1 }, refl))
+  of_lexical f h =
+      let told = lexical_told text f h in
+      (Err told.0, (Err told.0, record { fault = f; comes = h; reported = told.1 }, refl))
 
   -- what the tokens with this verdict are
-  of_tokens : (v : Verdict) → HasVerdict text v → (found : Result ProgramTree Refusal) → Onward (ChecksTree text) (read_of text v) found → IsChecked
+  of_tokens : (v : Verdict) → HasVerdict text v → (found : Result ProgramTree Refusal)
+      → Onward (ChecksTree text) (read_of text v) found → IsChecked
   unfolding Checks
   of_tokens v h found on = (found, (Ok h.tokens, h.cut, (read_of text v, (v, h.verdict, refl), on)))
 
@@ -242,7 +271,8 @@ module _ (text : List ℕ) where
 
 -- the next stage may rest on the value of this one
 some_after : {X : Type 0} (Stage : Result X Refusal → Type 0) → ((found : Result X Refusal) × Stage found)
-    → (Second : X → Answer → Type 0) → ((x : X) → Stage (Ok x) → (a : Answer) × Second x a) → (a : Answer) × Then Stage Second a
+    → (Second : X → Answer → Type 0) → ((x : X) → Stage (Ok x) → (a : Answer) × Second x a)
+    → (a : Answer) × Then Stage Second a
 some_after {X = X} Stage one Second second = go one.0 one.1
   where
     go : (found : Result X Refusal) → Stage found → (a : Answer) × Then Stage Second a
@@ -253,7 +283,8 @@ some_stage : {X : Type 0} (Stage : Result X Refusal → Type 0) → ((found : Re
     → (Second : X → Answer → Type 0) → ((x : X) → (a : Answer) × Second x a) → (a : Answer) × Then Stage Second a
 some_stage Stage one Second second = some_after Stage one Second (λ x s. second x)
 
-some_then : (text : List ℕ) (Second : ProgramTree → Answer → Type 0) → ((p : ProgramTree) → (a : Answer) × Second p a) → length text ≤ source_limit
+some_then : (text : List ℕ) (Second : ProgramTree → Answer → Type 0) → ((p : ProgramTree) → (a : Answer) × Second p a)
+    → length text ≤ source_limit
     → (a : Answer) × Then (Checks text) Second a
 some_then text Second second short = some_stage (Checks text) (some_check text short) Second second
 
@@ -277,8 +308,10 @@ some_emit p = (Ok (done (file_of (code_of p))), refl)
 some_traces : (w : Words) (p : ProgramTree) → (a : Answer) × Traces w p a
 some_traces w p =
     let one = one_outcome (setting w p) w.fuel in
-    let t = some_trace (setting w p) w.fuel in
-    (Ok (traced (text_of t.0) one.is), record { outcome = one.is; has_outcome = one.has; trace = t.0; has_trace = t.1; writes = refl })
+    let t = some_trace (setting w p) w.fuel in (
+      Ok (traced (text_of t.0) one.is),
+      record { outcome = one.is; has_outcome = one.has; trace = t.0; has_trace = t.1; writes = refl },
+    )
 
 some_replays : (w : Words) (p : ProgramTree) → IsAccepted p → (a : Answer) × Replays w p a
 some_replays w p accepted =
@@ -291,7 +324,32 @@ some_orders w p accepted =
     let one = one_outcome (setting w p) w.fuel in
     let h = of_code (setting w p) accepted w.fuel one.is one.has in (
       Ok (ordered h.schedule one.is),
-      record { schedule = h.schedule; world = h.world; complete = h.complete; outcome = one.is; has_outcome = one.has; writes = refl },
+      record {
+        schedule = h.schedule;
+        world = h.world;
+        complete = h.complete;
+        outcome = one.is;
+        has_outcome = one.has;
+        writes = refl;
+      },
+    )
+
+some_repeats : (w : Words) → KeepsRanges w → (p : ProgramTree) → IsAccepted p → (a : Answer) × Repeats w p a
+some_repeats w keeps p accepted =
+    let verified = program_verified w p accepted in
+    let one = one_outcome (setting w p) w.fuel in
+    let memo = each_has_memo (code_run_before w (code_of p)) verified w.fuel keeps.fuel.1 in
+    let count = each_is_reused (code_run w (code_of p)) verified w.fuel keeps.fuel.1 memo.0 in (
+      Ok (reused count.0 one.is),
+      record {
+        entries = memo.0;
+        memo = memo.1;
+        count = count.0;
+        reuses = count.1;
+        outcome = one.is;
+        has_outcome = one.has;
+        writes = refl;
+      },
     )
 
 some_streams : (w : Words) (text : List ℕ) (p : ProgramTree) → IsAccepted p → (a : Answer) × Streams w text p a
@@ -306,15 +364,18 @@ some_audit w all =
     (λ t c. some_audited w t (accepted_of p.text s.1 t c) p.trace))
 
 -- one line for each mode
-some_as : (m : Mode) (w : Words) → KeepsRanges w → (read all : List ℕ) → Fits (reads_of m) all (Ok read) → (a : Answer) × SaysAs m w read a
+some_as : (m : Mode) (w : Words) → KeepsRanges w → (read all : List ℕ) → Fits (reads_of m) all (Ok read)
+    → (a : Answer) × SaysAs m w read a
 unfolding SaysAs
 some_as modes.Run w keeps read all h =
-    some_then read (RunsTo w (report w.values)) (some_run w (report w.values)) (subst (λ (t : List ℕ). length t ≤ source_limit) (sym h.0) h.1)
+    some_then read (RunsTo w (report w.values)) (some_run w (report w.values))
+    (subst (λ (t : List ℕ). length t ≤ source_limit) (sym h.0) h.1)
 some_as modes.Check w keeps read all h =
     some_then read Accepts some_accept (subst (λ (t : List ℕ). length t ≤ source_limit) (sym h.0) h.1)
 some_as modes.Load w keeps read all h =
     let size = keeps.size.1 in
-    some_then (load_text w.seed w.size) (RunsTo w (summary w.seed w.size)) (some_run w (summary w.seed w.size)) (load_text-short w.seed w.size (omega (arith, size)))
+    some_then (load_text w.seed w.size) (RunsTo w (summary w.seed w.size)) (some_run w (summary w.seed w.size))
+    (load_text-short w.seed w.size (omega (arith, size)))
 some_as modes.Dis w keeps read all h = some_stage (ChecksCode read) (some_code read) Lists some_list
 some_as modes.Exec w keeps read all h =
     some_after (ChecksCode read) (some_code read) (RunsCode w) (λ c k. some_code_run w c (kept_of read c k))
@@ -331,7 +392,12 @@ some_as modes.Order w keeps read all h =
     some_after (Checks read) (some_check read short) (Orders w) (λ p c. some_orders w p (accepted_of read short p c))
 some_as modes.Stream w keeps read all h =
     let short : length read ≤ source_limit = subst (λ (t : List ℕ). length t ≤ source_limit) (sym h.0) h.1 in
-    some_after (Checks read) (some_check read short) (Streams w read) (λ p c. some_streams w read p (accepted_of read short p c))
+    some_after (Checks read) (some_check read short) (Streams w read)
+    (λ p c. some_streams w read p (accepted_of read short p c))
+some_as modes.Repeat w keeps read all h =
+    let short : length read ≤ source_limit = subst (λ (t : List ℕ). length t ≤ source_limit) (sym h.0) h.1 in
+    some_after (Checks read) (some_check read short) (Repeats w)
+    (λ p c. some_repeats w keeps p (accepted_of read short p c))
 
 some_says : (w : Words) → KeepsRanges w → (all : List ℕ) → (a : Answer) × Says (Some w) all a
 some_says w keeps all = let one = some_fits (reads_of w.mode) all in go one.0 one.1
@@ -347,7 +413,12 @@ one_answer_to texts all = go (reading texts) refl
   where
     go : (o : Option Words) → reading texts ≡ o → HasOneAnswer o all
     go None is =
-        record { answer = Err refusals.Usage; says = refl; only = λ other a h. h; alike = λ a h. same_end a (Err refusals.Usage) h }
+        record {
+          answer = Err refusals.Usage;
+          says = refl;
+          only = λ other a h. h;
+          alike = λ a h. same_end a (Err refusals.Usage) h;
+        }
     go (Some w) is =
         let one = some_says w (reading_keeps texts w is) all in
         record {

@@ -14,7 +14,8 @@ use Rattle.static_rules.specs.Breaks.{Breaks, unknown_variable, unknown_procedur
 use Rattle.rev_messages.specs.declared.refusal.Refusal.{Refusal}
 use Rattle.rev_top.specs.Texts.{report_of_funs, report_of_lexical, report_of_types}
 
-pub lexical_told : (text : List ℕ) (f : LexFault) → IsFirstFault text f → (r : Refusal) × (report_of_lexical text f ≡ Some r)
+pub lexical_told : (text : List ℕ) (f : LexFault) → IsFirstFault text f
+    → (r : Refusal) × (report_of_lexical text f ≡ Some r)
 lexical_told text (lex.BadByte at) h = (_, refl)
 lexical_told text (lex.BadNumber at) h = (_, refl)
 lexical_told text (lex.OpenText at) h = (_, refl)
@@ -39,7 +40,8 @@ fun_is_told text (fun.LaterFun at) h = (_, refl)
 fun_is_told text (fun.Arity at) h = (_, refl)
 fun_is_told text fun.OutOfMemory h = absurd h
 
-pub funs_told : (text : List ℕ) (p : ProgramTree) (f : MergeFault) → BreaksFun p f → (r : Refusal) × (report_of_funs text f ≡ Some r)
+pub funs_told : (text : List ℕ) (p : ProgramTree) (f : MergeFault) → BreaksFun p f
+    → (r : Refusal) × (report_of_funs text f ≡ Some r)
 funs_told text p f b = fun_is_told text f (is_fun p f b)
 
 -- ---- other static faults
@@ -95,5 +97,6 @@ rule_told text (type.NoReturn at) h = (_, refl)
 rule_told text (type.LimitOf at w n) h = (_, refl)
 rule_told text type.OutOfMemory h = absurd h
 
-pub types_told : (text : List ℕ) (p : ProgramTree) (f : TypeFault) → Breaks p f → (r : Refusal) × (report_of_types text f ≡ Some r)
+pub types_told : (text : List ℕ) (p : ProgramTree) (f : TypeFault) → Breaks p f
+    → (r : Refusal) × (report_of_types text f ≡ Some r)
 types_told text p f b = rule_told text f (is_rule p f b)

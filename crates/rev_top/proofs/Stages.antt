@@ -67,9 +67,15 @@ reported view Stage None h = tt
 none_some : (r : Refusal) (o : Option Refusal) → o ≡ Some r → o ≡ None → ⊥
 none_some r o some none = let e : Some r ≡ None = sym some ∙ none in cc
 
-module _ {F X Y : Type 0} (report : F → Option Refusal) (out : F) (silent : report out ≡ None) (Comes : F → Type 0) (Stage : Result Y Refusal → Type 0)
+module _ {F X Y : Type 0} (report : F → Option Refusal) (out : F) (silent : report out ≡ None) (Comes : F → Type 0)
+    (Stage : Result Y Refusal → Type 0)
     (stage : (r : Refusal) → Reports Comes report r → Stage (Err r)) where
-  pub refuses : (view : X → Y) (f : F) (e : Stop) → e ≡ stop_of (report f) → (f ≢ out → Comes f) → Meets view (Err e) Stage
+  pub refuses : (view : X → Y) (f : F) (e : Stop) → e ≡ stop_of (report f) → (f ≢ out → Comes f)
+      → Meets view (Err e) Stage
   refuses view f e is h =
       subst (λ (x : Stop). Meets view (Err x) Stage) (sym is)
-      (reported view Stage (report f) (λ r some. stage r (record { fault = f; comes = h (λ same. none_some r (report f) some (ap report same ∙ silent)); reported = some })))
+      (reported view Stage (report f) (λ r some. stage r (record {
+        fault = f;
+        comes = h (λ same. none_some r (report f) some (ap report same ∙ silent));
+        reported = some;
+      })))

@@ -55,7 +55,8 @@ kept_affine text p h = go h.0 h.2
     go (Ok q) on = subst (λ (x : ProgramTree). IsAffine x) (sym on.0) on.1
     go (Err f) on = cc
 
-pub read_affine : (source source' : Stream) (p : ProgramTree) → Then (Given (Some source_limit) source source') ReadsAffine (Ok p) → IsAffine p
+pub read_affine : (source source' : Stream) (p : ProgramTree)
+    → Then (Given (Some source_limit) source source') ReadsAffine (Ok p) → IsAffine p
 read_affine source source' p h = go h.0 h.2
   where
     go : (found : Result (List ℕ) Refusal) → Onward ReadsAffine found (Ok p) → IsAffine p
@@ -71,11 +72,14 @@ module _ (w : Words) (mode : w.mode ≡ modes.Stream) (source source' : Stream) 
   in_mode a h = subst (λ (m : Mode). Then (Given (reads_of m) source source') (SaysAs m w) a) (sym mode) h
 
   answers_outcome : (p : ProgramTree) (end : Outcome) → HasOutcome (setting w p) w.fuel end → Reads (Ok p)
-      → Answers (Some w) source source' (Ok (report false end)) × Leaves (Some w) source source' None (Ok (report false end))
+      → Answers (Some w) source source' (Ok (report false end))
+      × Leaves (Some w) source source' None (Ok (report false end))
   answers_outcome p end has h = go h.0 h.1 h.2
     where
-      go : (found : Result (List ℕ) Refusal) → Given (Some source_limit) source source' found → Onward ReadsAffine found (Ok p)
-          → Answers (Some w) source source' (Ok (report false end)) × Leaves (Some w) source source' None (Ok (report false end))
+      go : (found : Result (List ℕ) Refusal) → Given (Some source_limit) source source' found
+          → Onward ReadsAffine found (Ok p)
+          → Answers (Some w) source source' (Ok (report false end))
+          × Leaves (Some w) source source' None (Ok (report false end))
       go (Ok text) g on = (
         in_mode (Ok (report false end)) (Ok text, g, says_outcome w text p end has on),
         (text, subst (λ (m : Mode). Given (reads_of m) source source' (Ok text)) (sym mode) g, ap goes_by_threads mode),
@@ -85,7 +89,8 @@ module _ (w : Words) (mode : w.mode ≡ modes.Stream) (source source' : Stream) 
   answers_refusal : (f : Refusal) → Reads (Err f) → Answers (Some w) source source' (Err f)
   answers_refusal f h = in_mode (Err f) (go h.0 h.1 h.2)
     where
-      go : (found : Result (List ℕ) Refusal) → Given (Some source_limit) source source' found → Onward ReadsAffine found (Err f)
+      go : (found : Result (List ℕ) Refusal) → Given (Some source_limit) source source' found
+          → Onward ReadsAffine found (Err f)
           → Then (Given (Some source_limit) source source') (SaysAs modes.Stream w) (Err f)
       go (Ok text) g on = (Ok text, g, says_refusal w text f on)
       go (Err k) g on = let e : f ≡ k = cc in (Err k, g, ap (λ (z : Refusal). Err z) e)
@@ -99,7 +104,8 @@ module _ (w : Words) (mode : w.mode ≡ modes.Stream) (source source' : Stream) 
         let both = answers_outcome p d.outcome d.has_outcome h in
         answered (Ok (report false d.outcome)) both.0 both.1 d.delivered
 
-    pub refused : {X : Type 0} (view : X → ProgramTree) (e : Stop) → Meets view (Err e) Reads → DeliversRefusal e out out' err err' status
+    pub refused : {X : Type 0} (view : X → ProgramTree) (e : Stop) → Meets view (Err e) Reads
+        → DeliversRefusal e out out' err err' status
         → Happened (Some w) source source' out out' err err' None status
     refused view (stops.Refused f) h (inl d) = answered (Err f) (answers_refusal f h) refl d
     refused view (stops.Refused f) h (inr n) = no_report n.0 refl n.1
@@ -109,11 +115,13 @@ module _ (w : Words) (mode : w.mode ≡ modes.Stream) (source source' : Stream) 
 
 module _ (source out out' err err' : Stream) (status : ℕ) where
   by_words : (fault : WordsFault) (words : Option Words) → Gives (λ (w : Words). w) (Err fault) words
-      → DeliversRefusal (stop_of_words fault) out out' err err' status → Happened words source source out out' err err' None status
+      → DeliversRefusal (stop_of_words fault) out out' err err' status
+      → Happened words source source out out' err err' None status
   by_words faults.Usage words unread d =
       subst (λ (x : Option Words). Happened x source source out out' err err' None status) (sym unread) (go d)
     where
-      go : DeliversRefusal (stops.Refused refusals.Usage) out out' err err' status → Happened None source source out out' err err' None status
+      go : DeliversRefusal (stops.Refused refusals.Usage) out out' err err' status
+          → Happened None source source out out' err err' None status
       go (inl d) = answered (Err refusals.Usage) (refl, refl) refl d
       go (inr n) = no_report n.0 refl n.1
   by_words faults.OutOfMemory words unread n = no_report n.0 refl n.1

@@ -1,7 +1,7 @@
 -- What standard output takes in a call that prints as it runs.
-use Rattle.std.proofs.Common.{◌≡◌, ◌∙◌, inl, inr, refl, sym, subst, ap, List, [], ◌++◌, ℕ, false, take, rules}
-use Rattle.std.specs.Prelude.{Option, Some, None, Result, Ok, Err}
-use Rattle.rev_io.specs.Stream.{Stream, Took, TookSome}
+use Rattle.std.proofs.Common.{◌≡◌, ◌∙◌, sym, subst, ap, List, [], ◌++◌, ℕ, false, take, rules}
+use Rattle.std.specs.Prelude.{Some, Result, Ok, Err}
+use Rattle.rev_io.specs.Stream.{Stream, TookSome}
 use Rattle.rev_io.proofs.Whole.{all_taken}
 use Rattle.rev_num.specs.declared.outcome.Outcome.{Outcome}
 use Rattle.rev_words.specs.declared.Mode.{Mode}
@@ -17,9 +17,9 @@ use Rattle.revision_calculus.specs.Complete.{HasOutcome}
 use Rattle.revision_calculus.proofs.Outcomes.{one_outcome}
 use Rattle.main_texts.specs.Texts.{said}
 use Rattle.rev_top.specs.Affine.{KeepsAffine}
-use Rattle.rev_top.specs.Answer.{Answer, Answers, Given, RunsTo, SaysAs, Streams, reads_of, setting, source_limit}
+use Rattle.rev_top.specs.Answer.{Answer, Given, RunsTo, SaysAs, Streams, reads_of, setting, source_limit}
 use Rattle.rev_top.specs.Delivery.{Delivered, all_written, err_failed, no_room_at_err, no_room_at_out, out_failed}
-use Rattle.rev_top.specs.Rans.{Happened, answered, no_report}
+use Rattle.rev_top.specs.Rans.{answered, no_report}
 use Rattle.rev_top.specs.Stages.{Onward, Then}
 use Rattle.rev_top.specs.StreamLaws.{PrintsFirstParts}
 use Rattle.rev_top.specs.Texts.{Checks}
@@ -28,7 +28,8 @@ use Rattle.rev_top.proofs.Printing.{report_says, untouched}
 
 -- ---- what was delivered
 
-delivered_part : (x : Output) (out out' err err' : Stream) (status : ℕ) → Delivered x out out' err err' status → TookSome out x.out out'
+delivered_part : (x : Output) (out out' err err' : Stream) (status : ℕ) → Delivered x out out' err err' status
+    → TookSome out x.out out'
 delivered_part x out out' err err' status (all_written w) = all_taken out out' x.out w.on_out
 delivered_part x out out' err err' status (out_failed is d) = d.part
 delivered_part x out out' err err' status (err_failed is d) = all_taken out out' x.out d.on_out
@@ -46,7 +47,8 @@ of_nothing out out' bytes h held told =
 
 -- ---- which answer it is
 
-module _ (w : Words) (p : ProgramTree) (affine : IsAffine p) (end : Outcome) (has : HasOutcome (setting w p) w.fuel end) where
+module _ (w : Words) (p : ProgramTree) (affine : IsAffine p) (end : Outcome)
+    (has : HasOutcome (setting w p) w.fuel end) where
   -- a first part of what is shown of the answer is one of the text of `main`
   abbrev Fits : Answer → Type 0
   Fits a = (out out' : Stream) → TookSome out (shown a).out out' → TookSome out (said end) out'
@@ -67,7 +69,8 @@ module _ (w : Words) (p : ProgramTree) (affine : IsAffine p) (end : Outcome) (ha
     fits_program : (a : Answer) → Streams w text p a → Fits a
     fits_program a h = go h.0 h.1 h.2
       where
-        go : (found : Result ProgramTree Refusal) → KeepsAffine text p found → Onward (RunsTo w (report false)) found a → Fits a
+        go : (found : Result ProgramTree Refusal) → KeepsAffine text p found → Onward (RunsTo w (report false)) found a
+            → Fits a
         go (Ok q) k on = fits_run a (subst (λ (x : ProgramTree). RunsTo w (report false) x a) k.0 on)
         go (Err f) k on = absurd (affine k.0.how k.0.at k.1.broken)
 
@@ -88,16 +91,19 @@ module _ (w : Words) (p : ProgramTree) (affine : IsAffine p) (end : Outcome) (ha
         → Then (Given (Some source_limit) source source') (SaysAs modes.Stream w) a → Fits a
     fits_answer source source' told a h = go h.0 h.1 h.2
       where
-        go : (found : Result (List ℕ) Refusal) → Given (Some source_limit) source source' found → Onward (SaysAs modes.Stream w) found a → Fits a
+        go : (found : Result (List ℕ) Refusal) → Given (Some source_limit) source source' found
+            → Onward (SaysAs modes.Stream w) found a → Fits a
         go (Ok read) g on =
             let whole : text ≡ read = g.2 text told in
             fits_text a (subst (λ (t : List ℕ). SaysAs modes.Stream w t a) (sym whole) on)
         go (Err f) g on = fits_refusal a f on
 
 pub prints_first_parts : PrintsFirstParts
-prints_first_parts w mode source source' out out' err err' ran status (answered a h l d) text told p checked affine end has =
+prints_first_parts w mode source source' out out' err err' ran status (answered a h l d) text told p checked affine end
+    has =
     fits_answer w p affine end has text checked source source' told a
     (subst (λ (m : Mode). Then (Given (reads_of m) source source') (SaysAs m w) a) mode h)
     out out' (delivered_part (shown a) out out' err err' status d)
-prints_first_parts w mode source source' out out' err err' ran status (no_report is none n) text told p checked affine end has =
+prints_first_parts w mode source source' out out' err err' ran status (no_report is none n) text told p checked affine
+    end has =
     subst (λ (s : Stream). TookSome out (said end) s) (sym n.untouched) (untouched out (said end))

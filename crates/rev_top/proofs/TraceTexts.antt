@@ -18,9 +18,9 @@ use Rattle.trace_diagram.specs.Traces.{ended, first_line, part_lines, trace_text
 use Rattle.trace_diagram.specs.declared.diagram.Part.{Part}
 use Rattle.trace_diagram.specs.declared.diagram.Trace.{Trace}
 use Rattle.audit_rules.specs.Traces.{InPostOrder, IsTrace, SameTrace}
+use Rattle.audit_rules.specs.Traced.{HasTrace, IsTraceAt}
 use Rattle.audit_rules.proofs.Listed.{end_has_trace}
 use Rattle.audit_rules.proofs.Traced.{trace_has_yes, yes_tells}
-use Rattle.trace_making.specs.Traced.{HasTrace, IsTraceAt}
 use Rattle.rev_top.specs.Traces.{text_of}
 
 -- ---- there is one
@@ -29,9 +29,11 @@ module _ (s : Setting) (fuel : ℕ) where
   here : Reached (calculus s) (main s fuel) (start_of s fuel)
   here = record { by = []; runs = refl }
 
-  some_at : (g : Global Local) (rs : List Path) → Complete (calculus s) (start_of s fuel) rs g → (t : Option Trace) × IsTraceAt s t g
+  some_at : (g : Global Local) (rs : List Path) → Complete (calculus s) (start_of s fuel) rs g
+      → (t : Option Trace) × IsTraceAt s t g
   some_at Twice rs c = (None, refl)
-  some_at (Live revs) rs c = let ps = end_has_trace s fuel rs (Live revs) c (λ is. cc) in (Some (record { parts = ps.0 }), ps.1)
+  some_at (Live revs) rs c =
+      let ps = end_has_trace s fuel rs (Live revs) c (λ is. cc) in (Some (record { parts = ps.0 }), ps.1)
 
   pub some_trace : (t : Option Trace) × HasTrace s fuel t
   some_trace =
@@ -42,7 +44,10 @@ module _ (s : Setting) (fuel : ℕ) where
           by = o.by;
           end = o.end;
           complete = o.complete;
-          each = λ rs g c. subst (λ (h : Global Local). IsTraceAt s t.0 h) (unique_end (calculus s) (main s fuel) (counts s) (start_of s fuel) o.end g o.by rs here o.complete c) t.1;
+          each = λ rs g c.
+              subst (λ (h : Global Local). IsTraceAt s t.0 h)
+              (unique_end (calculus s) (main s fuel) (counts s) (start_of s fuel) o.end g o.by rs here o.complete c)
+              t.1;
         },
       )
 

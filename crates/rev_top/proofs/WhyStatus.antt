@@ -10,7 +10,7 @@ use Rattle.rev_words.specs.declared.Words.{Words}
 use Rattle.rev_syntax.specs.Trees.{ProgramTree}
 use Rattle.rev_report.specs.Report.{Output}
 use Rattle.rev_report.specs.Outcome.{report}
-use Rattle.rev_messages.specs.Modes.{ordered, summary, traced}
+use Rattle.rev_messages.specs.Modes.{ordered, reused, summary, traced}
 use Rattle.rev_messages.specs.Refusals.{shown, status_of}
 use Rattle.rev_messages.specs.declared.refusal.Refusal.{Refusal}
 use Rattle.rev_messages.specs.declared.refusal.Refusal.TheVariants as refusals
@@ -29,16 +29,16 @@ use Rattle.rev_top.specs.Codes.{ChecksCode}
 use Rattle.rev_top.specs.Stages.{Onward, Then}
 use Rattle.rev_top.specs.Texts.{Checks}
 use Rattle.rev_top.specs.Traces.{Judges, Parts, ReadsTrace, Splits, answer_of, text_of}
-use Rattle.rev_top.specs.Answer.{Accepts, Answer, AuditsParts, AuditsTrace, Emits, Fits, IsWithin, Lists, Orders, Replays, RunsCode, RunsTo, Says, SaysAs, Streams, Traces, code_run, reads_of, setting}
+use Rattle.rev_top.specs.Answer.{Accepts, Answer, AuditsParts, AuditsTrace, Emits, Fits, IsWithin, Lists, Orders, Repeats, Replays, RunsCode, RunsTo, Says, SaysAs, Streams, Traces, code_run, reads_of, setting}
 use Rattle.rev_top.specs.Schedules.{ReplaysCode}
 use Rattle.rev_top.specs.Statuses.{Ends, EndsAs, HasCauses, IsAtFault, IsAuditFault, IsFault, IsReplayFault, IsStreamFault, IsTrap, Ran, StatusLaw, differs, in_length, in_program, in_schedule, in_handles, in_text, in_text_of, in_trace}
-use Rattle.rev_top.proofs.Answering.{end_status, ordered_status, report_status, split_refused, summary_status, trace_refused, traced_status}
+use Rattle.rev_top.proofs.Answering.{end_status, ordered_status, report_status, reused_status, split_refused, summary_status, trace_refused, traced_status}
 use Rattle.rev_top.proofs.TraceTexts.{some_trace}
 use Rattle.rev_top.proofs.Codes.{code_refused}
-use Rattle.rev_top.proofs.Faults.{text_refused}
+use Rattle.rev_top.proofs.Faults.{one_check, text_refused}
 use Rattle.rev_top.proofs.Handles.{affine_refused}
-use Rattle.rev_top.proofs.OneAnswers.{accepted_of, all_alike, within}
-use Rattle.program_outcomes.proofs.Outcomes.{of_code}
+use Rattle.rev_top.proofs.OneAnswers.{accepted_of, all_alike, one_fits, within}
+use Rattle.program_meaning.proofs.Outcomes.{of_code}
 use Rattle.rev_top.proofs.Replaying.{replay_refused}
 
 -- why a mode says what it says: what it was given is at fault, or what it ran has ended, or there was
@@ -75,13 +75,15 @@ makes_of {X = X} m w read Stage fault Says status a h = go h.0 h.1 h.2
 tells_trace : (w : Words) (read : List ℕ) (a : Answer) → Then (Checks read) (Traces w) a → Tells modes.Trace w read a
 tells_trace w read a h = go h.0 h.1 h.2
   where
-    go : (found : Result ProgramTree Refusal) → Checks read found → Onward (Traces w) found a → Tells modes.Trace w read a
+    go : (found : Result ProgramTree Refusal) → Checks read found → Onward (Traces w) found a
+        → Tells modes.Trace w read a
     go (Ok p) s on =
         at_end on.outcome (p, s, on.has_outcome)
         (ap (λ (x : Answer). (shown x).status) on.writes ∙ traced_status (text_of on.trace) on.outcome)
     go (Err f) s on = at_fault f s on
 
-tells_exec : (w : Words) (read : List ℕ) (a : Answer) → Then (ChecksCode read) (RunsCode w) a → Tells modes.Exec w read a
+tells_exec : (w : Words) (read : List ℕ) (a : Answer) → Then (ChecksCode read) (RunsCode w) a
+    → Tells modes.Exec w read a
 tells_exec w read a h = go h.0 h.1 h.2
   where
     go : (found : Result Code Refusal) → ChecksCode read found → Onward (RunsCode w) found a → Tells modes.Exec w read a
@@ -93,16 +95,28 @@ tells_exec w read a h = go h.0 h.1 h.2
 tells_order : (w : Words) (read : List ℕ) (a : Answer) → Then (Checks read) (Orders w) a → Tells modes.Order w read a
 tells_order w read a h = go h.0 h.1 h.2
   where
-    go : (found : Result ProgramTree Refusal) → Checks read found → Onward (Orders w) found a → Tells modes.Order w read a
+    go : (found : Result ProgramTree Refusal) → Checks read found → Onward (Orders w) found a
+        → Tells modes.Order w read a
     go (Ok p) s on =
         at_end on.outcome (p, s, on.has_outcome)
         (ap (λ (x : Answer). (shown x).status) on.writes ∙ ordered_status on.schedule on.outcome)
     go (Err f) s on = at_fault f s on
 
+tells_repeat : (w : Words) (read : List ℕ) (a : Answer) → Then (Checks read) (Repeats w) a → Tells modes.Repeat w read a
+tells_repeat w read a h = go h.0 h.1 h.2
+  where
+    go : (found : Result ProgramTree Refusal) → Checks read found → Onward (Repeats w) found a
+        → Tells modes.Repeat w read a
+    go (Ok p) s on =
+        at_end on.outcome (p, s, on.has_outcome)
+        (ap (λ (x : Answer). (shown x).status) on.writes ∙ reused_status on.count on.outcome)
+    go (Err f) s on = at_fault f s on
+
 -- ---- of an audit
 
 tells_verdict : (w : Words) (read : List ℕ) (p : Parts) → Splits read (Ok p) → (t : ProgramTree) → Checks p.text (Ok t)
-    → (trace : Trace) → ReadsTrace p.trace (Ok trace) → (a : Answer) → Judges (setting w t) w.fuel trace a → Tells modes.Audit w read a
+    → (trace : Trace) → ReadsTrace p.trace (Ok trace) → (a : Answer) → Judges (setting w t) w.fuel trace a
+    → Tells modes.Audit w read a
 tells_verdict w read p split t checked trace r a h = go h.0 h.1 h.2
   where
     go : (v : Verdict) → Audits (setting w t) w.fuel trace v → a ≡ answer_of v → Tells modes.Audit w read a
@@ -114,27 +128,33 @@ tells_bytes : (w : Words) (read : List ℕ) (p : Parts) → Splits read (Ok p) �
     → (a : Answer) → AuditsTrace w p.trace t a → Tells modes.Audit w read a
 tells_bytes w read p split t checked a h = go h.0 h.1 h.2
   where
-    go : (found : Result Trace Refusal) → ReadsTrace p.trace found → Onward (Judges (setting w t) w.fuel) found a → Tells modes.Audit w read a
+    go : (found : Result Trace Refusal) → ReadsTrace p.trace found → Onward (Judges (setting w t) w.fuel) found a
+        → Tells modes.Audit w read a
     go (Ok trace) r on = tells_verdict w read p split t checked trace r a on
     go (Err f) r on = at_fault f (in_trace p split t checked r) on
 
-tells_parts : (w : Words) (read : List ℕ) (p : Parts) → Splits read (Ok p) → (a : Answer) → AuditsParts w p a → Tells modes.Audit w read a
+tells_parts : (w : Words) (read : List ℕ) (p : Parts) → Splits read (Ok p) → (a : Answer) → AuditsParts w p a
+    → Tells modes.Audit w read a
 tells_parts w read p split a h = go h.0 h.1 h.2
   where
-    go : (found : Result ProgramTree Refusal) → Checks p.text found → Onward (AuditsTrace w p.trace) found a → Tells modes.Audit w read a
+    go : (found : Result ProgramTree Refusal) → Checks p.text found → Onward (AuditsTrace w p.trace) found a
+        → Tells modes.Audit w read a
     go (Ok t) s on = tells_bytes w read p split t s a on
     go (Err f) s on = at_fault f (in_text p split s) on
 
-tells_audit : (w : Words) (read : List ℕ) (a : Answer) → Then (Splits read) (AuditsParts w) a → Tells modes.Audit w read a
+tells_audit : (w : Words) (read : List ℕ) (a : Answer) → Then (Splits read) (AuditsParts w) a
+    → Tells modes.Audit w read a
 tells_audit w read a h = go h.0 h.1 h.2
   where
-    go : (found : Result Parts Refusal) → Splits read found → Onward (AuditsParts w) found a → Tells modes.Audit w read a
+    go : (found : Result Parts Refusal) → Splits read found → Onward (AuditsParts w) found a
+        → Tells modes.Audit w read a
     go (Ok p) s on = tells_parts w read p s a on
     go (Err f) s on = at_fault f (in_length s) on
 
 -- ---- of a replay
 
-tells_schedule : (w : Words) (read : List ℕ) (p : ProgramTree) → Checks read (Ok p) → (a : Answer) → Replays w p a → Tells modes.Replay w read a
+tells_schedule : (w : Words) (read : List ℕ) (p : ProgramTree) → Checks read (Ok p) → (a : Answer) → Replays w p a
+    → Tells modes.Replay w read a
 tells_schedule w read p checked a h = go h.0 h.1 h.2
   where
     go : (found : Result (World (Local ℕ)) Refusal) → ReplaysCode (code_run w (code_of p)) w.fuel w.schedule found
@@ -147,32 +167,38 @@ tells_schedule w read p checked a h = go h.0 h.1 h.2
 tells_replay : (w : Words) (read : List ℕ) (a : Answer) → Then (Checks read) (Replays w) a → Tells modes.Replay w read a
 tells_replay w read a h = go h.0 h.1 h.2
   where
-    go : (found : Result ProgramTree Refusal) → Checks read found → Onward (Replays w) found a → Tells modes.Replay w read a
+    go : (found : Result ProgramTree Refusal) → Checks read found → Onward (Replays w) found a
+        → Tells modes.Replay w read a
     go (Ok p) s on = tells_schedule w read p s a on
     go (Err f) s on = at_fault f (in_program s) on
 
 -- ---- of a stream
 
-tells_handles : (w : Words) (read : List ℕ) (p : ProgramTree) → Checks read (Ok p) → (a : Answer) → Streams w read p a → Tells modes.Stream w read a
+tells_handles : (w : Words) (read : List ℕ) (p : ProgramTree) → Checks read (Ok p) → (a : Answer) → Streams w read p a
+    → Tells modes.Stream w read a
 tells_handles w read p checked a h = go h.0 h.1 h.2
   where
-    go : (found : Result ProgramTree Refusal) → KeepsAffine read p found → Onward (RunsTo w (report false)) found a → Tells modes.Stream w read a
+    go : (found : Result ProgramTree Refusal) → KeepsAffine read p found → Onward (RunsTo w (report false)) found a
+        → Tells modes.Stream w read a
     go (Ok q) k on =
         at_end on.0 (p, checked, k.1, subst (λ (x : ProgramTree). HasOutcome (setting w x) w.fuel on.0) k.0 on.1)
         (ap (λ (x : Answer). (shown x).status) on.2 ∙ report_status false on.0)
     go (Err f) k on = at_fault f (in_handles p checked k) on
 
-tells_stream : (w : Words) (read : List ℕ) (a : Answer) → Then (Checks read) (Streams w read) a → Tells modes.Stream w read a
+tells_stream : (w : Words) (read : List ℕ) (a : Answer) → Then (Checks read) (Streams w read) a
+    → Tells modes.Stream w read a
 tells_stream w read a h = go h.0 h.1 h.2
   where
-    go : (found : Result ProgramTree Refusal) → Checks read found → Onward (Streams w read) found a → Tells modes.Stream w read a
+    go : (found : Result ProgramTree Refusal) → Checks read found → Onward (Streams w read) found a
+        → Tells modes.Stream w read a
     go (Ok p) s on = tells_handles w read p s a on
     go (Err f) s on = at_fault f (in_text_of s) on
 
 -- one line for each mode
 tells : (m : Mode) (w : Words) (read : List ℕ) (a : Answer) → SaysAs m w read a → Tells m w read a
 unfolding SaysAs
-tells modes.Run w read a h = runs_text modes.Run w read read (λ f k. k) (λ x k. k) (report w.values) (report_status w.values) a h
+tells modes.Run w read a h =
+    runs_text modes.Run w read read (λ f k. k) (λ x k. k) (report w.values) (report_status w.values) a h
 tells modes.Check w read a h =
     makes_of modes.Check w read (Checks read) (λ f k. k) Accepts (λ p b k. ap (λ (x : Answer). (shown x).status) k) a h
 tells modes.Load w read a h =
@@ -188,30 +214,82 @@ tells modes.Audit w read a h = tells_audit w read a h
 tells modes.Replay w read a h = tells_replay w read a h
 tells modes.Order w read a h = tells_order w read a h
 tells modes.Stream w read a h = tells_stream w read a h
+tells modes.Repeat w read a h = tells_repeat w read a h
 
--- an answer of the mode, where what it runs has an outcome, with this status
-says_end : (m : Mode) (w : Words) (read : List ℕ) → IsWithin (reads_of m) (length read) → (x : Outcome) → Ends m w read x → (a : Answer) × SaysAs m w read a × ((shown a).status ≡ end_status x)
+-- the same program with its memo and its number, where an answer has these
+repeated_end : (w : Words) (read : List ℕ) (b : Answer) → Then (Checks read) (Repeats w) b → (x : Outcome)
+    → EndsAs w read x
+    → (a : Answer) × Then (Checks read) (Repeats w) a × ((shown a).status ≡ end_status x)
+repeated_end w read b h x e = go h.0 h.1 h.2
+  where
+    go : (found : Result ProgramTree Refusal) → Checks read found → Onward (Repeats w) found b
+        → (a : Answer) × Then (Checks read) (Repeats w) a × ((shown a).status ≡ end_status x)
+    go (Ok p) s on =
+        let same : e.0 ≡ p =
+        (let z : ◌≡◌ {A = Result ProgramTree Refusal} (Ok e.0) (Ok p) = one_check read (Ok e.0) (Ok p) e.1 s in cc) in (
+          Ok (reused on.count x),
+          (
+            Ok p,
+            s,
+            record {
+              entries = on.entries;
+              memo = on.memo;
+              count = on.count;
+              reuses = on.reuses;
+              outcome = x;
+              has_outcome = subst (λ (q : ProgramTree). HasOutcome (setting w q) w.fuel x) same e.2;
+              writes = refl;
+            },
+          ),
+          reused_status on.count x,
+        )
+    go (Err f) s on =
+        absurd (let z : ◌≡◌ {A = Result ProgramTree Refusal} (Ok e.0) (Err f) = one_check read (Ok e.0) (Err f) e.1 s in
+        cc)
+
+-- an answer of the mode, where it has one and what it runs has an outcome, with this status
+says_end : (m : Mode) (w : Words) (read : List ℕ) → IsWithin (reads_of m) (length read) → (b : Answer)
+    → SaysAs m w read b → (x : Outcome) → Ends m w read x
+    → (a : Answer) × SaysAs m w read a × ((shown a).status ≡ end_status x)
 unfolding SaysAs
-says_end modes.Run w read short x h = (Ok (report w.values x), (Ok h.0, h.1, (x, h.2, refl)), report_status w.values x)
-says_end modes.Check w read short x h = absurd h
-says_end modes.Load w read short x h = (Ok (summary w.seed w.size x), (Ok h.0, h.1, (x, h.2, refl)), summary_status w.seed w.size x)
-says_end modes.Dis w read short x h = absurd h
-says_end modes.Exec w read short x h = (Ok (report w.values x), (Ok h.0, h.1, (x, h.2, refl)), report_status w.values x)
-says_end modes.Emit w read short x h = absurd h
-says_end modes.Trace w read short x h =
-    let t = some_trace (setting w h.0) w.fuel in
-    (Ok (traced (text_of t.0) x), (Ok h.0, h.1, record { outcome = x; has_outcome = h.2; trace = t.0; has_trace = t.1; writes = refl }), traced_status (text_of t.0) x)
-says_end modes.Audit w read short x h = absurd h
-says_end modes.Replay w read short x h =
+says_end modes.Run w read short b on x h =
+    (Ok (report w.values x), (Ok h.0, h.1, (x, h.2, refl)), report_status w.values x)
+says_end modes.Check w read short b on x h = absurd h
+says_end modes.Load w read short b on x h =
+    (Ok (summary w.seed w.size x), (Ok h.0, h.1, (x, h.2, refl)), summary_status w.seed w.size x)
+says_end modes.Dis w read short b on x h = absurd h
+says_end modes.Exec w read short b on x h =
+    (Ok (report w.values x), (Ok h.0, h.1, (x, h.2, refl)), report_status w.values x)
+says_end modes.Emit w read short b on x h = absurd h
+says_end modes.Trace w read short b on x h =
+    let t = some_trace (setting w h.0) w.fuel in (
+      Ok (traced (text_of t.0) x),
+      (Ok h.0, h.1, record { outcome = x; has_outcome = h.2; trace = t.0; has_trace = t.1; writes = refl }),
+      traced_status (text_of t.0) x,
+    )
+says_end modes.Audit w read short b on x h = absurd h
+says_end modes.Replay w read short b on x h =
     (Ok (report w.values x), (Ok h.0, h.1, (Ok h.2.0, h.2.1, (x, h.3, refl))), report_status w.values x)
-says_end modes.Order w read short x h =
+says_end modes.Order w read short b on x h =
     let code = of_code (setting w h.0) (accepted_of read short h.0 h.1) w.fuel x h.2 in (
       Ok (ordered code.schedule x),
-      (Ok h.0, h.1, record { schedule = code.schedule; world = code.world; complete = code.complete; outcome = x; has_outcome = h.2; writes = refl }),
+      (
+        Ok h.0,
+        h.1,
+        record {
+          schedule = code.schedule;
+          world = code.world;
+          complete = code.complete;
+          outcome = x;
+          has_outcome = h.2;
+          writes = refl;
+        },
+      ),
       ordered_status code.schedule x,
     )
-says_end modes.Stream w read short x h =
+says_end modes.Stream w read short b on x h =
     (Ok (report false x), (Ok h.0, h.1, (Ok h.0, (refl, h.2), (x, h.3, refl))), report_status false x)
+says_end modes.Repeat w read short b on x h = repeated_end w read b on x h
 
 trap_status : (x : Outcome) → end_status x ≡ 1 → IsTrap x
 unfolding end_status
@@ -275,6 +353,7 @@ fault_is_refused modes.Audit w read f h = audit_refused w read f h
 fault_is_refused modes.Replay w read f h = replay_fault_refused w read f h
 fault_is_refused modes.Order w read f h = text_refused read f h
 fault_is_refused modes.Stream w read f h = stream_fault_refused read f h
+fault_is_refused modes.Repeat w read f h = text_refused read f h
 
 module _ (w : Words) (all : List ℕ) where
   -- too long
@@ -299,7 +378,8 @@ module _ (w : Words) (all : List ℕ) where
         ran x (record { read = read; fits = fits; ends = e }) is
     of_tells read fits (no_run is) = done is
 
-    of_read : (found : Result (List ℕ) Refusal) → Fits (reads_of w.mode) all found → Onward (SaysAs w.mode w) found a → Reason
+    of_read : (found : Result (List ℕ) Refusal) → Fits (reads_of w.mode) all found → Onward (SaysAs w.mode w) found a
+        → Reason
     of_read (Ok read) fits on = of_tells read fits (tells w.mode w read a on)
     of_read (Err f) fits on = fault f (inl fits) on
 
@@ -312,7 +392,10 @@ module _ (w : Words) (all : List ℕ) where
     -- the answer to a run has its status
     ran_status : (x : Outcome) → Ran w all x → (shown a).status ≡ end_status x
     ran_status x r =
-        let one = says_end w.mode w r.read (within (reads_of w.mode) all r.read r.fits) x r.ends in
+        let whole : says.0 ≡ Ok r.read = one_fits (reads_of w.mode) all says.0 (Ok r.read) says.1 r.fits in
+        let on : SaysAs w.mode w r.read a =
+        subst (λ (found : Result (List ℕ) Refusal). Onward (SaysAs w.mode w) found a) whole says.2 in
+        let one = says_end w.mode w r.read (within (reads_of w.mode) all r.read r.fits) a on x r.ends in
         (all_alike (Some w) all a one.0 says (Ok r.read, r.fits, one.1)).status ∙ one.2
 
     trapped_why : Reason → (shown a).status ≡ 1 → (x : Outcome) × Ran w all x × IsTrap x

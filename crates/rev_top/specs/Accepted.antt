@@ -8,25 +8,12 @@ use Rattle.rev_num.specs.declared.outcome.Outcome.{Outcome}
 use Rattle.rev_words.specs.declared.Mode.TheVariants as modes
 use Rattle.rev_words.specs.declared.Words.{Words}
 use Rattle.rev_report.specs.Outcome.{report}
-use Rattle.rev_syntax.specs.Tokens.{IsTokens}
 use Rattle.rev_syntax.specs.Trees.{ProgramTree}
-use Rattle.rev_syntax.specs.declared.token.Token.{Token}
-use Rattle.rev_parse.specs.Verdicts.{IsProgram}
-use Rattle.static_rules.specs.Funs.{KeepsFunRules}
-use Rattle.static_rules.specs.Breaks.{BreaksNone}
 use Rattle.revision_calculus.specs.Complete.{HasOutcome}
 use Rattle.rev_top.specs.Answer.{setting, source_limit}
 use Rattle.rev_top.specs.Delivery.{Wrote}
 use Rattle.rev_top.specs.Promises.{Calm}
-
--- the text has tokens, which are one tree, and the tree keeps the rules on funs and breaks no other
-pub record IsSound (text : List ℕ) : Type 0 where
-  pub tokens : List Token
-  pub cut : IsTokens text tokens
-  pub tree : ProgramTree
-  pub parsed : IsProgram text tokens tree
-  pub funs : KeepsFunRules tree
-  pub rules : BreaksNone tree
+pub use Rattle.rev_top.specs.Writes.{IsSound}
 
 -- both sinks took the report of the outcome that every complete run of the program has, with the
 -- input numbers, the share and the fuel of the words, and the status is the report's

@@ -15,22 +15,25 @@ use Rattle.rev_words.specs.declared.Mode.TheVariants as modes
 use Rattle.rev_words.specs.declared.Words.{Words}
 use Rattle.rev_report.specs.Report.{Output, done}
 use Rattle.rev_report.specs.Outcome.{report}
-use Rattle.rev_messages.specs.Modes.{accepted, ordered, summary, traced}
+use Rattle.rev_messages.specs.Modes.{accepted, ordered, reused, summary, traced}
 use Rattle.rev_messages.specs.declared.refusal.Refusal.{Refusal}
 use Rattle.rev_messages.specs.declared.refusal.Refusal.TheVariants as refusals
 use Rattle.rev_code.specs.declared.code.Code.{Code}
 use Rattle.revision_machine.specs.Numbered.{World}
 use Rattle.code_machine.specs.Local.{CodeRun, Local}
-use Rattle.code_outcomes.specs.Outcomes.{IsCompleteRun, HasOutcome as HasCodeOutcome}
+use Rattle.code_machine_laws.specs.Outcomes.{IsCompleteRun, HasOutcome as HasCodeOutcome}
+use Rattle.code_memos.specs.Leaf.{Known}
+use Rattle.memo_runs.specs.MemoLaws.{MemoIn, ReusedIn}
 use Rattle.code_file.specs.Files.{file_of}
 use Rattle.code_generation.specs.Generated.{code_of}
 use Rattle.code_listing.specs.Listing.{listing}
 use Rattle.rev_syntax.specs.Trees.{ProgramTree}
-use Rattle.rev_parse.specs.SmallTree.{most_bytes}
 use Rattle.revision_calculus.specs.Program.{Setting}
 use Rattle.revision_calculus.specs.Complete.{HasOutcome}
 use Rattle.trace_diagram.specs.declared.diagram.Trace.{Trace}
-use Rattle.trace_making.specs.Traced.{HasTrace}
+use Rattle.audit_rules.specs.Traced.{HasTrace}
+-- the most bytes that a text may have, and a code file, or a text with a trace behind it
+pub use Rattle.rev_top.specs.declared.answer.TheConstants.{SOURCE_LIMIT as source_limit, FILE_LIMIT as file_limit}
 use Rattle.rev_top.specs.Affine.{KeepsAffine}
 use Rattle.rev_top.specs.Codes.{ChecksCode}
 use Rattle.rev_top.specs.Schedules.{ReplaysCode}
@@ -42,14 +45,6 @@ abbrev pub Answer : Type 0
 Answer = Result Output Refusal
 
 -- ---- what a call reads
-
--- the most bytes that a text may have
-abbrev pub source_limit : ℕ
-source_limit = most_bytes
-
--- the most bytes that a code file may have, and a text with a trace behind it
-abbrev pub file_limit : ℕ
-file_limit = 16777216
 
 -- the whole source, which may have so many bytes, or none of it
 abbrev pub reads_of : Mode → Option ℕ
@@ -64,6 +59,7 @@ reads_of modes.Audit = Some file_limit
 reads_of modes.Replay = Some source_limit
 reads_of modes.Order = Some source_limit
 reads_of modes.Stream = Some source_limit
+reads_of modes.Repeat = Some source_limit
 
 -- words without a reading read nothing
 abbrev pub reads : Option Words → Option ℕ
@@ -139,6 +135,21 @@ Lists c a = a ≡ Ok (done (listing c))
 abbrev pub Streams : Words → (text : List ℕ) → ProgramTree → Answer → Type 0
 Streams w text p = Then (KeepsAffine text p) (RunsTo w (report false))
 
+-- the same code, with the input numbers of the run before
+abbrev pub code_run_before : Words → Code → CodeRun
+code_run_before w c = record { code = c; inputs = w.before; share = w.share }
+
+-- entries are kept of the leaf revisions of the run before; in the run with the numbers so many leaf revisions have
+-- a valid one; and behind that number what `run` writes of the program's outcome is written, without the values
+pub record Repeats (w : Words) (p : ProgramTree) (a : Answer) : Type 0 where
+  pub entries : List Known
+  pub memo : MemoIn (code_run_before w (code_of p)) w.fuel entries
+  pub count : ℕ
+  pub reuses : ReusedIn (code_run w (code_of p)) w.fuel entries count
+  pub outcome : Outcome
+  pub has_outcome : HasOutcome (setting w p) w.fuel outcome
+  pub writes : a ≡ Ok (reused count outcome)
+
 -- what each mode says of the bytes that it read
 unfoldable pub SaysAs : Mode → Words → List ℕ → Answer → Type 0
 SaysAs modes.Run w text = Then (Checks text) (RunsTo w (report w.values))
@@ -153,6 +164,7 @@ SaysAs modes.Audit w all = Then (Splits all) (AuditsParts w)
 SaysAs modes.Replay w text = Then (Checks text) (Replays w)
 SaysAs modes.Order w text = Then (Checks text) (Orders w)
 SaysAs modes.Stream w text = Then (Checks text) (Streams w text)
+SaysAs modes.Repeat w text = Then (Checks text) (Repeats w)
 
 -- ---- the order of the refusals: words, read fault, length, and what the mode says
 

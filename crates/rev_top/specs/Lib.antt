@@ -17,3 +17,4 @@ pub mod Streaming
 pub mod TextLaws
 pub mod Texts
 pub mod Traces
+pub mod Writes

@@ -3,12 +3,14 @@
 use Rattle.std.specs.Prelude.{ℕ, List, [], ◌≡◌, ◌<◌, ◌⊎◌, ◌+◌, Option, Some, None}
 use Rattle.rev_io.specs.Stream.{Stream, GaveAtMost, Rose, Took, TookSome}
 use Rattle.rev_words.specs.declared.Words.{Words}
+use Rattle.rev_report.specs.Report.{Output}
 use Rattle.rev_messages.specs.Refusals.{no_memory, shown}
 use Rattle.rev_report.specs.Status.{no_memory_status, read_fault_status, refused_status, usage_status, write_fault_status}
 use Rattle.rev_top.specs.Answer.{Answer, Says, reads}
 use Rattle.thread_runs.specs.declared.ran.Ran.{Ran}
 use Rattle.rev_top.specs.Delivery.{Wrote}
 use Rattle.rev_top.specs.Rans.{Happened}
+use Rattle.rev_top.specs.Writes.{Writes}
 
 -- the source told all these bytes before and did not fail; where a call reads nothing, nothing is
 -- asked of it
@@ -22,12 +24,12 @@ pub record Calm (out out' err err' : Stream) (status : ℕ) : Type 0 where
   pub told : Rose err err' → ⊥
   pub room : status ≡ no_memory_status → ⊥
 
--- an answer to these words and bytes, all of which was written
+-- what is written for these words and bytes, and both sinks took all of it
 pub record IsWritten (words : Option Words) (all : List ℕ) (out out' err err' : Stream) (status : ℕ)
     : Type 0 where
-  pub answer : Answer
-  pub says : Says words all answer
-  pub wrote : Wrote (shown answer) out out' err err' status
+  pub output : Output
+  pub writes : Writes words all output
+  pub wrote : Wrote output out out' err err' status
 
 -- an answer to these words and bytes, of which `out` took a first part, and `err` too, or one of the
 -- message for want of memory
@@ -52,8 +54,8 @@ pub record Keeps (words : Option Words) (source source' out out' err err' : Stre
   -- it hands out, and delivered it, up to where a sink failed or memory ran out; or memory ran out
   -- before
   pub happened : Happened words source source' out out' err err' ran status
-  -- where nothing failed, there is an answer to the words and to all bytes that the source had left,
-  -- and the status and the bytes that both sinks took are its own
+  -- where nothing failed, both sinks took what is written for the words and for all bytes that the
+  -- source had left, and the status is its own
   pub headline : Calm out out' err err' status → (all : List ℕ)
       → Feeds (reads words) source source' all → IsWritten words all out out' err err' status
   -- usage comes only where the words have no reading; there nothing else comes but 6 and 7

@@ -35,6 +35,7 @@ goes_by_threads modes.Audit = false
 goes_by_threads modes.Replay = false
 goes_by_threads modes.Order = true
 goes_by_threads modes.Stream = false
+goes_by_threads modes.Repeat = false
 
 -- a run of the code of the program that the text is, which keeps all rules
 pub record IsRunOfText (w : Words) (text : List ℕ) (r : Ran) : Type 0 where
@@ -67,6 +68,7 @@ Reports modes.Audit w all r o = ⊥
 Reports modes.Replay w text r o = ⊥
 Reports modes.Order w text r o = IsRunOfText w text r × (o ≡ of_order r)
 Reports modes.Stream w text r o = ⊥
+Reports modes.Repeat w text r o = ⊥
 
 -- ---- what stands beside an answer
 

@@ -13,7 +13,7 @@ use Rattle.rev_words.specs.declared.Mode.TheVariants as modes
 use Rattle.rev_words.specs.declared.Words.{Words}
 use Rattle.rev_code.specs.declared.code.Code.{Code}
 use Rattle.code_file.specs.Laws.{AreBytes, IsFile}
-use Rattle.code_outcomes.specs.Outcomes.{HasOutcome as HasCodeOutcome}
+use Rattle.code_machine_laws.specs.Outcomes.{HasOutcome as HasCodeOutcome}
 use Rattle.code_generation.specs.Generated.{code_of}
 use Rattle.code_listing.specs.Listing.{listing}
 use Rattle.code_runs.specs.Schedules.{IsLegal}
@@ -89,6 +89,7 @@ Ends modes.Audit w read end = ⊥
 Ends modes.Replay w read end = ReplayEndsAs w read end
 Ends modes.Order w read end = EndsAs w read end
 Ends modes.Stream w read end = StreamEndsAs w read end
+Ends modes.Repeat w read end = EndsAs w read end
 
 -- what is at fault first in the parts of a source: the text is too long or no program, or the trace
 -- is none, or it is not that of the program's runs
@@ -128,6 +129,7 @@ IsFault modes.Audit w read f = IsAuditFault w read f
 IsFault modes.Replay w read f = IsReplayFault w read f
 IsFault modes.Order w read f = Checks read (Err f)
 IsFault modes.Stream w read f = IsStreamFault read f
+IsFault modes.Repeat w read f = Checks read (Err f)
 
 -- something was run, and this is its outcome
 pub record Ran (w : Words) (all : List ℕ) (end : Outcome) : Type 0 where

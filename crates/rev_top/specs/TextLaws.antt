@@ -1,8 +1,9 @@
--- Laws of texts: that of `load` is a program, no program has a line that begins a trace, and a text
--- with the trace of its runs behind it has the audit `yes`.
+-- Laws of texts: that of `load` is a program, no program has a line that begins a trace, what is
+-- written of a trace has the form of one, and a text with the trace of its runs behind it has the
+-- audit `yes`.
 use Rattle.std.specs.Prelude.{ℕ, ◌≡◌, ◌≤◌, List, ◌++◌, length, Some, Ok}
 use Rattle.rev_words.specs.Load.{load_text}
-use Rattle.rev_words.specs.Reading.{KeepsRanges}
+use Rattle.rev_words.specs.Reading.{KeepsRanges, reading}
 use Rattle.rev_words.specs.declared.Mode.TheVariants as modes
 use Rattle.rev_words.specs.declared.Words.{Words}
 use Rattle.rev_messages.specs.Modes.{agreed}
@@ -10,8 +11,8 @@ use Rattle.rev_messages.specs.Refusals.{shown}
 use Rattle.rev_syntax.specs.Trees.{ProgramTree}
 use Rattle.trace_diagram.specs.Traces.{IsTrace, IsWholeLines, trace_text}
 use Rattle.trace_diagram.specs.declared.diagram.Trace.{Trace}
-use Rattle.trace_source.specs.Dividing.{IsCutAt}
-use Rattle.trace_making.specs.Traced.{HasTrace}
+use Rattle.trace_diagram.specs.Dividing.{IsCutAt}
+use Rattle.audit_rules.specs.Traced.{HasTrace}
 use Rattle.rev_top.specs.Answer.{Answer, Says, file_limit, setting, source_limit}
 use Rattle.rev_top.specs.RanLaws.{IsRunStatus}
 use Rattle.rev_top.specs.Texts.{Checks}
@@ -34,13 +35,18 @@ NoProgramBeginsATrace =
     (text : List ℕ) (p : ProgramTree) → Checks text (Ok p)
     → (front back : List ℕ) → IsCutAt text front back → ⊥
 
+-- What `trace` writes of a program of a text that is not too long has the form of a trace text,
+-- with the numbers, the share and the fuel of words that have a reading.
+abbrev pub TraceHasForm : Type 0
+TraceHasForm =
+    (words : List (List ℕ)) (w : Words) → reading words ≡ Some w → (text : List ℕ) (p : ProgramTree) → Checks text (Ok p)
+    → length text ≤ source_limit → (t : Trace) → HasTrace (setting w p) w.fuel (Some t) → IsTrace t
+
 -- The answer of `audit` to a program's text of whole lines and, behind it, the trace of its runs with
--- the numbers, the share and the fuel of the words is `yes`, where that has the form of a trace and
--- the two together are not too long.
+-- the numbers, the share and the fuel of the words is `yes`, where the two together are not too long.
 abbrev pub AuditsOwnTrace : Type 0
 AuditsOwnTrace =
-    (w : Words) → w.mode ≡ modes.Audit → (text : List ℕ) (p : ProgramTree) → Checks text (Ok p)
-    → IsWholeLines text → length text ≤ source_limit
-    → (t : Trace) → HasTrace (setting w p) w.fuel (Some t) → IsTrace t
-    → length (text ++ trace_text t) ≤ file_limit
+    (words : List (List ℕ)) (w : Words) → reading words ≡ Some w → w.mode ≡ modes.Audit → (text : List ℕ) (p : ProgramTree)
+    → Checks text (Ok p) → IsWholeLines text → length text ≤ source_limit
+    → (t : Trace) → HasTrace (setting w p) w.fuel (Some t) → length (text ++ trace_text t) ≤ file_limit
     → Says (Some w) (text ++ trace_text t) (Ok agreed)

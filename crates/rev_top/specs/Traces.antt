@@ -8,7 +8,7 @@ use Rattle.rev_report.specs.Report.{Output}
 use Rattle.revision_calculus.specs.Program.{Setting}
 use Rattle.trace_diagram.specs.Traces.{IsFirstFault, IsTextOf, trace_text}
 use Rattle.trace_diagram.specs.declared.diagram.Trace.{Trace}
-use Rattle.trace_source.specs.Dividing.{Divides}
+use Rattle.trace_diagram.specs.Dividing.{Divides}
 use Rattle.audit_rules.specs.Verdicts.{Audits}
 use Rattle.audit_rules.specs.declared.verdict.Verdict.{Verdict}
 use Rattle.audit_rules.specs.declared.verdict.Verdict.TheVariants as verdict

@@ -17,6 +17,7 @@ use crate::emits::emit;
 use crate::endings::refused;
 use crate::execs::exec;
 use crate::made::Made;
+use crate::repeats::repeat;
 use crate::replays::replay;
 use crate::runs::{load, order, run};
 use crate::stop::Stop;
@@ -25,6 +26,7 @@ use crate::traces::trace;
 use code_listing::disassemble;
 use code_verifier::Verified;
 use hub_workers::Gate;
+use merge_kernels::Kernel;
 use rev_io::{Source, read_text};
 use rev_messages::{accepted_report, done_report};
 use rev_report::Report;
@@ -86,27 +88,30 @@ fn say<R: Threads + Wait + Sync, G: Gate + Sync>(
     words: &Words,
     bytes: &[u8],
     gate: &G,
+    kernels: &[Kernel],
 ) -> Result<Made, Stop>
     requires mode { words.now.mode ≢ modes.Stream }
     requires limit { IsWithin (reads_of words.now.mode) (length bytes.now) }
     requires fuel { words.now.fuel ≤ most_fuel }
     requires workers { 1 ≤ words.now.workers }
+    requires before { length words.now.before ≤ 1024 }
     ensures says { Meets said result (SaysAs words.now.mode words.now bytes.now) }
     ensures holds { IfOk result (λ m.
         Holds words.now.mode words.now bytes.now m.ran (output m.report)) }
 {
     match words.mode {
-        Mode::Run => run(rt, alloc, words, bytes, gate),
+        Mode::Run => run(rt, alloc, words, bytes, gate, kernels),
         Mode::Check => alone(check(alloc, words, bytes)),
-        Mode::Load => load(rt, alloc, words, gate),
+        Mode::Load => load(rt, alloc, words, gate, kernels),
         Mode::Dis => alone(dis(alloc, bytes)),
         Mode::Exec => alone(exec(alloc, words, bytes)),
         Mode::Emit => alone(emit(alloc, bytes)),
         Mode::Trace => alone(trace(alloc, words, bytes)),
         Mode::Audit => alone(audit(alloc, words, bytes)),
         Mode::Replay => alone(replay(alloc, words, bytes)),
-        Mode::Order => order(rt, alloc, words, bytes, gate),
+        Mode::Order => order(rt, alloc, words, bytes, gate, kernels),
         Mode::Stream => unreachable!(),
+        Mode::Repeat => alone(repeat(alloc, words, bytes)),
     }
 }
 
@@ -127,6 +132,7 @@ fn limit_of(mode: Mode) -> Option<usize>
         Mode::Replay => Some(SOURCE_LIMIT),
         Mode::Order => Some(SOURCE_LIMIT),
         Mode::Stream => Some(SOURCE_LIMIT),
+        Mode::Repeat => Some(SOURCE_LIMIT),
     }
 }
 
@@ -165,10 +171,12 @@ fn answer_to<R: Threads + Wait + Sync, S: Source, G: Gate + Sync>(
     words: &Words,
     source: &mut S,
     gate: &G,
+    kernels: &[Kernel],
 ) -> Result<Made, Stop>
     requires mode { words.now.mode ≢ modes.Stream }
     requires fuel { words.now.fuel ≤ most_fuel }
     requires workers { 1 ≤ words.now.workers }
+    requires before { length words.now.before ≤ 1024 }
     ensures meets { Meets said result
         (Answers (Some words.now) (S.stream source.old) (S.stream source.new)) }
     ensures leaves { IfOk result (λ m. Leaves
@@ -176,7 +184,7 @@ fn answer_to<R: Threads + Wait + Sync, S: Source, G: Gate + Sync>(
     ensures takes { Takes (reads_of words.now.mode) (S.stream source.old) (S.stream source.new) }
 {
     let bytes = read_source(alloc, words.mode, source)?;
-    say(rt, alloc, words, bytes.as_slice(), gate)
+    say(rt, alloc, words, bytes.as_slice(), gate, kernels)
 }
 
 /// The report of a call that does not print as it runs, and the run of which it was made, unless
@@ -187,15 +195,17 @@ pub fn make_report<R: Threads + Wait + Sync, S: Source, G: Gate + Sync>(
     words: &Words,
     source: &mut S,
     gate: &G,
+    kernels: &[Kernel],
 ) -> Result<Made, AllocError>
     requires mode { words.now.mode ≢ modes.Stream }
     requires fuel { words.now.fuel ≤ most_fuel }
     requires workers { 1 ≤ words.now.workers }
+    requires before { length words.now.before ≤ 1024 }
     ensures report { IfOk result (λ m. IsMade (Some words.now)
         (S.stream source.old) (S.stream source.new) m.ran (output m.report)) }
     ensures takes { Takes (reads_of words.now.mode) (S.stream source.old) (S.stream source.new) }
 {
-    match answer_to(rt, alloc, words, source, gate) {
+    match answer_to(rt, alloc, words, source, gate, kernels) {
         Ok(made) => Ok(made),
         Err(stop) => {
             let report = refused(alloc, stop)?;

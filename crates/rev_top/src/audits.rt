@@ -18,8 +18,7 @@ use rev_report::Report;
 use rev_types::Typed;
 use rev_words::{Mode, Words};
 use std::alloc::Global;
-use trace_diagram::{Trace, TraceFault, read_trace};
-use trace_source::trace_start;
+use trace_diagram::{Trace, TraceFault, read_trace, trace_start};
 
 /// How many bytes the text before the trace has.
 fn text_length(bytes: &[u8]) -> Result<usize, Stop>

@@ -1,7 +1,7 @@
 //! What happens in a call: its words are read, and then its report is made and written, or the program
 //! prints as it runs.
 
-ghost use Rattle.std.specs.Prelude.{◌≡◌, ◌≤◌, Some, map};
+ghost use Rattle.std.specs.Prelude.{◌≡◌, ◌≤◌, Some, length, map};
 ghost use Rattle.std.specs.String.{string_bytes};
 ghost use Rattle.rev_num.specs.Limits.{most_fuel};
 ghost use Rattle.rev_words.specs.Reading.{reading};
@@ -13,6 +13,7 @@ use crate::endings::{deliver, out_of_memory, refuse};
 use crate::stop::Stop;
 use crate::streams::stream;
 use hub_workers::Gate;
+use merge_kernels::Kernel;
 use rev_io::{Sink, Source};
 use rev_words::{Mode, Words, read_words};
 use std::alloc::Global;
@@ -30,9 +31,11 @@ fn happen_to<R: Threads + Wait + Sync, S: Source, O: Sink, E: Sink, G: Gate + Sy
     err: &mut E,
     gate: &G,
     ran: &mut Option<Ran>,
+    kernels: &[Kernel],
 ) -> u8
     requires fuel { words.now.fuel ≤ most_fuel }
     requires workers { 1 ≤ words.now.workers }
+    requires before { length words.now.before ≤ 1024 }
     ensures happened { Happened (Some words.now)
         (S.stream source.old) (S.stream source.new) (O.stream out.old) (O.stream out.new)
         (E.stream err.old) (E.stream err.new) ran.new result }
@@ -42,7 +45,7 @@ fn happen_to<R: Threads + Wait + Sync, S: Source, O: Sink, E: Sink, G: Gate + Sy
         *ran = None;
         return stream(alloc, words, source, out, err);
     }
-    match make_report(rt, alloc, words, source, gate) {
+    match make_report(rt, alloc, words, source, gate, kernels) {
         Ok(made) => {
             *ran = made.ran;
             deliver(out, err, &made.report)
@@ -64,6 +67,7 @@ pub fn happen<R: Threads + Wait + Sync, S: Source, O: Sink, E: Sink, G: Gate + S
     err: &mut E,
     gate: &G,
     ran: &mut Option<Ran>,
+    kernels: &[Kernel],
 ) -> u8
     ensures happened { Happened (reading (map string_bytes words.now))
         (S.stream source.old) (S.stream source.new) (O.stream out.old) (O.stream out.new)
@@ -72,7 +76,7 @@ pub fn happen<R: Threads + Wait + Sync, S: Source, O: Sink, E: Sink, G: Gate + S
         (S.stream source.old) (S.stream source.new) }
 {
     match read_words(alloc, words) {
-        Ok(words) => happen_to(rt, alloc, &words, source, out, err, gate, ran),
+        Ok(words) => happen_to(rt, alloc, &words, source, out, err, gate, ran, kernels),
         Err(fault) => {
             *ran = None;
             refuse(alloc, Stop::from(fault), out, err)

@@ -4,7 +4,8 @@ ghost use Rattle.rev_top.specs.RanLaws.{RanLaw};
 ghost use Rattle.rev_top.specs.Statuses.{ListingLaw, OneAnswer, StatusLaw};
 ghost use Rattle.rev_top.specs.StreamLaws.{PrintsFirstParts};
 ghost use Rattle.rev_top.specs.TextLaws.{AuditsOwnTrace, LoadEndsAsRuns, LoadIsAccepted};
-ghost use Rattle.rev_top.specs.TextLaws.{NoProgramBeginsATrace};
+ghost use Rattle.rev_top.specs.TextLaws.{NoProgramBeginsATrace, TraceHasForm};
+ghost use Rattle.rev_top.specs.Writes.{WritingLaw};
 
 use code_file::file_laws;
 
@@ -12,6 +13,12 @@ use code_file::file_laws;
 /// which differ in the schedule that they write, and agree in message and status.
 pub fn one_answer()
     ensures { OneAnswer }
+{}
+
+/// What is written where nothing fails is what is shown of an answer to the same words and bytes,
+/// and of each answer it is written.
+pub fn writing_law()
+    ensures { WritingLaw }
 {}
 
 /// Why an answer to words with a reading has its status: 1 exactly where `main` trapped, 3 exactly
@@ -49,10 +56,12 @@ pub fn load_law()
     ensures ends { LoadEndsAsRuns }
 {}
 
-/// Behind whole lines of a text that is accepted no trace begins; so the answer of `audit` to such
-/// a text of whole lines and the trace of its runs is `yes`, where that has the form of a trace.
+/// Behind whole lines of a text that is accepted no trace begins, and what `trace` writes of it has
+/// the form of a trace text; so the answer of `audit` to such a text of whole lines and the trace of
+/// its runs is `yes`.
 pub fn trace_law()
     ensures none_begins { NoProgramBeginsATrace }
+    ensures form { TraceHasForm }
     ensures own_trace { AuditsOwnTrace }
 {}
 

@@ -17,6 +17,7 @@ mod endings;
 mod execs;
 mod law;
 mod made;
+mod repeats;
 mod replays;
 mod runs;
 mod stop;
@@ -29,7 +30,9 @@ pub use endings::out_of_memory;
 use hub_workers::Gate;
 pub use law::{
     listing_law, load_law, one_answer, one_finding, ran_law, statuses, stream_law, trace_law,
+    writing_law,
 };
+use merge_kernels::Kernel;
 use rev_io::{Sink, Source};
 use std::sync::Wait;
 use std::thread::Threads;
@@ -56,8 +59,9 @@ use thread_runs::Ran;
 /// A sink that fails, and want of memory, can come in place of each of them.
 ///
 /// In the modes `run`, `load` and `order` the program is run by threads, each of which enters the
-/// gate before each leg, and all of which have ended when it returns; no clause tells of threads or
-/// of the gate. What is written is made from their run, which is handed out in `ran`: behind each
+/// gate before each leg, and all of which have ended when it returns; a kernel with the definition
+/// of a location's merge makes its merges there. No clause tells of threads, of the gate or of
+/// kernels. What is written is made from their run, which is handed out in `ran`: behind each
 /// of the statuses 0, 1 and 3; behind 6 and 7 surely where `out` took a byte. In the other modes,
 /// and behind 2, 4 and 5, `ran` is None.
 pub fn rev_main<
@@ -74,6 +78,7 @@ pub fn rev_main<
     err: &mut E,
     gate: &G,
     ran: &mut Option<Ran>,
+    kernels: &[Kernel],
 ) -> u8
     ensures keeps { Keeps (reading (map string_bytes words.now))
         (S.stream source.old) (S.stream source.new) (O.stream out.old) (O.stream out.new)
@@ -85,5 +90,5 @@ pub fn rev_main<
         (S.stream source.old) (O.stream out.old) (O.stream out.new)
         (E.stream err.old) (E.stream err.new) ran.new result }
 {
-    happen(rt, rt.alloc(), words, source, out, err, gate, ran)
+    happen(rt, rt.alloc(), words, source, out, err, gate, ran, kernels)
 }

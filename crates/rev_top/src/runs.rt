@@ -17,6 +17,8 @@ use crate::stop::Stop;
 use crate::text::checked;
 use codegen::generate;
 use hub_workers::Gate;
+use kernel_choices::choose_kernels;
+use merge_kernels::{Kernel, KernelPlan};
 use rev_messages::{order_report, summary_report};
 use rev_report::outcome_bytes;
 use rev_types::Typed;
@@ -33,6 +35,7 @@ fn run_of<R: Threads + Wait + Sync, G: Gate + Sync>(
     words: &Words,
     typed: &Typed,
     gate: &G,
+    kernels: &[Kernel],
 ) -> Result<Ran, AllocError>
     requires fuel { words.now.fuel ≤ most_fuel }
     requires workers { 1 ≤ words.now.workers }
@@ -43,6 +46,8 @@ fn run_of<R: Threads + Wait + Sync, G: Gate + Sync>(
 {
     let code = generate(alloc, typed)?;
     let numbers = Vec::from_slice(alloc, words.numbers.as_slice())?;
+    let choices = choose_kernels(alloc, typed, kernels)?;
+    let plan = KernelPlan::new(choices, kernels);
     run_threads(
         rt,
         alloc,
@@ -53,6 +58,7 @@ fn run_of<R: Threads + Wait + Sync, G: Gate + Sync>(
         words.workers,
         words.segments,
         gate,
+        &plan,
     )
 }
 
@@ -63,13 +69,14 @@ fn run_program<R: Threads + Wait + Sync, G: Gate + Sync>(
     words: &Words,
     typed: &Typed,
     gate: &G,
+    kernels: &[Kernel],
 ) -> Result<Made, Stop>
     requires fuel { words.now.fuel ≤ most_fuel }
     requires workers { 1 ≤ words.now.workers }
     ensures { Meets told result
         (RunsBy words.now (of_run words.now) (whole typed.now.expanded.program)) }
 {
-    let ran = run_of(rt, alloc, words, typed, gate)?;
+    let ran = run_of(rt, alloc, words, typed, gate, kernels)?;
     let report = outcome_bytes(alloc, ran.outcome(), words.values)?;
     Ok(Made {
         report,
@@ -84,13 +91,14 @@ fn load_program<R: Threads + Wait + Sync, G: Gate + Sync>(
     words: &Words,
     typed: &Typed,
     gate: &G,
+    kernels: &[Kernel],
 ) -> Result<Made, Stop>
     requires fuel { words.now.fuel ≤ most_fuel }
     requires workers { 1 ≤ words.now.workers }
     ensures { Meets told result
         (RunsBy words.now (of_load words.now) (whole typed.now.expanded.program)) }
 {
-    let ran = run_of(rt, alloc, words, typed, gate)?;
+    let ran = run_of(rt, alloc, words, typed, gate, kernels)?;
     let report = summary_report(alloc, words.seed, words.size, ran.outcome())?;
     Ok(Made {
         report,
@@ -105,13 +113,14 @@ fn order_program<R: Threads + Wait + Sync, G: Gate + Sync>(
     words: &Words,
     typed: &Typed,
     gate: &G,
+    kernels: &[Kernel],
 ) -> Result<Made, Stop>
     requires fuel { words.now.fuel ≤ most_fuel }
     requires workers { 1 ≤ words.now.workers }
     ensures { Meets told result
         (RunsBy words.now of_order (whole typed.now.expanded.program)) }
 {
-    let ran = run_of(rt, alloc, words, typed, gate)?;
+    let ran = run_of(rt, alloc, words, typed, gate, kernels)?;
     let report = order_report(alloc, ran.schedule(), ran.outcome())?;
     Ok(Made {
         report,
@@ -126,6 +135,7 @@ pub fn run<R: Threads + Wait + Sync, G: Gate + Sync>(
     words: &Words,
     text: &[u8],
     gate: &G,
+    kernels: &[Kernel],
 ) -> Result<Made, Stop>
     requires limit { length text.now ≤ source_limit }
     requires fuel { words.now.fuel ≤ most_fuel }
@@ -133,7 +143,7 @@ pub fn run<R: Threads + Wait + Sync, G: Gate + Sync>(
     ensures { Meets told result (RunsText words.now (of_run words.now) text.now) }
 {
     let typed = checked(alloc, text)?;
-    run_program(rt, alloc, words, &typed, gate)
+    run_program(rt, alloc, words, &typed, gate, kernels)
 }
 
 /// The program that `load` makes.
@@ -151,6 +161,7 @@ pub fn load<R: Threads + Wait + Sync, G: Gate + Sync>(
     alloc: Global,
     words: &Words,
     gate: &G,
+    kernels: &[Kernel],
 ) -> Result<Made, Stop>
     requires fuel { words.now.fuel ≤ most_fuel }
     requires workers { 1 ≤ words.now.workers }
@@ -158,7 +169,7 @@ pub fn load<R: Threads + Wait + Sync, G: Gate + Sync>(
         (of_load words.now) (spec.load_text words.now.seed words.now.size)) }
 {
     let typed = loaded(alloc, words)?;
-    load_program(rt, alloc, words, &typed, gate)
+    load_program(rt, alloc, words, &typed, gate, kernels)
 }
 
 /// What `order` says of a text that is not too long: the schedule of a run, with the message and
@@ -169,6 +180,7 @@ pub fn order<R: Threads + Wait + Sync, G: Gate + Sync>(
     words: &Words,
     text: &[u8],
     gate: &G,
+    kernels: &[Kernel],
 ) -> Result<Made, Stop>
     requires limit { length text.now ≤ source_limit }
     requires fuel { words.now.fuel ≤ most_fuel }
@@ -176,5 +188,5 @@ pub fn order<R: Threads + Wait + Sync, G: Gate + Sync>(
     ensures { Meets told result (RunsText words.now of_order text.now) }
 {
     let typed = checked(alloc, text)?;
-    order_program(rt, alloc, words, &typed, gate)
+    order_program(rt, alloc, words, &typed, gate, kernels)
 }

@@ -4,7 +4,7 @@ ghost use Rattle.rev_num.specs.Limits.{most_fuel};
 ghost use Rattle.rev_syntax.specs.View.{program as whole};
 ghost use Rattle.rev_report.specs.Report.{output};
 ghost use Rattle.revision_calculus.specs.Complete.{HasOutcome};
-ghost use Rattle.trace_making.specs.Traced.{HasTrace};
+ghost use Rattle.audit_rules.specs.Traced.{HasTrace};
 ghost use Rattle.rev_top.specs.Answer.{SaysAs, Traces, setting, source_limit};
 ghost use Rattle.rev_top.specs.Stops.{Meets};
 ghost use Rattle.rev_top.specs.Traces.{text_of};

@@ -8,13 +8,15 @@ use Rattle.rev_report.specs.Limits.{most}
 use Rattle.rev_report.specs.declared.limit.Limit.TheVariants as limits
 use Rattle.rev_types.specs.Limits.{DeclarationWithin, DeclarationsWithin, IsWithinLimits}
 
-light_declaration : (ws : Table ℕ) (e : Declaration) → DeclarationWithin ws e → declaration_weight ws e ≤ most limits.Weight
+light_declaration : (ws : Table ℕ) (e : Declaration) → DeclarationWithin ws e
+    → declaration_weight ws e ≤ most limits.Weight
 light_declaration ws (fun w ps r body) h = h.1
 light_declaration ws (merge w m j r body) h = h
 light_declaration ws (shared x) h = omega arith
 light_declaration ws (proc w ps r body) h = omega arith
 
-light_after : (ws : Table ℕ) (es : List Declaration) (d : ℕ) → DeclarationsWithin ws es → weight_by (weights_after ws (take d es)) (slice_get es d) ≤ most limits.Weight
+light_after : (ws : Table ℕ) (es : List Declaration) (d : ℕ) → DeclarationsWithin ws es
+    → weight_by (weights_after ws (take d es)) (slice_get es d) ≤ most limits.Weight
 light_after ws [] zero h = omega arith
 light_after ws [] (suc d) h = omega arith
 light_after ws (e ∷ es) zero h = light_declaration ws e h.0

@@ -9,7 +9,9 @@ use Rattle.rev_kinds.proofs.Lists.{added_unknown}
 use Rattle.rev_types.specs.Judgement.{ParamsNew}
 use Rattle.rev_types.specs.Scopes.{int_param}
 
-pub merge_new : (c : Names) → ((name : Name) → c.shared name ≡ None) → (m j r : PlacedName) → (m.text ≢ j.text) × (m.text ≢ r.text) × (j.text ≢ r.text) → ParamsNew c [] (int_param m ∷ int_param j ∷ int_param r ∷ [])
+pub merge_new : (c : Names) → ((name : Name) → c.shared name ≡ None) → (m j r : PlacedName)
+    → (m.text ≢ j.text) × (m.text ≢ r.text) × (j.text ≢ r.text)
+    → ParamsNew c [] (int_param m ∷ int_param j ∷ int_param r ∷ [])
 merge_new c closed m j r differ = ((refl, closed m.text), ((j_new, closed j.text), ((r_new, closed r.text), tt)))
   where
     first : Locals

@@ -41,10 +41,12 @@ own_limit OutOfMemory = tt
 
 each : (fs : List TypeFault) → map own fs ≡ fs → (f : TypeFault) → Among fs f → HasLimit f
 each [] e f m = absurd m
-each (g ∷ gs) e f (inl is) = let same : own g ≡ g = cc in subst (λ x. HasLimit x) is (subst (λ x. HasLimit x) same (own_limit g))
+each (g ∷ gs) e f (inl is) =
+    let same : own g ≡ g = cc in subst (λ x. HasLimit x) is (subst (λ x. HasLimit x) same (own_limit g))
 each (g ∷ gs) e f (inr there) = let same : map own gs ≡ gs = cc in each gs same f there
 
 pub own_limits : OwnLimits
 own_limits p =
     each (faults p)
-    (program_first [] (λ f. f ∷ []) (λ xs ys. xs ++ ys) [] (λ f. f ∷ []) (λ xs ys. xs ++ ys) (λ fs. map own fs) refl (λ f h. ap (λ x. x ∷ []) (is_own f h)) (λ xs ys. map-append own xs ys) p)
+    (program_first [] (λ f. f ∷ []) (λ xs ys. xs ++ ys) [] (λ f. f ∷ []) (λ xs ys. xs ++ ys) (λ fs. map own fs) refl
+    (λ f h. ap (λ x. x ∷ []) (is_own f h)) (λ xs ys. map-append own xs ys) p)

@@ -18,7 +18,8 @@ some_end ss (inl e) = e
 some_end ss (inr h) = never h.1
 
 mutual
-  statements_end : (b : Bool) (ss : Statements) → statements_return b ss ≡ true → Ends ss ⊎ ((ss ≡ no_statements) × (b ≡ true))
+  statements_end : (b : Bool) (ss : Statements) → statements_return b ss ≡ true
+      → Ends ss ⊎ ((ss ≡ no_statements) × (b ≡ true))
   statements_end b no_statements h = inr (refl, h)
   statements_end b (statements x rest) h = elim (statements_end (statement_returns x) rest h) [
     | inl e ↦ inl (behind e)
@@ -28,7 +29,8 @@ mutual
   statement_end : (x : Statement) → statement_returns x ≡ true → Ends (statements x no_statements)
   statement_end (statement at line form) h = statement_form_end at line form h
 
-  statement_form_end : (at line : ℕ) (form : StatementForm) → statement_form_returns form ≡ true → Ends (statements (statement at line form) no_statements)
+  statement_form_end : (at line : ℕ) (form : StatementForm) → statement_form_returns form ≡ true
+      → Ends (statements (statement at line form) no_statements)
   statement_form_end at line (return e) h = by_return
   statement_form_end at line (choose_or arms last) h =
       let g = both_true (arms_return true arms) (statements_return false last) h in
@@ -54,12 +56,15 @@ mutual
 mutual
   ends_by : {ss : Statements} → Ends ss → (b : Bool) → statements_return b ss ≡ true
   ends_by by_return b = refl
-  ends_by (by_if {arms = arms} {last = last} a e) b = is_both (arms_return true arms) (statements_return false last) (all_by a true refl) (ends_by e false)
+  ends_by (by_if {arms = arms} {last = last} a e) b =
+      is_both (arms_return true arms) (statements_return false last) (all_by a true refl) (ends_by e false)
   ends_by (behind {s = s} e) b = ends_by e (statement_returns s)
 
   all_by : {arms : Arms} → AllEnd arms → (b : Bool) → b ≡ true → arms_return b arms ≡ true
   all_by no_more b h = h
-  all_by (one_more {body = body} {rest = rest} e a) b h = all_by a (cond b (statements_return false body) false) (is_both b (statements_return false body) h (ends_by e false))
+  all_by (one_more {body = body} {rest = rest} e a) b h =
+      all_by a (cond b (statements_return false body) false)
+      (is_both b (statements_return false body) h (ends_by e false))
 
 pub ends_return : (ss : Statements) → Ends ss → returns ss ≡ true
 ends_return ss e = ends_by e false

@@ -12,13 +12,15 @@ use Rattle.rev_types.specs.Judgement.{RightSideHas, StatementTyped, StatementFor
 use Rattle.rev_types.specs.Scopes.{locals_after, statement_form_locals}
 
 -- the kind of what a right side gives
-pub right_side_is : (c : Names) (l : Locals) (r : RightSide) (t : ValueKind) → RightSideHas c l r t → right_side_kind c l r ≡ Some t
+pub right_side_is : (c : Names) (l : Locals) (r : RightSide) (t : ValueKind) → RightSideHas c l r t
+    → right_side_kind c l r ≡ Some t
 right_side_is c l (plain e) t h = (complete c l e t h).1
 right_side_is c l (called at w args) t h = ap result_of h.1.0 ∙ h.2
 right_side_is c l (forked at w args) t h = ap Some (sym h.0)
 right_side_is c l (tried at handle) t h = ap Some (sym h.0)
 
-form_scope : (c : Names) (result : Option ValueKind) (l l' : Locals) (form : StatementForm) → StatementFormTyped c result l form l' → l' ≡ statement_form_locals c l form
+form_scope : (c : Names) (result : Option ValueKind) (l l' : Locals) (form : StatementForm)
+    → StatementFormTyped c result l form l' → l' ≡ statement_form_locals c l form
 form_scope c result l l' (bind w r) h = h.1.2 ∙ ap (λ o. added l w.text o) (sym (right_side_is c l r h.1.0 h.1.1))
 form_scope c result l l' (assign w r) h = h.1
 form_scope c result l l' (assign_cell w index e) h = h.1
@@ -32,5 +34,6 @@ form_scope c result l l' (join handle) h = h.1
 form_scope c result l l' (print items) h = h.1
 form_scope c result l l' (assert test) h = h.1
 
-pub statement_scope : (c : Names) (result : Option ValueKind) (l l' : Locals) (x : Statement) → StatementTyped c result l x l' → l' ≡ locals_after c l x
+pub statement_scope : (c : Names) (result : Option ValueKind) (l l' : Locals) (x : Statement)
+    → StatementTyped c result l x l' → l' ≡ locals_after c l x
 statement_scope c result l l' (statement at line form) h = form_scope c result l l' form h

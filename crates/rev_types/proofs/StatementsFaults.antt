@@ -24,18 +24,23 @@ use Rattle.rev_types.proofs.Scopes.{right_side_is, statement_scope}
 
 -- ---- expressions and right sides
 
-pub part_nothing : (c : Names) (l : Locals) (e : Expression) (t : ValueKind) → HasKind c l e t → r.part_by [] one app c l e t ≡ []
+pub part_nothing : (c : Names) (l : Locals) (e : Expression) (t : ValueKind) → HasKind c l e t
+    → r.part_by [] one app c l e t ≡ []
 part_nothing c l e t h =
     let both = complete c l e t h in
     whole _ _ both.0 (wants_nothing (expression_place e) (kind_in c l e) t both.1)
 
-call_nothing : (c : Names) (l : Locals) (w : PlacedName) (args : Expressions) (p : Callee) → CallTyped c l w args p → r.call_by [] one app c l w args ≡ []
+call_nothing : (c : Names) (l : Locals) (w : PlacedName) (args : Expressions) (p : Callee) → CallTyped c l w args p
+    → r.call_by [] one app c l w args ≡ []
 call_nothing c l w args p h =
     whole _ _
-    (ap (λ o. r.callee_use [] one app w (count args) o) h.0 ∙ passes (nat_eq (count args) (length p.params)) _ (is_equal (count args) (length p.params) h.1))
-    (ap (λ o. r.args_by [] one app c l (r.params_of [] one app o) 0 [] args) h.0 ∙ args_complete c l p.params 0 [] args refl h.2)
+    (ap (λ o. r.callee_use [] one app w (count args) o) h.0
+    ∙ passes (nat_eq (count args) (length p.params)) _ (is_equal (count args) (length p.params) h.1))
+    (ap (λ o. r.args_by [] one app c l (r.params_of [] one app o) 0 [] args) h.0
+    ∙ args_complete c l p.params 0 [] args refl h.2)
 
-right_side_nothing : (c : Names) (l : Locals) (x : RightSide) (t : ValueKind) → RightSideHas c l x t → r.broken_in_right_side [] one app c l x ≡ []
+right_side_nothing : (c : Names) (l : Locals) (x : RightSide) (t : ValueKind) → RightSideHas c l x t
+    → r.broken_in_right_side [] one app c l x ≡ []
 right_side_nothing c l (plain e) t h = (complete c l e t h).0
 right_side_nothing c l (called at w args) t h =
     whole _ _
@@ -46,25 +51,33 @@ right_side_nothing c l (tried at e) t h = part_nothing c l e k.Rev h.1
 
 -- ---- statements that break no limit themselves
 
-pub new_nothing : (w : PlacedName) (found : Option (Option ValueKind)) (h : Option Holder) → found ≡ None → h ≡ None → s.new_local [] one app w found h ≡ []
+pub new_nothing : (w : PlacedName) (found : Option (Option ValueKind)) (h : Option Holder) → found ≡ None → h ≡ None
+    → s.new_local [] one app w found h ≡ []
 new_nothing w found h p q = λ i. s.new_local [] one app w (p i) (q i)
 
-return_nothing : (c : Names) (l : Locals) (result : Option ValueKind) (at : ℕ) (e : Option Expression) → ReturnTyped c l result e → s.return_by [] one app c l result at e ≡ []
+return_nothing : (c : Names) (l : Locals) (result : Option ValueKind) (at : ℕ) (e : Option Expression)
+    → ReturnTyped c l result e → s.return_by [] one app c l result at e ≡ []
 return_nothing c l None at None h = refl
 return_nothing c l None at (Some e) h = absurd h
 return_nothing c l (Some t) at None h = absurd h
 return_nothing c l (Some t) at (Some e) h = part_nothing c l e t h
 
-assign_nothing : (c : Names) (l : Locals) (w : PlacedName) (x : RightSide) (l' : Locals) → StatementFormTyped c None l (assign w x) l' → s.assign_by [] one app c l w x ≡ []
+assign_nothing : (c : Names) (l : Locals) (w : PlacedName) (x : RightSide) (l' : Locals)
+    → StatementFormTyped c None l (assign w x) l' → s.assign_by [] one app c l w x ≡ []
 assign_nothing c l w x l' h =
     let name = scalar_complete w (find w.text l) (c.shared w.text) h.0.0 h.0.1 in
-    whole _ _ name.0 (whole _ _ (right_side_nothing c l x h.0.0 h.0.2) (alike_nothing (right_side_place x) (name_kind (find w.text l) (c.shared w.text)) (right_side_kind c l x) h.0.0 name.1 (right_side_is c l x h.0.0 h.0.2)))
+    whole _ _ name.0 (whole _ _ (right_side_nothing c l x h.0.0 h.0.2)
+    (alike_nothing (right_side_place x) (name_kind (find w.text l) (c.shared w.text)) (right_side_kind c l x) h.0.0
+    name.1 (right_side_is c l x h.0.0 h.0.2)))
 
-cell_nothing : (c : Names) (l : Locals) (w : PlacedName) (index e : Expression) (l' : Locals) → StatementFormTyped c None l (assign_cell w index e) l' → s.cell_by [] one app c l w index e ≡ []
+cell_nothing : (c : Names) (l : Locals) (w : PlacedName) (index e : Expression) (l' : Locals)
+    → StatementFormTyped c None l (assign_cell w index e) l' → s.cell_by [] one app c l w index e ≡ []
 cell_nothing c l w index e l' h =
     let name = array_complete w (find w.text l) (c.shared w.text) h.0.0 h.0.1 in
     let value = complete c l e h.0.0 h.0.3 in
-    whole _ _ name.0 (whole _ _ (part_nothing c l index k.Int h.0.2) (whole _ _ value.0 (alike_nothing (expression_place e) (name_kind (find w.text l) (c.shared w.text)) (kind_in c l e) h.0.0 name.1 value.1)))
+    whole _ _ name.0 (whole _ _ (part_nothing c l index k.Int h.0.2)
+    (whole _ _ value.0 (alike_nothing (expression_place e) (name_kind (find w.text l) (c.shared w.text)) (kind_in c l e)
+    h.0.0 name.1 value.1)))
 
 -- ---- all that a statement breaks
 
@@ -124,56 +137,77 @@ module _ (P : TypeFault → Type 0) where
     ArmsHold left no_arms = Unit {0}
     ArmsHold left (arm test body rest) = StatementsHold left body × ArmsHold (s.left_statements left body) rest
 
-  item_faults : (c : Names) (l : Locals) (left : ℕ) (x : PrintItem) → ItemTyped c l x → (left ≡ 1 → P (exceeded (item_place x) limits.Items)) → AllAre (s.item_by [] one app c l left x)
+  item_faults : (c : Names) (l : Locals) (left : ℕ) (x : PrintItem) → ItemTyped c l x
+      → (left ≡ 1 → P (exceeded (item_place x) limits.Items)) → AllAre (s.item_by [] one app c l left x)
   item_faults c l left (text at bytes) h g = all_at left (exceeded at limits.Items) g
   item_faults c l left (shown e) h g =
       let both = complete c l e h.0 h.1 in
-      let handle = ap (λ o. r.not_rev [] one app (expression_place e) o) both.1 ∙ handle_not (expression_place e) h.0 h.2 in
+      let handle =
+      ap (λ o. r.not_rev [] one app (expression_place e) o) both.1 ∙ handle_not (expression_place e) h.0 h.2 in
       all_both _ _ (all_of _ (whole _ _ both.0 handle)) (all_at left (exceeded (expression_place e) limits.Items) g)
 
-  items_faults : (c : Names) (l : Locals) (left : ℕ) (found : All) (xs : List PrintItem) → AllAre found → ItemsTyped c l xs → ListHolds limits.Items item_place left xs → AllAre (s.items_by [] one app c l left found xs)
+  items_faults : (c : Names) (l : Locals) (left : ℕ) (found : All) (xs : List PrintItem) → AllAre found
+      → ItemsTyped c l xs → ListHolds limits.Items item_place left xs → AllAre (s.items_by [] one app c l left found xs)
   items_faults c l left found [] a h g = a
-  items_faults c l left found (x ∷ xs) a h g = items_faults c l (left - 1) _ xs (all_both _ _ a (item_faults c l left x h.0 g.0)) h.1 g.1
+  items_faults c l left found (x ∷ xs) a h g =
+      items_faults c l (left - 1) _ xs (all_both _ _ a (item_faults c l left x h.0 g.0)) h.1 g.1
 
-  bind_faults : (c : Names) (l : Locals) (left : ℕ) (w : PlacedName) (x : RightSide) (l' : Locals) → StatementFormTyped c None l (bind w x) l' → (left ≡ 1 → P (exceeded w.at limits.Locals))
+  bind_faults : (c : Names) (l : Locals) (left : ℕ) (w : PlacedName) (x : RightSide) (l' : Locals)
+      → StatementFormTyped c None l (bind w x) l' → (left ≡ 1 → P (exceeded w.at limits.Locals))
       → AllAre (s.bind_by [] one app c l left w x)
   bind_faults c l left w x l' h g =
       all_both _ _ (all_of _ (right_side_nothing c l x h.1.0 h.1.1))
-      (all_both _ _ (all_of _ (new_nothing w (find w.text l) (c.shared w.text) h.0.0 h.0.1)) (all_at left (exceeded w.at limits.Locals) g))
+      (all_both _ _ (all_of _ (new_nothing w (find w.text l) (c.shared w.text) h.0.0 h.0.1))
+      (all_at left (exceeded w.at limits.Locals) g))
 
   mutual
-    statement_faults : (c : Names) (result : Option ValueKind) (l : Locals) (left : ℕ) (x : Statement) (l' : Locals) → StatementTyped c result l x l' → StatementHolds left x → AllAre (s.broken_in_statement [] one app c result l left x)
-    statement_faults c result l left (statement at line form) l' h g = statement_form_faults c result l left at form l' h g
+    statement_faults : (c : Names) (result : Option ValueKind) (l : Locals) (left : ℕ) (x : Statement) (l' : Locals)
+        → StatementTyped c result l x l' → StatementHolds left x
+        → AllAre (s.broken_in_statement [] one app c result l left x)
+    statement_faults c result l left (statement at line form) l' h g =
+        statement_form_faults c result l left at form l' h g
 
-    statement_form_faults : (c : Names) (result : Option ValueKind) (l : Locals) (left at : ℕ) (x : StatementForm) (l' : Locals) → StatementFormTyped c result l x l' → StatementFormHolds left x → AllAre (s.broken_in_statement_form [] one app c result l left at x)
+    statement_form_faults : (c : Names) (result : Option ValueKind) (l : Locals) (left at : ℕ) (x : StatementForm)
+        (l' : Locals)
+        → StatementFormTyped c result l x l' → StatementFormHolds left x
+        → AllAre (s.broken_in_statement_form [] one app c result l left at x)
     statement_form_faults c result l left at (bind w x) l' h g = bind_faults c l left w x l' h g
     statement_form_faults c result l left at (assign w x) l' h g = all_of _ (assign_nothing c l w x l' h)
     statement_form_faults c result l left at (assign_cell w index e) l' h g = all_of _ (cell_nothing c l w index e l' h)
     statement_form_faults c result l left at (choose arms) l' h g = arms_faults c result l left [] arms all_none h.0 g
     statement_form_faults c result l left at (choose_or arms last) l' h g =
-        all_both _ _ (arms_faults c result l left [] arms all_none h.0.0 g.0) (statements_faults c result l (s.left_arms left arms) [] last all_none h.0.1 g.1)
+        all_both _ _ (arms_faults c result l left [] arms all_none h.0.0 g.0)
+        (statements_faults c result l (s.left_arms left arms) [] last all_none h.0.1 g.1)
     statement_form_faults c result l left at (repeat test body) l' h g =
-        all_both _ _ (all_of _ (part_nothing c l test k.Bool h.0.0)) (statements_faults c result l left [] body all_none h.0.1 g)
+        all_both _ _ (all_of _ (part_nothing c l test k.Bool h.0.0))
+        (statements_faults c result l left [] body all_none h.0.1 g)
     statement_form_faults c result l left at (call w args) l' h g = all_of _ (call_nothing c l w args h.0.0 h.0.1)
     statement_form_faults c result l left at (return e) l' h g = all_of _ (return_nothing c l result at e h.0)
     statement_form_faults c result l left at (fork w args) l' h g = all_of _ (call_nothing c l w args h.0.0 h.0.1)
     statement_form_faults c result l left at (join e) l' h g = all_of _ (part_nothing c l e k.Rev h.0)
-    statement_form_faults c result l left at (print items) l' h g = items_faults c l (first_past limits.Items) [] items all_none h.0 g
+    statement_form_faults c result l left at (print items) l' h g =
+        items_faults c l (first_past limits.Items) [] items all_none h.0 g
     statement_form_faults c result l left at (assert e) l' h g = all_of _ (part_nothing c l e k.Bool h.0)
 
-    pub statements_faults : (c : Names) (result : Option ValueKind) (l : Locals) (left : ℕ) (found : All) (ss : Statements) → AllAre found → StatementsTyped c result l ss → StatementsHold left ss
+    pub statements_faults : (c : Names) (result : Option ValueKind) (l : Locals) (left : ℕ) (found : All)
+        (ss : Statements)
+        → AllAre found → StatementsTyped c result l ss → StatementsHold left ss
         → AllAre (s.broken_in_statements [] one app c result l left found ss)
     statements_faults c result l left found no_statements a h g = a
     statements_faults c result l left found (statements x rest) a h g =
-        statements_faults c result (scopes.locals_after c l x) (s.left_after left x) _ rest (all_both _ _ a (statement_faults c result l left x h.0 h.1 g.0))
+        statements_faults c result (scopes.locals_after c l x) (s.left_after left x) _ rest
+        (all_both _ _ a (statement_faults c result l left x h.0 h.1 g.0))
         (subst (λ m. StatementsTyped c result m rest) (statement_scope c result l h.0 x h.1) h.2) g.1
 
-    arms_faults : (c : Names) (result : Option ValueKind) (l : Locals) (left : ℕ) (found : All) (xs : Arms) → AllAre found → ArmsTyped c result l xs → ArmsHold left xs
+    arms_faults : (c : Names) (result : Option ValueKind) (l : Locals) (left : ℕ) (found : All) (xs : Arms)
+        → AllAre found → ArmsTyped c result l xs → ArmsHold left xs
         → AllAre (s.broken_in_arms [] one app c result l left found xs)
     arms_faults c result l left found no_arms a h g = a
     arms_faults c result l left found (arm test body rest) a h g =
         arms_faults c result l (s.left_statements left body) _ rest
-        (all_both _ _ a (all_both _ _ (all_of _ (part_nothing c l test k.Bool h.0)) (statements_faults c result l left [] body all_none h.1 g.0))) h.2 g.1
+        (all_both _ _ a (all_both _ _ (all_of _ (part_nothing c l test k.Bool h.0))
+        (statements_faults c result l left [] body all_none h.1 g.0)))
+        h.2 g.1
 
   -- where it holds of every limit
   module _ (every : (at : ℕ) (what : Limit) → P (exceeded at what)) where
@@ -188,7 +222,8 @@ module _ (P : TypeFault → Type 0) where
       statement_form_holds : (left : ℕ) (x : StatementForm) → StatementFormHolds left x
       statement_form_holds left (bind w x) = λ e. every w.at limits.Locals
       statement_form_holds left (choose arms) = arms_hold left arms
-      statement_form_holds left (choose_or arms last) = (arms_hold left arms, statements_hold (s.left_arms left arms) last)
+      statement_form_holds left (choose_or arms last) =
+          (arms_hold left arms, statements_hold (s.left_arms left arms) last)
       statement_form_holds left (repeat test body) = statements_hold left body
       statement_form_holds left (print items) = list_holds limits.Items item_place (first_past limits.Items) items
       statement_form_holds left (assign w x) = tt

@@ -29,14 +29,17 @@ Caps ws vs = (name : Name) → find name vs ≡ option_map cap (find name ws)
 pub none_caps : Caps [] []
 none_caps name = refl
 
-added_by : (o : Option ℕ) (b : Bool) (n : ℕ) → or_else (option_map cap o) (if b then Some (cap n) else None) ≡ option_map cap (or_else o (if b then Some n else None))
+added_by : (o : Option ℕ) (b : Bool) (n : ℕ)
+    → or_else (option_map cap o) (if b then Some (cap n) else None)
+    ≡ option_map cap (or_else o (if b then Some n else None))
 added_by (Some x) b n = refl
 added_by None true n = refl
 added_by None false n = refl
 
 pub added_caps : (ws vs : Table ℕ) (w : Name) (n m : ℕ) → Caps ws vs → m ≡ cap n → Caps (added ws w n) (added vs w m)
 added_caps ws vs w n m c e name =
-    ap (λ x. find name (added vs w x)) e ∙ find-added name w (cap n) vs ∙ ap (λ o. or_else o (if same name w then Some (cap n) else None)) (c name)
+    ap (λ x. find name (added vs w x)) e ∙ find-added name w (cap n) vs
+    ∙ ap (λ o. or_else o (if same name w then Some (cap n) else None)) (c name)
     ∙ added_by (find name ws) (same name w) n ∙ sym (ap (λ o. option_map cap o) (find-added name w n ws))
 
 known_caps : (o : Option ℕ) → known_weight (option_map cap o) ≡ cap (known_weight o)
@@ -57,20 +60,28 @@ module _ (ws vs : Table ℕ) (c : Caps ws vs) where
     shape_caps (cell w index) = plus_one _ _ (expression_caps index)
     shape_caps (input at index) = plus_one _ _ (expression_caps index)
     shape_caps (apply w args) =
-        expressions_caps _ (1 + known_weight (find w.text ws)) args (plus_one _ _ (ap known_weight (c w.text) ∙ known_caps (find w.text ws)))
+        expressions_caps _ (1 + known_weight (find w.text ws)) args
+        (plus_one _ _ (ap known_weight (c w.text) ∙ known_caps (find w.text ws)))
     shape_caps (pick x y z) =
-        plus_caps _ _ (1 + expression_weight ws x + expression_weight ws y) _ (plus_caps _ _ (1 + expression_weight ws x) _ (plus_one _ _ (expression_caps x)) (expression_caps y)) (expression_caps z)
+        plus_caps _ _ (1 + expression_weight ws x + expression_weight ws y) _
+        (plus_caps _ _ (1 + expression_weight ws x) _ (plus_one _ _ (expression_caps x)) (expression_caps y))
+        (expression_caps z)
     shape_caps (unary op e) = plus_one _ _ (expression_caps e)
     shape_caps (chain e rest) = links_caps _ (expression_weight ws e) rest (expression_caps e)
 
-    expressions_caps : (x n : ℕ) (ts : Expressions) → x ≡ cap n → p.expressions_weight vs x ts ≡ cap (n + expressions_weight ws ts)
+    expressions_caps : (x n : ℕ) (ts : Expressions) → x ≡ cap n
+        → p.expressions_weight vs x ts ≡ cap (n + expressions_weight ws ts)
     expressions_caps x n no_expressions h = h ∙ ap cap (let e : n ≡ n + 0 = omega arith in e)
     expressions_caps x n (expression e es) h =
         expressions_caps _ (n + expression_weight ws e) es (plus_caps _ _ n _ h (expression_caps e))
-        ∙ ap cap (let d : n + expression_weight ws e + expressions_weight ws es ≡ n + (expression_weight ws e + expressions_weight ws es) = omega arith in d)
+        ∙ ap cap (let d : n + expression_weight ws e + expressions_weight ws es
+        ≡ n + (expression_weight ws e + expressions_weight ws es) = omega arith in
+        d)
 
     links_caps : (x n : ℕ) (ls : Links) → x ≡ cap n → p.links_weight vs x ls ≡ cap (n + links_weight ws ls)
     links_caps x n no_links h = h ∙ ap cap (let e : n ≡ n + 0 = omega arith in e)
     links_caps x n (link op e rest) h =
         links_caps _ (n + (1 + expression_weight ws e)) rest (plus_caps _ _ n _ h (plus_one _ _ (expression_caps e)))
-        ∙ ap cap (let d : n + (1 + expression_weight ws e) + links_weight ws rest ≡ n + (1 + expression_weight ws e + links_weight ws rest) = omega arith in d)
+        ∙ ap cap (let d : n + (1 + expression_weight ws e) + links_weight ws rest
+        ≡ n + (1 + expression_weight ws e + links_weight ws rest) = omega arith in
+        d)

@@ -104,11 +104,15 @@ mutual
 
 -- ---- declarations
 
+-- the word that a declaration declares
+abbrev pub word_of : Declaration → PlacedName
+word_of (fun w ps r body) = w
+word_of (merge w m j r body) = w
+word_of (shared x) = x.name
+word_of (proc w ps r body) = w
+
 abbrev pub name_of : Declaration → Name
-name_of (fun w ps r body) = w.text
-name_of (merge w m j r body) = w.text
-name_of (shared x) = x.name.text
-name_of (proc w ps r body) = w.text
+name_of e = (word_of e).text
 
 -- the name of none of these declarations
 abbrev pub IsNewName : List Declaration → PlacedName → Type 0
@@ -136,9 +140,7 @@ pub record MergeTyped (inner : Names) (before : List Declaration) (w m j r : Pla
 -- a merge of this name
 abbrev pub IsMergeOf : Name → Declaration → Type 0
 IsMergeOf name (merge w m j r body) = w.text ≡ name
-IsMergeOf name (fun w ps r body) = ⊥
-IsMergeOf name (shared x) = ⊥
-IsMergeOf name (proc w ps r body) = ⊥
+IsMergeOf name _ = ⊥
 
 -- a cumulative variable holds ints and names a merge that is declared before it
 abbrev pub ByTyped : List Declaration → Option PlacedName → ValueKind → Type 0

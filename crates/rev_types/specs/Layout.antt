@@ -3,8 +3,8 @@
 -- A `SharedVariable` is a declared variable with its row of the checker's table, a `Procedure` a declared procedure
 -- with its number. `variables` and `procedures` are the tables of a program, and `cells` (in `Limits`) is how many
 -- locations it has. `LaidOut` says that the checker's tables are these.
-use Rattle.std.specs.Prelude.{◌≡◌, ℕ, ◌+◌, if◌then◌else◌, Option, Some, None, is_some, option_map, List, [], ◌∷◌, ◌++◌, length, map}
-use Rattle.rev_syntax.specs.Trees.{PlacedName, SharedDeclaration, Statements, Declaration, fun, merge, shared, proc, ProgramTree}
+use Rattle.std.specs.Prelude.{◌≡◌, ℕ, ◌+◌, if◌then◌else◌, Option, Some, None, is_some, option_map, option_and_then, List, [], ◌∷◌, ◌++◌, length, map}
+use Rattle.rev_syntax.specs.Trees.{PlacedName, SharedDeclaration, Statements, Declaration, merge, shared, proc, ProgramTree}
 use Rattle.merge_decl.specs.Names.{Name, same}
 use Rattle.merge_decl.specs.Definitions.{names_of}
 use Rattle.rev_types.specs.declared.tables.SharedInfo.{SharedInfo}
@@ -25,13 +25,10 @@ pub record SharedVariable : Type 0 where
 abbrev pub merge_at : Name → List Declaration → Option ℕ
 merge_at name [] = None
 merge_at name (merge w m j r body ∷ es) = if same name w.text then Some 0 else option_map (λ n. 1 + n) (merge_at name es)
-merge_at name (fun w ps r body ∷ es) = merge_at name es
-merge_at name (shared x ∷ es) = merge_at name es
-merge_at name (proc w ps r body ∷ es) = merge_at name es
+merge_at name (e ∷ es) = merge_at name es
 
 abbrev pub merge_of : List Declaration → Option PlacedName → Option ℕ
-merge_of before None = None
-merge_of before (Some w) = merge_at w.text before
+merge_of before by = option_and_then (λ w. merge_at w.text before) by
 
 -- a variable that is declared behind these: its first location is the number of their cells, and its
 -- merge is the first of the name among them
@@ -51,9 +48,7 @@ variable_behind before x = record { declared = x; info = info_behind before x }
 abbrev pub variables_behind : List Declaration → List Declaration → List SharedVariable
 variables_behind before [] = []
 variables_behind before (shared x ∷ es) = variable_behind before x ∷ variables_behind (before ++ shared x ∷ []) es
-variables_behind before (fun w ps r body ∷ es) = variables_behind (before ++ fun w ps r body ∷ []) es
-variables_behind before (merge w m j r body ∷ es) = variables_behind (before ++ merge w m j r body ∷ []) es
-variables_behind before (proc w ps r body ∷ es) = variables_behind (before ++ proc w ps r body ∷ []) es
+variables_behind before (e ∷ es) = variables_behind (before ++ e ∷ []) es
 
 abbrev pub variables : ProgramTree → List SharedVariable
 variables p = variables_behind [] p.declarations
@@ -72,9 +67,7 @@ abbrev pub procedures_from : ℕ → List Declaration → List Procedure
 procedures_from d [] = []
 procedures_from d (proc w ps r body ∷ es) =
     record { decl = d; name = w.text; params = names_of ps; body = body } ∷ procedures_from (d + 1) es
-procedures_from d (fun w ps r body ∷ es) = procedures_from (d + 1) es
-procedures_from d (merge w m j r body ∷ es) = procedures_from (d + 1) es
-procedures_from d (shared x ∷ es) = procedures_from (d + 1) es
+procedures_from d (e ∷ es) = procedures_from (d + 1) es
 
 abbrev pub procedures : ProgramTree → List Procedure
 procedures p = procedures_from 0 p.declarations

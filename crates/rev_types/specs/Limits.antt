@@ -19,14 +19,7 @@ abbrev mutual
   statement_form_lets (choose arms) = arms_lets arms
   statement_form_lets (choose_or arms last) = arms_lets arms + statements_lets last
   statement_form_lets (repeat test body) = statements_lets body
-  statement_form_lets (assign w r) = 0
-  statement_form_lets (assign_cell w index e) = 0
-  statement_form_lets (call w args) = 0
-  statement_form_lets (return e) = 0
-  statement_form_lets (fork w args) = 0
-  statement_form_lets (join e) = 0
-  statement_form_lets (print items) = 0
-  statement_form_lets (assert e) = 0
+  statement_form_lets _ = 0
 
   pub statements_lets : Statements → ℕ
   statements_lets no_statements = 0
@@ -72,24 +65,19 @@ BodyWithin params body = (params + statements_lets body ≤ most limits.Locals) 
 abbrev pub cells : List Declaration → ℕ
 cells [] = 0
 cells (shared x ∷ es) = cells_of x.size + cells es
-cells (fun w ps r body ∷ es) = cells es
-cells (merge w m j r body ∷ es) = cells es
-cells (proc w ps r body ∷ es) = cells es
+cells (e ∷ es) = cells es
 
 abbrev pub procs : List Declaration → ℕ
 procs [] = 0
 procs (proc w ps r body ∷ es) = 1 + procs es
-procs (fun w ps r body ∷ es) = procs es
-procs (merge w m j r body ∷ es) = procs es
-procs (shared x ∷ es) = procs es
+procs (e ∷ es) = procs es
 
 -- funs and merges together
 abbrev pub funs : List Declaration → ℕ
 funs [] = 0
 funs (fun w ps r body ∷ es) = 1 + funs es
 funs (merge w m j r body ∷ es) = 1 + funs es
-funs (shared x ∷ es) = funs es
-funs (proc w ps r body ∷ es) = funs es
+funs (e ∷ es) = funs es
 
 -- a declaration, where the funs before it have these weights
 abbrev pub DeclarationWithin : Table ℕ → Declaration → Type 0

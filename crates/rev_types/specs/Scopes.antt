@@ -5,7 +5,7 @@
 -- locals of a body; `locals_after`: those behind a statement; `cells_of`: the cells of a variable.
 use Rattle.std.specs.Prelude.{ℕ, ℤ, pos, negsuc, true, false, if◌then◌else◌, Option, Some, None, is_some, List, [], ◌∷◌}
 use Rattle.rev_num.specs.declared.value.ValueKind.TheVariants as k
-use Rattle.rev_syntax.specs.Trees.{PlacedName, Parameter, ArraySize, SharedDeclaration, RightSide, Statement, statement, StatementForm, bind, assign, assign_cell, choose, choose_or, repeat, call, return, fork, join, print, assert, Declaration, fun, merge, shared, proc}
+use Rattle.rev_syntax.specs.Trees.{PlacedName, Parameter, ArraySize, SharedDeclaration, RightSide, Statement, statement, StatementForm, bind, Declaration, fun, shared, proc}
 use Rattle.merge_decl.specs.Names.{Name, same}
 use Rattle.merge_decl.specs.Table.{added}
 use Rattle.rev_kinds.specs.declared.names.Holder.{Holder}
@@ -20,27 +20,21 @@ holder x = record { kind = x.holds; array = is_some x.size }
 abbrev pub shared_named : List Declaration → Name → Option Holder
 shared_named [] name = None
 shared_named (shared x ∷ es) name = if same name x.name.text then Some (holder x) else shared_named es name
-shared_named (fun w ps r body ∷ es) name = shared_named es name
-shared_named (merge w m j r body ∷ es) name = shared_named es name
-shared_named (proc w ps r body ∷ es) name = shared_named es name
+shared_named (e ∷ es) name = shared_named es name
 
 -- the first procedure of a name
 abbrev pub proc_named : List Declaration → Name → Option Callee
 proc_named [] name = None
 proc_named (proc w ps r body ∷ es) name =
     if same name w.text then Some (record { params = ps; result = r }) else proc_named es name
-proc_named (fun w ps r body ∷ es) name = proc_named es name
-proc_named (merge w m j r body ∷ es) name = proc_named es name
-proc_named (shared x ∷ es) name = proc_named es name
+proc_named (e ∷ es) name = proc_named es name
 
 -- the first fun of a name
 abbrev pub fun_named : List Declaration → Name → Option Callee
 fun_named [] name = None
 fun_named (fun w ps r body ∷ es) name =
     if same name w.text then Some (record { params = ps; result = Some r }) else fun_named es name
-fun_named (merge w m j r body ∷ es) name = fun_named es name
-fun_named (shared x ∷ es) name = fun_named es name
-fun_named (proc w ps r body ∷ es) name = fun_named es name
+fun_named (e ∷ es) name = fun_named es name
 
 -- what names mean in procedures and in `main`
 abbrev pub outside : List Declaration → Names
@@ -72,17 +66,7 @@ bound c l w r = added l w.text (right_side_kind c l r)
 -- the locals that are known after a statement: those before it, and the name that it binds
 abbrev pub statement_form_locals : Names → Locals → StatementForm → Locals
 statement_form_locals c l (bind w r) = bound c l w r
-statement_form_locals c l (assign w r) = l
-statement_form_locals c l (assign_cell w i e) = l
-statement_form_locals c l (choose arms) = l
-statement_form_locals c l (choose_or arms last) = l
-statement_form_locals c l (repeat test body) = l
-statement_form_locals c l (call w args) = l
-statement_form_locals c l (return e) = l
-statement_form_locals c l (fork w args) = l
-statement_form_locals c l (join e) = l
-statement_form_locals c l (print items) = l
-statement_form_locals c l (assert e) = l
+statement_form_locals c l _ = l
 
 abbrev pub locals_after : Names → Locals → Statement → Locals
 locals_after c l (statement at line form) = statement_form_locals c l form

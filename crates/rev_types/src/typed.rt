@@ -1,18 +1,14 @@
 //! Well-typed programs.
 
-ghost use Rattle.std.specs.Prelude.{◌≡◌, ◌<◌, [], length, map};
-ghost use Rattle.rev_num.specs.declared.value.Value.TheVariants as v;
+ghost use Rattle.std.specs.Prelude.{◌≡◌, [], map};
 ghost use Rattle.rev_syntax.specs.View.{declaration, program as whole};
-ghost use Rattle.merge_decl.specs.Definitions.{merge_value_of};
-ghost use Rattle.merge_decl.specs.Evaluation.{merge_answer};
 ghost use Rattle.rev_types.specs.Layout.{shared_rows, proc_rows};
 ghost use Rattle.rev_types.specs.Limits.{cells};
 ghost use Rattle.rev_types.specs.Program as program;
 
 use crate::tables::{SharedInfo, Tables};
 use merge_decl::Expanded;
-use rev_evaluator::merge_value;
-use rev_num::{Items, NumFault};
+use rev_num::Items;
 
 /// A program that breaks no static rule and no limit, with the tables that its runs go by: its
 /// shared variables in order, the numbers of the declarations that are procedures, and how many
@@ -27,21 +23,6 @@ pub struct Typed {
     ghost shared_listed: { shared ≡ shared_rows (whole expanded.program) },
     ghost procs_listed: { procs ≡ proc_rows (whole expanded.program) },
     ghost located: { locations ≡ cells (map declaration expanded.program.decls.items) },
-}
-
-impl Typed {
-    /// The value of the merge of this number, counted from 0 in order of declaration, of the
-    /// joiner's, the joinee's and the root's value, or its fault, as `rev_evaluator` answers it. It
-    /// takes no memory.
-    pub fn merge_value(&self, merge: u32, main: i64, join: i64, root: i64) -> Result<i64, NumFault>
-        requires { merge < length self.now.expanded.merges }
-        ensures { result
-            ≡ merge_answer
-            (merge_value_of (whole self.now.expanded.program) merge (v.Int main) (v.Int join)
-            (v.Int root)) }
-    {
-        merge_value(&self.expanded, merge, main, join, root)
-    }
 }
 
 /// A checked program with its tables.

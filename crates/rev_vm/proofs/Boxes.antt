@@ -26,24 +26,41 @@ use Rattle.rev_vm.specs.Starts.{IsWaiting}
 use Rattle.rev_vm.specs.Writes.{HasWritten}
 
 module _ {P S : Type 0} {m : Ghosts P S} {v w : Revision P S m} (same : v ≡ w) where
-  pub same_at : (g : CodeRun) (c : State ℕ) → IsAt g v.run v.memory.delta (m.base v.memory.snapshot) v.memory.first.roots c → IsAt g w.run w.memory.delta (m.base w.memory.snapshot) w.memory.first.roots c
-  same_at g c = subst (λ (r : Revision P S m). IsAt g r.run r.memory.delta (m.base r.memory.snapshot) r.memory.first.roots c) same
+  pub same_at : (g : CodeRun) (c : State ℕ)
+      → IsAt g v.run v.memory.delta (m.base v.memory.snapshot) v.memory.first.roots c
+      → IsAt g w.run w.memory.delta (m.base w.memory.snapshot) w.memory.first.roots c
+  same_at g c =
+      subst (λ (r : Revision P S m). IsAt g r.run r.memory.delta (m.base r.memory.snapshot) r.memory.first.roots c) same
 
-  pub same_some : (g : CodeRun) → (c : State ℕ) × IsAt g v.run v.memory.delta (m.base v.memory.snapshot) v.memory.first.roots c → (c : State ℕ) × IsAt g w.run w.memory.delta (m.base w.memory.snapshot) w.memory.first.roots c
+  pub same_some : (g : CodeRun)
+      → (c : State ℕ) × IsAt g v.run v.memory.delta (m.base v.memory.snapshot) v.memory.first.roots c
+      → (c : State ℕ) × IsAt g w.run w.memory.delta (m.base w.memory.snapshot) w.memory.first.roots c
   same_some g h = (h.0, same_at g h.0 h.1)
 
-  pub same_fork : (g : CodeRun) (block : ℕ) (c : State ℕ) (args : List (Word ℕ)) → IsAtFork g v.run v.memory.delta (m.base v.memory.snapshot) v.memory.first.roots block c args
+  pub same_fork : (g : CodeRun) (block : ℕ) (c : State ℕ) (args : List (Word ℕ))
+      → IsAtFork g v.run v.memory.delta (m.base v.memory.snapshot) v.memory.first.roots block c args
       → IsAtFork g w.run w.memory.delta (m.base w.memory.snapshot) w.memory.first.roots block c args
-  same_fork g block c args = subst (λ (r : Revision P S m). IsAtFork g r.run r.memory.delta (m.base r.memory.snapshot) r.memory.first.roots block c args) same
+  same_fork g block c args =
+      subst (λ (r : Revision P S m).
+      IsAtFork g r.run r.memory.delta (m.base r.memory.snapshot) r.memory.first.roots block c args)
+      same
 
-  pub same_join : (g : CodeRun) (writes : List Written) (try : Bool) (on : ℕ) (c : State ℕ) → IsAtJoin g v.run v.memory.delta (m.base v.memory.snapshot) v.memory.first.roots writes try on c
+  pub same_join : (g : CodeRun) (writes : List Written) (try : Bool) (on : ℕ) (c : State ℕ)
+      → IsAtJoin g v.run v.memory.delta (m.base v.memory.snapshot) v.memory.first.roots writes try on c
       → IsAtJoin g w.run w.memory.delta (m.base w.memory.snapshot) w.memory.first.roots writes try on c
-  same_join g writes try on c = subst (λ (r : Revision P S m). IsAtJoin g r.run r.memory.delta (m.base r.memory.snapshot) r.memory.first.roots writes try on c) same
+  same_join g writes try on c =
+      subst (λ (r : Revision P S m).
+      IsAtJoin g r.run r.memory.delta (m.base r.memory.snapshot) r.memory.first.roots writes try on c)
+      same
 
-  pub same_claimed : (g : CodeRun) (writes : List Written) (try : Bool) (on : ℕ) (e : EndValue) (c : State ℕ) (j : End ℕ)
+  pub same_claimed :
+      (g : CodeRun) (writes : List Written) (try : Bool) (on : ℕ) (e : EndValue) (c : State ℕ) (j : End ℕ)
       → IsClaimed g v.run v.memory.delta (m.base v.memory.snapshot) v.memory.first.roots writes try on e c j
       → IsClaimed g w.run w.memory.delta (m.base w.memory.snapshot) w.memory.first.roots writes try on e c j
-  same_claimed g writes try on e c j = subst (λ (r : Revision P S m). IsClaimed g r.run r.memory.delta (m.base r.memory.snapshot) r.memory.first.roots writes try on e c j) same
+  same_claimed g writes try on e c j =
+      subst (λ (r : Revision P S m).
+      IsClaimed g r.run r.memory.delta (m.base r.memory.snapshot) r.memory.first.roots writes try on e c j)
+      same
 
   pub same_ready : IsReady v.run → IsReady w.run
   same_ready = subst (λ (r : Revision P S m). IsReady r.run) same
@@ -55,22 +72,39 @@ module _ {P S : Type 0} {m : Ghosts P S} {v w : Revision P S m} (same : v ≡ w)
   same_past try r = subst (λ (x : Revision P S m). IsPast try x.run r) same
 
   pub same_wrote : (written : List Written) (values : List ℕ) (seen : ℕ → ℕ) (root : ℕ → Option ℕ)
-      → HasWritten (m.size v.memory.snapshot) written values (under v.memory.delta (m.base v.memory.snapshot)) (at v.memory.first.roots) seen root
-      → HasWritten (m.size w.memory.snapshot) written values (under w.memory.delta (m.base w.memory.snapshot)) (at w.memory.first.roots) seen root
+      → HasWritten (m.size v.memory.snapshot) written values (under v.memory.delta (m.base v.memory.snapshot))
+      (at v.memory.first.roots) seen root
+      → HasWritten (m.size w.memory.snapshot) written values (under w.memory.delta (m.base w.memory.snapshot))
+      (at w.memory.first.roots) seen root
   same_wrote written values seen root =
-      subst (λ (r : Revision P S m). HasWritten (m.size r.memory.snapshot) written values (under r.memory.delta (m.base r.memory.snapshot)) (at r.memory.first.roots) seen root) same
+      subst (λ (r : Revision P S m).
+      HasWritten (m.size r.memory.snapshot) written values (under r.memory.delta (m.base r.memory.snapshot))
+      (at r.memory.first.roots) seen root)
+      same
 
   pub same_noted : (on : ℕ) (r : Run) → IsNoted on v.run r → IsNoted on w.run r
   same_noted on r = subst (λ (x : Revision P S m). IsNoted on x.run r) same
 
-  pub same_kept : (seen : ℕ → ℕ) (root : ℕ → Option ℕ) → Kept (m.size v.memory.snapshot) (under v.memory.delta (m.base v.memory.snapshot)) seen (at v.memory.first.roots) root
-      → Kept (m.size w.memory.snapshot) (under w.memory.delta (m.base w.memory.snapshot)) seen (at w.memory.first.roots) root
-  same_kept seen root = subst (λ (r : Revision P S m). Kept (m.size r.memory.snapshot) (under r.memory.delta (m.base r.memory.snapshot)) seen (at r.memory.first.roots) root) same
+  pub same_kept : (seen : ℕ → ℕ) (root : ℕ → Option ℕ)
+      → Kept (m.size v.memory.snapshot) (under v.memory.delta (m.base v.memory.snapshot)) seen (at v.memory.first.roots)
+      root
+      → Kept (m.size w.memory.snapshot) (under w.memory.delta (m.base w.memory.snapshot)) seen (at w.memory.first.roots)
+      root
+  same_kept seen root =
+      subst (λ (r : Revision P S m).
+      Kept (m.size r.memory.snapshot) (under r.memory.delta (m.base r.memory.snapshot)) seen (at r.memory.first.roots)
+      root)
+      same
 
-  pub same_line : (e : Cause) → finish.Trapped (record { cause = e; line = v.run.registers.line; origin = None }) ≡ finish.Trapped (record { cause = e; line = w.run.registers.line; origin = None })
-  same_line e = ap (λ (r : Revision P S m). finish.Trapped (record { cause = e; line = r.run.registers.line; origin = None })) same
+  pub same_line : (e : Cause)
+      → finish.Trapped (record { cause = e; line = v.run.registers.line; origin = None })
+      ≡ finish.Trapped (record { cause = e; line = w.run.registers.line; origin = None })
+  same_line e =
+      ap (λ (r : Revision P S m). finish.Trapped (record { cause = e; line = r.run.registers.line; origin = None }))
+      same
 
 module _ {P S : Type 0} {m : Ghosts P S} where
-  pub same_boxed : (x : Result (Runner P S m) P) (v : Revision P S m) (B : Revision P S m → Type 0) → IfOk x (λ r. r.revision.value ≡ v) → B v → IfOk x (λ r. B r.revision.value)
+  pub same_boxed : (x : Result (Runner P S m) P) (v : Revision P S m) (B : Revision P S m → Type 0)
+      → IfOk x (λ r. r.revision.value ≡ v) → B v → IfOk x (λ r. B r.revision.value)
   same_boxed (Ok r) v B e h = subst B (sym e) h
   same_boxed (Err s) v B e h = e

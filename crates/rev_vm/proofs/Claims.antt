@@ -17,7 +17,8 @@ use Rattle.rev_vm.specs.Meaning.{IsClaimed}
 use Rattle.rev_vm.proofs.Firsts.{kinds_many}
 use Rattle.rev_vm.proofs.Joins.{within_all}
 
-pub end_within : (g : CodeRun) (run : Run) (delta : Delta) (base : ℕ → ℕ) (first : Delta) (writes : List Written) (try : Bool) (on : ℕ) (v : EndValue) (c : State ℕ) (j : End ℕ)
+pub end_within : (g : CodeRun) (run : Run) (delta : Delta) (base : ℕ → ℕ) (first : Delta) (writes : List Written)
+    (try : Bool) (on : ℕ) (v : EndValue) (c : State ℕ) (j : End ℕ)
     → IsClaimed g run delta base first writes try on v c j → (size : ℕ) → locations delta ≡ size
     → (i : ℕ) (d : Written) → i < length v.written → (get_or v.written i d).location < size
 end_within g run delta base first writes try on v c j h size sized i d less =
@@ -30,5 +31,7 @@ module _ {P S : Type 0} {m : Ghosts P S} where
       → (get_or k.end.written i d).location < m.size k.at.revision.value.memory.snapshot
   claimed_within k i d less =
       ∥∥₁_elim k.of le_prop (λ q.
-      end_within q.0 k.at.revision.value.run k.at.revision.value.memory.delta (m.base k.at.revision.value.memory.snapshot) k.at.revision.value.memory.first.roots
-      k.at.written k.at.is_try k.at.on k.end q.1 q.2 q.3 (m.size k.at.revision.value.memory.snapshot) k.at.revision.value.memory.written i d less)
+      end_within q.0 k.at.revision.value.run k.at.revision.value.memory.delta
+      (m.base k.at.revision.value.memory.snapshot) k.at.revision.value.memory.first.roots
+      k.at.written k.at.is_try k.at.on k.end q.1 q.2 q.3 (m.size k.at.revision.value.memory.snapshot)
+      k.at.revision.value.memory.written i d less)

@@ -29,7 +29,7 @@ use Rattle.version_map.specs.Overlay as overlay
 use Rattle.code_machine.specs.Local.{CodeRun}
 use Rattle.leg_run.specs.declared.revision.Run.{Run}
 use Rattle.leg_run.specs.declared.setting.CodeSetting.{CodeSetting}
-use Rattle.leg_run.specs.Rooms.{IsRoom}
+use Rattle.fun_run.specs.Rooms.{IsRoom}
 use Rattle.leg_run.specs.Standing.{AreBelow, listed_as, Stands}
 use Rattle.rev_vm.specs.Starts.{Begins, IsCalled, IsFirst, run_under}
 
@@ -43,16 +43,20 @@ zero_words (k.Rev ∷ kinds) = (refl, zero_words kinds)
 abbrev pub first_state : (n : ℕ) → CodeBlock → List (Word ℕ) → List (Location ℕ) → (fuel : ℕ) → State ℕ
 first_state n b xs ls fuel = events.start n b xs ls fuel
 
-pub first_stands : (g : CodeRun) (n : ℕ) (b : CodeBlock) → slice_get g.code.blocks n ≡ Some b → (xs : List (Word ℕ)) (ls : List (Location ℕ)) (fuel : ℕ) → IsRevision g.code (notes_of g.code) (first_state n b xs ls fuel)
+pub first_stands : (g : CodeRun) (n : ℕ) (b : CodeBlock) → slice_get g.code.blocks n ≡ Some b
+    → (xs : List (Word ℕ)) (ls : List (Location ℕ)) (fuel : ℕ)
+    → IsRevision g.code (notes_of g.code) (first_state n b xs ls fuel)
     → (r : Run) (args : List ℕ) (room : ℕ) → IsRoom g.code n b room → AreWords xs args → IsFirst b n args room fuel r
-    → (sees : ℕ → ℕ) (root : ℕ → Option ℕ) → AreSeen ls sees root → length ls ≤ count g.code.vars → Stands g.code g.inputs g.share r sees root (first_state n b xs ls fuel)
+    → (sees : ℕ → ℕ) (root : ℕ → Option ℕ) → AreSeen ls sees root → length ls ≤ count g.code.vars
+    → Stands g.code g.inputs g.share r sees root (first_state n b xs ls fuel)
 first_stands g n b is xs ls fuel good r args room roomy stand f sees root there many =
     let block = ap (λ (z : Registers). z.block) f.registers in
     let base : r.registers.base ≡ 0 = ap (λ (z : Registers). z.base) f.registers in
     let top : r.registers.top ≡ length b.locals = ap (λ (z : Registers). z.top) f.registers in
     let same : length xs ≡ length args = words_length xs args stand in
     let rest : AreWords (map zero_word (drop (length xs) b.locals)) (replicate (length b.locals - length args) 0) =
-    subst (λ m. AreWords (map zero_word (drop (length xs) b.locals)) (replicate m 0)) (length-drop (length xs) b.locals ∙ ap (λ m. length b.locals - m) same) (zero_words (drop (length xs) b.locals)) in
+    subst (λ m. AreWords (map zero_word (drop (length xs) b.locals)) (replicate m 0))
+    (length-drop (length xs) b.locals ∙ ap (λ m. length b.locals - m) same) (zero_words (drop (length xs) b.locals)) in
     record {
       body = b;
       is = ap (slice_get g.code.blocks) block ∙ is;
@@ -63,8 +67,11 @@ first_stands g n b is xs ls fuel good r args room roomy stand f sees root there 
         run = record {
           at = ap (λ (z : Registers). z.at) f.registers;
           locals = subst (λ m. AreWords (first_locals b xs) (take (length b.locals) (drop m r.words.items))) (sym base)
-              (subst (AreWords (first_locals b xs)) (sym f.locals) (words_append xs (map zero_word (drop (length xs) b.locals)) args (replicate (length b.locals - length args) 0) stand rest));
-          stack = (let z : r.registers.top - low b r.registers ≡ 0 = omega (arith, base, top) in subst (λ m. AreWords [] (stack_of r.words.items (low b r.registers) m)) (sym z) tt);
+              (subst (AreWords (first_locals b xs)) (sym f.locals)
+              (words_append xs (map zero_word (drop (length xs) b.locals)) args
+              (replicate (length b.locals - length args) 0) stand rest));
+          stack = (let z : r.registers.top - low b r.registers ≡ 0 = omega (arith, base, top) in
+              subst (λ m. AreWords [] (stack_of r.words.items (low b r.registers) m)) (sym z) tt);
           fuel = ap (λ (z : Registers). z.fuel) f.registers;
           line = ap (λ (z : Registers). z.line) f.registers;
         };
@@ -76,7 +83,8 @@ first_stands g n b is xs ls fuel good r args room roomy stand f sees root there 
       room = λ at inside. (
           let d = roomy.deep at inside in
           let l = f.long in
-          let e : length (notes_of g.code r.registers.block at).shape ≡ length (notes_of g.code n at).shape = ap (λ m. length (notes_of g.code m at).shape) block in
+          let e : length (notes_of g.code r.registers.block at).shape ≡ length (notes_of g.code n at).shape =
+          ap (λ m. length (notes_of g.code m at).shape) block in
           omega (arith, d, l, e, base)
           );
       forks = sym f.forks;
@@ -87,12 +95,14 @@ first_stands g n b is xs ls fuel good r args room roomy stand f sees root there 
 
 -- ---- what a child sees
 
-mapped : (f : Location ℕ → Location ℕ) (ls : List (Location ℕ)) (l : ℕ) (x : Location ℕ) → slice_get (map f ls) l ≡ Some x → (y : Location ℕ) × (slice_get ls l ≡ Some y) × (f y ≡ x)
+mapped : (f : Location ℕ → Location ℕ) (ls : List (Location ℕ)) (l : ℕ) (x : Location ℕ)
+    → slice_get (map f ls) l ≡ Some x → (y : Location ℕ) × (slice_get ls l ≡ Some y) × (f y ≡ x)
 mapped f [] l x h = absurd (none_some h)
 mapped f (y ∷ ls) zero x h = (y, refl, some_eq h)
 mapped f (y ∷ ls) (suc l) x h = mapped f ls l x h
 
-pub view_seen : (ls : List (Location ℕ)) (sees : ℕ → ℕ) (root : ℕ → Option ℕ) → AreSeen ls sees root → AreSeen (events.view ls) sees (λ l. None)
+pub view_seen : (ls : List (Location ℕ)) (sees : ℕ → ℕ) (root : ℕ → Option ℕ) → AreSeen ls sees root
+    → AreSeen (events.view ls) sees (λ l. None)
 view_seen ls sees root h = λ l x is.
     let m = mapped (λ y. record { snapshot = seen y; written = None }) ls l x is in
     subst (λ x. IsSeen x (sees l) None) m.2 (refl, word_seen m.0 (sees l) (root l) (h l m.0 m.1))
@@ -114,28 +124,35 @@ pub kinds_many : (vs : List CodeVar) → length (location_kinds vs) ≡ count vs
 kinds_many [] = refl
 kinds_many (v ∷ vs) = cells_many v.cells v.kind (location_kinds vs) ∙ (let r = kinds_many vs in omega (arith, r))
 
-same_many : (kinds : List ValueKind) (ls : List (Location ℕ)) → AreLocations kinds ls → length ls ≡ length kinds
+pub same_many : (kinds : List ValueKind) (ls : List (Location ℕ)) → AreLocations kinds ls → length ls ≡ length kinds
 same_many [] [] h = refl
 same_many (x ∷ kinds) (l ∷ ls) h = ap suc (same_many kinds ls h.1)
 same_many [] (l ∷ ls) h = absurd h
 same_many (x ∷ kinds) [] h = absurd h
 
-pub locations_many : (vs : List CodeVar) (ls : List (Location ℕ)) → AreLocations (location_kinds vs) ls → length ls ≤ count vs
+pub locations_many : (vs : List CodeVar) (ls : List (Location ℕ)) → AreLocations (location_kinds vs) ls
+    → length ls ≤ count vs
 locations_many vs ls h = let a = same_many (location_kinds vs) ls h in let b = kinds_many vs in omega (arith, a, b)
 
 -- ---- starts
 
-pub start_stands : (s : CodeSetting) → first_fault s.code ≡ None → (n : ℕ) (args : List ℕ) (fuel : ℕ) (run : Run) → Begins s n args fuel run
-    → (b : CodeBlock) (xs : List (Word ℕ)) (ls : List (Location ℕ)) → IsCalled (run_under s) n b xs args → AreLocations (location_kinds s.code.vars) ls
-    → (sees : ℕ → ℕ) (root : ℕ → Option ℕ) → AreSeen ls sees root → Stands s.code s.inputs.items s.share run sees root (events.start n b xs ls fuel)
+pub start_stands : (s : CodeSetting) → first_fault s.code ≡ None → (n : ℕ) (args : List ℕ) (fuel : ℕ) (run : Run)
+    → Begins s n args fuel run
+    → (b : CodeBlock) (xs : List (Word ℕ)) (ls : List (Location ℕ)) → IsCalled (run_under s) n b xs args
+    → AreLocations (location_kinds s.code.vars) ls
+    → (sees : ℕ → ℕ) (root : ℕ → Option ℕ) → AreSeen ls sees root
+    → Stands s.code s.inputs.items s.share run sees root (events.start n b xs ls fuel)
 start_stands s ok n args fuel run r b xs ls k typed sees root there =
     let same : r.body ≡ b = some_eq (sym r.is ∙ k.is) in
     first_stands (run_under s) n b k.is xs ls fuel
-    (procedures_start ℕ s.code (notes_of s.code) (no_fault_accepted s.code ok) n b k.is k.program xs k.kinds ls typed fuel)
-    run args r.room (subst (λ y. IsRoom s.code n y r.room) same r.enough) k.stand (subst (λ y. IsFirst y n args r.room fuel run) same r.first) sees root there (locations_many s.code.vars ls typed)
+    (procedures_start ℕ s.code (notes_of s.code) (no_fault_accepted s.code ok) n b k.is k.program xs k.kinds ls typed
+    fuel)
+    run args r.room (subst (λ y. IsRoom s.code n y r.room) same r.enough) k.stand
+    (subst (λ y. IsFirst y n args r.room fuel run) same r.first) sees root there (locations_many s.code.vars ls typed)
 
 -- nothing is written yet
-pub unwritten : (size : ℕ) (delta first : Delta) (base : ℕ → ℕ) (ls : List (Location ℕ)) → length ls ≤ size → locations delta ≡ size → IsEmpty delta → locations first ≡ size → IsEmpty first
+pub unwritten : (size : ℕ) (delta first : Delta) (base : ℕ → ℕ) (ls : List (Location ℕ)) → length ls ≤ size
+    → locations delta ≡ size → IsEmpty delta → locations first ≡ size → IsEmpty first
     → AreSeen ls base (λ l. None) → AreSeen ls (overlay.under delta base) (at first)
 unwritten size delta first base ls many d empty f none there =
     kept_seen ls base (overlay.under delta base) (λ l. None) (at first) there size many (record {
@@ -145,10 +162,13 @@ unwritten size delta first base ls many d empty f none there =
 
 -- ---- arguments at the front
 
-pub front_more : (ws args : List ℕ) (i d : ℕ) → i < length args → length args ≤ length ws → set (take i args ++ drop i ws) i (get_or args i d) ≡ take (i + 1) args ++ drop (i + 1) ws
-front_more ws args i d h k = by ws args i h k ∙ (let e : suc i ≡ i + 1 = omega arith in ap (λ m. take m args ++ drop m ws) e)
+pub front_more : (ws args : List ℕ) (i d : ℕ) → i < length args → length args ≤ length ws
+    → set (take i args ++ drop i ws) i (get_or args i d) ≡ take (i + 1) args ++ drop (i + 1) ws
+front_more ws args i d h k =
+    by ws args i h k ∙ (let e : suc i ≡ i + 1 = omega arith in ap (λ m. take m args ++ drop m ws) e)
   where
-    by : (ws args : List ℕ) (i : ℕ) → i < length args → length args ≤ length ws → set (take i args ++ drop i ws) i (get_or args i d) ≡ take (suc i) args ++ drop (suc i) ws
+    by : (ws args : List ℕ) (i : ℕ) → i < length args → length args ≤ length ws
+        → set (take i args ++ drop i ws) i (get_or args i d) ≡ take (suc i) args ++ drop (suc i) ws
     by ws [] i h k = absurd (omega (arith, h))
     by [] (a ∷ args) i h k = absurd (omega (arith, k))
     by (w ∷ ws) (a ∷ args) zero h k = refl

@@ -33,7 +33,7 @@ use Rattle.leg_run.specs.declared.revision.Meeting.{Meeting}
 use Rattle.leg_run.specs.declared.revision.Meeting.TheVariants as meeting
 use Rattle.leg_run.specs.declared.revision.Run.{Run}
 use Rattle.leg_run.specs.declared.setting.CodeSetting.{CodeSetting}
-use Rattle.leg_run.specs.Rooms.{IsRoom}
+use Rattle.fun_run.specs.Rooms.{IsRoom}
 use Rattle.leg_run.specs.Standing.{listed_as, Stands}
 use Rattle.rev_vm.specs.Meaning.{IsAt, IsAtFork}
 use Rattle.rev_vm.specs.Starts.{IsBorn, IsFirst, IsForker, top_words}
@@ -41,10 +41,12 @@ use Rattle.rev_vm.proofs.Firsts.{first_stands, view_seen, view_many}
 use Rattle.rev_vm.proofs.Frames.{IsAbove, one_set, OnStack, stays}
 use Rattle.rev_vm.proofs.Meets.{IsForking, Meets, meets}
 
-arguments_are : (kinds : List ValueKind) (st args : List (Word ℕ)) → arguments kinds st ≡ Some args → args ≡ reverse (take (length kinds) st)
+arguments_are : (kinds : List ValueKind) (st args : List (Word ℕ)) → arguments kinds st ≡ Some args
+    → args ≡ reverse (take (length kinds) st)
 arguments_are kinds st args h = by (fits kinds (reverse (take (length kinds) st))) h
   where
-    by : (d : Bool) → (if d then Some (reverse (take (length kinds) st)) else None) ≡ Some args → args ≡ reverse (take (length kinds) st)
+    by : (d : Bool) → (if d then Some (reverse (take (length kinds) st)) else None) ≡ Some args
+        → args ≡ reverse (take (length kinds) st)
     by true e = sym (some_eq e)
     by false e = absurd (let z : None ≡ Some args = e in cc)
 
@@ -61,7 +63,8 @@ long_enough zero xs h = omega arith
 long_enough (suc p) [] h = absurd (omega (arith, h))
 long_enough (suc p) (x ∷ xs) h = let r = long_enough p xs (omega (arith, h)) in omega (arith, r)
 
-pub one_listed : (xs : List (Listed ℕ)) (ms : List Meeting) (x : Listed ℕ) (m : Meeting) → x ≡ listed_as m → xs ≡ map listed_as ms → xs ++ x ∷ [] ≡ map listed_as (ms ++ m ∷ [])
+pub one_listed : (xs : List (Listed ℕ)) (ms : List Meeting) (x : Listed ℕ) (m : Meeting) → x ≡ listed_as m
+    → xs ≡ map listed_as ms → xs ++ x ∷ [] ≡ map listed_as (ms ++ m ∷ [])
 one_listed xs ms x m e h = (λ i. h i ++ e i ∷ []) ∙ by ms
   where
     by : (ms : List Meeting) → map listed_as ms ++ listed_as m ∷ [] ≡ map listed_as (ms ++ m ∷ [])
@@ -76,20 +79,27 @@ range_top xs p t h = let e : t - (t - p) ≡ p = omega (arith, h) in ap (λ m. t
 abbrev pub top_of : ℕ → Run → List ℕ
 top_of n r = take n (drop (r.registers.top - n) r.words.items)
 
-pub born : (s : CodeSetting) (n : ℕ) (b : CodeBlock) (forker r : Run) (room : ℕ) → IsRoom s.code n b room → (args : List ℕ) → args ≡ top_of (length (params b)) forker → (fuel : ℕ) → fuel ≡ events.part s.share forker.registers.fuel
+pub born : (s : CodeSetting) (n : ℕ) (b : CodeBlock) (forker r : Run) (room : ℕ) → IsRoom s.code n b room
+    → (args : List ℕ) → args ≡ top_of (length (params b)) forker → (fuel : ℕ)
+    → fuel ≡ events.part s.share forker.registers.fuel
     → IsFirst b n args room fuel r → IsBorn s n b forker r
 born s n b forker r room enough args a fuel f h = record {
   room = room;
   enough = enough;
-  first = subst (λ xs. IsFirst b n xs room (events.part s.share forker.registers.fuel) r) a (subst (λ m. IsFirst b n args room m r) f h);
+  first = subst (λ xs. IsFirst b n xs room (events.part s.share forker.registers.fuel) r) a
+      (subst (λ m. IsFirst b n args room m r) f h);
 }
 
-module _ (g : CodeRun) (run : Run) (delta : Delta) (base : ℕ → ℕ) (first : Delta) (n : ℕ) (c : State ℕ) (args : List (Word ℕ)) (h : IsAtFork g run delta base first n c args) where
+module _ (g : CodeRun) (run : Run) (delta : Delta) (base : ℕ → ℕ) (first : Delta) (n : ℕ) (c : State ℕ)
+    (args : List (Word ℕ)) (h : IsAtFork g run delta base first n c args) where
   pub accepted : IsAccepted g.code (notes_of g.code)
   accepted = no_fault_accepted g.code h.stands.verified
 
-  pub safe : (f : IsForked g.code n args) × ((number : ℕ) → IsRevision g.code (notes_of g.code) (events.parent g.share c args number)) × IsRevision g.code (notes_of g.code) (events.child g.share c n f.body args)
-  safe = (is_safe ℕ g.code (notes_of g.code) accepted g.inputs g.share c h.stands.stands.here.good).forks c n args h.forks
+  pub safe : (f : IsForked g.code n args)
+      × ((number : ℕ) → IsRevision g.code (notes_of g.code) (events.parent g.share c args number))
+      × IsRevision g.code (notes_of g.code) (events.child g.share c n f.body args)
+  safe = (is_safe ℕ g.code (notes_of g.code) accepted g.inputs g.share c h.stands.stands.here.good).forks c n args
+      h.forks
 
   forking : IsForking (under g) c c n args
   forking = subst (Meets (under g) c) h.forks (meets (under g) c)
@@ -102,20 +112,24 @@ module _ (g : CodeRun) (run : Run) (delta : Delta) (base : ℕ → ℕ) (first :
     same_body = some_eq (sym (only_some is_procedure (slice_get g.code.blocks n) forking.body forking.is) ∙ is)
 
     args_are : args ≡ reverse (take (length (params b)) c.stack)
-    args_are = arguments_are (params forking.body) c.stack args forking.args ∙ ap (λ y. reverse (take (length (params y)) c.stack)) same_body
+    args_are = arguments_are (params forking.body) c.stack args forking.args
+        ∙ ap (λ y. reverse (take (length (params y)) c.stack)) same_body
 
     pub args_many : length args ≡ length (params b)
     args_many = sym (kinds_length args) ∙ ap length safe.0.kinds ∙ ap (λ y. length (params y)) same_safe
 
     height : length c.stack ≡ run.registers.top - low h.stands.stands.body run.registers
     height = let s = h.stands.stands in
-        words_length c.stack (stack_of run.words.items (low s.body run.registers) (run.registers.top - low s.body run.registers)) s.here.run.stack
+        words_length c.stack
+        (stack_of run.words.items (low s.body run.registers) (run.registers.top - low s.body run.registers))
+        s.here.run.stack
         ∙ stack_length run.words.items (low s.body run.registers) (run.registers.top - low s.body run.registers)
 
     pub above : low h.stands.stands.body run.registers + length (params b) ≤ run.registers.top
     above =
         let s = h.stands.stands in
-        let l : length (take (length (params b)) c.stack) ≡ length (params b) = sym (reverse_length (take (length (params b)) c.stack)) ∙ ap length (sym args_are) ∙ args_many in
+        let l : length (take (length (params b)) c.stack) ≡ length (params b) =
+        sym (reverse_length (take (length (params b)) c.stack)) ∙ ap length (sym args_are) ∙ args_many in
         let e = long_enough (length (params b)) c.stack l in
         let i = height in let t = s.here.top in omega (arith, e, i, t)
 
@@ -123,17 +137,22 @@ module _ (g : CodeRun) (run : Run) (delta : Delta) (base : ℕ → ℕ) (first :
     within =
         let s = h.stands.stands in
         let t : IsRevision g.code (notes_of g.code) c = s.here.good in
-        let same : t.typed.frame.body ≡ s.body = some_eq (sym t.typed.frame.is ∙ ap (slice_get g.code.blocks) s.here.block ∙ s.is) in
-        let i : c.at < length s.body.instrs = subst (λ (y : CodeBlock). c.at < length y.instrs) same t.typed.frame.inside in
+        let same : t.typed.frame.body ≡ s.body =
+        some_eq (sym t.typed.frame.is ∙ ap (slice_get g.code.blocks) s.here.block ∙ s.is) in
+        let i : c.at < length s.body.instrs =
+        subst (λ (y : CodeBlock). c.at < length y.instrs) same t.typed.frame.inside in
         let d = s.room c.at i in
-        let k : length c.stack ≡ length (notes_of g.code run.registers.block c.at).shape = sym (kinds_length c.stack) ∙ ap length t.typed.stack ∙ ap (λ m. length (notes_of g.code m c.at).shape) s.here.block in
+        let k : length c.stack ≡ length (notes_of g.code run.registers.block c.at).shape =
+        sym (kinds_length c.stack) ∙ ap length t.typed.stack
+        ∙ ap (λ m. length (notes_of g.code m c.at).shape) s.here.block in
         let e = height in let o = s.here.top in omega (arith, d, k, e, o)
 
     next : suc c.at < length h.stands.stands.body.instrs
     next =
         let s = h.stands.stands in
         let t : IsRevision g.code (notes_of g.code) (events.parent g.share c args 0) = safe.1 0 in
-        let same : t.typed.frame.body ≡ s.body = some_eq (sym t.typed.frame.is ∙ ap (slice_get g.code.blocks) s.here.block ∙ s.is) in
+        let same : t.typed.frame.body ≡ s.body =
+        some_eq (sym t.typed.frame.is ∙ ap (slice_get g.code.blocks) s.here.block ∙ s.is) in
         subst (λ (y : CodeBlock). suc c.at < length y.instrs) same t.typed.frame.inside
 
     pub place : run.registers.at + 1 < 2 ^ 32
@@ -148,24 +167,36 @@ module _ (g : CodeRun) (run : Run) (delta : Delta) (base : ℕ → ℕ) (first :
         let s = h.stands.stands in
         let t : IsRevision g.code (notes_of g.code) (events.parent g.share c args 0) = safe.1 0 in
         let d = s.room (suc c.at) next in
-        let k : suc (length (drop (length args) c.stack)) ≡ length (notes_of g.code run.registers.block (suc c.at)).shape =
-        ap suc (sym (kinds_length (drop (length args) c.stack))) ∙ ap length t.typed.stack ∙ ap (λ m. length (notes_of g.code m (suc c.at)).shape) s.here.block in
-        let l : length (drop (length args) c.stack) ≡ length c.stack - length args = length-drop (length args) c.stack in
+        let k :
+        suc (length (drop (length args) c.stack)) ≡ length (notes_of g.code run.registers.block (suc c.at)).shape =
+        ap suc (sym (kinds_length (drop (length args) c.stack))) ∙ ap length t.typed.stack
+        ∙ ap (λ m. length (notes_of g.code m (suc c.at)).shape) s.here.block in
+        let l : length (drop (length args) c.stack) ≡ length c.stack - length args =
+        length-drop (length args) c.stack in
         let m = args_many in let e = height in let o = s.here.top in let a = above in omega (arith, d, k, l, m, e, o, a)
 
-    pub stand_args : AreWords args (take (length (params b)) (drop (run.registers.top - length (params b)) run.words.items))
+    pub stand_args :
+        AreWords args (take (length (params b)) (drop (run.registers.top - length (params b)) run.words.items))
     stand_args =
         let s = h.stands.stands in
         let l = low s.body run.registers in
         let a = above in let w = within in let t = s.here.top in
-        let slice = stack_slice run.words.items l (run.registers.top - l) (length (params b)) (omega (arith, a)) (omega (arith, w, t)) in
-        let place : l + (run.registers.top - l) - length (params b) ≡ run.registers.top - length (params b) = omega (arith, t) in
-        subst (λ xs. AreWords xs (take (length (params b)) (drop (run.registers.top - length (params b)) run.words.items))) (sym args_are)
-        (subst (AreWords (reverse (take (length (params b)) c.stack))) (slice ∙ ap (λ m. take (length (params b)) (drop m run.words.items)) place)
-        (words_reverse (take (length (params b)) c.stack) (take (length (params b)) (stack_of run.words.items l (run.registers.top - l)))
+        let slice =
+        stack_slice run.words.items l (run.registers.top - l) (length (params b)) (omega (arith, a))
+        (omega (arith, w, t)) in
+        let place : l + (run.registers.top - l) - length (params b) ≡ run.registers.top - length (params b) =
+        omega (arith, t) in
+        subst
+        (λ xs. AreWords xs (take (length (params b)) (drop (run.registers.top - length (params b)) run.words.items)))
+        (sym args_are)
+        (subst (AreWords (reverse (take (length (params b)) c.stack)))
+        (slice ∙ ap (λ m. take (length (params b)) (drop m run.words.items)) place)
+        (words_reverse (take (length (params b)) c.stack)
+        (take (length (params b)) (stack_of run.words.items l (run.registers.top - l)))
         (words_take (length (params b)) c.stack (stack_of run.words.items l (run.registers.top - l)) s.here.run.stack)))
 
-    on_forker : (run' : Run) → IsForker (length (params b)) (events.part g.share run.registers.fuel) run run' → OnStack g h.stands.stands.body run run' c (events.parent g.share c args 0)
+    on_forker : (run' : Run) → IsForker (length (params b)) (events.part g.share run.registers.fuel) run run'
+        → OnStack g h.stands.stands.body run run' c (events.parent g.share c args 0)
     on_forker run' k =
         let s = h.stands.stands in
         let l = low s.body run.registers in
@@ -177,9 +208,13 @@ module _ (g : CodeRun) (run : Run) (delta : Delta) (base : ℕ → ℕ) (first :
         let place : run.registers.top - p ≡ l + (run.registers.top - p - l) = omega (arith, a) in
         let more : run.registers.top - p + 1 - l ≡ suc (run.registers.top - p - l) = omega (arith, a) in
         let split : run.registers.top - l ≡ p + (run.registers.top - p - l) = omega (arith, a) in
-        let push = stack_push run.words.items l (run.registers.top - p - l) (run.registers.top - p) (run.registers.top - p + 1 - l) 1 place more room_for_handle in
+        let push =
+        stack_push run.words.items l (run.registers.top - p - l) (run.registers.top - p) (run.registers.top - p + 1 - l)
+        1 place more room_for_handle in
         let rest = words_drop p c.stack (stack_of run.words.items l (run.registers.top - l)) s.here.run.stack in
-        let rest' = subst (AreWords (drop p c.stack)) (stack_dropped run.words.items l (run.registers.top - l) p (run.registers.top - p - l) split) rest in
+        let rest' =
+        subst (AreWords (drop p c.stack))
+        (stack_dropped run.words.items l (run.registers.top - l) p (run.registers.top - p - l) split) rest in
         record {
           revision = safe.1 0;
           block = refl;
@@ -191,49 +226,78 @@ module _ (g : CodeRun) (run : Run) (delta : Delta) (base : ℕ → ℕ) (first :
           at = (let i = ap (λ (z : Registers). z.at) rows in let j = s.here.run.at in omega (arith, i, j));
           fuel = ap (λ (z : Registers). z.fuel) rows ∙ ap (λ f. f - events.part g.share f) s.here.run.fuel;
           line = ap (λ (z : Registers). z.line) rows ∙ s.here.run.line;
-          words = subst (IsAbove l run.words.items) (sym k.words) (one_set l (run.registers.top - p) 1 run.words.items (omega (arith, a)));
+          words = subst (IsAbove l run.words.items) (sym k.words)
+              (one_set l (run.registers.top - p) 1 run.words.items (omega (arith, a)));
           top = omega (arith, a, top);
-          stack = subst (λ t. AreWords (events.parent g.share c args 0).stack (stack_of run'.words.items l (t - l))) (sym top)
-              (subst (λ ws. AreWords (events.parent g.share c args 0).stack (stack_of ws l (run.registers.top - p + 1 - l))) (sym k.words)
-              (subst (AreWords (events.parent g.share c args 0).stack) (sym push) (refl, subst (λ q. AreWords (drop q c.stack) (stack_of run.words.items l (run.registers.top - p - l))) (sym m) rest')));
+          stack = subst (λ t. AreWords (events.parent g.share c args 0).stack (stack_of run'.words.items l (t - l)))
+              (sym top)
+              (subst
+              (λ ws. AreWords (events.parent g.share c args 0).stack (stack_of ws l (run.registers.top - p + 1 - l)))
+              (sym k.words)
+              (subst (AreWords (events.parent g.share c args 0).stack) (sym push) (
+                refl,
+                subst (λ q. AreWords (drop q c.stack) (stack_of run.words.items l (run.registers.top - p - l))) (sym m)
+                    rest',
+              )));
           forks = ap suc s.forks ∙ sym k.forks;
-          listed = one_listed c.listed run.meetings.items (forked 0 c.line) (meeting.Forked 0 run.registers.line) (ap (λ l. forked 0 l) (sym s.here.run.line)) s.listed
+          listed = one_listed c.listed run.meetings.items (forked 0 c.line) (meeting.Forked 0 run.registers.line)
+              (ap (λ l. forked 0 l) (sym s.here.run.line)) s.listed
               ∙ ap (λ ms. map listed_as ms) (sym k.meetings);
           text = s.text ∙ sym (ap (λ v. v.items) k.text);
-          few = (let i = k.forks in let j = ap length k.meetings ∙ more_listed run.meetings.items (meeting.Forked 0 run.registers.line) in let o = s.few in omega (arith, i, j, o));
+          few = (let i = k.forks in
+              let j = ap length k.meetings ∙ more_listed run.meetings.items (meeting.Forked 0 run.registers.line) in
+              let o = s.few in
+              omega (arith, i, j, o));
         }
       where
         more_listed : (ms : List Meeting) (x : Meeting) → length (ms ++ x ∷ []) ≡ suc (length ms)
         more_listed [] x = refl
         more_listed (y ∷ ms) x = ap suc (more_listed ms x)
 
-    pub parent_stands : (run' : Run) → IsForker (length (params b)) (events.part g.share run.registers.fuel) run run' → (seen : ℕ → ℕ) (root : ℕ → Option ℕ) → AreSeen c.locations seen root
+    pub parent_stands : (run' : Run) → IsForker (length (params b)) (events.part g.share run.registers.fuel) run run'
+        → (seen : ℕ → ℕ) (root : ℕ → Option ℕ) → AreSeen c.locations seen root
         → Stands g.code g.inputs g.share run' seen root (events.parent g.share c args 0)
-    parent_stands run' k seen root there = stays g run run' _ seen _ root c (events.parent g.share c args 0) h.stands.stands (on_forker run' k) there h.stands.stands.here.many
+    parent_stands run' k seen root there =
+        stays g run run' _ seen _ root c (events.parent g.share c args 0) h.stands.stands (on_forker run' k) there
+        h.stands.stands.here.many
 
-    pub child_stands : (run' : Run) (room : ℕ) → IsRoom g.code n b room → IsFirst b n (take (length (params b)) (drop (run.registers.top - length (params b)) run.words.items)) room (events.part g.share run.registers.fuel) run'
+    pub child_stands : (run' : Run) (room : ℕ) → IsRoom g.code n b room
+        → IsFirst b n (take (length (params b)) (drop (run.registers.top - length (params b)) run.words.items)) room
+        (events.part g.share run.registers.fuel) run'
         → (seen : ℕ → ℕ) (root : ℕ → Option ℕ) → AreSeen (events.view c.locations) seen root
         → Stands g.code g.inputs g.share run' seen root (events.child g.share c n b args)
     child_stands run' room roomy f seen root there =
         let s = h.stands.stands in
-        let good = subst (λ y. IsRevision g.code (notes_of g.code) (events.child g.share c n y args)) same_safe safe.2 in
-        let f' = subst (λ m. IsFirst b n (take (length (params b)) (drop (run.registers.top - length (params b)) run.words.items)) room (events.part g.share m) run') s.here.run.fuel f in
-        first_stands g n b is args (events.view c.locations) (events.part g.share c.fuel) good run' (take (length (params b)) (drop (run.registers.top - length (params b)) run.words.items)) room roomy stand_args f' seen root there
+        let good =
+        subst (λ y. IsRevision g.code (notes_of g.code) (events.child g.share c n y args)) same_safe safe.2 in
+        let f' = subst (λ m.
+        IsFirst b n (take (length (params b)) (drop (run.registers.top - length (params b)) run.words.items)) room
+        (events.part g.share m) run')
+        s.here.run.fuel f in
+        first_stands g n b is args (events.view c.locations) (events.part g.share c.fuel) good run'
+        (take (length (params b)) (drop (run.registers.top - length (params b)) run.words.items)) room roomy stand_args
+        f' seen root there
         (let m = s.here.many in let e = view_many c.locations in omega (arith, m, e))
 
-    module _ (size : ℕ) (sized : size ≡ count g.code.vars) (run' : Run) (delta' first' : Delta) (base' : ℕ → ℕ) (long : locations delta' ≡ size) where
+    module _ (size : ℕ) (sized : size ≡ count g.code.vars) (run' : Run) (delta' first' : Delta) (base' : ℕ → ℕ)
+        (long : locations delta' ≡ size) where
       many : length c.locations ≤ size
       many = let m = h.stands.stands.here.many in omega (arith, m, sized)
 
-      pub parent_at : IsForker (length (params b)) (events.part g.share run.registers.fuel) run run' → Kept size (overlay.under delta base) (overlay.under delta' base') (at first) (at first')
+      pub parent_at : IsForker (length (params b)) (events.part g.share run.registers.fuel) run run'
+          → Kept size (overlay.under delta base) (overlay.under delta' base') (at first) (at first')
           → IsAt g run' delta' base' first' (events.parent g.share c args 0)
       parent_at k kept = record {
         verified = h.stands.verified;
-        stands = parent_stands run' k (overlay.under delta' base') (at first') (kept_seen c.locations (overlay.under delta base) (overlay.under delta' base') (at first) (at first') h.stands.stands.here.locations size many kept);
+        stands = parent_stands run' k (overlay.under delta' base') (at first')
+            (kept_seen c.locations (overlay.under delta base) (overlay.under delta' base') (at first) (at first')
+            h.stands.stands.here.locations size many kept);
         size = long ∙ sized;
       }
 
-      pub child_at : (room : ℕ) → IsRoom g.code n b room → IsFirst b n (top_words b run) room (events.part g.share run.registers.fuel) run' → Agree size (overlay.under delta' base') (overlay.under delta base)
+      pub child_at : (room : ℕ) → IsRoom g.code n b room
+          → IsFirst b n (top_words b run) room (events.part g.share run.registers.fuel) run'
+          → Agree size (overlay.under delta' base') (overlay.under delta base)
           → locations first' ≡ size → IsEmpty first' → IsAt g run' delta' base' first' (events.child g.share c n b args)
       child_at room enough f agree short empty =
           let seen = overlay.under delta base in
@@ -241,7 +305,8 @@ module _ (g : CodeRun) (run : Run) (delta : Delta) (base : ℕ → ℕ) (first :
           record {
             verified = h.stands.verified;
             stands = child_stands run' room enough f (overlay.under delta' base') (at first')
-                (kept_seen (events.view c.locations) seen (overlay.under delta' base') (λ l. None) (at first') viewed size (let m = many in let e = view_many c.locations in omega (arith, m, e)) (record {
+                (kept_seen (events.view c.locations) seen (overlay.under delta' base') (λ l. None) (at first') viewed
+                size (let m = many in let e = view_many c.locations in omega (arith, m, e)) (record {
                   words = agree;
                   roots = λ l i. empty l (omega (arith, i, short));
                 }));

@@ -29,11 +29,13 @@ nothing_new place ws = record { below = refl; long = refl }
 pub one_set : (place j w : ℕ) (ws : List ℕ) → place ≤ j → IsAbove place ws (set ws j w)
 one_set place j w ws h = record { below = take-set-le place ws j w h; long = length-set ws j w }
 
-slice_same : (place base n : ℕ) (ws ws' : List ℕ) → base + n ≤ place → IsAbove place ws ws' → take n (drop base ws') ≡ take n (drop base ws)
+slice_same : (place base n : ℕ) (ws ws' : List ℕ) → base + n ≤ place → IsAbove place ws ws'
+    → take n (drop base ws') ≡ take n (drop base ws)
 slice_same place base n ws ws' h a =
     sym (drop-take base n ws') ∙ ap (drop base) (take_shorter ws' ws place (base + n) h a.below) ∙ drop-take base n ws
 
-frames_same : (code : Code) (place above : ℕ) (ws ws' : List ℕ) (fs : List (Frame ℕ)) (waits : List Waiting) → above ≤ place → IsAbove place ws ws' → AreBelow code ws above fs waits → AreBelow code ws' above fs waits
+frames_same : (code : Code) (place above : ℕ) (ws ws' : List ℕ) (fs : List (Frame ℕ)) (waits : List Waiting)
+    → above ≤ place → IsAbove place ws ws' → AreBelow code ws above fs waits → AreBelow code ws' above fs waits
 frames_same code place above ws ws' [] [] h a k = tt
 frames_same code place above ws ws' (f ∷ fs) (w ∷ waits) h a k =
     let q = k.0 in
@@ -43,7 +45,8 @@ frames_same code place above ws ws' (f ∷ fs) (w ∷ waits) h a k =
         is = q.is;
         block = q.block;
         at = q.at;
-        locals = subst (AreWords f.locals) (sym (slice_same place w.base (length q.body.locals) ws ws' (omega (arith, h, b)) a)) q.locals;
+        locals = subst (AreWords f.locals)
+            (sym (slice_same place w.base (length q.body.locals) ws ws' (omega (arith, h, b)) a)) q.locals;
         behind = q.behind;
         room = λ at inside. (let r = q.room at inside in let l = a.long in omega (arith, r, l));
       },
@@ -65,7 +68,8 @@ pub record OnStack (g : CodeRun) (b : CodeBlock) (run run' : Run) (c c' : State 
   pub line : run'.registers.line ≡ c'.line
   pub words : IsAbove (low b run.registers) run.words.items run'.words.items
   pub top : low b run.registers ≤ run'.registers.top
-  pub stack : AreWords c'.stack (stack_of run'.words.items (low b run.registers) (run'.registers.top - low b run.registers))
+  pub stack :
+      AreWords c'.stack (stack_of run'.words.items (low b run.registers) (run'.registers.top - low b run.registers))
   pub forks : c'.forks ≡ run'.forks
   pub listed : c'.listed ≡ map listed_as run'.meetings.items
   pub text : c'.text ≡ run'.text.items
@@ -87,10 +91,15 @@ module _ (g : CodeRun) (run run' : Run) (seen seen' : ℕ → ℕ) (root root' :
           block = o.block ∙ s.here.block ∙ sym o.same_block;
           run = record {
             at = o.at;
-            locals = subst (λ xs. AreWords xs (take (length b.locals) (drop run'.registers.base run'.words.items))) (sym o.locals)
+            locals = subst (λ xs. AreWords xs (take (length b.locals) (drop run'.registers.base run'.words.items)))
+                (sym o.locals)
                 (subst (λ m. AreWords c.locals (take (length b.locals) (drop m run'.words.items))) (sym o.same_base)
-                (subst (AreWords c.locals) (sym (slice_same (low b run.registers) run.registers.base (length b.locals) run.words.items run'.words.items (omega arith) o.words)) s.here.run.locals));
-            stack = subst (λ m. AreWords c'.stack (stack_of run'.words.items m (run'.registers.top - m))) (sym same_low) o.stack;
+                (subst (AreWords c.locals)
+                (sym (slice_same (low b run.registers) run.registers.base (length b.locals) run.words.items
+                run'.words.items (omega arith) o.words))
+                s.here.run.locals));
+            stack = subst (λ m. AreWords c'.stack (stack_of run'.words.items m (run'.registers.top - m))) (sym same_low)
+                o.stack;
             fuel = o.fuel;
             line = o.line;
           };
@@ -98,14 +107,19 @@ module _ (g : CodeRun) (run run' : Run) (seen seen' : ℕ → ℕ) (root root' :
           locations = seen_there;
           many = many;
         };
-        below = subst (λ fs. AreBelow g.code run'.words.items run'.registers.base fs (reverse run'.below.items)) (sym o.below)
+        below = subst (λ fs. AreBelow g.code run'.words.items run'.registers.base fs (reverse run'.below.items))
+            (sym o.below)
             (subst (λ m. AreBelow g.code run'.words.items m c.below (reverse run'.below.items)) (sym o.same_base)
-            (subst (λ ws. AreBelow g.code run'.words.items run.registers.base c.below (reverse ws)) (sym (ap (λ v. v.items) o.waits))
-            (frames_same g.code (low b run.registers) run.registers.base run.words.items run'.words.items c.below (reverse run.below.items) (omega arith) o.words s.below)));
+            (subst (λ ws. AreBelow g.code run'.words.items run.registers.base c.below (reverse ws))
+            (sym (ap (λ v. v.items) o.waits))
+            (frames_same g.code (low b run.registers) run.registers.base run.words.items run'.words.items c.below
+            (reverse run.below.items) (omega arith) o.words s.below)));
         room = λ at inside. (
             let r = s.room at inside in
             let l = o.words.long in
-            let n : length (notes_of g.code run'.registers.block at).shape ≡ length (notes_of g.code run.registers.block at).shape = ap (λ m. length (notes_of g.code m at).shape) o.same_block in
+            let n : length (notes_of g.code run'.registers.block at).shape
+            ≡ length (notes_of g.code run.registers.block at).shape =
+            ap (λ m. length (notes_of g.code m at).shape) o.same_block in
             omega (arith, r, l, n, same_low)
             );
         forks = o.forks;

@@ -22,18 +22,23 @@ module _ (seen : ℕ → ℕ) (root : ℕ → Option ℕ) where
   ahead n (suc k) = written_there n (seen n) (root n) ++ ahead (suc n) k
 
   below_ahead : (n k : ℕ) → written_below seen root n ++ ahead n k ≡ written_below seen root (n + k)
-  below_ahead n zero = append_none (written_below seen root n) ∙ (let e : n ≡ n + 0 = omega arith in ap (written_below seen root) e)
+  below_ahead n zero =
+      append_none (written_below seen root n) ∙ (let e : n ≡ n + 0 = omega arith in ap (written_below seen root) e)
   below_ahead n (suc k) =
       sym (append_three (written_below seen root n) (written_there n (seen n) (root n)) (ahead (suc n) k))
       ∙ below_ahead (suc n) k
       ∙ (let e : suc n + k ≡ n + suc k = omega arith in ap (written_below seen root) e)
 
   module _ (full : List ValueKind) where
-    one : (n : ℕ) (kind : ValueKind) (l : Location ℕ) (es : List (Entry (Word ℕ))) (ws : List Written) → slice_get full n ≡ Some kind → IsLocation kind l → (r : Option ℕ) → IsSeen l (seen n) r
-        → AreWritten full es ws → AreWritten full (with_entry n l.written l.snapshot es) (written_there n (seen n) r ++ ws)
+    one : (n : ℕ) (kind : ValueKind) (l : Location ℕ) (es : List (Entry (Word ℕ))) (ws : List Written)
+        → slice_get full n ≡ Some kind → IsLocation kind l → (r : Option ℕ) → IsSeen l (seen n) r
+        → AreWritten full es ws
+        → AreWritten full (with_entry n l.written l.snapshot es) (written_there n (seen n) r ++ ws)
     one n kind l es ws at t None s h = subst (λ o. AreWritten full (with_entry n o l.snapshot es) ws) (sym s.0) h
     one n kind l es ws at t (Some root) s h =
-        subst (λ o. AreWritten full (with_entry n o l.snapshot es) (record { location = n; value = seen n; root = root } ∷ ws)) (sym s.1) (
+        subst (λ o.
+        AreWritten full (with_entry n o l.snapshot es) (record { location = n; value = seen n; root = root } ∷ ws))
+        (sym s.1) (
           record {
             location = refl;
             kind = kind;
@@ -44,22 +49,31 @@ module _ (seen : ℕ → ℕ) (root : ℕ → Option ℕ) where
           h,
         )
 
-    from : (kinds : List ValueKind) (ls : List (Location ℕ)) (n : ℕ) → AreLocations kinds ls → ((l : ℕ) (x : Location ℕ) → slice_get ls l ≡ Some x → IsSeen x (seen (n + l)) (root (n + l)))
-        → ((l : ℕ) (kind : ValueKind) → slice_get kinds l ≡ Some kind → slice_get full (n + l) ≡ Some kind) → AreWritten full (written_from n ls) (ahead n (length kinds))
+    from : (kinds : List ValueKind) (ls : List (Location ℕ)) (n : ℕ) → AreLocations kinds ls
+        → ((l : ℕ) (x : Location ℕ) → slice_get ls l ≡ Some x → IsSeen x (seen (n + l)) (root (n + l)))
+        → ((l : ℕ) (kind : ValueKind) → slice_get kinds l ≡ Some kind → slice_get full (n + l) ≡ Some kind)
+        → AreWritten full (written_from n ls) (ahead n (length kinds))
     from [] [] n t there at = tt
     from [] (l ∷ ls) n t there at = absurd t
     from (kind ∷ kinds) [] n t there at = absurd t
     from (kind ∷ kinds) (l ∷ ls) n t there at =
         let here : n + 0 ≡ n = omega arith in
         let s : IsSeen l (seen n) (root n) = subst (λ m. IsSeen l (seen m) (root m)) here (there 0 l refl) in
-        let rest = from kinds ls (suc n) t.1 (λ m x is. subst (λ k. IsSeen x (seen k) (root k)) (let e : n + suc m ≡ suc n + m = omega arith in e) (there (suc m) x is))
+        let rest =
+        from kinds ls (suc n) t.1
+        (λ m x is.
+        subst (λ k. IsSeen x (seen k) (root k)) (let e : n + suc m ≡ suc n + m = omega arith in e) (there (suc m) x is))
         (λ m k is. ap (slice_get full) (let e : suc n + m ≡ n + suc m = omega arith in e) ∙ at (suc m) k is) in
-        one n kind l (written_from (suc n) ls) (ahead (suc n) (length kinds)) (ap (slice_get full) (sym here) ∙ at 0 kind refl) t.0 (root n) s rest
+        one n kind l (written_from (suc n) ls) (ahead (suc n) (length kinds))
+        (ap (slice_get full) (sym here) ∙ at 0 kind refl) t.0 (root n) s rest
 
-pub written_as : (kinds : List ValueKind) (ls : List (Location ℕ)) (seen : ℕ → ℕ) (root : ℕ → Option ℕ) (size : ℕ) → size ≡ length kinds → AreLocations kinds ls → AreSeen ls seen root
+pub written_as : (kinds : List ValueKind) (ls : List (Location ℕ)) (seen : ℕ → ℕ) (root : ℕ → Option ℕ) (size : ℕ)
+    → size ≡ length kinds → AreLocations kinds ls → AreSeen ls seen root
     → AreWritten kinds (written_from 0 ls) (written_below seen root size)
 written_as kinds ls seen root size sized t there =
-    subst (AreWritten kinds (written_from 0 ls)) (below_ahead seen root 0 (length kinds) ∙ (let e : 0 + length kinds ≡ size = omega (arith, sized) in ap (written_below seen root) e))
+    subst (AreWritten kinds (written_from 0 ls))
+    (below_ahead seen root 0 (length kinds)
+    ∙ (let e : 0 + length kinds ≡ size = omega (arith, sized) in ap (written_below seen root) e))
     (from seen root kinds kinds ls 0 t
     (λ l x is. subst (λ k. IsSeen x (seen k) (root k)) (let e : l ≡ 0 + l = omega arith in e) (there l x is))
     (λ l k is. ap (slice_get kinds) (let e : 0 + l ≡ l = omega arith in e) ∙ is))

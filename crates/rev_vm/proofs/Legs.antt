@@ -58,19 +58,22 @@ ready_noted on r r' h k =
 
 -- ---- the instruction at the event
 
-forks_there : (g : CodeRun) (last d : State ℕ) (n : ℕ) (args : List (Word ℕ)) → step (under g) last ≡ forks d n args → step (under g) d ≡ forks d n args
+forks_there : (g : CodeRun) (last d : State ℕ) (n : ℕ) (args : List (Word ℕ)) → step (under g) last ≡ forks d n args
+    → step (under g) d ≡ forks d n args
 forks_there g last d n args e =
     let m : IsForking (under g) last d n args = subst (Meets (under g) last) e (meets (under g) last) in
     ap (step (under g)) m.same ∙ e
 
-joins_there : (g : CodeRun) (last d : State ℕ) (try : Bool) (on : ℕ) → step (under g) last ≡ joins d try on → step (under g) d ≡ joins d try on
+joins_there : (g : CodeRun) (last d : State ℕ) (try : Bool) (on : ℕ) → step (under g) last ≡ joins d try on
+    → step (under g) d ≡ joins d try on
 joins_there g last d try on e =
     let m : IsJoining last d on = subst (Meets (under g) last) e (meets (under g) last) in
     ap (step (under g)) m.same ∙ e
 
 -- ---- a run of verified code
 
-module _ (g : CodeRun) (run : Run) (delta : Delta) (base : ℕ → ℕ) (first : Delta) (c : State ℕ) (h : IsAt g run delta base first c) where
+module _ (g : CodeRun) (run : Run) (delta : Delta) (base : ℕ → ℕ) (first : Delta) (c : State ℕ)
+    (h : IsAt g run delta base first c) where
   start : c ≡ state_of g.code run (overlay.under delta base) (at first)
   start = its_state g.code g.inputs g.share run (overlay.under delta base) (at first) c h.stands
 
@@ -78,48 +81,64 @@ module _ (g : CodeRun) (run : Run) (delta : Delta) (base : ℕ → ℕ) (first :
   own = subst (Stands g.code g.inputs g.share run (overlay.under delta base) (at first)) start h.stands
 
   module _ (run' : Run) (delta' : Delta) (base' : ℕ → ℕ) (first' : Delta) where
-    pub fork_event : (n : ℕ) → LegEnds g.code g.inputs g.share (state_of g.code run (overlay.under delta base) (at first)) (end.Fork n) run' (overlay.under delta' base') (at first') → locations delta' ≡ count g.code.vars
-        → (d : State ℕ) × (args : List (Word ℕ)) × (leg g c ≡ forks d n args) × IsAtFork g run' delta' base' first' n d args
+    pub fork_event : (n : ℕ)
+        → LegEnds g.code g.inputs g.share (state_of g.code run (overlay.under delta base) (at first)) (end.Fork n) run'
+        (overlay.under delta' base') (at first')
+        → locations delta' ≡ count g.code.vars
+        → (d : State ℕ) × (args : List (Word ℕ)) × (leg g c ≡ forks d n args)
+        × IsAtFork g run' delta' base' first' n d args
     fork_event n l size =
         let d = state_of g.code run' (overlay.under delta' base') (at first') in (
           d,
           l.0,
-          ap (leg g) start ∙ leg_is g h.verified (state_of g.code run (overlay.under delta base) (at first)) (forks d n l.0) l.1,
+          ap (leg g) start
+              ∙ leg_is g h.verified (state_of g.code run (overlay.under delta base) (at first)) (forks d n l.0) l.1,
           record {
             stands = record { verified = h.verified; stands = l.2; size = size };
             forks = forks_there g l.1.last d n l.0 l.1.comes;
           },
         )
 
-    module _ (try : Bool) (on : ℕ) (l : LegEnds g.code g.inputs g.share (state_of g.code run (overlay.under delta base) (at first)) (end.Join try on) run' (overlay.under delta' base') (at first')) where
-      here : Stands g.code g.inputs g.share run' (overlay.under delta' base') (at first') (state_of g.code run' (overlay.under delta' base') (at first'))
+    module _ (try : Bool) (on : ℕ)
+        (l : LegEnds g.code g.inputs g.share (state_of g.code run (overlay.under delta base) (at first))
+        (end.Join try on) run' (overlay.under delta' base') (at first')) where
+      here : Stands g.code g.inputs g.share run' (overlay.under delta' base') (at first')
+          (state_of g.code run' (overlay.under delta' base') (at first'))
       here = l.1
 
-      joins_now : step (under g) (state_of g.code run' (overlay.under delta' base') (at first')) ≡ joins (state_of g.code run' (overlay.under delta' base') (at first')) try on
-      joins_now = joins_there g l.0.last (state_of g.code run' (overlay.under delta' base') (at first')) try on l.0.comes
+      joins_now : step (under g) (state_of g.code run' (overlay.under delta' base') (at first'))
+          ≡ joins (state_of g.code run' (overlay.under delta' base') (at first')) try on
+      joins_now = joins_there g l.0.last (state_of g.code run' (overlay.under delta' base') (at first')) try on
+          l.0.comes
 
-      joining : IsJoining (state_of g.code run' (overlay.under delta' base') (at first')) (state_of g.code run' (overlay.under delta' base') (at first')) on
-      joining = subst (Meets (under g) (state_of g.code run' (overlay.under delta' base') (at first'))) joins_now (meets (under g) (state_of g.code run' (overlay.under delta' base') (at first')))
+      joining : IsJoining (state_of g.code run' (overlay.under delta' base') (at first'))
+          (state_of g.code run' (overlay.under delta' base') (at first')) on
+      joining = subst (Meets (under g) (state_of g.code run' (overlay.under delta' base') (at first'))) joins_now
+          (meets (under g) (state_of g.code run' (overlay.under delta' base') (at first')))
 
       -- a word lies on the stack
       pub ready : IsReady run'
       ready =
           let d = state_of g.code run' (overlay.under delta' base') (at first') in
           let s = here in
-          let k = height g.code h.verified g.inputs g.share run' (overlay.under delta' base') (at first') d s s.body s.is in
+          let k = height g.code h.verified g.inputs g.share run' (overlay.under delta' base') (at first') d s s.body
+          s.is in
           let m = ap length joining.stack in
           let t = s.here.top in
           let a = block_short g.code (no_fault_accepted g.code h.verified) run'.registers.block s.body s.is in
-          let i = stands_inside g.code h.verified g.inputs g.share run' (overlay.under delta' base') (at first') d s s.body s.is in
+          let i = stands_inside g.code h.verified g.inputs g.share run' (overlay.under delta' base') (at first') d s
+          s.body s.is in
           let e = s.here.run.at in
           record {
             some = omega (arith, k, m, t);
-            within = top_inside g.code h.verified g.inputs g.share run' (overlay.under delta' base') (at first') d s s.body s.is;
+            within = top_inside g.code h.verified g.inputs g.share run' (overlay.under delta' base') (at first') d s
+                s.body s.is;
             at = omega (arith, a, i, e);
           }
 
       module _ (run2 : Run) (delta2 : Delta) (base2 : ℕ → ℕ) (first2 : Delta) (noted : IsNoted on run' run2) where
-        on_noted : OnStack g here.body run' run2 (state_of g.code run' (overlay.under delta' base') (at first')) (note on (state_of g.code run' (overlay.under delta' base') (at first')))
+        on_noted : OnStack g here.body run' run2 (state_of g.code run' (overlay.under delta' base') (at first'))
+            (note on (state_of g.code run' (overlay.under delta' base') (at first')))
         on_noted =
             let s = here in
             let d = state_of g.code run' (overlay.under delta' base') (at first') in
@@ -128,7 +147,13 @@ module _ (g : CodeRun) (run : Run) (delta : Delta) (base : ℕ → ℕ) (first :
             let words = ap (λ v. v.items) noted.words in
             let same_top = ap (λ (z : Registers). z.top) rows in
             record {
-              revision = record { typed = record { frame = r.typed.frame; stack = r.typed.stack; below = r.typed.below }; program = r.program; locations = r.locations; shallow = r.shallow; few = r.few };
+              revision = record {
+                typed = record { frame = r.typed.frame; stack = r.typed.stack; below = r.typed.below };
+                program = r.program;
+                locations = r.locations;
+                shallow = r.shallow;
+                few = r.few;
+              };
               block = refl;
               locals = refl;
               below = refl;
@@ -138,18 +163,31 @@ module _ (g : CodeRun) (run : Run) (delta : Delta) (base : ℕ → ℕ) (first :
               at = ap (λ (z : Registers). z.at) rows ∙ s.here.run.at;
               fuel = ap (λ (z : Registers). z.fuel) rows ∙ s.here.run.fuel;
               line = ap (λ (z : Registers). z.line) rows ∙ s.here.run.line;
-              words = subst (λ ws. IsAbove (low s.body run'.registers) run'.words.items ws) (sym words) (nothing_new (low s.body run'.registers) run'.words.items);
+              words = subst (λ ws. IsAbove (low s.body run'.registers) run'.words.items ws) (sym words)
+                  (nothing_new (low s.body run'.registers) run'.words.items);
               top = (let t = s.here.top in omega (arith, t, same_top));
-              stack = subst (λ m. AreWords d.stack (stack_of run2.words.items (low s.body run'.registers) (m - low s.body run'.registers))) (sym same_top)
-                  (subst (λ ws. AreWords d.stack (stack_of ws (low s.body run'.registers) (run'.registers.top - low s.body run'.registers))) (sym words) s.here.run.stack);
+              stack = subst (λ m.
+                  AreWords d.stack
+                  (stack_of run2.words.items (low s.body run'.registers) (m - low s.body run'.registers)))
+                  (sym same_top)
+                  (subst (λ ws.
+                  AreWords d.stack
+                  (stack_of ws (low s.body run'.registers) (run'.registers.top - low s.body run'.registers)))
+                  (sym words) s.here.run.stack);
               forks = s.forks ∙ sym noted.forks;
-              listed = one_listed d.listed run'.meetings.items (joined on d.line) (meeting.Joined on run'.registers.line) (ap (λ m. joined on m) (sym s.here.run.line)) s.listed
+              listed = one_listed d.listed run'.meetings.items (joined on d.line)
+                  (meeting.Joined on run'.registers.line) (ap (λ m. joined on m) (sym s.here.run.line)) s.listed
                   ∙ ap (λ ms. map listed_as ms) (sym noted.meetings);
               text = s.text ∙ sym (ap (λ v. v.items) noted.text);
-              few = (let i = noted.forks in let j = ap length noted.meetings ∙ more_listed run'.meetings.items (meeting.Joined on run'.registers.line) in let o = s.few in omega (arith, i, j, o));
+              few = (let i = noted.forks in
+                  let j = ap length noted.meetings
+                  ∙ more_listed run'.meetings.items (meeting.Joined on run'.registers.line) in
+                  let o = s.few in
+                  omega (arith, i, j, o));
             }
 
-        join_event : (size : ℕ) → size ≡ count g.code.vars → locations delta2 ≡ size → Kept size (overlay.under delta' base') (overlay.under delta2 base2) (at first') (at first2)
+        join_event : (size : ℕ) → size ≡ count g.code.vars → locations delta2 ≡ size
+            → Kept size (overlay.under delta' base') (overlay.under delta2 base2) (at first') (at first2)
             → (written : List Written) → written ≡ written_below (overlay.under delta' base') (at first') size
             → (d : State ℕ) × (leg g c ≡ joins d try on) × IsAtJoin g run2 delta2 base2 first2 written try on d
         join_event size sized long kept written are =
@@ -159,64 +197,92 @@ module _ (g : CodeRun) (run : Run) (delta : Delta) (base : ℕ → ℕ) (first :
             let kinds = location_kinds g.code.vars in
             let all = kinds_many g.code.vars in (
               d,
-              ap (leg g) start ∙ leg_is g h.verified (state_of g.code run (overlay.under delta base) (at first)) (joins d try on) l.0,
+              ap (leg g) start
+                  ∙ leg_is g h.verified (state_of g.code run (overlay.under delta base) (at first)) (joins d try on)
+                  l.0,
               record {
                 stands = record {
                   verified = h.verified;
-                  stands = stays g run' run2 (overlay.under delta' base') (overlay.under delta2 base2) (at first') (at first2) d (note on d) s on_noted
-                      (kept_seen d.locations (overlay.under delta' base') (overlay.under delta2 base2) (at first') (at first2) s.here.locations size (omega (arith, m, sized)) kept) s.here.many;
+                  stands = stays g run' run2 (overlay.under delta' base') (overlay.under delta2 base2) (at first')
+                      (at first2) d (note on d) s on_noted
+                      (kept_seen d.locations (overlay.under delta' base') (overlay.under delta2 base2) (at first')
+                      (at first2) s.here.locations size (omega (arith, m, sized)) kept)
+                      s.here.many;
                   size = long ∙ sized;
                 };
                 joins = joins_now;
                 written = subst (AreWritten kinds (written_from 0 d.locations)) (sym are)
-                    (written_as kinds d.locations (overlay.under delta' base') (at first') size (omega (arith, sized, all)) s.here.good.locations s.here.locations);
+                    (written_as kinds d.locations (overlay.under delta' base') (at first') size
+                    (omega (arith, sized, all)) s.here.good.locations s.here.locations);
               },
             )
 
         abbrev AtEvent : List Written → Bool → ℕ → Type 0
-        AtEvent written t o = (d : State ℕ) × (leg g c ≡ joins d t o) × IsAtJoin g run2 delta2 base2 first2 written t o d
+        AtEvent written t o =
+            (d : State ℕ) × (leg g c ≡ joins d t o) × IsAtJoin g run2 delta2 base2 first2 written t o d
 
-        pub join_event_as : (try' : Bool) (on' : ℕ) → try' ≡ try → on' ≡ on → (size : ℕ) → size ≡ count g.code.vars → locations delta2 ≡ size
-            → Kept size (overlay.under delta' base') (overlay.under delta2 base2) (at first') (at first2) → (written : List Written) → written ≡ written_below (overlay.under delta' base') (at first') size
+        pub join_event_as : (try' : Bool) (on' : ℕ) → try' ≡ try → on' ≡ on → (size : ℕ) → size ≡ count g.code.vars
+            → locations delta2 ≡ size
+            → Kept size (overlay.under delta' base') (overlay.under delta2 base2) (at first') (at first2)
+            → (written : List Written) → written ≡ written_below (overlay.under delta' base') (at first') size
             → (d : State ℕ) × (leg g c ≡ joins d try' on') × IsAtJoin g run2 delta2 base2 first2 written try' on' d
         join_event_as try' on' t o size sized long kept written are =
-            subst (λ x. AtEvent written x on') (sym t) (subst (λ x. AtEvent written try x) (sym o) (join_event size sized long kept written are))
+            subst (λ x. AtEvent written x on') (sym t)
+            (subst (λ x. AtEvent written try x) (sym o) (join_event size sized long kept written are))
 
     -- what a revision leaves that has ended
-    left : (d : State ℕ) → Leaves g.code run' (overlay.under delta' base') (at first') d → (size : ℕ) → size ≡ count g.code.vars → (phase : Phase ℕ) (v : EndValue)
-        → v.written ≡ written_below (overlay.under delta' base') (at first') size → v.text ≡ run'.text.items → v.fuel ≡ run'.registers.fuel → IsPhase phase v.finish → IsEnd g (end_of (has_ended d phase)) v
+    left : (d : State ℕ) → Leaves g.code run' (overlay.under delta' base') (at first') d → (size : ℕ)
+        → size ≡ count g.code.vars → (phase : Phase ℕ) (v : EndValue)
+        → v.written ≡ written_below (overlay.under delta' base') (at first') size → v.text ≡ run'.text.items
+        → v.fuel ≡ run'.registers.fuel → IsPhase phase v.finish → IsEnd g (end_of (has_ended d phase)) v
     left d k size sized phase v wrote text fuel finished =
         let kinds = location_kinds g.code.vars in
         let all = kinds_many g.code.vars in
         record {
           written = subst (AreWritten kinds (written_from 0 d.locations)) (sym wrote)
-              (written_as kinds d.locations (overlay.under delta' base') (at first') size (omega (arith, sized, all)) k.kinds k.locations);
+              (written_as kinds d.locations (overlay.under delta' base') (at first') size (omega (arith, sized, all))
+              k.kinds k.locations);
           text = text ∙ sym k.text;
           fuel = fuel ∙ sym k.fuel;
           phase = finished;
         }
 
-    module _ (size : ℕ) (sized : size ≡ count g.code.vars) (v : EndValue) (wrote : v.written ≡ written_below (overlay.under delta' base') (at first') size) (text : v.text ≡ run'.text.items)
+    module _ (size : ℕ) (sized : size ≡ count g.code.vars) (v : EndValue)
+        (wrote : v.written ≡ written_below (overlay.under delta' base') (at first') size)
+        (text : v.text ≡ run'.text.items)
         (fuel : v.fuel ≡ run'.registers.fuel) where
-      pub end_event : LegEnds g.code g.inputs g.share (state_of g.code run (overlay.under delta base) (at first)) end.End run' (overlay.under delta' base') (at first') → v.finish ≡ finish.Done
+      pub end_event : LegEnds g.code g.inputs g.share (state_of g.code run (overlay.under delta base) (at first))
+          end.End run' (overlay.under delta' base') (at first')
+          → v.finish ≡ finish.Done
           → (d : State ℕ) × (w : Option (Word ℕ)) × (leg g c ≡ ends d w) × IsEnd g (end_of (has_ended d done)) v
       end_event l is = (
         l.1,
         l.0,
-        ap (leg g) start ∙ leg_is g h.verified (state_of g.code run (overlay.under delta base) (at first)) (ends l.1 l.0) l.2,
+        ap (leg g) start
+            ∙ leg_is g h.verified (state_of g.code run (overlay.under delta base) (at first)) (ends l.1 l.0) l.2,
         left l.1 l.4 size sized done v wrote text fuel (subst (IsPhase done) (sym is) tt),
       )
 
-      pub trap_event : (e : Cause) → LegEnds g.code g.inputs g.share (state_of g.code run (overlay.under delta base) (at first)) (end.Trap e) run' (overlay.under delta' base') (at first')
+      pub trap_event : (e : Cause)
+          → LegEnds g.code g.inputs g.share (state_of g.code run (overlay.under delta base) (at first)) (end.Trap e)
+          run' (overlay.under delta' base') (at first')
           → v.finish ≡ finish.Trapped (record { cause = e; line = run'.registers.line; origin = None })
           → (d : State ℕ) × (f : Cause) × (leg g c ≡ traps d f) × IsEnd g (end_of (has_ended d (trap_of d f))) v
       trap_event e l is = (
         l.0,
         e,
-        ap (leg g) start ∙ leg_is g h.verified (state_of g.code run (overlay.under delta base) (at first)) (traps l.0 e) l.1,
-        left l.0 l.3 size sized (trap_of l.0 e) v wrote text fuel (subst (IsPhase (trap_of l.0 e)) (sym is) (record { cause = refl; line = sym l.3.line; origin = refl })),
+        ap (leg g) start
+            ∙ leg_is g h.verified (state_of g.code run (overlay.under delta base) (at first)) (traps l.0 e) l.1,
+        left l.0 l.3 size sized (trap_of l.0 e) v wrote text fuel
+            (subst (IsPhase (trap_of l.0 e)) (sym is) (record { cause = refl; line = sym l.3.line; origin = refl })),
       )
 
-      pub trap_own : (e : Cause) → LegEnds g.code g.inputs g.share (state_of g.code run (overlay.under delta base) (at first)) (end.Trap e) run' (overlay.under delta' base') (at first')
-          → v.finish ≡ finish.Trapped (record { cause = e; line = run'.registers.line; origin = None }) → is_by_join v.finish ≡ false
-      trap_own e l is = ap is_by_join is ∙ leg_own g c l.0 e (ap (leg g) start ∙ leg_is g h.verified (state_of g.code run (overlay.under delta base) (at first)) (traps l.0 e) l.1)
+      pub trap_own : (e : Cause)
+          → LegEnds g.code g.inputs g.share (state_of g.code run (overlay.under delta base) (at first)) (end.Trap e)
+          run' (overlay.under delta' base') (at first')
+          → v.finish ≡ finish.Trapped (record { cause = e; line = run'.registers.line; origin = None })
+          → is_by_join v.finish ≡ false
+      trap_own e l is =
+          ap is_by_join is
+          ∙ leg_own g c l.0 e (ap (leg g) start
+          ∙ leg_is g h.verified (state_of g.code run (overlay.under delta base) (at first)) (traps l.0 e) l.1)

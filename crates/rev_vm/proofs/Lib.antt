@@ -11,4 +11,6 @@ pub mod Legs
 pub mod Values
 pub mod Mains
 pub mod Boxes
+pub mod Reading
+pub mod Beginnings
 pub mod Claims

@@ -22,7 +22,8 @@ use Rattle.rev_vm.specs.States.{all_but_last, before_join, entry_as, phase_as, s
 use Rattle.rev_vm.specs.Laws.{ClaimsOneState, HasOneState, JoinsInOneState, LeavesOneEnd}
 
 pub one_state : HasOneState
-one_state g run delta base first c h = its_state g.code g.inputs g.share run (overlay.under delta base) (at first) c h.stands
+one_state g run delta base first c h =
+    its_state g.code g.inputs g.share run (overlay.under delta base) (at first) c h.stands
 
 without_last : {A : Type 0} (xs : List A) (x : A) → all_but_last (xs ++ x ∷ []) ≡ xs
 without_last [] x = refl
@@ -33,8 +34,11 @@ pub one_joining : JoinsInOneState
 one_joining g run delta base first writes try on c h =
     let e : note on c ≡ state_at g run delta base first = one_state g run delta base first (note on c) h.stands in
     let w : all_but_last (c.listed ++ joined on c.line ∷ []) ≡ c.listed = without_last c.listed (joined on c.line) in
-    let a : c ≡ record c { listed = all_but_last (c.listed ++ joined on c.line ∷ []) } = λ i. record c { listed = sym w i } in
-    let d : record c { listed = all_but_last (c.listed ++ joined on c.line ∷ []) } ≡ before_join g run delta base first = ap (λ (s : State ℕ). record s { listed = all_but_last s.listed }) e in
+    let a : c ≡ record c { listed = all_but_last (c.listed ++ joined on c.line ∷ []) } =
+    λ i. record c { listed = sym w i } in
+    let d :
+    record c { listed = all_but_last (c.listed ++ joined on c.line ∷ []) } ≡ before_join g run delta base first =
+    ap (λ (s : State ℕ). record s { listed = all_but_last s.listed }) e in
     a ∙ d
 
 -- ---- ends
@@ -47,14 +51,20 @@ entry_is kinds e w h =
     let l = sym h.location in
     λ i. record { location = l i; value = value i; root = root i }
 
-entries_are : (kinds : List ValueKind) (es : List (Entry (Word ℕ))) (ws : List Written) → AreWritten kinds es ws → es ≡ map (entry_as kinds) ws
+entries_are : (kinds : List ValueKind) (es : List (Entry (Word ℕ))) (ws : List Written) → AreWritten kinds es ws
+    → es ≡ map (entry_as kinds) ws
 entries_are kinds [] [] h = refl
 entries_are kinds [] (w ∷ ws) h = absurd h
 entries_are kinds (e ∷ es) [] h = absurd h
-entries_are kinds (e ∷ es) (w ∷ ws) h = let a = entry_is kinds e w h.0 in let b = entries_are kinds es ws h.1 in λ i. a i ∷ b i
+entries_are kinds (e ∷ es) (w ∷ ws) h =
+    let a = entry_is kinds e w h.0 in let b = entries_are kinds es ws h.1 in λ i. a i ∷ b i
 
 trap_is : (t : Trap ℕ) (u : CodeTrap) → IsTrap t u → t ≡ record { cause = u.cause; line = u.line; origin = u.origin }
-trap_is t u h = let a = sym h.cause in let b = sym h.line in let c = sym h.origin in λ i. record { cause = a i; line = b i; origin = c i }
+trap_is t u h =
+    let a = sym h.cause in
+    let b = sym h.line in
+    let c = sym h.origin in
+    λ i. record { cause = a i; line = b i; origin = c i }
 
 phase_is : (p : Phase ℕ) (f : Finish) → IsPhase p f → p ≡ phase_as f
 phase_is running f h = absurd h

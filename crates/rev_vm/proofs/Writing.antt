@@ -13,7 +13,8 @@ use Rattle.code_machine.specs.Joining.{written_all}
 use Rattle.rev_vm.specs.Writes.{AreAtEntries, HasWritten}
 
 -- the locations now, to which the words from a place on are still to be written
-pub record IsSoFar (size : ℕ) (ls : List (Location ℕ)) (es : List (Entry (Word ℕ))) (xs : List (Word ℕ)) (written : List Written) (values : List ℕ) (seen : ℕ → ℕ) (root : ℕ → Option ℕ) : Type 0 where
+pub record IsSoFar (size : ℕ) (ls : List (Location ℕ)) (es : List (Entry (Word ℕ))) (xs : List (Word ℕ))
+    (written : List Written) (values : List ℕ) (seen : ℕ → ℕ) (root : ℕ → Option ℕ) : Type 0 where
   pub now : List (Location ℕ)
   pub entries : List (Entry (Word ℕ))
   pub words : List (Word ℕ)
@@ -23,21 +24,37 @@ pub record IsSoFar (size : ℕ) (ls : List (Location ℕ)) (es : List (Entry (Wo
   pub stand : AreWords words values
   pub same : written_all now entries words ≡ written_all ls es xs
 
-abbrev pub IsOn : (size : ℕ) → List Written → List ℕ → (i : ℕ) → (seen : ℕ → ℕ) (root : ℕ → Option ℕ) (seen' : ℕ → ℕ) (root' : ℕ → Option ℕ) → Type 0
+abbrev pub IsOn : (size : ℕ) → List Written → List ℕ → (i : ℕ)
+    → (seen : ℕ → ℕ) (root : ℕ → Option ℕ) (seen' : ℕ → ℕ) (root' : ℕ → Option ℕ) → Type 0
 IsOn size written values i seen root seen' root' =
-    (ls : List (Location ℕ)) (es : List (Entry (Word ℕ))) (xs : List (Word ℕ)) → length ls ≤ size → AreSeen ls seen root → AreAtEntries es written → AreWords xs values
+    (ls : List (Location ℕ)) (es : List (Entry (Word ℕ))) (xs : List (Word ℕ)) → length ls ≤ size → AreSeen ls seen root
+    → AreAtEntries es written → AreWords xs values
     → IsSoFar size ls es xs (drop i written) (drop i values) seen' root'
 
-pub begins : (size : ℕ) (written : List Written) (values : List ℕ) (seen : ℕ → ℕ) (root : ℕ → Option ℕ) → IsOn size written values 0 seen root seen root
-begins size written values seen root = λ ls es xs short there places stand. record { now = ls; entries = es; words = xs; short = short; there = there; places = places; stand = stand; same = refl }
+pub begins : (size : ℕ) (written : List Written) (values : List ℕ) (seen : ℕ → ℕ) (root : ℕ → Option ℕ)
+    → IsOn size written values 0 seen root seen root
+begins size written values seen root = λ ls es xs short there places stand. record {
+  now = ls;
+  entries = es;
+  words = xs;
+  short = short;
+  there = there;
+  places = places;
+  stand = stand;
+  same = refl;
+}
 
-one : (size : ℕ) (ls : List (Location ℕ)) (es : List (Entry (Word ℕ))) (xs : List (Word ℕ)) (w : Written) (ws : List Written) (v : ℕ) (vs : List ℕ) (seen seen' : ℕ → ℕ) (root root' : ℕ → Option ℕ)
-    → IsSoFar size ls es xs (w ∷ ws) (v ∷ vs) seen root → Wrote size seen seen' root root' w.location v → IsSoFar size ls es xs ws vs seen' root'
+one : (size : ℕ) (ls : List (Location ℕ)) (es : List (Entry (Word ℕ))) (xs : List (Word ℕ)) (w : Written)
+    (ws : List Written) (v : ℕ) (vs : List ℕ) (seen seen' : ℕ → ℕ) (root root' : ℕ → Option ℕ)
+    → IsSoFar size ls es xs (w ∷ ws) (v ∷ vs) seen root → Wrote size seen seen' root root' w.location v
+    → IsSoFar size ls es xs ws vs seen' root'
 one size ls es xs w ws v vs seen seen' root root' s k = by s.entries s.words s.places s.stand s.same
   where
-    by : (fs : List (Entry (Word ℕ))) (ys : List (Word ℕ)) → AreAtEntries fs (w ∷ ws) → AreWords ys (v ∷ vs) → written_all s.now fs ys ≡ written_all ls es xs → IsSoFar size ls es xs ws vs seen' root'
+    by : (fs : List (Entry (Word ℕ))) (ys : List (Word ℕ)) → AreAtEntries fs (w ∷ ws) → AreWords ys (v ∷ vs)
+        → written_all s.now fs ys ≡ written_all ls es xs → IsSoFar size ls es xs ws vs seen' root'
     by (f ∷ fs) (y ∷ ys) places stand same =
-        let k' : Wrote size seen seen' root root' f.location v = subst (λ l. Wrote size seen seen' root root' l v) places.0 k in
+        let k' : Wrote size seen seen' root root' f.location v =
+        subst (λ l. Wrote size seen seen' root root' l v) places.0 k in
         record {
           now = written_at s.now f.location y;
           entries = fs;
@@ -51,23 +68,36 @@ one size ls es xs w ws v vs seen seen' root root' s k = by s.entries s.words s.p
     by [] ys places stand same = absurd places
     by (f ∷ fs) [] places stand same = absurd stand
 
-pub goes_on : (size : ℕ) (written : List Written) (values : List ℕ) (i : ℕ) (w0 : Written) (seen seen1 seen2 : ℕ → ℕ) (root root1 root2 : ℕ → Option ℕ) → i < length written → i < length values
-    → IsOn size written values i seen root seen1 root1 → Wrote size seen1 seen2 root1 root2 (get_or written i w0).location (get_or values i 0) → IsOn size written values (i + 1) seen root seen2 root2
+pub goes_on : (size : ℕ) (written : List Written) (values : List ℕ) (i : ℕ) (w0 : Written) (seen seen1 seen2 : ℕ → ℕ)
+    (root root1 root2 : ℕ → Option ℕ)
+    → i < length written → i < length values
+    → IsOn size written values i seen root seen1 root1
+    → Wrote size seen1 seen2 root1 root2 (get_or written i w0).location (get_or values i 0)
+    → IsOn size written values (i + 1) seen root seen2 root2
 goes_on size written values i w0 seen seen1 seen2 root root1 root2 a b on k = λ ls es xs short there places stand.
     let s = on ls es xs short there places stand in
     let s' = subst (λ ws. IsSoFar size ls es xs ws (drop i values) seen1 root1) (drop_more written i w0 a) s in
-    let s'' = subst (λ vs. IsSoFar size ls es xs (get_or written i w0 ∷ drop (i + 1) written) vs seen1 root1) (drop_more values i 0 b) s' in
-    one size ls es xs (get_or written i w0) (drop (i + 1) written) (get_or values i 0) (drop (i + 1) values) seen1 seen2 root1 root2 s'' k
+    let s'' =
+    subst (λ vs. IsSoFar size ls es xs (get_or written i w0 ∷ drop (i + 1) written) vs seen1 root1)
+    (drop_more values i 0 b) s' in
+    one size ls es xs (get_or written i w0) (drop (i + 1) written) (get_or values i 0) (drop (i + 1) values) seen1 seen2
+    root1 root2 s'' k
 
-pub all_on : (size : ℕ) (written : List Written) (values : List ℕ) (i : ℕ) (seen seen' : ℕ → ℕ) (root root' : ℕ → Option ℕ) → length written ≤ i → IsOn size written values i seen root seen' root' → HasWritten size written values seen root seen' root'
+pub all_on : (size : ℕ) (written : List Written) (values : List ℕ) (i : ℕ) (seen seen' : ℕ → ℕ)
+    (root root' : ℕ → Option ℕ)
+    → length written ≤ i → IsOn size written values i seen root seen' root'
+    → HasWritten size written values seen root seen' root'
 all_on size written values i seen seen' root root' h on = λ ls es xs short there places stand.
     let s = on ls es xs short there places stand in
-    let s' = subst (λ ws. IsSoFar size ls es xs ws (drop i values) seen' root') (drop_all i written h) s in by ls es xs s'
+    let s' = subst (λ ws. IsSoFar size ls es xs ws (drop i values) seen' root') (drop_all i written h) s in
+    by ls es xs s'
   where
-    by : (ls : List (Location ℕ)) (es : List (Entry (Word ℕ))) (xs : List (Word ℕ)) → IsSoFar size ls es xs [] (drop i values) seen' root' → AreSeen (written_all ls es xs) seen' root'
+    by : (ls : List (Location ℕ)) (es : List (Entry (Word ℕ))) (xs : List (Word ℕ))
+        → IsSoFar size ls es xs [] (drop i values) seen' root' → AreSeen (written_all ls es xs) seen' root'
     by ls es xs s = none s.entries s.places s.same
       where
-        none : (fs : List (Entry (Word ℕ))) → AreAtEntries fs [] → written_all s.now fs s.words ≡ written_all ls es xs → AreSeen (written_all ls es xs) seen' root'
+        none : (fs : List (Entry (Word ℕ))) → AreAtEntries fs [] → written_all s.now fs s.words ≡ written_all ls es xs
+            → AreSeen (written_all ls es xs) seen' root'
         none [] places same = subst (λ ls. AreSeen ls seen' root') same s.there
         none (f ∷ fs) places same = absurd places
 
@@ -76,10 +106,12 @@ all_on size written values i seen seen' root root' h on = λ ls es xs short ther
 abbrev pub no_entry : Written
 no_entry = record { location = 0; value = 0; root = 0 }
 
-pub map_more : (f : Written → ℕ) (ws : List Written) (i : ℕ) (d : Written) → i < length ws → map f (take i ws) ++ f (get_or ws i d) ∷ [] ≡ map f (take (i + 1) ws)
+pub map_more : (f : Written → ℕ) (ws : List Written) (i : ℕ) (d : Written) → i < length ws
+    → map f (take i ws) ++ f (get_or ws i d) ∷ [] ≡ map f (take (i + 1) ws)
 map_more f ws i d h = by ws i h ∙ (let e : suc i ≡ i + 1 = omega arith in ap (λ m. map f (take m ws)) e)
   where
-    by : (ws : List Written) (i : ℕ) → i < length ws → map f (take i ws) ++ f (get_or ws i d) ∷ [] ≡ map f (take (suc i) ws)
+    by : (ws : List Written) (i : ℕ) → i < length ws
+        → map f (take i ws) ++ f (get_or ws i d) ∷ [] ≡ map f (take (suc i) ws)
     by [] i h = absurd (omega (arith, h))
     by (w ∷ ws) zero h = refl
     by (w ∷ ws) (suc i) h = ap (λ xs. f w ∷ xs) (by ws i (omega (arith, h)))

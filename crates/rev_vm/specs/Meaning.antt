@@ -26,7 +26,8 @@ use Rattle.version_map.specs.Overlay as overlay
 use Rattle.block_run.specs.Area.{count}
 use Rattle.code_machine.specs.Local.{CodeRun, IsVerified, under, Trap, Phase, running, done, trapped, End, written_from}
 use Rattle.code_machine.specs.Joining.{note}
-use Rattle.block_merges.specs.Merging.{IsOfKind}
+pub use Rattle.fun_run.specs.Merging.{AreMergesOf}
+use Rattle.fun_run.specs.Merging.{IsOfKind}
 use Rattle.leg_run.specs.declared.revision.Run.{Run}
 use Rattle.leg_run.specs.Standing.{Stands}
 

@@ -21,7 +21,7 @@ use Rattle.code_machine.specs.Local.{CodeRun}
 use Rattle.leg_run.specs.declared.revision.Run.{Run}
 use Rattle.leg_run.specs.declared.revision.Meeting.TheVariants as meeting
 use Rattle.leg_run.specs.declared.setting.CodeSetting.{CodeSetting}
-use Rattle.leg_run.specs.Rooms.{IsRoom}
+use Rattle.fun_run.specs.Rooms.{IsRoom}
 
 abbrev pub run_under : CodeSetting → CodeRun
 run_under s = record { code = s.code; inputs = s.inputs.items; share = s.share }

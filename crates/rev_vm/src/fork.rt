@@ -164,7 +164,8 @@ fn fork_off<P: Snapshot>(
         × ForksAs (run_under setting.now) revision.old block c args }
     ensures parent { IfOk result (λ _. (c : State _) (args : List (Word _))
         → ForksAs (run_under setting.now) revision.old block c args
-        → StandsAs (run_under setting.now) revision.new (events.parent setting.now.share c args 0)) }
+        → StandsAs (run_under setting.now) revision.new
+        (events.parent setting.now.share c args 0)) }
     ensures child { IfOk result (λ r. (c : State _) (args : List (Word _))
         → ForksAs (run_under setting.now) revision.old block c args
         → (b : CodeBlock) × (slice_get setting.now.code.blocks block ≡ Some b)

@@ -73,7 +73,7 @@ fn come_to_join<P: Snapshot>(
 
 /// The revision as one at a join. A joined revision of a number of 2^32 or more, which `told` tells
 /// no forker, counts as want of memory.
-fn at_join<P: Snapshot>(
+pub(crate) fn at_join<P: Snapshot>(
     alloc: Global,
     mut revision: Box<Revision<P>>,
     is_try: bool,
@@ -112,7 +112,7 @@ fn at_join<P: Snapshot>(
 }
 
 /// The revision as one that has ended, with what it has written.
-fn stop_at<P: Snapshot>(
+pub(crate) fn stop_at<P: Snapshot>(
     alloc: Global,
     mut revision: Box<Revision<P>>,
     finish: Finish,
@@ -134,7 +134,7 @@ fn stop_at<P: Snapshot>(
 }
 
 /// How a revision ends that traps by itself.
-fn own_trap(cause: Cause, line: u32) -> Finish
+pub(crate) fn own_trap(cause: Cause, line: u32) -> Finish
     ensures { result ≡ finish.Trapped (record { cause = cause; line = line; origin = None }) }
 {
     Finish::Trapped(CodeTrap {

@@ -14,7 +14,7 @@ ghost use Rattle.block_run.specs.Area.{count};
 ghost use Rattle.block_run.specs.Remembering.{Kept};
 ghost use Rattle.code_machine.specs.Local.{CodeRun, End, end_of, at_work};
 ghost use Rattle.code_machine.specs.Joining.{join_in};
-ghost use Rattle.block_merges.specs.Merging.{AreMergesOf};
+ghost use Rattle.fun_run.specs.Merging.{AreMergesOf};
 ghost use Rattle.rev_vm.specs.declared.settling.Settled.TheVariants as settled;
 ghost use Rattle.rev_vm.specs.Meaning.{IsEnd, IsPast, IsPopped};
 ghost use Rattle.rev_vm.specs.Meaning.{IsReady, IsTakenOver};

@@ -18,9 +18,12 @@ one_more {A} {B} f front x rest y is = rw is (go (each_said f rest))
     go (Some ys) = ap Some (rw append_assoc refl)
 
 -- the same at a place of a list of texts
-pub one_more_text : {B : Type 0} (f : Text → Option B) (front : List B) (texts : List (Bor Text)) (i : ℕ) (d : Bor Text) (y : B) → i < length texts
+pub one_more_text : {B : Type 0} (f : Text → Option B) (front : List B) (texts : List (Bor Text)) (i : ℕ) (d : Bor Text)
+    (y : B)
+    → i < length texts
     → f ((get_or texts i d).now) ≡ Some y
-    → with_front front (each_said f (map (λ s. s.now) (drop i texts))) ≡ with_front (front ++ y ∷ []) (each_said f (map (λ s. s.now) (drop (i + 1) texts)))
+    → with_front front (each_said f (map (λ s. s.now) (drop i texts)))
+    ≡ with_front (front ++ y ∷ []) (each_said f (map (λ s. s.now) (drop (i + 1) texts)))
 one_more_text {B} f front texts i d y inside is =
     let next : drop i texts ≡ get_or texts i d ∷ drop (i + 1) texts = rw (add-one, drop-cons texts i d inside) refl in
     ap (λ (xs : List (Bor Text)). with_front front (each_said f (map (λ s. s.now) xs))) next

@@ -1,4 +1,5 @@
 pub mod Each
+pub mod Lists
 pub mod Loads
 pub mod Naturals
 pub mod Simple

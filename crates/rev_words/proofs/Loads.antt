@@ -46,11 +46,14 @@ unfolding statements_from
 lines-more seed i =
     ap (λ ss. lines (map statement_text ss)) (map-range_with_len_more (statement_at seed) 0 i i (omega arith))
     ∙ ap lines (map-append statement_text (map (statement_at seed) (range_with_len 0 i)) (statement_at seed i ∷ []))
-    ∙ flat_map-append (λ l. l ++ 10 ∷ []) (map statement_text (map (statement_at seed) (range_with_len 0 i))) (statement_text (statement_at seed i) ∷ [])
-    ∙ ap (λ t. lines (map statement_text (map (statement_at seed) (range_with_len 0 i))) ++ t) (one-line (statement_text (statement_at seed i)))
+    ∙ flat_map-append (λ l. l ++ 10 ∷ []) (map statement_text (map (statement_at seed) (range_with_len 0 i)))
+    (statement_text (statement_at seed i) ∷ [])
+    ∙ ap (λ t. lines (map statement_text (map (statement_at seed) (range_with_len 0 i))) ++ t)
+    (one-line (statement_text (statement_at seed i)))
 
 -- a statement more in a text
-pub text-more : (seed i s : ℕ) (before now after : List ℕ) (made : Statement) → s ≡ state seed (3 * i) → made ≡ statement_at s 0
+pub text-more : (seed i s : ℕ) (before now after : List ℕ) (made : Statement) → s ≡ state seed (3 * i)
+    → made ≡ statement_at s 0
     → now ≡ before ++ lines (map statement_text (statements_from seed i))
     → after ≡ now ++ (statement_text made ++ 10 ∷ [])
     → after ≡ before ++ lines (map statement_text (statements_from seed (i + 1)))
@@ -65,12 +68,16 @@ text-more seed i s before now after made at is so_far added =
 -- ---- the parts of the text
 
 pub load_text-parts : (seed size : ℕ) → load_text seed size
-    ≡ lines declarations ++ (lines (map statement_text (statements_from seed 32)) ++ (lines procedures ++ ((start size ++ 10 ∷ []) ++ lines prints)))
+    ≡ lines declarations
+    ++ (lines (map statement_text (statements_from seed 32))
+    ++ (lines procedures ++ ((start size ++ 10 ∷ []) ++ lines prints)))
 unfolding load_text
 load_text-parts seed size =
-    flat_map-append (λ l. l ++ 10 ∷ []) declarations (map statement_text (statements_from seed 32) ++ (procedures ++ (start size ∷ prints)))
+    flat_map-append (λ l. l ++ 10 ∷ []) declarations
+    (map statement_text (statements_from seed 32) ++ (procedures ++ (start size ∷ prints)))
     ∙ ap (λ t. lines declarations ++ t)
-    (flat_map-append (λ l. l ++ 10 ∷ []) (map statement_text (statements_from seed 32)) (procedures ++ (start size ∷ prints))
+    (flat_map-append (λ l. l ++ 10 ∷ []) (map statement_text (statements_from seed 32))
+    (procedures ++ (start size ∷ prints))
     ∙ ap (λ t. lines (map statement_text (statements_from seed 32)) ++ t)
     (flat_map-append (λ l. l ++ 10 ∷ []) procedures (start size ∷ prints)))
 
@@ -85,25 +92,29 @@ pub whole-text : (seed size : ℕ) (a b c e f : List ℕ) → a ≡ lines declar
     → b ≡ a ++ lines (map statement_text (statements_from seed 32)) → c ≡ b ++ lines procedures
     → e ≡ c ++ (start size ++ 10 ∷ []) → f ≡ e ++ lines prints → f ≡ load_text seed size
 whole-text seed size a b c e f da sb pc le rf =
-    joined (lines declarations) (lines (map statement_text (statements_from seed 32))) (lines procedures) (start size ++ 10 ∷ []) (lines prints)
+    joined (lines declarations) (lines (map statement_text (statements_from seed 32))) (lines procedures)
+    (start size ++ 10 ∷ []) (lines prints)
     a b c e f da sb pc le rf
     ∙ sym (load_text-parts seed size)
 
 -- ---- its length
 
-add_remainder-short : (cell constant : ℕ) → cell < 16 → constant < 100 → length (statement_text (statements.AddRemainder cell constant)) ≤ 40
+add_remainder-short : (cell constant : ℕ) → cell < 16 → constant < 100
+    → length (statement_text (statements.AddRemainder cell constant)) ≤ 40
 add_remainder-short cell constant c k =
     let x : length (decimal cell) ≤ 2 = length-decimal-le 2 cell (omega arith) (omega arith) (omega arith) in
     let y : length (decimal constant) ≤ 2 = length-decimal-le 2 constant (omega arith) (omega arith) (omega arith) in
     grind (arith, length-append)
 
-add_constant-short : (cell constant : ℕ) → cell < 16 → constant < 100 → length (statement_text (statements.AddConstant cell constant)) ≤ 40
+add_constant-short : (cell constant : ℕ) → cell < 16 → constant < 100
+    → length (statement_text (statements.AddConstant cell constant)) ≤ 40
 add_constant-short cell constant c k =
     let x : length (decimal cell) ≤ 2 = length-decimal-le 2 cell (omega arith) (omega arith) (omega arith) in
     let y : length (decimal constant) ≤ 2 = length-decimal-le 2 constant (omega arith) (omega arith) (omega arith) in
     grind (arith, length-append)
 
-set_product-short : (cell constant : ℕ) → cell < 16 → constant < 100 → length (statement_text (statements.SetProduct cell constant)) ≤ 40
+set_product-short : (cell constant : ℕ) → cell < 16 → constant < 100
+    → length (statement_text (statements.SetProduct cell constant)) ≤ 40
 set_product-short cell constant c k =
     let x : length (decimal cell) ≤ 2 = length-decimal-le 2 cell (omega arith) (omega arith) (omega arith) in
     let y : length (decimal constant) ≤ 2 = length-decimal-le 2 constant (omega arith) (omega arith) (omega arith) in
@@ -134,7 +145,8 @@ lines-short f short a (suc n) =
 statements-short : (seed : ℕ) → length (lines (map statement_text (statements_from seed 32))) ≤ 1312
 unfolding statements_from
 statements-short seed =
-    lines-short (statement_at seed) (λ i. statement-short (draw seed (3 * i + 1)) (draw seed (3 * i + 2)) (draw seed (3 * i + 3))) 0 32
+    lines-short (statement_at seed)
+    (λ i. statement-short (draw seed (3 * i + 1)) (draw seed (3 * i + 2)) (draw seed (3 * i + 3))) 0 32
 
 declarations-length : length (lines declarations) ≡ 205
 unfolding declarations
@@ -157,4 +169,11 @@ pub load_text-short : (seed size : ℕ) → size < 2 ^ 32 → length (load_text 
 load_text-short seed size small =
     rw (load_text-parts seed size)
     (rw (length-append, length-append, length-append, length-append)
-    (omega (arith, declarations-length, statements-short seed, procedures-length, start-short size small, prints-length)))
+    (omega (
+      arith,
+      declarations-length,
+      statements-short seed,
+      procedures-length,
+      start-short size small,
+      prints-length,
+    )))

@@ -10,9 +10,11 @@ use Rattle.clap.specs.declared.builder.ValueParser.TheVariants as vp
 use Rattle.clap.proofs.ValueTestLemmas.{accepts-Accepts, Accepts-accepts}
 use Rattle.rev_words.specs.Reading.{natural_of}
 
-pub natural_of-parses : {E : Type 0} (text : Text) (r : Result ℕ E) → ParsesUnsigned 64 10 text r → result_ok r ≡ natural_of text
+pub natural_of-parses : {E : Type 0} (text : Text) (r : Result ℕ E) → ParsesUnsigned 64 10 text r
+    → result_ok r ≡ natural_of text
 natural_of-parses text (Ok x) h =
-    let accepted = Accepts-accepts false (vp.Unsigned 0 18446744073709551615) text (h.0.0, h.0.1, omega arith, omega (arith, h.0.1)) in
+    let accepted =
+    Accepts-accepts false (vp.Unsigned 0 18446744073709551615) text (h.0.0, h.0.1, omega arith, omega (arith, h.0.1)) in
     rw (accepted, h.1) refl
 natural_of-parses text (Err e) h =
     let none = false_from_ne_true (accepts false (vp.Unsigned 0 18446744073709551615) text) (λ t.

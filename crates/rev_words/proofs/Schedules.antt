@@ -46,7 +46,8 @@ entries_are [] entries h =
     record { digits = All-nil AreDigits; values = is; small = subst (All IsSmall) (sym is) (All-nil IsSmall) }
 entries_are (ds ∷ parts) entries h = go (entry_in ds) refl (entries_in parts) refl (entries_are parts) h
   where
-    go : (o : Option ℕ) → entry_in ds ≡ o → (r : Option (List ℕ)) → entries_in parts ≡ r → ((ns : List ℕ) → entries_in parts ≡ Some ns → AreEntries parts ns)
+    go : (o : Option ℕ) → entry_in ds ≡ o → (r : Option (List ℕ)) → entries_in parts ≡ r
+        → ((ns : List ℕ) → entries_in parts ≡ Some ns → AreEntries parts ns)
         → option_and_then (λ n. option_map (λ ns. n ∷ ns) r) o ≡ Some entries → AreEntries (ds ∷ parts) entries
     go None first r rest later is = grind (arith, rules)
     go (Some n) first None rest later is = grind (arith, rules)
@@ -60,27 +61,33 @@ entries_are (ds ∷ parts) entries h = go (entry_in ds) refl (entries_in parts) 
           small = subst (All IsSmall) (sym both) (All-cons IsSmall n ns one.small more.small);
         }
 
-entries_read : (parts : List (List ℕ)) → All (λ ds. IsDigits ds) parts → All (λ n. n < 2 ^ 32) (map spelled parts) → entries_in parts ≡ Some (map spelled parts)
+entries_read : (parts : List (List ℕ)) → All (λ ds. IsDigits ds) parts → All (λ n. n < 2 ^ 32) (map spelled parts)
+    → entries_in parts ≡ Some (map spelled parts)
 entries_read [] digits small = refl
 entries_read (ds ∷ parts) digits small =
-    let first = entry_read ds (All-head AreDigits ds parts digits) (All-head IsSmall (spelled ds) (map spelled parts) small) in
-    let rest = entries_read parts (All-tail AreDigits ds parts digits) (All-tail IsSmall (spelled ds) (map spelled parts) small) in
+    let first =
+    entry_read ds (All-head AreDigits ds parts digits) (All-head IsSmall (spelled ds) (map spelled parts) small) in
+    let rest =
+    entries_read parts (All-tail AreDigits ds parts digits) (All-tail IsSmall (spelled ds) (map spelled parts) small) in
     rw (first, rest)
 
 -- ---- the parts
 
-no_comma : (ds : List ℕ) → IsDigits ds → All (λ b. (b == 44) ≡ false) ds
+pub no_comma : (ds : List ℕ) → IsDigits ds → All (λ b. (b == 44) ≡ false) ds
 no_comma ds h = All-weaker IsAsciiDigit (λ b. (b == 44) ≡ false) (λ b digit. grind (arith, rules, digit)) ds h.each
 
-split_join : (ds : List ℕ) (parts : List (List ℕ)) → All (λ p. IsDigits p) (ds ∷ parts) → slice_split (λ b. b == 44) (join_with_byte 44 (ds ∷ parts)) ≡ ds ∷ parts
+split_join : (ds : List ℕ) (parts : List (List ℕ)) → All (λ p. IsDigits p) (ds ∷ parts)
+    → slice_split (λ b. b == 44) (join_with_byte 44 (ds ∷ parts)) ≡ ds ∷ parts
 split_join ds [] digits = slice_split_none (λ b. b == 44) ds (no_comma ds (All-head AreDigits ds [] digits))
 split_join ds (es ∷ parts) digits =
-    slice_split_at (λ b. b == 44) ds 44 (join_with_byte 44 (es ∷ parts)) (no_comma ds (All-head AreDigits ds (es ∷ parts) digits)) refl
+    slice_split_at (λ b. b == 44) ds 44 (join_with_byte 44 (es ∷ parts))
+    (no_comma ds (All-head AreDigits ds (es ∷ parts) digits)) refl
     ∙ ap (λ ps. ds ∷ ps) (split_join es parts (All-tail AreDigits ds (es ∷ parts) digits))
 
 -- ---- the whole
 
-few_is : (b : Bool) (o : Option (List ℕ)) (ns : List ℕ) → (if b then o else None) ≡ Some ns → (b ≡ true) × (o ≡ Some ns)
+pub few_is : {A : Type 0} (b : Bool) (o : Option A) (ns : A) → (if b then o else None) ≡ Some ns
+    → (b ≡ true) × (o ≡ Some ns)
 few_is true o ns h = (refl, h)
 few_is false o ns h = grind (arith, rules)
 
@@ -109,7 +116,7 @@ schedule_is (c ∷ cs) entries h =
       few = subst (λ ns. length ns ≤ 65536) (sym are.values) (omega (arith, length-map parts spelled, bound));
     }
 
-join_some : (ds : List ℕ) (parts : List (List ℕ)) → 0 < length ds → 0 < length (join_with_byte 44 (ds ∷ parts))
+pub join_some : (ds : List ℕ) (parts : List (List ℕ)) → 0 < length ds → 0 < length (join_with_byte 44 (ds ∷ parts))
 join_some ds [] some = some
 join_some ds (es ∷ parts) some = omega (arith, some, length-append ds (44 ∷ join_with_byte 44 (es ∷ parts)))
 
@@ -118,13 +125,15 @@ schedule_some [] some = absurd (omega arith)
 schedule_some (c ∷ cs) some = refl
 
 -- what the numerals with commas between them are read as
-joined_read : (numerals : List (List ℕ)) → All AreDigits numerals → All IsSmall (map spelled numerals) → length (map spelled numerals) ≤ 65536
+joined_read : (numerals : List (List ℕ)) → All AreDigits numerals → All IsSmall (map spelled numerals)
+    → length (map spelled numerals) ≤ 65536
     → schedule_in (join_with_byte 44 numerals) ≡ Some (map spelled numerals)
 joined_read [] digits small few = refl
 joined_read (ds ∷ parts) digits small few =
     let some = (All-head AreDigits ds parts digits).some in
     let bound : nat_le (length (ds ∷ parts)) 65536 ≡ true = grind (arith, rules, few, length-map parts spelled) in
-    let read : few_entries_in (ds ∷ parts) ≡ Some (map spelled (ds ∷ parts)) = rw bound (entries_read (ds ∷ parts) digits small) in
+    let read : few_entries_in (ds ∷ parts) ≡ Some (map spelled (ds ∷ parts)) =
+    rw bound (entries_read (ds ∷ parts) digits small) in
     schedule_some (join_with_byte 44 (ds ∷ parts)) (join_some ds parts some)
     ∙ ap few_entries_in (split_join ds parts digits)
     ∙ read
@@ -132,7 +141,8 @@ joined_read (ds ∷ parts) digits small few =
 schedule_read : (text entries : List ℕ) → IsSchedule text entries → schedule_in text ≡ Some entries
 schedule_read text entries h =
     ap schedule_in h.joined
-    ∙ joined_read h.numerals h.digits (subst (All IsSmall) h.values h.small) (subst (λ ns. length ns ≤ 65536) h.values h.few)
+    ∙ joined_read h.numerals h.digits (subst (All IsSmall) h.values h.small)
+    (subst (λ ns. length ns ≤ 65536) h.values h.few)
     ∙ ap Some (sym h.values)
 
 pub exact : SchedulesAreExact

@@ -1,5 +1,6 @@
 -- What words say.
-use Rattle.std.specs.Prelude.{ℕ, ◌≤◌, ℤ, Bool, false, ◌&&◌, List, [], length, Option, Some, None, codes, if◌then◌else◌, nat_le, unwrap_or, option_and_then}
+use Rattle.std.specs.Prelude.{ℕ, ◌≤◌, Bool, false, ◌&&◌, List, [], ◌∷◌, length, Option, Some, None, codes, if◌then◌else◌, nat_le, unwrap_or, option_and_then}
+use Rattle.std.specs.List.{find}
 use Rattle.std.specs.Str.{bytes_eq}
 use Rattle.std.specs.Str.Parse.{digits_value, without_leading_plus}
 use Rattle.clap.specs.Words.{Row, Text, all_of, fault_of, first_of, matches_of}
@@ -9,36 +10,37 @@ use Rattle.clap.specs.declared.builder.ValueParser.TheVariants as vp
 use Rattle.rev_num.specs.Decimal.{decimal_in}
 use Rattle.rev_num.specs.Limits.{most_fuel}
 use Rattle.rev_words.specs.Command.{command}
-use Rattle.rev_words.specs.Each.{each_said}
-use Rattle.rev_words.specs.Schedule.{schedule_in}
+use Rattle.rev_words.specs.Each.{few_said, parts_said}
+use Rattle.rev_words.specs.Schedule.{entry_in}
 use Rattle.rev_words.specs.declared.Mode.{Mode}
 use Rattle.rev_words.specs.declared.Mode.TheVariants as modes
 use Rattle.rev_words.specs.declared.Words.{Words}
 
 -- ---- the rules of the single values
 
+-- the name of a mode
+abbrev pub mode_name : Mode → Text
+mode_name modes.Run = codes "run"
+mode_name modes.Check = codes "check"
+mode_name modes.Load = codes "load"
+mode_name modes.Dis = codes "dis"
+mode_name modes.Exec = codes "exec"
+mode_name modes.Emit = codes "emit"
+mode_name modes.Trace = codes "trace"
+mode_name modes.Audit = codes "audit"
+mode_name modes.Replay = codes "replay"
+mode_name modes.Order = codes "order"
+mode_name modes.Stream = codes "stream"
+mode_name modes.Repeat = codes "repeat"
+
 -- the modes that are built
+abbrev pub all_modes : List Mode
+all_modes =
+    modes.Run ∷ modes.Check ∷ modes.Load ∷ modes.Dis ∷ modes.Exec ∷ modes.Emit ∷ modes.Trace ∷ modes.Audit ∷
+    modes.Replay ∷ modes.Order ∷ modes.Stream ∷ modes.Repeat ∷ []
+
 abbrev pub mode_named : Text → Option Mode
-mode_named text =
-    if bytes_eq text (codes "run") then Some modes.Run
-    else if bytes_eq text (codes "check") then Some modes.Check
-    else if bytes_eq text (codes "load") then Some modes.Load
-    else if bytes_eq text (codes "dis") then Some modes.Dis
-    else if bytes_eq text (codes "exec") then Some modes.Exec
-    else if bytes_eq text (codes "emit") then Some modes.Emit
-    else if bytes_eq text (codes "trace") then Some modes.Trace
-    else if bytes_eq text (codes "audit") then Some modes.Audit
-    else if bytes_eq text (codes "replay") then Some modes.Replay
-    else if bytes_eq text (codes "order") then Some modes.Order
-    else if bytes_eq text (codes "stream") then Some modes.Stream
-    else None
-
--- the numbers that the texts spell, if each is a decimal in 64 bits
-abbrev pub numbers_in : List Text → Option (List ℤ)
-numbers_in texts = each_said decimal_in texts
-
-abbrev pub few_numbers_in : List Text → Option (List ℤ)
-few_numbers_in texts = if nat_le (length texts) 1024 then numbers_in texts else None
+mode_named text = find (λ m. bytes_eq text (mode_name m)) all_modes
 
 -- a number that the command takes for an option: digits in 64 bits, before which a plus may stand
 abbrev pub natural_of : Text → Option ℕ
@@ -57,11 +59,6 @@ abbrev pub is_flagged : Option Text → Bool
 is_flagged None = false
 is_flagged (Some text) = bytes_eq text (codes "true")
 
--- the entries of the schedule, and none where the option is not used
-abbrev pub schedule_said : Option Text → Option (List ℕ)
-schedule_said None = Some []
-schedule_said (Some text) = schedule_in text
-
 -- ---- the whole
 
 -- each step of a reading takes what the steps before it gave
@@ -74,12 +71,13 @@ None >>= f = None
 abbrev pub said : List Row → Option Words
 said rows = do
   mode ← option_and_then mode_named (first_of (codes "mode") rows)
-  numbers ← few_numbers_in (unwrap_or (all_of (codes "numbers") rows) [])
+  numbers ← few_said 1024 decimal_in (unwrap_or (all_of (codes "numbers") rows) [])
   workers ← setting 1 64 4 (first_of (codes "workers") rows)
   segments ← setting 0 65536 1024 (first_of (codes "segments") rows)
   fuel ← setting 1 most_fuel 1000000000 (first_of (codes "fuel") rows)
   share ← setting 0 most_fuel 1000000 (first_of (codes "share") rows)
-  schedule ← schedule_said (first_of (codes "schedule") rows)
+  schedule ← parts_said 65536 entry_in (unwrap_or (first_of (codes "schedule") rows) [])
+  before ← parts_said 1024 decimal_in (unwrap_or (first_of (codes "before") rows) [])
   seed ← setting 0 2147483647 1 (first_of (codes "seed") rows)
   size ← setting 1 500 200 (first_of (codes "size") rows)
   Some (record {
@@ -91,6 +89,7 @@ said rows = do
     share = share;
     values = is_flagged (first_of (codes "values") rows);
     schedule = schedule;
+    before = before;
     seed = seed;
     size = size;
   })
@@ -112,5 +111,6 @@ pub record KeepsRanges (w : Words) : Type 0 where
   pub fuel : (1 ≤ w.fuel) × (w.fuel ≤ most_fuel)
   pub share : w.share ≤ most_fuel
   pub schedule : length w.schedule ≤ 65536
+  pub before : length w.before ≤ 1024
   pub seed : w.seed ≤ 2147483647
   pub size : (1 ≤ w.size) × (w.size ≤ 500)

@@ -16,6 +16,7 @@ run_alone = record {
   share = 1000000;
   values = false;
   schedule = [];
+  before = [];
   seed = 1;
   size = 200;
 }
@@ -67,6 +68,22 @@ pub record RowsAreRead : Type 0 where
       })
   pub stream : reading (words_in (codes "stream --values 3"))
       ≡ Some (record run_alone { mode = modes.Stream; numbers = pos 3 ∷ []; values = true })
+  pub repeat : reading (words_in (codes "repeat --before 3,4 3 5"))
+      ≡ Some (record run_alone {
+        mode = modes.Repeat;
+        numbers = pos 3 ∷ pos 5 ∷ [];
+        before = pos 3 ∷ pos 4 ∷ [];
+      })
+  pub repeat_by_default : reading (words_in (codes "repeat"))
+      ≡ Some (record run_alone { mode = modes.Repeat })
+  pub repeat_of_nothing : reading (words_in (codes "repeat --before= 3"))
+      ≡ Some (record run_alone { mode = modes.Repeat; numbers = pos 3 ∷ [] })
+  pub negative_before : reading (words_in (codes "repeat --before=-3,4 -- -3"))
+      ≡ Some (record run_alone {
+        mode = modes.Repeat;
+        numbers = negsuc 2 ∷ [];
+        before = negsuc 2 ∷ pos 4 ∷ [];
+      })
 
 pub record RowsAreUsage : Type 0 where
   pub no_words : reading [] ≡ None
@@ -85,4 +102,9 @@ pub record RowsAreUsage : Type 0 where
   pub empty_entry : reading (words_in (codes "run --schedule 1,")) ≡ None
   pub signed_entry : reading (words_in (codes "replay --schedule=+1")) ≡ None
   pub large_entry : reading (words_in (codes "replay --schedule=4294967296")) ≡ None
+  pub empty_before : reading (words_in (codes "repeat --before 1,")) ≡ None
+  pub plus_before : reading (words_in (codes "repeat --before=+1")) ≡ None
+  pub minus_before : reading (words_in (codes "repeat --before -3")) ≡ None
+  pub large_before : reading (words_in (codes "repeat --before=9223372036854775808")) ≡ None
+  pub blank_before : reading (words_in (codes "repeat --before=3,,4")) ≡ None
   pub two_schedules : reading (words_in (codes "replay --schedule=0 --schedule=1")) ≡ None

@@ -1,7 +1,7 @@
 -- The text of a schedule: numbers of one or more digits with one comma between two of them.
-use Rattle.std.specs.Prelude.{◌≡◌, ◌↔◌, ℕ, ◌^◌, ◌<◌, ◌≤◌, ◌&&◌, ◌==◌, List, [], ◌∷◌, length, map, All, nat_le, nat_lt, if◌then◌else◌, Option, Some, None}
-use Rattle.std.specs.List.{join_with_byte, slice_split}
-use Rattle.rev_words.specs.Each.{each_said}
+use Rattle.std.specs.Prelude.{◌≡◌, ◌↔◌, ℕ, ◌^◌, ◌<◌, ◌≤◌, ◌&&◌, List, length, map, All, nat_lt, if◌then◌else◌, Option, Some, None}
+use Rattle.std.specs.List.{join_with_byte}
+use Rattle.rev_words.specs.Each.{each_said, few_said, parts_said}
 use Rattle.rev_num.specs.Decimal.{IsDigits, is_digits, spelled}
 
 -- ---- the grammar
@@ -26,12 +26,11 @@ abbrev pub entries_in : List (List ℕ) → Option (List ℕ)
 entries_in parts = each_said entry_in parts
 
 abbrev pub few_entries_in : List (List ℕ) → Option (List ℕ)
-few_entries_in parts = if nat_le (length parts) 65536 then entries_in parts else None
+few_entries_in parts = few_said 65536 entry_in parts
 
 -- the entries that a text spells
 abbrev pub schedule_in : List ℕ → Option (List ℕ)
-schedule_in [] = Some []
-schedule_in (c ∷ cs) = few_entries_in (slice_split (λ b. b == 44) (c ∷ cs))
+schedule_in text = parts_said 65536 entry_in text
 
 -- the function is exact for the grammar
 abbrev pub SchedulesAreExact : Type 0

@@ -62,7 +62,8 @@ fn command<'a>(alloc: Global) -> Result<Command<'a>, AllocError>
         .arg(flag(alloc, "values"))?
         .arg(text_option(alloc, "schedule"))?
         .arg(number_option(alloc, "seed"))?
-        .arg(number_option(alloc, "size"))
+        .arg(number_option(alloc, "size"))?
+        .arg(text_option(alloc, "before"))
 }
 
 /// The fault for an error of the command: wrong usage exactly where the error is no want of memory.

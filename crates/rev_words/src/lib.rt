@@ -20,9 +20,9 @@ mod settings;
 use clap::ArgMatches;
 use command::matches_of;
 pub use fault::WordsFault;
-pub use laws::{row_laws, schedule_law};
+pub use laws::{list_law, row_laws, schedule_law};
 pub use load::load_text;
-use numbers::{numbers_of, schedule_of};
+use numbers::{before_of, numbers_of, schedule_of};
 use rev_num::Items;
 use settings::{is_flagged, mode_of, setting, small_setting};
 use std::alloc::Global;
@@ -54,6 +54,9 @@ pub enum Mode {
     /// Reads the text of a program that keeps the affine rule, runs it, and writes what `main` prints
     /// while it runs.
     Stream,
+    /// Reads the text of a program, runs it with the input numbers of the run before, and runs it
+    /// again with what can be kept of that run.
+    Repeat,
 }
 
 /// What words say.
@@ -74,6 +77,8 @@ pub struct Words {
     pub values: bool,
     /// The revisions that step, one after another, at most 65,536.
     pub schedule: Items<u32>,
+    /// The input numbers of the run before, at most 1,024.
+    pub before: Items<i64>,
     /// The seed of a generated program: 0 to 2,147,483,647.
     pub seed: u32,
     /// The size of a generated program: 1 to 500.
@@ -100,6 +105,7 @@ fn words_of(alloc: Global, matches: &ArgMatches) -> Result<Words, WordsFault>
     let fuel = setting(matches, "fuel", 1, 4_000_000_000, 1_000_000_000).ok_or(WordsFault::Usage)?;
     let share = setting(matches, "share", 0, 4_000_000_000, 1_000_000).ok_or(WordsFault::Usage)?;
     let schedule = schedule_of(alloc, matches)?;
+    let before = before_of(alloc, matches)?;
     let seed = small_setting(matches, "seed", 0, 2_147_483_647, 1).ok_or(WordsFault::Usage)?;
     let size = small_setting(matches, "size", 1, 500, 200).ok_or(WordsFault::Usage)?;
     Ok(Words {
@@ -111,6 +117,7 @@ fn words_of(alloc: Global, matches: &ArgMatches) -> Result<Words, WordsFault>
         share,
         values: is_flagged(matches, "values"),
         schedule: Items::from_vec(schedule),
+        before: Items::from_vec(before),
         seed,
         size,
     })

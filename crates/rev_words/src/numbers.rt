@@ -1,10 +1,10 @@
-//! The input numbers and the schedule.
+//! The input numbers, those of the run before, and the schedule.
 
 ghost use Rattle.std.specs.Prelude.{◌≡◌, ◌==◌, [], IfOk, codes, map, unwrap_or};
 ghost use Rattle.std.specs.List.{slice_split};
 ghost use Rattle.clap.specs.Words.{all_of, first_of, found_of, rows_of};
 ghost use Rattle.rev_words.specs.Answer.{Gives};
-ghost use Rattle.rev_words.specs.Reading.{few_numbers_in, numbers_in, schedule_said};
+ghost use Rattle.rev_words.specs.Numbers.{few_numbers_in, list_in, numbers_in};
 ghost use Rattle.rev_words.specs.Schedule.{entries_in, entry_in, schedule_in};
 
 use crate::command::{text_of, texts_of};
@@ -43,6 +43,28 @@ pub(crate) fn numbers_of(alloc: Global, matches: &ArgMatches) -> Result<Vec<i64>
 {
     match texts_of(matches, "numbers") {
         Some(texts) => few_numbers_in(alloc, texts),
+        None => Ok(Vec::new(alloc)),
+    }
+}
+
+/// The numbers of a list: decimals with a comma between two of them, at most 1,024.
+fn list_in(alloc: Global, text: &str) -> Result<Vec<i64>, WordsFault>
+    ensures { Gives (λ v. v.items) result (list_in text.now) }
+{
+    if text.is_empty() {
+        return Ok(Vec::new(alloc));
+    }
+    let parts = parts_of(alloc, text)?;
+    few_numbers_in(alloc, parts.as_slice())
+}
+
+/// The input numbers of the run before.
+pub(crate) fn before_of(alloc: Global, matches: &ArgMatches) -> Result<Vec<i64>, WordsFault>
+    ensures { let text = first_of (codes "before") (rows_of (found_of matches.now)) in
+        Gives (λ v. v.items) result (list_in (unwrap_or text [])) }
+{
+    match text_of(matches, "before") {
+        Some(text) => list_in(alloc, text),
         None => Ok(Vec::new(alloc)),
     }
 }
@@ -94,7 +116,7 @@ fn schedule_in(alloc: Global, text: &str) -> Result<Vec<u32>, WordsFault>
 /// The schedule.
 pub(crate) fn schedule_of(alloc: Global, matches: &ArgMatches) -> Result<Vec<u32>, WordsFault>
     ensures { let text = first_of (codes "schedule") (rows_of (found_of matches.now)) in
-        Gives (λ v. v.items) result (schedule_said text) }
+        Gives (λ v. v.items) result (schedule_in (unwrap_or text [])) }
 {
     match text_of(matches, "schedule") {
         Some(text) => schedule_in(alloc, text),

@@ -75,6 +75,7 @@ fn mode_named(text: &str) -> Option<Mode>
         "replay" => Some(Mode::Replay),
         "order" => Some(Mode::Order),
         "stream" => Some(Mode::Stream),
+        "repeat" => Some(Mode::Repeat),
         _ => None,
     }
 }

@@ -19,7 +19,8 @@ use Rattle.segment_store.specs.Base.{value}
 use Rattle.segment_store.specs.Entry.{Entry}
 use Rattle.rev_workers.specs.Stores.{IsOpened}
 
-pub words_many : (vars : List CodeVar) (words : Vec ℕ Global) → words.items ≡ words_at_start vars → vec_len words ≡ count vars
+pub words_many : (vars : List CodeVar) (words : Vec ℕ Global) → words.items ≡ words_at_start vars
+    → vec_len words ≡ count vars
 words_many vars words e = words.ok.0 ∙ (ap length e ∙ start_many vars)
 
 pub opened_is :

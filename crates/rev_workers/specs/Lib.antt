@@ -1,4 +1,5 @@
-pub mod Hands
 pub mod Runs
 pub mod Stores
+pub mod Hands
+pub mod Plans
 pub mod Ran

@@ -17,28 +17,28 @@ use segment_store::{Held, Spent};
 use std::alloc::Global;
 use std::sync::Wait;
 use std::thread::Threads;
-use version_map::Snapshot;
+use version_map::{MergeBy, Snapshot};
 
 /// What is left of the snapshot with which a run was to begin that memory was wanting for, and the
 /// hands that were to work at it.
-pub struct NotRun<'a, 's> {
+pub struct NotRun<'a, 's, M: MergeBy> {
     pub spent: Spent,
-    pub hands: Vec<StoreHand<'a, 's>>,
+    pub hands: Vec<StoreHand<'a, 's, M>>,
 }
 
 /// A run of `main` with this fuel, over a snapshot with the words with which the shared variables
 /// start, by one thread for each hand, of which there is one at least and fewer than 2^32. Its
 /// schedule is legal for the code, and complete where no halt was entered. The error is want of
 /// memory.
-pub fn run_code<'a, 's, G: Gate + Sync, R: Threads + Wait + Sync>(
+pub fn run_code<'a, 's, M: MergeBy + Send + Sync, G: Gate + Sync, R: Threads + Wait + Sync>(
     rt: &R,
     alloc: Global,
     setting: &'a CodeSetting,
     snapshot: Held<'s>,
     fuel: u64,
-    hands: Vec<StoreHand<'a, 's>>,
+    hands: Vec<StoreHand<'a, 's, M>>,
     gate: &G,
-) -> Result<Finished<StoreRevisions<'a, 's>>, NotRun<'a, 's>>
+) -> Result<Finished<StoreRevisions<'a, 's, M>>, NotRun<'a, 's, M>>
     requires size { vec_len snapshot.store.now.initial ≡ count setting.now.code.vars }
     requires base { StartsWith setting.now.code.vars (base snapshot.store.now snapshot.hold) }
     requires some { (0 < length hands.items) × (length hands.items < 2 ^ 32) }
@@ -55,7 +55,7 @@ pub fn run_code<'a, 's, G: Gate + Sync, R: Threads + Wait + Sync>(
         × (n.hands ≡ hands.entry)) }
 {
     match CodeRunner::start(alloc, setting, snapshot, fuel) {
-        Ok(first) => match run::<StoreRevisions<'a, 's>, G, R>(rt, alloc, first, hands, gate) {
+        Ok(first) => match run::<StoreRevisions<'a, 's, M>, G, R>(rt, alloc, first, hands, gate) {
             Ok(finished) => Ok(finished),
             Err(NotBegun { first, hands }) => Err(NotRun {
                 spent: first.give_up(),

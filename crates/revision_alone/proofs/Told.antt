@@ -28,7 +28,8 @@ writes_behind : (n : ℕ) (ms : List Location) → IsFrom n (writes_from n ms)
 writes_behind n [] = tt
 writes_behind n (m ∷ ms) = by m.written (writes_behind (suc n) ms)
   where
-    by : (o : Option Value) → IsFrom (suc n) (writes_from (suc n) ms) → IsFrom n (write_of n m o (writes_from (suc n) ms))
+    by : (o : Option Value) → IsFrom (suc n) (writes_from (suc n) ms)
+        → IsFrom n (write_of n m o (writes_from (suc n) ms))
     by None later = sooner n (writes_from (suc n) ms) later
     by (Some x) later = omega arith
 
@@ -39,7 +40,8 @@ none_at n (w ∷ ws) h =
     let off : nat_eq w.location n ≡ false = grind (arith, nat_tests, h) in
     (ap (λ b. cond b (told w) untold) off, ap (λ b. cond b ws (w ∷ ws)) off)
 
-same_at : (n : ℕ) (w : AloneWrite) (ws : List AloneWrite) → w.location ≡ n → (told_at n (w ∷ ws) ≡ told w) × (behind n (w ∷ ws) ≡ ws)
+same_at : (n : ℕ) (w : AloneWrite) (ws : List AloneWrite) → w.location ≡ n
+    → (told_at n (w ∷ ws) ≡ told w) × (behind n (w ∷ ws) ≡ ws)
 same_at n w ws e =
     let on : nat_eq w.location n ≡ true = grind (arith, nat_tests, e) in
     (ap (λ b. cond b (told w) untold) on, ap (λ b. cond b ws (w ∷ ws)) on)
@@ -49,11 +51,13 @@ pub told_same : (n : ℕ) (js : List Location) → AllSame js (told_from n (leng
 told_same n [] = tt
 told_same n (j ∷ js) = by j.written refl (told_same (suc n) js)
   where
-    by : (o : Option Value) → j.written ≡ o → AllSame js (told_from (suc n) (length js) (writes_from (suc n) js)) → AllSame (j ∷ js) (told_from n (suc (length js)) (write_of n j o (writes_from (suc n) js)))
+    by : (o : Option Value) → j.written ≡ o → AllSame js (told_from (suc n) (length js) (writes_from (suc n) js))
+        → AllSame (j ∷ js) (told_from n (suc (length js)) (write_of n j o (writes_from (suc n) js)))
     by None is later =
         let ws = writes_from (suc n) js in
         let e = none_at n ws (writes_behind (suc n) js) in
-        let first : SameWrite j untold = record { written = sym is; base = λ x f. absurd (let g : None ≡ Some x = sym is ∙ f in cc) } in
+        let first : SameWrite j untold =
+        record { written = sym is; base = λ x f. absurd (let g : None ≡ Some x = sym is ∙ f in cc) } in
         (subst (SameWrite j) (sym e.0) first, subst (λ t. AllSame js (told_from (suc n) (length js) t)) (sym e.1) later)
     by (Some x) is later =
         let ws = writes_from (suc n) js in
@@ -63,7 +67,8 @@ told_same n (j ∷ js) = by j.written refl (told_same (suc n) js)
         (subst (SameWrite j) (sym e.0) first, subst (λ t. AllSame js (told_from (suc n) (length js) t)) (sym e.1) later)
 
 -- one location more
-pub told_more : (n count : ℕ) (ws : List AloneWrite) → n < count → told_from n (count - n) ws ≡ told_at n ws ∷ told_from (n + 1) (count - (n + 1)) (behind n ws)
+pub told_more : (n count : ℕ) (ws : List AloneWrite) → n < count
+    → told_from n (count - n) ws ≡ told_at n ws ∷ told_from (n + 1) (count - (n + 1)) (behind n ws)
 told_more n count ws less =
     let e : count - n ≡ suc (count - (n + 1)) = omega arith in
     let f : suc n ≡ n + 1 = omega arith in
@@ -76,8 +81,12 @@ told_all n count ws most = let e : count - n ≡ 0 = omega arith in ap (λ k. to
 -- ---- the join
 
 -- the join of a state that is made of what is told is that of each state with this end
-pub joins_told : (s : Setting) (r q : Path) (l : Local) (e : AloneEnd) (new : Local) → new ≡ join s r l q (told_state (length l.locations) e) → JoinsEnd s r l q e new
+pub joins_told : (s : Setting) (r q : Path) (l : Local) (e : AloneEnd) (new : Local)
+    → new ≡ join s r l q (told_state (length l.locations) e) → JoinsEnd s r l q e new
 joins_told s r q l e new is j count end =
-    let shown : told_from 0 (length j.locations) (writes_from 0 j.locations) ≡ told_from 0 (length l.locations) e.written.items =
+    let shown :
+    told_from 0 (length j.locations) (writes_from 0 j.locations) ≡ told_from 0 (length l.locations) e.written.items =
     λ i. told_from 0 (count i) (sym end.written i) in
-    is ∙ join_same s r q l j (told_state (length l.locations) e) (subst (AllSame j.locations) shown (told_same 0 j.locations)) end.text end.fuel (sym end.trap)
+    is
+    ∙ join_same s r q l j (told_state (length l.locations) e)
+    (subst (AllSame j.locations) shown (told_same 0 j.locations)) end.text end.fuel (sym end.trap)

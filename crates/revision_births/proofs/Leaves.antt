@@ -38,7 +38,8 @@ module _ (M : Machine) (main : M.Local) where
   forked_birth b k c Ended f = absurd (let z : Ended ≡ Forks k c = f in cc)
 
   -- what goes on otherwise is neither
-  neither : (r : Path) (l : Both M) (a : M.Local) (v : Event M.Local) → M.next r l.0 ≡ v → M.next r l.1 ≡ Moves a → M.next r a ≡ Ended → (l.0 ≡ l.1) ⊎ (l.0 ≡ a) → Same v (Moves a) ⊎ Same v Ended
+  neither : (r : Path) (l : Both M) (a : M.Local) (v : Event M.Local) → M.next r l.0 ≡ v → M.next r l.1 ≡ Moves a
+      → M.next r a ≡ Ended → (l.0 ≡ l.1) ⊎ (l.0 ≡ a) → Same v (Moves a) ⊎ Same v Ended
   neither r l a v is first last (inl e) = inl (sym is ∙ ap (M.next r) e ∙ first)
   neither r l a v is first last (inr e) = inr (sym is ∙ ap (M.next r) e ∙ last)
 
@@ -56,10 +57,12 @@ module _ (M : Machine) (main : M.Local) where
         absurd (no_fork a k.0 c.0 (neither r l a (Forks k.0 c.0) does' first' last (two a first' last)));
     forked = λ r l k c two does a first last. inl (forked_birth l.1 k c (M.next r l.0) does).1;
     joins = λ r q l lq two other does over a first last.
-        absurd (no_join a q (neither r l a (Joins q) (joins_count M l q (M.next r l.0) does) first last (two a first last)));
+        absurd (no_join a q
+        (neither r l a (Joins q) (joins_count M l q (M.next r l.0) does) first last (two a first last)));
   }
     where
-      by_move : (r : Path) (l k : Both M) (a : M.Local) → M.next r l.0 ≡ Moves k.0 → k.1 ≡ l.1 → Same (Moves k.0) (Moves a) ⊎ Same (Moves k.0) Ended → (k.0 ≡ k.1) ⊎ (k.0 ≡ a)
+      by_move : (r : Path) (l k : Both M) (a : M.Local) → M.next r l.0 ≡ Moves k.0 → k.1 ≡ l.1
+          → Same (Moves k.0) (Moves a) ⊎ Same (Moves k.0) Ended → (k.0 ≡ k.1) ⊎ (k.0 ≡ a)
       by_move r l k a does birth (inl e) = inr (let z : Moves k.0 ≡ Moves a = e in cc)
       by_move r l k a does birth (inr e) = absurd (let z : Moves k.0 ≡ Ended = e in cc)
 
@@ -77,10 +80,13 @@ module _ (M : Machine) (main : M.Local) where
   module _ (counts : Counts M) where
     pub leaves_end : LeavesEnd M main
     leaves_end rs h complete r b a born first last =
-        let run = lift M rs (start (W M) (main, main)) (Live h) (subst (λ m. Runs M m rs (Live h)) (sym (start_same M main)) complete.runs) in
+        let run =
+        lift M rs (start (W M) (main, main)) (Live h)
+        (subst (λ m. Runs M m rs (Live h)) (sym (start_same M main)) complete.runs) in
         in_end run.end run.runs run.is
       where
-        in_end : (g : Global (Both M)) → Runs (W M) (start (W M) (main, main)) rs g → plain M g ≡ Live h → (e : Entry M.Local) × (h r ≡ Some e) × (local_of e ≡ a)
+        in_end : (g : Global (Both M)) → Runs (W M) (start (W M) (main, main)) rs g → plain M g ≡ Live h
+            → (e : Entry M.Local) × (h r ≡ Some e) × (local_of e ≡ a)
         in_end Twice runs is = absurd (let z : Twice ≡ Live h = is in cc)
         in_end (Live us) runs is = by x.0 x.1 x.2
           where
@@ -102,7 +108,8 @@ module _ (M : Machine) (main : M.Local) where
             at_end : (e : Entry (Both M)) → us r ≡ Some e → h r ≡ Some (plain_entry M e)
             at_end e there = ap (λ m. m r) (sym same) ∙ ap (plain_option M) there
 
-            two : (e : Entry (Both M)) → us r ≡ Some e → (local_of e).1 ≡ b → ((local_of e).0 ≡ (local_of e).1) ⊎ ((local_of e).0 ≡ a)
+            two : (e : Entry (Both M)) → us r ≡ Some e → (local_of e).1 ≡ b
+                → ((local_of e).0 ≡ (local_of e).1) ⊎ ((local_of e).0 ≡ a)
             two e there birth = two_law (Live us) reached r e there a (ap (M.next r) birth ∙ first) last
 
             -- one that has not begun could step, and is not marked
@@ -117,7 +124,8 @@ module _ (M : Machine) (main : M.Local) where
                 let does : (W M).next r l ≡ Moves (a, l.1) = ap (with_birth l.1) (ap (M.next r) e ∙ first) in
                 (let z : Moves (a, l.1) ≡ Ended = sym does ∙ over in cc)
 
-            by : (e : Entry (Both M)) → us r ≡ Some e → (local_of e).1 ≡ b → (e : Entry M.Local) × (h r ≡ Some e) × (local_of e ≡ a)
+            by : (e : Entry (Both M)) → us r ≡ Some e → (local_of e).1 ≡ b
+                → (e : Entry M.Local) × (h r ≡ Some e) × (local_of e ≡ a)
             by (Plain l) there birth = of_plain (two (Plain l) there birth)
               where
                 of_plain : (l.0 ≡ l.1) ⊎ (l.0 ≡ a) → (e : Entry M.Local) × (h r ≡ Some e) × (local_of e ≡ a)

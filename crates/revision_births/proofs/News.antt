@@ -1,6 +1,6 @@
 -- A revision in a state to which no event leads is in that with which it began.
-use Rattle.std.proofs.Common.{◌≡◌, ◌≢◌, ◌∙◌, ◌⊎◌, inl, inr, Bool, true, false, List, [], ◌∷◌, ◌++◌, Some, refl, sym, ap, subst}
-use Rattle.rev_num.specs.Path.{Path, child}
+use Rattle.std.proofs.Common.{◌≡◌, ◌≢◌, ◌∙◌, ◌⊎◌, inl, inr, Bool, true, false, [], ◌∷◌, ◌++◌, Some, refl, sym, ap, subst}
+use Rattle.rev_num.specs.Path.{Path}
 use Rattle.rev_num.proofs.Options.{none_some}
 use Rattle.revision_machine.specs.Machine.{Moves, Forks, Joins, Ended, Machine, Entry, Plain, Joined, Global, Twice, Live, Revisions, start, step, Reached}
 use Rattle.revision_machine.specs.Laws.{local_of, KeptLaw}
@@ -16,9 +16,11 @@ use Rattle.revision_births.proofs.Births.{runs_then}
 pub record IsNew (M : Machine) (P : Path → M.Local → Type 0) (N : M.Local → Type 0) : Type 0 where
   pub moves : (r : Path) (l l' : M.Local) → P r l → M.next r l ≡ Moves l' → N l' → ⊥
   pub forker : (r : Path) (l l' c : M.Local) → P r l → M.next r l ≡ Forks l' c → N l' → ⊥
-  pub joins : (r q : Path) (l lq : M.Local) → P r l → P q lq → M.next r l ≡ Joins q → M.next q lq ≡ Ended → N (M.join r l q lq) → ⊥
+  pub joins : (r q : Path) (l lq : M.Local) → P r l → P q lq → M.next r l ≡ Joins q → M.next q lq ≡ Ended
+      → N (M.join r l q lq) → ⊥
 
-module _ (M : Machine) (main : M.Local) (P : Path → M.Local → Type 0) (holds : KeptLaw M main P) (N : M.Local → Type 0) (news : IsNew M P N) where
+module _ (M : Machine) (main : M.Local) (P : Path → M.Local → Type 0) (holds : KeptLaw M main P) (N : M.Local → Type 0)
+    (news : IsNew M P N) where
   abbrev AllBorn : Revisions M → Type 0
   AllBorn revs = (r : Path) (e : Entry M.Local) → revs r ≡ Some e → N (local_of e) → Born M main r (local_of e)
 
@@ -29,7 +31,9 @@ module _ (M : Machine) (main : M.Local) (P : Path → M.Local → Type 0) (holds
   abbrev Good : Global M.Local → Type 0
   Good g = Reached M main g × In g
 
-  by_step : (revs : Revisions M) → Reached M main (Live revs) → AllBorn revs → (s : Path) (l l' : M.Local) (o : Path) (e : Entry M.Local) → revs s ≡ Some (Plain l) → Role M revs s l l' o e → AllBorn (put_two revs s (Plain l') o e)
+  by_step : (revs : Revisions M) → Reached M main (Live revs) → AllBorn revs
+      → (s : Path) (l l' : M.Local) (o : Path) (e : Entry M.Local) → revs s ≡ Some (Plain l) → Role M revs s l l' o e
+      → AllBorn (put_two revs s (Plain l') o e)
   by_step revs reached all s l l' o e here x r f there is = go (decide_same s r) (decide_same o r) (place M x)
     where
       here' : P s l
@@ -41,7 +45,8 @@ module _ (M : Machine) (main : M.Local) (P : Path → M.Local → Type 0) (holds
 
       -- it is not new, which it was said to be
       no : (s ≡ r) → (N l' → ⊥) → Born M main r (local_of f)
-      no sr not = absurd (not (subst (λ v. N (local_of v)) (sym (same s (Plain l') sr (two_here revs s o (Plain l') e))) is))
+      no sr not = absurd (not
+          (subst (λ v. N (local_of v)) (sym (same s (Plain l') sr (two_here revs s o (Plain l') e))) is))
 
       go : (s ≡ r) ⊎ (s ≢ r) → (o ≡ r) ⊎ (o ≢ r) → Place M revs s l l' o e → Born M main r (local_of f)
       go (inl sr) z (own does _ _) = no sr (news.moves s l l' here' does)
@@ -53,7 +58,16 @@ module _ (M : Machine) (main : M.Local) (P : Path → M.Local → Type 0) (holds
       go (inr sr) (inl or) (new c does a ee) =
           let k = same o (Plain c) or (two_there revs s o (Plain l') e (λ v. sr (v ∙ or)) ∙ ap Some ee) in
           subst (λ v. Born M main r (local_of v)) k
-          (births.forked (record { revs = revs; reached = reached; forker = s; before = l; after = l'; there = here; forks = does; is = sym or ∙ a }))
+          (births.forked (record {
+            revs = revs;
+            reached = reached;
+            forker = s;
+            before = l;
+            after = l';
+            there = here;
+            forks = does;
+            is = sym or ∙ a;
+          }))
       go (inr sr) (inl or) (marks lq does was ended jl ee) =
           let k = same o (Joined lq) or (two_there revs s o (Plain l') e (λ v. sr (v ∙ or)) ∙ ap Some ee) in
           subst (λ v. Born M main r (local_of v)) k
@@ -75,7 +89,9 @@ module _ (M : Machine) (main : M.Local) (P : Path → M.Local → Type 0) (holds
   begins (x ∷ r) e there is = none_some there
 
   pub new_born : (revs : Revisions M) → Reached M main (Live revs) → AllBorn revs
-  new_born revs reached = (along M Good keeps reached.by (start M main) (Live revs) (record { by = []; runs = refl }, begins) reached.runs).1
+  new_born revs reached =
+      (along M Good keeps reached.by (start M main) (Live revs) (record { by = []; runs = refl }, begins)
+      reached.runs).1
 
 pub new_is_born : (M : Machine) (main : M.Local) → NewIsBorn M main
 new_is_born M main class news revs reached =

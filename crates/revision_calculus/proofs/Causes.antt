@@ -14,7 +14,8 @@ use Rattle.rev_syntax.specs.declared.tree.UnaryOp.TheVariants as u
 use Rattle.rev_syntax.specs.declared.tree.BinaryOp.{BinaryOp}
 use Rattle.rev_syntax.specs.declared.tree.BinaryOp.TheVariants as b
 use Rattle.merge_decl.specs.Names.{Name, same}
-use Rattle.merge_decl.specs.Value.{Answer, and_then, number_of, truth_of, number, operated, short, linked, reversed, Shared, unknown, scalar, array, Env, read_cell, taken, read_input, read, Fun, Funs, called, value_by, expression_form_value, values_by, chained, FunDef, inside, fun_value, earlier_of, funs_of}
+use Rattle.std.specs.Option.{option_or}
+use Rattle.merge_decl.specs.Value.{Answer, and_then, number_of, truth_of, number, operated, short, linked, reversed, Shared, unknown, scalar, array, Env, read_cell, taken, read_input, read, Fun, Funs, called, value_by, expression_form_value, values_by, chained, FunDef, inside, fun_value, funs_of}
 
 -- what holds of the cause, where there is one
 abbrev pub OfErr : (Cause → Type 0) → {A : Type 0} → Result A Cause → Type 0
@@ -91,7 +92,8 @@ FunErr C None = Unit {0}
 FunErr C (Some f) = (args : List Value) → OfErr C (f args)
 
 module _ (C : Cause → Type 0) where
-  pub then_err : {A B : Type 0} (r : Result A Cause) (f : A → Result B Cause) → OfErr C r → ((x : A) → OfErr C (f x)) → OfErr C (and_then r f)
+  pub then_err : {A B : Type 0} (r : Result A Cause) (f : A → Result B Cause) → OfErr C r → ((x : A) → OfErr C (f x))
+      → OfErr C (and_then r f)
   then_err (Ok x) f p go = go x
   then_err (Err c) f p go = p
 
@@ -109,7 +111,7 @@ module _ (C : Cause → Type 0) where
   called_err None args h = tt
   called_err (Some f) args h = h args
 
-  earlier_err : (x y : Option Fun) → FunErr C x → FunErr C y → FunErr C (earlier_of x y)
+  earlier_err : (x y : Option Fun) → FunErr C x → FunErr C y → FunErr C (option_or x y)
   earlier_err (Some f) y p q = p
   earlier_err None y p q = q
 
@@ -132,7 +134,8 @@ module _ (C : Cause → Type 0) where
       by (Some n) = tt
 
 -- where the causes of arithmetic are such, and so is Index where inputs are read
-module _ (C : Cause → Type 0) (over : C cause.Overflow) (nought : C cause.ZeroDivisor) (I : Type 0) (index_is : I → C cause.Index) where
+module _ (C : Cause → Type 0) (over : C cause.Overflow) (nought : C cause.ZeroDivisor) (I : Type 0)
+    (index_is : I → C cause.Index) where
   number_err : (r : Result ℤ NumFault) → OfErr C (number r)
   number_err (Ok z) = tt
   number_err (Err fault.Overflow) = over
@@ -153,7 +156,8 @@ module _ (C : Cause → Type 0) (over : C cause.Overflow) (nought : C cause.Zero
   operated_err b.And x y = tt
   operated_err b.Or x y = tt
 
-  linked_err : (o : BinaryOp) (x : Value) (right : Answer) (z : Option Value) → OfErr C right → OfErr C (linked o x right z)
+  linked_err : (o : BinaryOp) (x : Value) (right : Answer) (z : Option Value) → OfErr C right
+      → OfErr C (linked o x right z)
   linked_err o x right (Some z) h = tt
   linked_err o x right None h = then_err C right (operated o x) h (operated_err o x)
 
@@ -161,7 +165,8 @@ module _ (C : Cause → Type 0) (over : C cause.Overflow) (nought : C cause.Zero
   reversed_err u.Neg x = number_err (negation_of (number_of x))
   reversed_err u.Not x = tt
 
-  module _ (fs : Funs) (e : Env) (funs : (name : Name) → FunErr C (fs name)) (cells : (name : Name) (z : ℤ) → OfErr C (read_cell (e.shared name) z)) where
+  module _ (fs : Funs) (e : Env) (funs : (name : Name) → FunErr C (fs name))
+      (cells : (name : Name) (z : ℤ) → OfErr C (read_cell (e.shared name) z)) where
     mutual
       pub value_err : (x : Expression) → Inputs I x → OfErr C (value_by fs e x)
       value_err (placed at s) h = form_err s h
@@ -171,22 +176,31 @@ module _ (C : Cause → Type 0) (over : C cause.Overflow) (nought : C cause.Zero
       form_err (bool x) h = tt
       form_err no_rev h = tt
       form_err (var w) h = read_err C (e.local w.text) (e.shared w.text)
-      form_err (cell w index) h = then_err C (value_by fs e index) (λ i. read_cell (e.shared w.text) (number_of i)) (value_err index h) (λ i. cells w.text (number_of i))
-      form_err (apply w args) h = then_err C (values_by fs e args) (called (fs w.text)) (values_err args h) (λ xs. called_err C (fs w.text) xs (funs w.text))
-      form_err (input at index) h = then_err C (value_by fs e index) (λ i. read_input e.inputs (number_of i)) (value_err index h.1) (λ i. input_err C (index_is h.0) e.inputs (number_of i))
+      form_err (cell w index) h =
+          then_err C (value_by fs e index) (λ i. read_cell (e.shared w.text) (number_of i)) (value_err index h)
+          (λ i. cells w.text (number_of i))
+      form_err (apply w args) h =
+          then_err C (values_by fs e args) (called (fs w.text)) (values_err args h)
+          (λ xs. called_err C (fs w.text) xs (funs w.text))
+      form_err (input at index) h =
+          then_err C (value_by fs e index) (λ i. read_input e.inputs (number_of i)) (value_err index h.1)
+          (λ i. input_err C (index_is h.0) e.inputs (number_of i))
       form_err (inputs at) h = tt
       form_err (pick test x y) h =
           let p = value_err x h.1 in
           let q = value_err y h.2 in
-          then_err C (value_by fs e test) (λ c. if truth_of c then value_by fs e x else value_by fs e y) (value_err test h.0) (λ c. cond_err C (truth_of c) (value_by fs e x) (value_by fs e y) p q)
+          then_err C (value_by fs e test) (λ c. if truth_of c then value_by fs e x else value_by fs e y)
+          (value_err test h.0) (λ c. cond_err C (truth_of c) (value_by fs e x) (value_by fs e y) p q)
       form_err (unary op part) h = then_err C (value_by fs e part) (reversed op) (value_err part h) (reversed_err op)
-      form_err (chain first rest) h = then_err C (value_by fs e first) (λ x. chained fs e x rest) (value_err first h.0) (links_err rest h.1)
+      form_err (chain first rest) h =
+          then_err C (value_by fs e first) (λ x. chained fs e x rest) (value_err first h.0) (links_err rest h.1)
 
       pub values_err : (xs : Expressions) → AllInputs I xs → OfErr C (values_by fs e xs)
       values_err no_expressions h = tt
       values_err (expression x xs) h =
           let later = values_err xs h.1 in
-          then_err C (value_by fs e x) (λ y. and_then (values_by fs e xs) (λ ys. Ok (y ∷ ys))) (value_err x h.0) (λ y. then_err C (values_by fs e xs) (λ ys. Ok (y ∷ ys)) later (λ ys. tt))
+          then_err C (value_by fs e x) (λ y. and_then (values_by fs e xs) (λ ys. Ok (y ∷ ys))) (value_err x h.0)
+          (λ y. then_err C (values_by fs e xs) (λ ys. Ok (y ∷ ys)) later (λ ys. tt))
 
       links_err : (rest : Links) → LinksInputs I rest → (x : Value) → OfErr C (chained fs e x rest)
       links_err no_links h x = tt
@@ -198,5 +212,7 @@ module _ (C : Cause → Type 0) (over : C cause.Overflow) (nought : C cause.Zero
   funs_err [] h name = tt
   funs_err (d ∷ before) h name =
       let those = funs_err before h.1 in
-      earlier_err C (funs_of before name) (if same name d.name then Some (fun_value (funs_of before) d) else None) (those name)
-      (cond_fun C (same name d.name) (fun_value (funs_of before) d) (λ args. value_err (funs_of before) (inside d.params args) those (λ other z. tt) d.body h.0))
+      earlier_err C (funs_of before name) (if same name d.name then Some (fun_value (funs_of before) d) else None)
+      (those name)
+      (cond_fun C (same name d.name) (fun_value (funs_of before) d)
+      (λ args. value_err (funs_of before) (inside d.params args) those (λ other z. tt) d.body h.0))

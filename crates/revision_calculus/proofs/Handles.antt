@@ -21,7 +21,8 @@ use Rattle.revision_calculus.proofs.Values.{OfOk, OfOthers, OfEach, OfEnv, OfSha
 pub seen_held : (m : Location) (ms : List Location) (q : Path) → IsHandle (view m) q → LocationsHold (m ∷ ms) q
 seen_held m ms q e = go m.written refl e
   where
-    go : (w : Option Value) → m.written ≡ w → elim w [ None ↦ m.base | Some x ↦ x ] ≡ v.Rev (Some q) → LocationsHold (m ∷ ms) q
+    go : (w : Option Value) → m.written ≡ w → elim w [ None ↦ m.base | Some x ↦ x ] ≡ v.Rev (Some q)
+        → LocationsHold (m ∷ ms) q
     go None f e = inl (inl e)
     go (Some x) f e = inl (inr (f ∙ ap Some e))
 
@@ -30,7 +31,8 @@ seen_at_held [] n q e = absurd cc
 seen_at_held (m ∷ ms) zero q e = seen_held m ms q e
 seen_at_held (m ∷ ms) (suc n) q e = inr (seen_at_held ms n q e)
 
-pub write_held : (ms : List Location) (n : ℕ) (x : Value) (q : Path) → LocationsHold (write_at ms n x) q → LocationsHold ms q ⊎ IsHandle x q
+pub write_held : (ms : List Location) (n : ℕ) (x : Value) (q : Path) → LocationsHold (write_at ms n x) q
+    → LocationsHold ms q ⊎ IsHandle x q
 write_held [] n x q none = absurd none
 write_held (m ∷ ms) zero x q (inl (inl e)) = inl (inl (inl e))
 write_held (m ∷ ms) zero x q (inl (inr e)) = inr cc
@@ -54,16 +56,19 @@ pub find_held : (es : Table Value) (name : Name) (q : Path) → find name es ≡
 find_held [] name q e = absurd cc
 find_held (x ∷ es) name q e = go (λ f. find_held es name q f) (same name x.0) e
   where
-    go : (find name es ≡ Some (v.Rev (Some q)) → LocalsHold es q) → (b : Bool) → cond b (Some x.1) (find name es) ≡ Some (v.Rev (Some q)) → LocalsHold (x ∷ es) q
+    go : (find name es ≡ Some (v.Rev (Some q)) → LocalsHold es q) → (b : Bool)
+        → cond b (Some x.1) (find name es) ≡ Some (v.Rev (Some q)) → LocalsHold (x ∷ es) q
     go later true e = inl cc
     go later false e = inr (later e)
 
-pub with_local_held : (es : Table Value) (name : Name) (x : Value) (q : Path) → LocalsHold (with_local es name x) q → LocalsHold es q ⊎ IsHandle x q
+pub with_local_held : (es : Table Value) (name : Name) (x : Value) (q : Path) → LocalsHold (with_local es name x) q
+    → LocalsHold es q ⊎ IsHandle x q
 with_local_held [] name x q (inl e) = inr e
 with_local_held [] name x q (inr none) = absurd none
 with_local_held (e ∷ es) name x q h = go (λ i. with_local_held es name x q i) (same name e.0) h
   where
-    go : (LocalsHold (with_local es name x) q → LocalsHold es q ⊎ IsHandle x q) → (b : Bool) → LocalsHold (cond b ((e.0, x) ∷ es) (e ∷ with_local es name x)) q → LocalsHold (e ∷ es) q ⊎ IsHandle x q
+    go : (LocalsHold (with_local es name x) q → LocalsHold es q ⊎ IsHandle x q) → (b : Bool)
+        → LocalsHold (cond b ((e.0, x) ∷ es) (e ∷ with_local es name x)) q → LocalsHold (e ∷ es) q ⊎ IsHandle x q
     go later true (inl i) = inr i
     go later true (inr i) = inl (inr i)
     go later false (inl i) = inl (inl i)
@@ -80,7 +85,8 @@ Held l x = (q : Path) → IsHandle x q → Holds l q
 pub not_held : (l : Local) → OfOthers (Held l)
 not_held l = record { int = λ z q e. absurd cc; bool = λ x q e. absurd cc; none = λ q e. absurd cc }
 
-pub locals_of_held : (l : Local) (ps : List Name) (xs : List Value) (q : Path) → OfEach (Held l) (not_held l) xs → LocalsHold (locals_of ps xs) q → Holds l q
+pub locals_of_held : (l : Local) (ps : List Name) (xs : List Value) (q : Path) → OfEach (Held l) (not_held l) xs
+    → LocalsHold (locals_of ps xs) q → Holds l q
 locals_of_held l [] xs q ks none = absurd none
 locals_of_held l (p ∷ ps) [] q ks none = absurd none
 locals_of_held l (p ∷ ps) (x ∷ xs) q ks (inl e) = ks.0 q e
@@ -104,7 +110,10 @@ module _ (s : Setting) (l : Local) where
   shared_ok None = tt
   shared_ok (Some x) = go x.info.array
     where
-      go : (b : Bool) → OfShared (Held l) (not_held l) (cond b (array x.info.cells (λ i. view_at l.locations (x.info.base + i))) (scalar (view_at l.locations x.info.base)))
+      go : (b : Bool)
+          → OfShared (Held l) (not_held l)
+          (cond b (array x.info.cells (λ i. view_at l.locations (x.info.base + i)))
+          (scalar (view_at l.locations x.info.base)))
       go true = λ i q e. in_locations (seen_at_held l.locations (x.info.base + i) q e)
       go false = λ q e. in_locations (seen_at_held l.locations x.info.base q e)
 
@@ -116,4 +125,5 @@ module _ (s : Setting) (l : Local) where
   eval_held e = value_ok (Held l) (not_held l) _ (env s l) (funs_ok (Held l) (not_held l) (funs_in s.program)) env_ok e
 
   pub evals_held : (es : Expressions) → OfOk (OfEach (Held l) (not_held l)) (evals s l es)
-  evals_held es = values_ok (Held l) (not_held l) _ (env s l) (funs_ok (Held l) (not_held l) (funs_in s.program)) env_ok es
+  evals_held es =
+      values_ok (Held l) (not_held l) _ (env s l) (funs_ok (Held l) (not_held l) (funs_in s.program)) env_ok es

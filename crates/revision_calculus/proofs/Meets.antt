@@ -58,9 +58,11 @@ module _ (s : Setting) where
   pub spends_forks : Spends (calculus s) 0 (λ l. l.fuel + l.forks)
   spends_forks = record {
     moves = λ r l l' e. let h : Moved l l' = event r l e in let k = h.fuel in let n = h.forks in omega arith;
-    forks = λ r l l' c e. let h : ForkOk r l l' c = event r l e in let k = h.fuel in let n = h.forks in let z = h.none in omega arith;
+    forks = λ r l l' c e.
+        let h : ForkOk r l l' c = event r l e in let k = h.fuel in let n = h.forks in let z = h.none in omega arith;
     wants = λ r q l e. omega arith;
-    joins = λ r q l j e f. let h : JoinOk l j (join s r l q j) = joins_ok r q l j e f in let k = h.fuel in let n = h.forks in omega arith;
+    joins = λ r q l j e f.
+        let h : JoinOk l j (join s r l q j) = joins_ok r q l j e f in let k = h.fuel in let n = h.forks in omega arith;
   }
 
   -- a fork is paid with fuel, whatever the count of forks
@@ -114,8 +116,10 @@ start_none before (fun name params result body ∷ es) = start_none (before ++ f
 start_none before (merge name m j r body ∷ es) = start_none (before ++ merge name m j r body ∷ []) es
 start_none before (proc name params result body ∷ es) = start_none (before ++ proc name params result body ∷ []) es
 start_none before (shared x ∷ es) =
-    both_none (replicate (cells_of x.size) (first_value x.holds x.first)) (start_values (variables_behind (before ++ shared x ∷ []) es))
-    (replicate_none (cells_of x.size) (first_value x.holds x.first) (first_none x.holds x.first)) (start_none (before ++ shared x ∷ []) es)
+    both_none (replicate (cells_of x.size) (first_value x.holds x.first))
+    (start_values (variables_behind (before ++ shared x ∷ []) es))
+    (replicate_none (cells_of x.size) (first_value x.holds x.first) (first_none x.holds x.first))
+    (start_none (before ++ shared x ∷ []) es)
 
 fresh_none : (xs : List Value) (q : Path) → NoHandle xs → LocationsHold (fresh xs) q → ⊥
 fresh_none [] q p none = none
@@ -124,7 +128,8 @@ fresh_none (x ∷ xs) q p (inl (inr e)) = cc
 fresh_none (x ∷ xs) q p (inr h) = fresh_none xs q p.1 h
 
 pub main_holds_none : (s : Setting) (fuel : ℕ) → HoldsNone (calculus s) Holds (main s fuel)
-main_holds_none s fuel q (in_locations h) = fresh_none (start_values (variables s.program)) q (start_none [] s.program.declarations) h
+main_holds_none s fuel q (in_locations h) =
+    fresh_none (start_values (variables s.program)) q (start_none [] s.program.declarations) h
 main_holds_none s fuel q (in_frames (inl none)) = none
 main_holds_none s fuel q (in_frames (inr none)) = none
 main_holds_none s fuel q (in_phase left e) = let clash : running ≡ joining q left = e in cc

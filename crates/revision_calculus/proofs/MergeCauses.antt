@@ -53,14 +53,22 @@ abbrev MergesInputs : List MergeDef → Type 0
 MergesInputs [] = Unit {0}
 MergesInputs (d ∷ ds) = Inputs ⊥ d.body × BodiesInputs ⊥ d.funs × MergesInputs ds
 
-merges_read : (outer inner : Names) → inner.inside ≡ true → (before : List Declaration) (fs : List FunDef) (es : List Declaration) → BodiesInputs ⊥ fs → DeclarationsTyped outer inner before es → MergesInputs (merges_after fs es)
+merges_read : (outer inner : Names) → inner.inside ≡ true
+    → (before : List Declaration) (fs : List FunDef) (es : List Declaration) → BodiesInputs ⊥ fs
+    → DeclarationsTyped outer inner before es → MergesInputs (merges_after fs es)
 merges_read outer inner closed before fs [] h typed = tt
 merges_read outer inner closed before fs (fun w ps r body ∷ es) h typed =
-    merges_read outer inner closed (fun w ps r body ∷ before) (fun_def w ps body ∷ fs) es (none_read inner _ closed body r typed.0.body, h) typed.1
-merges_read outer inner closed before fs (merge w m j r body ∷ es) h typed =
-    (none_read inner _ closed body k.Int typed.0.body, h, merges_read outer inner closed (merge w m j r body ∷ before) fs es h typed.1)
-merges_read outer inner closed before fs (shared x ∷ es) h typed = merges_read outer inner closed (shared x ∷ before) fs es h typed.1
-merges_read outer inner closed before fs (proc w ps r body ∷ es) h typed = merges_read outer inner closed (proc w ps r body ∷ before) fs es h typed.1
+    merges_read outer inner closed (fun w ps r body ∷ before) (fun_def w ps body ∷ fs) es
+    (none_read inner _ closed body r typed.0.body, h) typed.1
+merges_read outer inner closed before fs (merge w m j r body ∷ es) h typed = (
+  none_read inner _ closed body k.Int typed.0.body,
+  h,
+  merges_read outer inner closed (merge w m j r body ∷ before) fs es h typed.1,
+)
+merges_read outer inner closed before fs (shared x ∷ es) h typed =
+    merges_read outer inner closed (shared x ∷ before) fs es h typed.1
+merges_read outer inner closed before fs (proc w ps r body ∷ es) h typed =
+    merges_read outer inner closed (proc w ps r body ∷ before) fs es h typed.1
 
 abbrev IsArithmetic : Cause → Type 0
 IsArithmetic cause.Overflow = Unit {0}
@@ -72,10 +80,12 @@ IsArithmetic cause.CallDepth = ⊥
 IsArithmetic cause.Spent = ⊥
 IsArithmetic (cause.Merge n f) = ⊥
 
-merge_err : (ds : List MergeDef) (n : ℕ) (m j r : Value) → MergesInputs ds → OfErr IsArithmetic (merged_by (slice_get ds n) m j r)
+merge_err : (ds : List MergeDef) (n : ℕ) (m j r : Value) → MergesInputs ds
+    → OfErr IsArithmetic (merged_by (slice_get ds n) m j r)
 merge_err [] n m j r h = tt
 merge_err (d ∷ ds) zero m j r h =
-    value_err IsArithmetic tt tt ⊥ (λ none. absurd none) (funs_of d.funs) (inside d.params (m ∷ j ∷ r ∷ [])) (funs_err IsArithmetic tt tt ⊥ (λ none. absurd none) d.funs h.1) (λ name z. tt) d.body h.0
+    value_err IsArithmetic tt tt ⊥ (λ none. absurd none) (funs_of d.funs) (inside d.params (m ∷ j ∷ r ∷ []))
+    (funs_err IsArithmetic tt tt ⊥ (λ none. absurd none) d.funs h.1) (λ name z. tt) d.body h.0
 merge_err (d ∷ ds) (suc n) m j r h = merge_err ds n m j r h.2
 
 -- an int or a cause of arithmetic
@@ -94,7 +104,10 @@ module _ (p : ProgramTree) (well : IsAccepted p) where
   merge_causes : (n : ℕ) (m j r : Value) → OfErr IsArithmetic (merge_value_of p n m j r)
   unfolding merge_value_of
   merge_causes n m j r =
-      merge_err (merges_in p) n m j r (merges_read (outside p.declarations) (within p.declarations) refl [] [] p.declarations tt (rules_kept p well).declarations)
+      merge_err (merges_in p) n m j r
+      (merges_read (outside p.declarations) (within p.declarations) refl [] [] p.declarations tt
+      (rules_kept p well).declarations)
 
   pub merge_law : MergeLaw p
-  merge_law n m j r km kj kr = both (merge_value_of p n m j r) (merges_give p well n m j r km kj kr) (merge_causes n m j r)
+  merge_law n m j r km kj kr =
+      both (merge_value_of p n m j r) (merges_give p well n m j r km kj kr) (merge_causes n m j r)

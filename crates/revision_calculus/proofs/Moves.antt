@@ -17,7 +17,8 @@ use Rattle.revision_calculus.proofs.Handles.{write_held, with_local_held, Held, 
 
 -- ---- weights
 
-pub weight_same : (p : Phase) (fs gs : List Frame) (f : ℕ) → beyond_first fs ≡ beyond_first gs → weight_at p fs f ≡ weight_at p gs f
+pub weight_same : (p : Phase) (fs gs : List Frame) (f : ℕ) → beyond_first fs ≡ beyond_first gs
+    → weight_at p fs f ≡ weight_at p gs f
 weight_same running fs gs f e = ap (λ n. 2 * f + 1 + n) e
 weight_same (joining q left) fs gs f e = ap (λ n. 2 * f + 2 + n) e
 weight_same done fs gs f e = refl
@@ -62,13 +63,16 @@ Paid r l (Joins q) = ⊥
 Paid r l Ended = ⊥
 
 -- the same locations and frames, in a phase without a handle
-pub same_held : (l l' : Local) (q : Path) → l'.locations ≡ l.locations → l'.frames ≡ l.frames → ((left : Option Name) → l'.phase ≡ joining q left → Holds l q) → Holds l' q → Holds l q
+pub same_held : (l l' : Local) (q : Path) → l'.locations ≡ l.locations → l'.frames ≡ l.frames
+    → ((left : Option Name) → l'.phase ≡ joining q left → Holds l q) → Holds l' q → Holds l q
 same_held l l' q ms fs from (in_locations h) = in_locations (subst (λ x. LocationsHold x q) ms h)
 same_held l l' q ms fs from (in_frames h) = in_frames (subst (λ x. FramesHold x q) fs h)
 same_held l l' q ms fs from (in_phase left e) = from left e
 
 pub trap_held : (l : Local) (tr : Trap) (q : Path) → Holds (record l { phase = trapped tr }) q → Holds l q
-trap_held l tr q = same_held l (record l { phase = trapped tr }) q refl refl (λ left e. absurd (let clash : trapped tr ≡ joining q left = e in cc))
+trap_held l tr q =
+    same_held l (record l { phase = trapped tr }) q refl refl
+    (λ left e. absurd (let clash : trapped tr ≡ joining q left = e in cc))
 
 pub trap_ok : (l : Local) (tr : Trap) → l.phase ≡ running → Moved l (record l { phase = trapped tr })
 trap_ok l tr run = record { forks = refl; held = trap_held l tr; fuel = le_refl l.fuel; weight = less }
@@ -88,9 +92,11 @@ pub record Assigned (l l' : Local) (x : Value) : Type 0 where
 
 pub assigned_weight : {l l' : Local} {x : Value} → Assigned l l' x → weight l' ≡ weight l
 assigned_weight {l} {l'} a =
-    ap (λ p. weight_at p l'.frames l'.fuel) a.phase ∙ ap (λ f. weight_at l.phase l'.frames f) a.fuel ∙ weight_same l.phase l'.frames l.frames l.fuel a.beyond
+    ap (λ p. weight_at p l'.frames l'.fuel) a.phase ∙ ap (λ f. weight_at l.phase l'.frames f) a.fuel
+    ∙ weight_same l.phase l'.frames l.frames l.fuel a.beyond
 
-pub location_assigned : (l : Local) (n : ℕ) (x : Value) → Assigned l (record l { locations = write_at l.locations n x }) x
+pub location_assigned : (l : Local) (n : ℕ) (x : Value)
+    → Assigned l (record l { locations = write_at l.locations n x }) x
 location_assigned l n x = record { forks = refl; fuel = refl; phase = refl; beyond = refl; held = held }
   where
     by : (q : Path) → LocationsHold l.locations q ⊎ IsHandle x q → Holds l q ⊎ IsHandle x q
@@ -106,7 +112,8 @@ beyond_on_top : (change : Frame → Frame) (fs : List Frame) → beyond_first (o
 beyond_on_top change [] = refl
 beyond_on_top change (f ∷ fs) = refl
 
-top_assigned : (fs : List Frame) (name : Name) (x : Value) (q : Path) → FramesHold (on_top (λ f. set_local f name x) fs) q → FramesHold fs q ⊎ IsHandle x q
+top_assigned : (fs : List Frame) (name : Name) (x : Value) (q : Path)
+    → FramesHold (on_top (λ f. set_local f name x) fs) q → FramesHold fs q ⊎ IsHandle x q
 top_assigned [] name x q none = absurd none
 top_assigned (f ∷ fs) name x q (inr h) = inl (inr h)
 top_assigned (f ∷ fs) name x q (inl h) = go (with_local_held f.locals name x q h)
@@ -115,14 +122,17 @@ top_assigned (f ∷ fs) name x q (inl h) = go (with_local_held f.locals name x q
     go (inl i) = inl (inl i)
     go (inr i) = inr i
 
-local_assigned : (l : Local) (name : Name) (x : Value) → Assigned l (record l { frames = on_top (λ f. set_local f name x) l.frames }) x
-local_assigned l name x = record { forks = refl; fuel = refl; phase = refl; beyond = beyond_on_top _ l.frames; held = held }
+local_assigned : (l : Local) (name : Name) (x : Value)
+    → Assigned l (record l { frames = on_top (λ f. set_local f name x) l.frames }) x
+local_assigned l name x =
+    record { forks = refl; fuel = refl; phase = refl; beyond = beyond_on_top _ l.frames; held = held }
   where
     by : (q : Path) → FramesHold l.frames q ⊎ IsHandle x q → Holds l q ⊎ IsHandle x q
     by q (inl i) = inl (in_frames i)
     by q (inr i) = inr i
 
-    held : (q : Path) → Holds (record l { frames = on_top (λ f. set_local f name x) l.frames }) q → Holds l q ⊎ IsHandle x q
+    held : (q : Path) → Holds (record l { frames = on_top (λ f. set_local f name x) l.frames }) q
+        → Holds l q ⊎ IsHandle x q
     held q (in_locations h) = inl (in_locations h)
     held q (in_frames h) = by q (top_assigned l.frames name x q h)
     held q (in_phase left e) = inl (in_phase left e)
@@ -157,7 +167,8 @@ assigned_ok {l} {l'} {x} a k = record { forks = a.forks; held = λ q h. by q (a.
 pub enter_ok : (block : Statements) (l : Local) → Stepped l (enter block l)
 enter_ok block l = record { forks = refl; held = held; fuel = le_refl l.fuel; weight = less }
   where
-    top : (fs : List Frame) (q : Path) → FramesHold (on_top (λ f. record f { rest = append block f.rest }) fs) q → FramesHold fs q
+    top : (fs : List Frame) (q : Path) → FramesHold (on_top (λ f. record f { rest = append block f.rest }) fs) q
+        → FramesHold fs q
     top [] q none = none
     top (f ∷ fs) q h = h
 
@@ -167,7 +178,10 @@ enter_ok block l = record { forks = refl; held = held; fuel = le_refl l.fuel; we
     held q (in_phase left e) = in_phase left e
 
     less : weight (enter block l) ≤ weight l + 1
-    less = let w : weight (enter block l) ≡ weight l = weight_same l.phase (enter block l).frames l.frames l.fuel (beyond_on_top _ l.frames) in omega arith
+    less =
+        let w : weight (enter block l) ≡ weight l =
+        weight_same l.phase (enter block l).frames l.frames l.fuel (beyond_on_top _ l.frames) in
+        omega arith
 
 pub enter_twice : (first second : Statements) (l : Local) → Stepped l (enter first (enter second l))
 enter_twice first second l =
@@ -177,11 +191,15 @@ enter_twice first second l =
   where
     less : weight (enter first (enter second l)) ≤ weight l + 1
     less =
-        let w : weight (enter first (enter second l)) ≡ weight (enter second l) = weight_same l.phase (enter first (enter second l)).frames (enter second l).frames l.fuel (beyond_on_top _ (enter second l).frames) in
-        let u : weight (enter second l) ≡ weight l = weight_same l.phase (enter second l).frames l.frames l.fuel (beyond_on_top _ l.frames) in
+        let w : weight (enter first (enter second l)) ≡ weight (enter second l) =
+        weight_same l.phase (enter first (enter second l)).frames (enter second l).frames l.fuel
+        (beyond_on_top _ (enter second l).frames) in
+        let u : weight (enter second l) ≡ weight l =
+        weight_same l.phase (enter second l).frames l.frames l.fuel (beyond_on_top _ l.frames) in
         omega arith
 
-pub call_ok : (l : Local) (p : Procedure) (args : List Value) (left : Option Name) → l.phase ≡ running → OfEach (Held l) (not_held l) args → Stepped l (record l { frames = frame_of p args left ∷ l.frames })
+pub call_ok : (l : Local) (p : Procedure) (args : List Value) (left : Option Name) → l.phase ≡ running
+    → OfEach (Held l) (not_held l) args → Stepped l (record l { frames = frame_of p args left ∷ l.frames })
 call_ok l p args left run k = record { forks = refl; held = held; fuel = le_refl l.fuel; weight = less l.frames refl }
   where
     l' : Local
@@ -195,12 +213,15 @@ call_ok l p args left run k = record { forks = refl; held = held; fuel = le_refl
 
     less : (fs : List Frame) → l.frames ≡ fs → weight l' ≤ weight l + 1
     less [] e =
-        let before : weight l ≡ 2 * l.fuel + 1 + 0 = weight_running l run ∙ ap (λ x. 2 * l.fuel + 1 + beyond_first x) e in
+        let before : weight l ≡ 2 * l.fuel + 1 + 0 =
+        weight_running l run ∙ ap (λ x. 2 * l.fuel + 1 + beyond_first x) e in
         let after : weight l' ≡ 2 * l.fuel + 1 + 0 = weight_running l' run ∙ ap (λ x. 2 * l.fuel + 1 + length x) e in
         omega arith
     less (f ∷ fs) e =
-        let before : weight l ≡ 2 * l.fuel + 1 + length fs = weight_running l run ∙ ap (λ x. 2 * l.fuel + 1 + beyond_first x) e in
-        let after : weight l' ≡ 2 * l.fuel + 1 + suc (length fs) = weight_running l' run ∙ ap (λ x. 2 * l.fuel + 1 + length x) e in
+        let before : weight l ≡ 2 * l.fuel + 1 + length fs =
+        weight_running l run ∙ ap (λ x. 2 * l.fuel + 1 + beyond_first x) e in
+        let after : weight l' ≡ 2 * l.fuel + 1 + suc (length fs) =
+        weight_running l' run ∙ ap (λ x. 2 * l.fuel + 1 + length x) e in
         omega arith
 
 pub finish_ok : (l : Local) → l.phase ≡ running → Moved l (finish l)
@@ -214,7 +235,8 @@ finish_ok l run = record { forks = refl; held = held; fuel = le_refl l.fuel; wei
     less : weight (finish l) + 1 ≤ weight l
     less = let w = weight_running l run in omega arith
 
-pub return_ok : (s : Setting) (l : Local) (fs : List Frame) (x : Option Value) → l.phase ≡ running → l.frames ≡ fs → ((y : Value) → x ≡ Some y → Held l y) → Moved l (end_frame s l fs x)
+pub return_ok : (s : Setting) (l : Local) (fs : List Frame) (x : Option Value) → l.phase ≡ running → l.frames ≡ fs
+    → ((y : Value) → x ≡ Some y → Held l y) → Moved l (end_frame s l fs x)
 return_ok s l [] x run is from = finish_ok l run
 return_ok s l (f ∷ []) x run is from = finish_ok l run
 return_ok s l (f ∷ g ∷ fs) x run is from = go f.left x from
@@ -229,7 +251,8 @@ return_ok s l (f ∷ g ∷ fs) x run is from = go f.left x from
 
     less : weight l₁ + 1 ≤ weight l
     less =
-        let before : weight l ≡ 2 * l.fuel + 1 + suc (length fs) = weight_running l run ∙ ap (λ v. 2 * l.fuel + 1 + beyond_first v) is in
+        let before : weight l ≡ 2 * l.fuel + 1 + suc (length fs) =
+        weight_running l run ∙ ap (λ v. 2 * l.fuel + 1 + beyond_first v) is in
         let after : weight l₁ ≡ 2 * l.fuel + 1 + length fs = weight_running l₁ run in
         omega arith
 

@@ -18,18 +18,24 @@ use Rattle.revision_calculus.specs.Outcome.{show_cells, show_variable, show_all,
 use Rattle.revision_calculus.specs.Kept.{location_count, IsTrapBelow, IsShaped, IsPlaced, PlaceLaw}
 use Rattle.revision_calculus.proofs.Shapes.{shape_kept, main_shaped}
 
-cells_count : (name : Name) (ls : List Location) (base cell count : ℕ) → length (show_cells name ls base cell count) ≡ count
+cells_count : (name : Name) (ls : List Location) (base cell count : ℕ)
+    → length (show_cells name ls base cell count) ≡ count
 cells_count name ls base cell zero = refl
 cells_count name ls base cell (suc n) = ap suc (cells_count name ls base (suc cell) n)
 
-variable_count : (before : List Declaration) (ls : List Location) (x : SharedDeclaration) → length (show_variable ls (variable_behind before x) (variable_behind before x).info.array) ≡ cells_of x.size
+variable_count : (before : List Declaration) (ls : List Location) (x : SharedDeclaration)
+    → length (show_variable ls (variable_behind before x) (variable_behind before x).info.array) ≡ cells_of x.size
 variable_count before ls x = by x.size
   where
-    by : (size : Option ArraySize) → length (show_variable ls (variable_behind before (record x { size = size })) (variable_behind before (record x { size = size })).info.array) ≡ cells_of size
+    by : (size : Option ArraySize)
+        → length (show_variable ls (variable_behind before (record x { size = size }))
+        (variable_behind before (record x { size = size })).info.array)
+        ≡ cells_of size
     by None = refl
     by (Some y) = cells_count x.name.text ls (cells before) 0 (cells_of (Some y))
 
-pub values_count : (before es : List Declaration) (ls : List Location) → length (show_all (variables_behind before es) ls) ≡ cells es
+pub values_count : (before es : List Declaration) (ls : List Location)
+    → length (show_all (variables_behind before es) ls) ≡ cells es
 values_count before [] ls = refl
 values_count before (fun w ps r body ∷ es) ls = values_count (before ++ fun w ps r body ∷ []) es ls
 values_count before (merge w m j r body ∷ es) ls = values_count (before ++ merge w m j r body ∷ []) es ls
@@ -37,16 +43,19 @@ values_count before (proc w ps r body ∷ es) ls = values_count (before ++ proc 
 values_count before (shared x ∷ es) ls =
     let first : List Shown = show_variable ls (variable_behind before x) (variable_behind before x).info.array in
     let rest : List Shown = show_all (variables_behind (before ++ shared x ∷ []) es) ls in
-    length-append first rest ∙ ap (λ n. n + length rest) (variable_count before ls x) ∙ ap (λ n. cells_of x.size + n) (values_count (before ++ shared x ∷ []) es ls)
+    length-append first rest ∙ ap (λ n. n + length rest) (variable_count before ls x)
+    ∙ ap (λ n. cells_of x.size + n) (values_count (before ++ shared x ∷ []) es ls)
 
-of_end : (text : List ℕ) (values : List Shown) (p : Phase) (x : Outcome) → IsTrapBelow (length values) p → end_as text values p ≡ Some x → IsPlaced x
+of_end : (text : List ℕ) (values : List Shown) (p : Phase) (x : Outcome) → IsTrapBelow (length values) p
+    → end_as text values p ≡ Some x → IsPlaced x
 of_end text values running x below e = absurd cc
 of_end text values (joining q left) x below e = absurd cc
 of_end text values done x below e = subst IsPlaced (let is : o.Done text values ≡ x = cc in is) tt
 of_end text values (trapped t) x below e = subst IsPlaced (let is : o.Trapped text values t ≡ x = cc in is) below
 
 pub place_law : (s : Setting) (fuel : ℕ) → PlaceLaw s fuel
-place_law s fuel g reached x e = by g (kept_law (calculus s) (main s fuel) (IsShaped s) (shape_kept s) (main_shaped s fuel) g reached) e
+place_law s fuel g reached x e =
+    by g (kept_law (calculus s) (main s fuel) (IsShaped s) (shape_kept s) (main_shaped s fuel) g reached) e
   where
     by : (g : Global Local) → Everywhere (calculus s) (IsShaped s) g → outcome s g ≡ Some x → IsPlaced x
     by Twice shaped e = subst IsPlaced (let is : o.Twice ≡ x = cc in is) tt

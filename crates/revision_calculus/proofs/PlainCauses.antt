@@ -39,27 +39,35 @@ plain_below count cause.Spent plain = tt
 module _ (s : Setting) (l : Local) where
   pub eval_plain : (e : Expression) → OfErr IsPlain (eval s l e)
   eval_plain e =
-      value_err IsPlain tt tt (Unit {0}) (λ i. tt) (funs_of (funs_in s.program)) (env s l) (funs_err IsPlain tt tt (Unit {0}) (λ i. tt) (funs_in s.program) (any_bodies (Unit {0}) tt (funs_in s.program)))
-      (λ name z. cell_err IsPlain tt (read_shared (variable_named (variables s.program) name) l.locations) z) e (any_inputs (Unit {0}) tt e)
+      value_err IsPlain tt tt (Unit {0}) (λ i. tt) (funs_of (funs_in s.program)) (env s l)
+      (funs_err IsPlain tt tt (Unit {0}) (λ i. tt) (funs_in s.program) (any_bodies (Unit {0}) tt (funs_in s.program)))
+      (λ name z. cell_err IsPlain tt (read_shared (variable_named (variables s.program) name) l.locations) z) e
+      (any_inputs (Unit {0}) tt e)
 
   pub evals_plain : (es : Expressions) → OfErr IsPlain (evals s l es)
   evals_plain es =
-      values_err IsPlain tt tt (Unit {0}) (λ i. tt) (funs_of (funs_in s.program)) (env s l) (funs_err IsPlain tt tt (Unit {0}) (λ i. tt) (funs_in s.program) (any_bodies (Unit {0}) tt (funs_in s.program)))
-      (λ name z. cell_err IsPlain tt (read_shared (variable_named (variables s.program) name) l.locations) z) es (any_all (Unit {0}) tt es)
+      values_err IsPlain tt tt (Unit {0}) (λ i. tt) (funs_of (funs_in s.program)) (env s l)
+      (funs_err IsPlain tt tt (Unit {0}) (λ i. tt) (funs_in s.program) (any_bodies (Unit {0}) tt (funs_in s.program)))
+      (λ name z. cell_err IsPlain tt (read_shared (variable_named (variables s.program) name) l.locations) z) es
+      (any_all (Unit {0}) tt es)
 
   location_plain : (o : Option SharedVariable) (i : ℤ) → OfErr IsPlain (location_of o i)
   location_plain None i = tt
   location_plain (Some x) (negsuc i) = tt
   location_plain (Some x) (pos i) = cond_err IsPlain (nat_lt i x.info.cells) _ _ tt tt
 
-  pub cell_plain : (name : Name) (index : Expression) → OfErr IsPlain (and_then (eval s l index) (λ i. cell_location s name (number_of i)))
-  cell_plain name index = then_err IsPlain (eval s l index) _ (eval_plain index) (λ i. location_plain (variable_named (variables s.program) name) (number_of i))
+  pub cell_plain : (name : Name) (index : Expression)
+      → OfErr IsPlain (and_then (eval s l index) (λ i. cell_location s name (number_of i)))
+  cell_plain name index =
+      then_err IsPlain (eval s l index) _ (eval_plain index)
+      (λ i. location_plain (variable_named (variables s.program) name) (number_of i))
 
   pub taken_plain : (arms : Arms) (last : Statements) → OfErr IsPlain (select s l arms last)
   taken_plain no_arms last = tt
   taken_plain (arm test block arms) last =
       let later = taken_plain arms last in
-      then_err IsPlain (eval s l test) (λ x. if truth_of x then Ok block else select s l arms last) (eval_plain test) (λ x. cond_err IsPlain (truth_of x) (Ok block) (select s l arms last) tt later)
+      then_err IsPlain (eval s l test) (λ x. if truth_of x then Ok block else select s l arms last) (eval_plain test)
+      (λ x. cond_err IsPlain (truth_of x) (Ok block) (select s l arms last) tt later)
 
   item_plain : (i : PrintItem) → OfErr IsPlain (item_text s l i)
   item_plain (text at bytes) = tt
@@ -69,4 +77,5 @@ module _ (s : Setting) (l : Local) where
   items_plain [] = tt
   items_plain (i ∷ is) =
       let later = items_plain is in
-      then_err IsPlain (item_text s l i) (λ x. and_then (item_texts s l is) (λ xs. Ok (x ∷ xs))) (item_plain i) (λ x. then_err IsPlain (item_texts s l is) (λ xs. Ok (x ∷ xs)) later (λ xs. tt))
+      then_err IsPlain (item_text s l i) (λ x. and_then (item_texts s l is) (λ xs. Ok (x ∷ xs))) (item_plain i)
+      (λ x. then_err IsPlain (item_texts s l is) (λ xs. Ok (x ∷ xs)) later (λ xs. tt))

@@ -50,7 +50,8 @@ module _ (M : Machine) where
   Within Twice ps = Unit {0}
   Within (Live revs) ps = (p : Path) (e : Entry M.Local) → revs p ≡ Some e → IsIn p ps
 
-  grown_keeps : (revs : Revisions M) (r : Path) (ps : List Path) (p : Path) → IsIn p ps → IsIn p (grown (Live revs) r ps)
+  grown_keeps : (revs : Revisions M) (r : Path) (ps : List Path) (p : Path) → IsIn p ps
+      → IsIn p (grown (Live revs) r ps)
   grown_keeps revs r ps p i = of_entry (revs r)
     where
       of_event : (l : M.Local) (v : Event M.Local) → IsIn p (with_child r l v ps)
@@ -64,12 +65,14 @@ module _ (M : Machine) where
       of_entry (Some (Plain l)) = of_event l (M.next r l)
       of_entry (Some (Joined l)) = i
 
-  grown_has : (revs : Revisions M) (r : Path) (ps : List Path) (l l' c : M.Local) → revs r ≡ Some (Plain l) → M.next r l ≡ Forks l' c → IsIn (child r (M.forks l)) (grown (Live revs) r ps)
+  grown_has : (revs : Revisions M) (r : Path) (ps : List Path) (l l' c : M.Local) → revs r ≡ Some (Plain l)
+      → M.next r l ≡ Forks l' c → IsIn (child r (M.forks l)) (grown (Live revs) r ps)
   grown_has revs r ps l l' c here does =
       subst (λ e. IsIn (child r (M.forks l)) (with_entry r e ps)) (sym here)
       (subst (λ v. IsIn (child r (M.forks l)) (with_child r l v ps)) (sym does) (inl refl))
 
-  within_step : (g h : Global M.Local) (r : Path) (ps : List Path) → Within g ps → step M g r ≡ Some h → Within h (grown g r ps)
+  within_step : (g h : Global M.Local) (r : Path) (ps : List Path) → Within g ps → step M g r ≡ Some h
+      → Within h (grown g r ps)
   unfolding Within
   within_step Twice h r ps w s = no_none s
   within_step (Live revs) h r ps w s = by h (way M revs r h s)
@@ -81,12 +84,16 @@ module _ (M : Machine) where
       by h (twice l q lq here does there) = tt
       by h (writes l l' o e here role) = λ p v there. go p (decide_same r p) (decide_same o p) v there (place M role)
         where
-          go : (p : Path) → (r ≡ p) ⊎ (r ≢ p) → (o ≡ p) ⊎ (o ≢ p) → (v : Entry M.Local) → put_two revs r (Plain l') o e p ≡ Some v → Place M revs r l l' o e → IsIn p (grown (Live revs) r ps)
+          go : (p : Path) → (r ≡ p) ⊎ (r ≢ p) → (o ≡ p) ⊎ (o ≢ p) → (v : Entry M.Local)
+              → put_two revs r (Plain l') o e p ≡ Some v → Place M revs r l l' o e → IsIn p (grown (Live revs) r ps)
           go p (inl same) o? v there x = grown_keeps revs r ps p (w p (Plain l) (ap revs (sym same) ∙ here))
-          go p (inr apart) (inr other) v there x = grown_keeps revs r ps p (w p v (sym (two_other revs r o (Plain l') e p apart other) ∙ there))
+          go p (inr apart) (inr other) v there x =
+              grown_keeps revs r ps p (w p v (sym (two_other revs r o (Plain l') e p apart other) ∙ there))
           go p (inr apart) (inl same) v there (own does is ee) = absurd (apart (sym is ∙ same))
-          go p (inr apart) (inl same) v there (new c does is ee) = subst (λ q. IsIn q (grown (Live revs) r ps)) (sym is ∙ same) (grown_has revs r ps l l' c here does)
-          go p (inr apart) (inl same) v there (marks lq does at ended jl ee) = grown_keeps revs r ps p (w p (Plain lq) (ap revs (sym same) ∙ at))
+          go p (inr apart) (inl same) v there (new c does is ee) =
+              subst (λ q. IsIn q (grown (Live revs) r ps)) (sym is ∙ same) (grown_has revs r ps l l' c here does)
+          go p (inr apart) (inl same) v there (marks lq does at ended jl ee) =
+              grown_keeps revs r ps p (w p (Plain lq) (ap revs (sym same) ∙ at))
 
   within_start : (main : M.Local) → Within (start M main) ([] ∷ [])
   unfolding Within
@@ -96,11 +103,17 @@ module _ (M : Machine) where
       go (inl same) = inl (sym same)
       go (inr apart) = no_none (sym (at_other nowhere [] (Plain main) p apart) ∙ there)
 
-  runs_of : (rs : List Path) (g : Global M.Local) (ps : List Path) (t : Global M.Local × List Path) → Within g ps → played g ps rs ≡ Some t → Runs M g rs t.0 × Within t.0 t.1
+  runs_of : (rs : List Path) (g : Global M.Local) (ps : List Path) (t : Global M.Local × List Path) → Within g ps
+      → played g ps rs ≡ Some t → Runs M g rs t.0 × Within t.0 t.1
   runs_of [] g ps t w e = let is : (g, ps) ≡ t = some_inj e in (ap (λ v. v.0) is, subst (λ v. Within v.0 v.1) is w)
-  runs_of (r ∷ rs) g ps t w e = go (λ h s f. runs_of rs h (grown g r ps) t (within_step g h r ps w s) f) (step M g r) refl e
+  runs_of (r ∷ rs) g ps t w e =
+      go (λ h s f. runs_of rs h (grown g r ps) t (within_step g h r ps w s) f) (step M g r) refl e
     where
-      go : ((h : Global M.Local) → step M g r ≡ Some h → played h (grown g r ps) rs ≡ Some t → Runs M h rs t.0 × Within t.0 t.1) → (o : Option (Global M.Local)) → step M g r ≡ o → elim o [ None ↦ None | Some h ↦ played h (grown g r ps) rs ] ≡ Some t → Runs M g (r ∷ rs) t.0 × Within t.0 t.1
+      go : ((h : Global M.Local) → step M g r ≡ Some h → played h (grown g r ps) rs ≡ Some t
+          → Runs M h rs t.0 × Within t.0 t.1)
+          → (o : Option (Global M.Local)) → step M g r ≡ o
+          → elim o [ None ↦ None | Some h ↦ played h (grown g r ps) rs ] ≡ Some t
+          → Runs M g (r ∷ rs) t.0 × Within t.0 t.1
       go later None s e = no_none e
       go later (Some h) s e = let rest = later h s e in ((h, s, rest.0), rest.1)
 
@@ -128,10 +141,12 @@ module _ (M : Machine) where
     pub complete : Complete M (start M main) rs end
     pub tells : f end ≡ Some x
 
-  pub complete_of : {X : Type 0} (f : Global M.Local → Option X) (main : M.Local) (rs : List Path) (x : X) → told f main rs ≡ Some x → Told f main rs x
+  pub complete_of : {X : Type 0} (f : Global M.Local → Option X) (main : M.Local) (rs : List Path) (x : X)
+      → told f main rs ≡ Some x → Told f main rs x
   complete_of {X} f main rs x e = go (played (start M main) ([] ∷ []) rs) refl e
     where
-      go : (o : Option (Global M.Local × List Path)) → played (start M main) ([] ∷ []) rs ≡ o → told_by f o ≡ Some x → Told f main rs x
+      go : (o : Option (Global M.Local × List Path)) → played (start M main) ([] ∷ []) rs ≡ o → told_by f o ≡ Some x
+          → Told f main rs x
       go None p e = no_none e
       go (Some t) p e = by (stuck t.0 t.1) refl e
         where

@@ -20,25 +20,51 @@ module _ (n : ℕ) where
   ahead k = record { locals = []; rest = block (replicate k (call 1 "p" [])); left = None }
 
   abbrev before : ℕ → ℕ → Local
-  before k line = record { locations = []; frames = ahead k ∷ []; fuel = k; forks = 0; noted = []; text = []; line = line; phase = running }
+  before k line = record {
+    locations = [];
+    frames = ahead k ∷ [];
+    fuel = k;
+    forks = 0;
+    noted = [];
+    text = [];
+    line = line;
+    phase = running;
+  }
 
   -- in the call
   abbrev within : ℕ → Local
-  within k = record { locations = []; frames = record { locals = []; rest = block []; left = None } ∷ ahead k ∷ []; fuel = k; forks = 0; noted = []; text = []; line = 1; phase = running }
+  within k = record {
+    locations = [];
+    frames = record { locals = []; rest = block []; left = None } ∷ ahead k ∷ [];
+    fuel = k;
+    forks = 0;
+    noted = [];
+    text = [];
+    line = 1;
+    phase = running;
+  }
 
   Walk : Revisions (calculus s) → ℕ → Type 0
   Walk revs k = (rs : List Path) × (g : Global Local) × Runs (calculus s) (Live revs) rs g × (length rs ≡ 2 * k + 1)
 
   walk : (k line : ℕ) (revs : Revisions (calculus s)) → revs [] ≡ Some (Plain (before k line)) → Walk revs k
   unfolding Walk
-  walk zero line revs here =
-      ([] ∷ [], Live (with_at revs [] (Plain (finish (before 0 line)))), (Live (with_at revs [] (Plain (finish (before 0 line)))), ap (step_at (calculus s) revs []) here, refl), refl)
+  walk zero line revs here = (
+    [] ∷ [],
+    Live (with_at revs [] (Plain (finish (before 0 line)))),
+    (Live (with_at revs [] (Plain (finish (before 0 line)))), ap (step_at (calculus s) revs []) here, refl),
+    refl,
+  )
   walk (suc k) line revs here =
       let one : Revisions (calculus s) = with_at revs [] (Plain (within k)) in
       let two : Revisions (calculus s) = with_at one [] (Plain (before k 1)) in
       let rest = walk k 1 two refl in
-      let long = rest.3 in
-      ([] ∷ [] ∷ rest.0, rest.1, (Live one, ap (step_at (calculus s) revs []) here, (Live two, refl, rest.2)), omega arith)
+      let long = rest.3 in (
+        [] ∷ [] ∷ rest.0,
+        rest.1,
+        (Live one, ap (step_at (calculus s) revs []) here, (Live two, refl, rest.2)),
+        omega arith,
+      )
 
 pub takes : Takes (λ fuel. 2 * fuel + 1)
 unfolding Walk

@@ -1,7 +1,7 @@
 -- Where a value can come from: what holds of all that an expression reads, and of each value that is no handle,
 -- holds of the expression's value.
 use Rattle.std.proofs.Common.{ℕ, ℤ, pos, negsuc, Bool, true, false, cond, List, [], ◌∷◌, length, Option, Some, None, Result, Ok, Err}
-use Rattle.std.specs.Prelude.{nat_lt, if◌then◌else◌, slice_get, int_lt, int_le}
+use Rattle.std.specs.Prelude.{nat_lt, if◌then◌else◌, not, slice_get, int_lt, int_le}
 use Rattle.rev_num.specs.declared.value.Value.{Value}
 use Rattle.rev_num.specs.declared.value.Value.TheVariants as v
 use Rattle.rev_num.specs.declared.value.NumFault.{NumFault}
@@ -15,14 +15,16 @@ use Rattle.rev_syntax.specs.declared.tree.UnaryOp.TheVariants as u
 use Rattle.rev_syntax.specs.declared.tree.BinaryOp.{BinaryOp}
 use Rattle.rev_syntax.specs.declared.tree.BinaryOp.TheVariants as b
 use Rattle.merge_decl.specs.Names.{Name, same}
-use Rattle.merge_decl.specs.Value.{Answer, and_then, number_of, truth_of, number, not, operated, short, linked, reversed, Shared, unknown, scalar, array, Env, read_cell, taken, read_input, read, Fun, Funs, called, value_by, expression_form_value, values_by, chained, FunDef, bind, bind_all, nothing, inside, fun_value, earlier_of, funs_of, same_value}
+use Rattle.std.specs.Option.{option_or}
+use Rattle.merge_decl.specs.Value.{Answer, and_then, number_of, truth_of, number, operated, short, linked, reversed, Shared, unknown, scalar, array, Env, read_cell, taken, read_input, read, Fun, Funs, called, value_by, expression_form_value, values_by, chained, FunDef, bind, bind_all, nothing, inside, fun_value, funs_of, same_value}
 
 -- what holds of the result, where there is one
 abbrev pub OfOk : {A E : Type 0} → (A → Type 0) → Result A E → Type 0
 OfOk P (Ok x) = P x
 OfOk P (Err c) = Unit {0}
 
-pub then_ok : {A B : Type 0} (P : A → Type 0) (Q : B → Type 0) (r : Result A Cause) (f : A → Result B Cause) → OfOk P r → ((x : A) → P x → OfOk Q (f x)) → OfOk Q (and_then r f)
+pub then_ok : {A B : Type 0} (P : A → Type 0) (Q : B → Type 0) (r : Result A Cause) (f : A → Result B Cause) → OfOk P r
+    → ((x : A) → P x → OfOk Q (f x)) → OfOk Q (and_then r f)
 then_ok P Q (Ok x) f p go = go x p
 then_ok P Q (Err c) f p go = tt
 
@@ -95,7 +97,8 @@ module _ (K : Value → Type 0) (others : OfOthers K) where
   short_ok b.And x = cond_local (truth_of x) None (Some (v.Bool false)) tt (others.bool false)
   short_ok b.Or x = cond_local (truth_of x) (Some (v.Bool true)) None (others.bool true) tt
 
-  linked_ok : (o : BinaryOp) (x : Value) (right : Answer) (z : Option Value) → OfOk K right → OfLocal z → OfOk K (linked o x right z)
+  linked_ok : (o : BinaryOp) (x : Value) (right : Answer) (z : Option Value) → OfOk K right → OfLocal z
+      → OfOk K (linked o x right z)
   linked_ok o x right (Some z) k kz = kz
   linked_ok o x right None k kz = then_ok K K right (operated o x) k (λ y. operated_ok o x y)
 
@@ -147,18 +150,26 @@ module _ (K : Value → Type 0) (others : OfOthers K) where
       expression_form_ok (int n) = others.int n
       expression_form_ok (bool x) = others.bool x
       expression_form_ok no_rev = others.none
-      expression_form_ok (var w) = read_ok (e.local w.text) (e.shared w.text) (of_env.local w.text) (of_env.shared w.text)
+      expression_form_ok (var w) =
+          read_ok (e.local w.text) (e.shared w.text) (of_env.local w.text) (of_env.shared w.text)
       expression_form_ok (cell w index) =
-          then_ok AnyValue K (value_by fs e index) (λ i. read_cell (e.shared w.text) (number_of i)) (any_ok (value_by fs e index)) (λ i any. read_cell_ok (e.shared w.text) (number_of i) (of_env.shared w.text))
+          then_ok AnyValue K (value_by fs e index) (λ i. read_cell (e.shared w.text) (number_of i))
+          (any_ok (value_by fs e index)) (λ i any. read_cell_ok (e.shared w.text) (number_of i) (of_env.shared w.text))
       expression_form_ok (apply w args) =
-          then_ok OfEach K (values_by fs e args) (called (fs w.text)) (values_ok args) (λ xs k. called_ok (fs w.text) xs (of_funs w.text) k)
+          then_ok OfEach K (values_by fs e args) (called (fs w.text)) (values_ok args)
+          (λ xs k. called_ok (fs w.text) xs (of_funs w.text) k)
       expression_form_ok (input at index) =
-          then_ok AnyValue K (value_by fs e index) (λ i. read_input e.inputs (number_of i)) (any_ok (value_by fs e index)) (λ i any. read_input_ok e.inputs (number_of i))
+          then_ok AnyValue K (value_by fs e index) (λ i. read_input e.inputs (number_of i))
+          (any_ok (value_by fs e index)) (λ i any. read_input_ok e.inputs (number_of i))
       expression_form_ok (inputs at) = others.int (pos (length e.inputs))
       expression_form_ok (pick test x y) =
-          then_ok AnyValue K (value_by fs e test) (λ c. if truth_of c then value_by fs e x else value_by fs e y) (any_ok (value_by fs e test))
-          (let p = value_ok x in let q = value_ok y in λ c any. cond_ok (truth_of c) (value_by fs e x) (value_by fs e y) p q)
-      expression_form_ok (unary o part) = then_ok K K (value_by fs e part) (reversed o) (value_ok part) (λ x k. reversed_ok o x)
+          then_ok AnyValue K (value_by fs e test) (λ c. if truth_of c then value_by fs e x else value_by fs e y)
+          (any_ok (value_by fs e test))
+          (let p = value_ok x in
+          let q = value_ok y in
+          λ c any. cond_ok (truth_of c) (value_by fs e x) (value_by fs e y) p q)
+      expression_form_ok (unary o part) =
+          then_ok K K (value_by fs e part) (reversed o) (value_ok part) (λ x k. reversed_ok o x)
       expression_form_ok (chain first rest) =
           then_ok K K (value_by fs e first) (λ x. chained fs e x rest) (value_ok first) (chained_ok rest)
 
@@ -166,7 +177,8 @@ module _ (K : Value → Type 0) (others : OfOthers K) where
       values_ok no_expressions = tt
       values_ok (expression x xs) =
           then_ok K OfEach (value_by fs e x) (λ y. and_then (values_by fs e xs) (λ ys. Ok (y ∷ ys))) (value_ok x)
-          (let later = values_ok xs in λ y k. then_ok OfEach OfEach (values_by fs e xs) (λ ys. Ok (y ∷ ys)) later (λ ys ks. (k, ks)))
+          (let later = values_ok xs in
+          λ y k. then_ok OfEach OfEach (values_by fs e xs) (λ ys. Ok (y ∷ ys)) later (λ ys ks. (k, ks)))
 
       chained_ok : (ls : Links) (x : Value) → K x → OfOk K (chained fs e x ls)
       chained_ok no_links x k = k
@@ -174,16 +186,18 @@ module _ (K : Value → Type 0) (others : OfOthers K) where
           then_ok K K (linked o x (value_by fs e part) (short o x)) (λ z. chained fs e z rest)
           (linked_ok o x (value_by fs e part) (short o x) (value_ok part) (short_ok o x)) (chained_ok rest)
 
-  bind_all_ok : (params : List Name) (args : List Value) (local : Name → Option Value) → ((name : Name) → OfLocal (local name)) → OfEach args → (name : Name) → OfLocal (bind_all local params args name)
+  bind_all_ok : (params : List Name) (args : List Value) (local : Name → Option Value)
+      → ((name : Name) → OfLocal (local name)) → OfEach args → (name : Name) → OfLocal (bind_all local params args name)
   bind_all_ok [] args local k ks name = k name
   bind_all_ok (p ∷ ps) [] local k ks name = k name
   bind_all_ok (p ∷ ps) (x ∷ xs) local k ks name =
-      bind_all_ok ps xs (bind local p x) (λ other. cond_local (same other p) (Some x) (local other) ks.0 (k other)) ks.1 name
+      bind_all_ok ps xs (bind local p x) (λ other. cond_local (same other p) (Some x) (local other) ks.0 (k other)) ks.1
+      name
 
   inside_ok : (params : List Name) (args : List Value) → OfEach args → OfEnv (inside params args)
   inside_ok params args ks = record { local = bind_all_ok params args nothing (λ name. tt) ks; shared = λ name. tt }
 
-  earlier_ok : (x y : Option Fun) → OfFun x → OfFun y → OfFun (earlier_of x y)
+  earlier_ok : (x y : Option Fun) → OfFun x → OfFun y → OfFun (option_or x y)
   earlier_ok (Some f) y k ky = k
   earlier_ok None y k ky = ky
 
@@ -195,5 +209,7 @@ module _ (K : Value → Type 0) (others : OfOthers K) where
   funs_ok [] name = tt
   funs_ok (d ∷ before) name =
       let those : OfFuns (funs_of before) = funs_ok before in
-      earlier_ok (funs_of before name) (if same name d.name then Some (fun_value (funs_of before) d) else None) (those name)
-      (cond_fun (same name d.name) (fun_value (funs_of before) d) (λ args ks. value_ok (funs_of before) (inside d.params args) those (inside_ok d.params args ks) d.body))
+      earlier_ok (funs_of before name) (if same name d.name then Some (fun_value (funs_of before) d) else None)
+      (those name)
+      (cond_fun (same name d.name) (fun_value (funs_of before) d)
+      (λ args ks. value_ok (funs_of before) (inside d.params args) those (inside_ok d.params args ks) d.body))

@@ -7,7 +7,7 @@ use Rattle.rev_num.specs.declared.value.Value.{Value}
 use Rattle.revision_machine.specs.Machine.{Machine}
 use Rattle.rev_types.specs.Layout.{SharedVariable, variables}
 use Rattle.revision_calculus.specs.Program.{first_of, Setting}
-use Rattle.revision_calculus.specs.State.{fresh, running, Local}
+use Rattle.revision_calculus.specs.State.{begun, Local}
 use Rattle.revision_calculus.specs.Step.{next}
 use Rattle.revision_calculus.specs.Join.{join}
 
@@ -18,16 +18,7 @@ start_values (x ∷ xs) = replicate x.info.cells (first_of x) ++ start_values xs
 
 -- `main` with this fuel, before its first statement
 abbrev pub main : Setting → ℕ → Local
-main s fuel = record {
-  locations = fresh (start_values (variables s.program));
-  frames = record { locals = []; rest = s.program.main; left = None } ∷ [];
-  fuel = fuel;
-  forks = 0;
-  noted = [];
-  text = [];
-  line = 0;
-  phase = running;
-}
+main s fuel = begun (start_values (variables s.program)) (record { locals = []; rest = s.program.main; left = None }) fuel
 
 abbrev pub calculus : Setting → Machine
 calculus s = record { Local = Local; next = next s; forks = λ l. l.forks; join = join s }

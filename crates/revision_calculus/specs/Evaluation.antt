@@ -9,7 +9,7 @@ use Rattle.rev_num.specs.declared.outcome.Cause.TheVariants as cause
 use Rattle.rev_syntax.specs.Trees.{Expression, Expressions}
 use Rattle.merge_decl.specs.Names.{Name, same}
 use Rattle.merge_decl.specs.Table.{Table, find}
-use Rattle.merge_decl.specs.Value.{Answer, Shared, unknown, scalar, array, Env, value, values}
+use Rattle.merge_decl.specs.Value.{Answer, Shared, unknown, scalar, array, Env, funs_of, value_by, values_by}
 use Rattle.merge_decl.specs.Definitions.{funs_in}
 use Rattle.rev_types.specs.Layout.{SharedVariable, variables}
 use Rattle.revision_calculus.specs.Program.{variable_named, Setting}
@@ -36,11 +36,11 @@ env s l = record {
 }
 
 abbrev pub eval : Setting → Local → Expression → Answer
-eval s l e = value (funs_in s.program) (env s l) e
+eval s l e = value_by (funs_of (funs_in s.program)) (env s l) e
 
 -- of arguments, from left to right
 abbrev pub evals : Setting → Local → Expressions → Result (List Value) Cause
-evals s l es = values (funs_in s.program) (env s l) es
+evals s l es = values_by (funs_of (funs_in s.program)) (env s l) es
 
 -- ---- assignment
 

@@ -86,15 +86,12 @@ abbrev pub join_in : Setting → Path → Local → Option Name → Local → Ph
 join_in s r l left j done =
     absorb s r l left j (compose s.program 0 (merges_of (variables s.program)) l.locations j.locations)
 join_in s r l left j (trapped t) = inherit s l left (trapped t)
-join_in s r l left j running = l
-join_in s r l left j (joining q waits) = l
+join_in s r l left j _ = l
 
 -- the left side that waits at a join
 abbrev pub left_side : Phase → Option Name
-left_side running = None
 left_side (joining q left) = left
-left_side done = None
-left_side (trapped t) = None
+left_side _ = None
 
 -- the joiner lists the join
 abbrev pub note : Path → Local → Local

@@ -11,7 +11,7 @@ use Rattle.revision_machine.specs.Laws.{local_of}
 use Rattle.merge_decl.specs.Names.{Name}
 use Rattle.rev_types.specs.Layout.{SharedVariable, variables}
 use Rattle.revision_calculus.specs.Program.{Setting}
-use Rattle.revision_calculus.specs.State.{Location, view_at, Phase, running, joining, done, trapped, Local}
+use Rattle.revision_calculus.specs.State.{Location, view_at, Phase, done, trapped, Local}
 
 -- the cells of an array from this one on, of which there are so many, at these locations
 abbrev pub show_cells : Name → List Location → (base cell : ℕ) → (count : ℕ) → List Shown
@@ -32,8 +32,7 @@ show_all (x ∷ xs) locations = show_variable locations x x.info.array ++ show_a
 abbrev pub end_as : List ℕ → List Shown → Phase → Option Outcome
 end_as text values done = Some (o.Done text values)
 end_as text values (trapped t) = Some (o.Trapped text values t)
-end_as text values running = None
-end_as text values (joining q left) = None
+end_as text values _ = None
 
 abbrev pub main_outcome : Setting → Option (Entry Local) → Option Outcome
 main_outcome s None = None

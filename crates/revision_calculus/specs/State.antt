@@ -73,3 +73,16 @@ pub record Local : Type 0 where
   -- of the statement charged last, and 0 before the first
   pub line : ℕ
   pub phase : Phase
+
+-- a revision before its first statement, with these start values, this frame and this fuel
+abbrev pub begun : List Value → Frame → ℕ → Local
+begun values frame fuel = record {
+  locations = fresh values;
+  frames = frame ∷ [];
+  fuel = fuel;
+  forks = 0;
+  noted = [];
+  text = [];
+  line = 0;
+  phase = running;
+}

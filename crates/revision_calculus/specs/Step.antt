@@ -4,7 +4,9 @@
 -- `calls` adds a frame and `end_frame` ends one; `forks` makes a child with a part of the fuel; `joins` comes to a join;
 -- `does` is what each statement does, and `next` the event of a revision.
 use Rattle.std.specs.Prelude.{ℕ, zero, suc, ◌-◌, ◌/◌, min, nat_le, if◌then◌else◌, List, [], ◌∷◌, ◌++◌, length, map, Option, Some, None, Result, Ok, Err}
-use Rattle.std.specs.List.{join_with_byte}
+use Rattle.std.specs.List.{join_with_byte, zip}
+-- the first of these names with the first of these values, and so on
+pub use Rattle.std.specs.List.{zip as locals_of}
 use Rattle.rev_num.specs.Path.{Path, child}
 use Rattle.rev_num.specs.declared.value.Value.{Value}
 use Rattle.rev_num.specs.declared.value.Value.TheVariants as v
@@ -16,11 +18,10 @@ use Rattle.rev_report.specs.Lines.{space, with_line_feed}
 use Rattle.rev_report.specs.Outcome.{value_text}
 use Rattle.revision_machine.specs.Machine.{Event, Moves, Forks, Joins, Ended}
 use Rattle.merge_decl.specs.Names.{Name}
-use Rattle.merge_decl.specs.Table.{Table}
 use Rattle.merge_decl.specs.Value.{and_then, truth_of, number_of}
 use Rattle.rev_types.specs.Layout.{procedures, Procedure}
 use Rattle.revision_calculus.specs.Program.{procedure_named, Setting}
-use Rattle.revision_calculus.specs.State.{view, write_at, fresh, Frame, forked, Phase, running, joining, done, trapped, Local}
+use Rattle.revision_calculus.specs.State.{begun, view, write_at, Frame, forked, Phase, running, joining, done, trapped, Local}
 use Rattle.revision_calculus.specs.Evaluation.{eval, evals, on_top, set, give, cell_location}
 pub use Rattle.rev_num.specs.Limits.{most_frames}
 
@@ -54,14 +55,9 @@ select s l (arm test block arms) last =
 
 -- ---- frames
 
--- the first of these names with the first of these values, and so on
-abbrev pub locals_of : List Name → List Value → Table Value
-locals_of (p ∷ ps) (x ∷ xs) = (p, x) ∷ locals_of ps xs
-locals_of ps xs = []
-
 -- a frame of a procedure, whose arguments are in its parameters
 abbrev pub frame_of : Procedure → List Value → Option Name → Frame
-frame_of p args left = record { locals = locals_of p.params args; rest = p.body; left = left }
+frame_of p args left = record { locals = zip p.params args; rest = p.body; left = left }
 
 abbrev pub calls : Setting → Path → Local → Option Name → Name → List Value → Event Local
 calls s r l left name args =
@@ -93,16 +89,7 @@ forker s r l = record l {
 
 -- the child begins the procedure in the forker's view
 abbrev pub new_child : Setting → Local → Procedure → List Value → Local
-new_child s l p args = record {
-  locations = fresh (map view l.locations);
-  frames = frame_of p args None ∷ [];
-  fuel = part s l.fuel;
-  forks = 0;
-  noted = [];
-  text = [];
-  line = 0;
-  phase = running;
-}
+new_child s l p args = begun (map view l.locations) (frame_of p args None) (part s l.fuel)
 
 abbrev pub forks : Setting → Path → Local → Option Name → Name → List Value → Event Local
 forks s r l left name args =
@@ -181,8 +168,7 @@ by_frames s r l (f ∷ fs) = by_rest s r l f fs f.rest
 abbrev pub by_phase : Setting → Path → Local → Phase → Event Local
 by_phase s r l running = by_frames s r l l.frames
 by_phase s r l (joining q left) = Joins q
-by_phase s r l done = Ended
-by_phase s r l (trapped t) = Ended
+by_phase s r l _ = Ended
 
 abbrev pub next : Setting → Path → Local → Event Local
 next s r l = by_phase s r l l.phase

@@ -1,3 +1,5 @@
 pub mod Compositions
 pub mod Lists
 pub mod Texts
+pub mod Showing
+pub mod LightMerges

@@ -4,7 +4,8 @@ use Rattle.rev_num.specs.declared.value.Value.{Value}
 use Rattle.rev_num.specs.declared.value.Value.TheVariants as v
 use Rattle.revision_calculus.specs.State.{Location, view, view_at, write_at, with_write}
 
-pub written_in : (ms : List Location) (n : ℕ) (d : Location) (x : Value) → n < length ms → set ms n (with_write (get_or ms n d).base x) ≡ write_at ms n x
+pub written_in : (ms : List Location) (n : ℕ) (d : Location) (x : Value) → n < length ms
+    → set ms n (with_write (get_or ms n d).base x) ≡ write_at ms n x
 written_in [] n d x lt = absurd (omega arith)
 written_in (k ∷ ms) zero d x lt = refl
 written_in (k ∷ ms) (suc n) d x lt = ap (λ t. k ∷ t) (written_in ms n d x (omega arith))

@@ -5,4 +5,5 @@ use Rattle.revision_data.specs.Pieces.{all_bytes}
 
 -- a piece behind others
 pub one_more : (pieces : List (List ℕ)) (bytes : List ℕ) → all_bytes (pieces ++ bytes ∷ []) ≡ all_bytes pieces ++ bytes
-one_more pieces bytes = flat_map-append (λ p. p) pieces (bytes ∷ []) ∙ ap (λ t. all_bytes pieces ++ t) (append-nil bytes)
+one_more pieces bytes =
+    flat_map-append (λ p. p) pieces (bytes ∷ []) ∙ ap (λ t. all_bytes pieces ++ t) (append-nil bytes)

@@ -6,6 +6,7 @@ ghost use Rattle.revision_calculus.specs.Join as join;
 ghost use Rattle.revision_data.specs.Changes.{change_of, composed, put, put_at};
 
 use crate::location::{Location, write_at};
+use crate::merging::merged_value;
 use crate::values::number_of;
 use rev_num::{NumFault, Value};
 use rev_types::Typed;
@@ -34,7 +35,7 @@ fn merged(
 {
     let main = number_of(joiner.view());
     let root = number_of(joinee.base());
-    match typed.merge_value(merge, main, number_of(written), root) {
+    match merged_value(typed, merge, main, number_of(written), root) {
         Ok(number) => Ok(Some(Value::Int(number))),
         Err(fault) => Err(fault),
     }

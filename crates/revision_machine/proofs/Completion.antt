@@ -18,7 +18,8 @@ module _ (M : Machine) where
   first_of_these g [] = inr (λ r none. absurd none)
   first_of_these g (p ∷ ps) = go (step M g p) refl (first_of_these g ps)
     where
-      go : (o : Option (Global M.Local)) → step M g p ≡ o → Stepper g ⊎ ((r : Path) → IsIn r ps → step M g r ≡ None) → Stepper g ⊎ ((r : Path) → IsIn r (p ∷ ps) → step M g r ≡ None)
+      go : (o : Option (Global M.Local)) → step M g p ≡ o → Stepper g ⊎ ((r : Path) → IsIn r ps → step M g r ≡ None)
+          → Stepper g ⊎ ((r : Path) → IsIn r (p ∷ ps) → step M g r ≡ None)
       go (Some h) e rest = inl (record { path = p; after = h; steps = e })
       go None e (inl found) = inl found
       go None e (inr none) = inr none'
@@ -35,7 +36,8 @@ module _ (M : Machine) where
       census : (n : ℕ) × Amounts M (λ l. 0) (Live revs) n × (n + length reached.by * 0 ≤ 0)
       census = spending_law M main 0 (λ l. 0) counts (no_cost M) (Live revs) reached.by reached.runs
 
-      go : Stepper (Live revs) ⊎ ((r : Path) → IsIn r census.1.0 → step M (Live revs) r ≡ None) → Stepper (Live revs) ⊎ Final M (Live revs)
+      go : Stepper (Live revs) ⊎ ((r : Path) → IsIn r census.1.0 → step M (Live revs) r ≡ None)
+          → Stepper (Live revs) ⊎ Final M (Live revs)
       go (inl found) = inl found
       go (inr none) = inr (λ r. at r (revs r) refl)
         where
@@ -43,7 +45,8 @@ module _ (M : Machine) where
           at r None there = ap (step_at M revs r) there
           at r (Some e) there = none r (census.1.1.all r e there)
 
-  one_more : (rs : List Path) (main : M.Local) (g : Global M.Local) → Runs M (start M main) rs g → (s : Stepper g) → Runs M (start M main) (rs ++ s.path ∷ []) s.after
+  one_more : (rs : List Path) (main : M.Local) (g : Global M.Local) → Runs M (start M main) rs g → (s : Stepper g)
+      → Runs M (start M main) (rs ++ s.path ∷ []) s.after
   one_more rs main g runs s = runs_on M rs (s.path ∷ []) (start M main) g s.after runs (s.after, s.steps, refl)
 
   Completion : Global M.Local → Type 0
@@ -53,9 +56,12 @@ module _ (M : Machine) where
   unfolding Completion
   goes_on g s rest = (s.path ∷ rest.0, rest.1, record { runs = (s.after, s.steps, rest.2.runs); final = rest.2.final })
 
-  complete_from : (main : M.Local) (of : M.Local → ℕ) → Counts M → Spends M 1 of → (left : ℕ) (rs : List Path) (g : Global M.Local) → Runs M (start M main) rs g → of main ≤ length rs + left → Completion g
+  complete_from : (main : M.Local) (of : M.Local → ℕ) → Counts M → Spends M 1 of
+      → (left : ℕ) (rs : List Path) (g : Global M.Local) → Runs M (start M main) rs g → of main ≤ length rs + left
+      → Completion g
   unfolding Completion
-  complete_from main of counts spends zero rs g runs enough = go (steps_or_final main counts g (record { by = rs; runs = runs }))
+  complete_from main of counts spends zero rs g runs enough =
+      go (steps_or_final main counts g (record { by = rs; runs = runs }))
     where
       go : Stepper g ⊎ Final M g → Completion g
       go (inr final) = ([], g, record { runs = refl; final = final })
@@ -64,7 +70,9 @@ module _ (M : Machine) where
           let long = length-append rs (s.path ∷ []) in
           absurd (omega arith)
   complete_from main of counts spends (suc left) rs g runs enough =
-      go (λ s. complete_from main of counts spends left (rs ++ s.path ∷ []) s.after (one_more rs main g runs s) (let long = length-append rs (s.path ∷ []) in omega arith)) (steps_or_final main counts g (record { by = rs; runs = runs }))
+      go (λ s. complete_from main of counts spends left (rs ++ s.path ∷ []) s.after (one_more rs main g runs s)
+      (let long = length-append rs (s.path ∷ []) in omega arith))
+      (steps_or_final main counts g (record { by = rs; runs = runs }))
     where
       go : ((s : Stepper g) → Completion s.after) → Stepper g ⊎ Final M g → Completion g
       go later (inr final) = ([], g, record { runs = refl; final = final })
@@ -72,4 +80,5 @@ module _ (M : Machine) where
 
   pub completion_law : (main : M.Local) (of : M.Local → ℕ) → Counts M → Spends M 1 of → CompletionLaw M main
   unfolding Completion
-  completion_law main of counts spends g reached = complete_from main of counts spends (of main) reached.by g reached.runs (omega arith)
+  completion_law main of counts spends g reached =
+      complete_from main of counts spends (of main) reached.by g reached.runs (omega arith)

@@ -52,23 +52,33 @@ module _ (M : Machine) where
   stepping (Live revs) r k s = by_entry (revs r) refl s
     where
       Goal : Type 0
-      Goal = ((of_entry revs r (revs r) ≡ outcome.Twice) × (k ≡ Twice)) ⊎ ((of_entry revs r (revs r) ≡ outcome.Moved) × (k ≢ Twice))
+      Goal = ((of_entry revs r (revs r) ≡ outcome.Twice) × (k ≡ Twice))
+          ⊎ ((of_entry revs r (revs r) ≡ outcome.Moved) × (k ≢ Twice))
 
-      moved : (l : M.Local) → revs r ≡ Some (Plain l) → (v : Event M.Local) → M.next r l ≡ v → of_event revs v ≡ outcome.Moved → k ≢ Twice → Goal
+      moved : (l : M.Local) → revs r ≡ Some (Plain l) → (v : Event M.Local) → M.next r l ≡ v
+          → of_event revs v ≡ outcome.Moved → k ≢ Twice → Goal
       moved l here v does e live = inr (ap (of_entry revs r) here ∙ ap (of_event revs) does ∙ e, live)
 
-      by_met : (l : M.Local) (q : Path) (lq : M.Local) → revs r ≡ Some (Plain l) → M.next r l ≡ Joins q → revs q ≡ Some (Plain lq) → (v : Event M.Local) → M.next q lq ≡ v → join_ended M revs r l q lq v ≡ Some k → Goal
-      by_met l q lq here does there Ended f s = moved l here (Joins q) does (ap (of_target q) there ∙ ap (of_met q) f) (live _ k s)
+      by_met : (l : M.Local) (q : Path) (lq : M.Local) → revs r ≡ Some (Plain l) → M.next r l ≡ Joins q
+          → revs q ≡ Some (Plain lq) → (v : Event M.Local) → M.next q lq ≡ v → join_ended M revs r l q lq v ≡ Some k
+          → Goal
+      by_met l q lq here does there Ended f s =
+          moved l here (Joins q) does (ap (of_target q) there ∙ ap (of_met q) f) (live _ k s)
       by_met l q lq here does there (Moves _) f s = none_some s
       by_met l q lq here does there (Forks _ _) f s = none_some s
       by_met l q lq here does there (Joins _) f s = none_some s
 
-      by_target : (l : M.Local) (q : Path) → revs r ≡ Some (Plain l) → M.next r l ≡ Joins q → (e : Option (Entry M.Local)) → revs q ≡ e → join_at M revs r l q e ≡ Some k → Goal
+      by_target : (l : M.Local) (q : Path) → revs r ≡ Some (Plain l) → M.next r l ≡ Joins q
+          → (e : Option (Entry M.Local)) → revs q ≡ e → join_at M revs r l q e ≡ Some k → Goal
       by_target l q here does None there s = none_some s
-      by_target l q here does (Some (Joined lq)) there s = inl (ap (of_entry revs r) here ∙ ap (of_event revs) does ∙ ap (of_target q) there, let e : Twice ≡ k = cc in sym e)
+      by_target l q here does (Some (Joined lq)) there s = inl (
+        ap (of_entry revs r) here ∙ ap (of_event revs) does ∙ ap (of_target q) there,
+        let e : Twice ≡ k = cc in sym e,
+      )
       by_target l q here does (Some (Plain lq)) there s = by_met l q lq here does there (M.next q lq) refl s
 
-      by_event : (l : M.Local) → revs r ≡ Some (Plain l) → (v : Event M.Local) → M.next r l ≡ v → happens M revs r l v ≡ Some k → Goal
+      by_event : (l : M.Local) → revs r ≡ Some (Plain l) → (v : Event M.Local) → M.next r l ≡ v
+          → happens M revs r l v ≡ Some k → Goal
       by_event l here (Moves l') does s = moved l here (Moves l') does refl (live _ k s)
       by_event l here (Forks l' c) does s = moved l here (Forks l' c) does refl (live _ k s)
       by_event l here (Joins q) does s = by_target l q here does (revs q) refl s
@@ -79,7 +89,8 @@ module _ (M : Machine) where
       by_entry (Some (Joined l)) here s = none_some s
       by_entry (Some (Plain l)) here s = by_event l here (M.next r l) refl s
 
-  of_moves : (g : Global M.Local) (r : Path) (k : Global M.Local) → answers.Moves M g r k → answer_at g r ≡ outcome.Moved
+  of_moves : (g : Global M.Local) (r : Path) (k : Global M.Local) → answers.Moves M g r k
+      → answer_at g r ≡ outcome.Moved
   unfolding Stepping
   of_moves g r k m = go (stepping g r k m.steps)
     where
@@ -99,7 +110,8 @@ module _ (M : Machine) where
   of_waits : (g : Global M.Local) (r q : Path) → Waits M g r q → answer_at g r ≡ outcome.Waits q
   of_waits Twice r q w = absurd w
   of_waits (Live revs) r q w =
-      ap (of_entry revs r) w.stands ∙ ap (of_event revs) w.joins ∙ ap (of_target q) w.target_stands ∙ go (M.next q w.target) w.goes_on
+      ap (of_entry revs r) w.stands ∙ ap (of_event revs) w.joins ∙ ap (of_target q) w.target_stands
+      ∙ go (M.next q w.target) w.goes_on
     where
       go : (v : Event M.Local) → v ≢ Ended → of_met q v ≡ outcome.Waits q
       go Ended n = absurd (n refl)
@@ -149,7 +161,8 @@ module _ (M : Machine) where
       twice' outcome.NoSuch t e = absurd (subst (λ v. IsMissing M v r) (sym t.1 ∙ e) t.0)
 
   -- from the lists
-  pub told : (a : StepOutcome) (r : Path) (old new : List (Revision M.Local)) → Does M a r old new → Tells M a r (Live (globe old)) (global_after a new)
+  pub told : (a : StepOutcome) (r : Path) (old new : List (Revision M.Local)) → Does M a r old new
+      → Tells M a r (Live (globe old)) (global_after a new)
   told outcome.Moved r old new d = record { steps = d; live = live (globe new) (Live (globe new)) refl }
   told (outcome.Waits q) r old new d = (d.0, ap (λ v. Live (globe v)) d.1)
   told outcome.Ended r old new d = (d.0, ap (λ v. Live (globe v)) d.1)
@@ -157,7 +170,8 @@ module _ (M : Machine) where
   told outcome.NoSuch r old new d = (d.0, ap (λ v. Live (globe v)) d.1)
 
   -- the state after an answer, from the one before
-  pub after_told : (P : Global M.Local → Type 0) (a : StepOutcome) (r : Path) (g h : Global M.Local) → P g → ((k : Global M.Local) → step M g r ≡ Some k → P k) → Tells M a r g h → P h
+  pub after_told : (P : Global M.Local → Type 0) (a : StepOutcome) (r : Path) (g h : Global M.Local) → P g
+      → ((k : Global M.Local) → step M g r ≡ Some k → P k) → Tells M a r g h → P h
   after_told P outcome.Moved r g h p steps t = steps h t.steps
   after_told P (outcome.Waits q) r g h p steps t = subst P (sym t.1) p
   after_told P outcome.Ended r g h p steps t = subst P (sym t.1) p
@@ -178,14 +192,18 @@ module _ (M : Machine) where
 
       go : (a : StepOutcome) → Tells M a r g h → Stepping g r k → h ≡ k
       go outcome.Moved t w = moves t
-      go (outcome.Waits q) t (inl w) = let clash : outcome.Waits q ≡ outcome.Twice = sym (of_waits g r q t.0) ∙ w.0 in absurd cc
-      go (outcome.Waits q) t (inr w) = let clash : outcome.Waits q ≡ outcome.Moved = sym (of_waits g r q t.0) ∙ w.0 in absurd cc
+      go (outcome.Waits q) t (inl w) =
+          let clash : outcome.Waits q ≡ outcome.Twice = sym (of_waits g r q t.0) ∙ w.0 in absurd cc
+      go (outcome.Waits q) t (inr w) =
+          let clash : outcome.Waits q ≡ outcome.Moved = sym (of_waits g r q t.0) ∙ w.0 in absurd cc
       go outcome.Ended t (inl w) = let clash : outcome.Ended ≡ outcome.Twice = sym (of_ended g r t.0) ∙ w.0 in absurd cc
       go outcome.Ended t (inr w) = let clash : outcome.Ended ≡ outcome.Moved = sym (of_ended g r t.0) ∙ w.0 in absurd cc
       go outcome.Twice t (inl w) = t.1 ∙ sym w.1
       go outcome.Twice t (inr w) = let clash : outcome.Twice ≡ outcome.Moved = sym (of_twice g r t.0) ∙ w.0 in absurd cc
-      go outcome.NoSuch t (inl w) = let clash : outcome.NoSuch ≡ outcome.Twice = sym (of_missing g r t.0) ∙ w.0 in absurd cc
-      go outcome.NoSuch t (inr w) = let clash : outcome.NoSuch ≡ outcome.Moved = sym (of_missing g r t.0) ∙ w.0 in absurd cc
+      go outcome.NoSuch t (inl w) =
+          let clash : outcome.NoSuch ≡ outcome.Twice = sym (of_missing g r t.0) ∙ w.0 in absurd cc
+      go outcome.NoSuch t (inr w) =
+          let clash : outcome.NoSuch ≡ outcome.Moved = sym (of_missing g r t.0) ∙ w.0 in absurd cc
 
   -- Twice stays
   pub twice_stays : (a : StepOutcome) (r : Path) (h : Global M.Local) → Tells M a r Twice h → h ≡ Twice

@@ -21,8 +21,11 @@ module _ (M : Machine) where
           let less : M.forks l < M.forks l = subst (λ v. M.forks l < M.forks (local_of v)) is has.counted in
           absurd (omega arith)
 
-  pub forked_step : Counts M → (revs : Revisions M) → IsForked M revs → (s : Path) (l l' : M.Local) (o : Path) (e : Entry M.Local) → revs s ≡ Some (Plain l) → Role M revs s l l' o e → IsForked M (put_two revs s (Plain l') o e)
-  forked_step counts revs forked s l l' o e here x r k f there = go (decide_same s (child r k)) (decide_same o (child r k)) (place M x)
+  pub forked_step : Counts M → (revs : Revisions M) → IsForked M revs
+      → (s : Path) (l l' : M.Local) (o : Path) (e : Entry M.Local) → revs s ≡ Some (Plain l) → Role M revs s l l' o e
+      → IsForked M (put_two revs s (Plain l') o e)
+  forked_step counts revs forked s l l' o e here x r k f there =
+      go (decide_same s (child r k)) (decide_same o (child r k)) (place M x)
     where
       after : Revisions M
       after = put_two revs s (Plain l') o e
@@ -41,10 +44,19 @@ module _ (M : Machine) where
               let is : has.forker ≡ Plain l = some_inj (sym has.stands ∙ ap revs (sym sr) ∙ here) in
               let was : k < M.forks l = subst (λ v. k < M.forks (local_of v)) is has.counted in
               let up : M.forks l ≤ M.forks l' = not_less z in
-              record { forker = Plain l'; stands = ap after (sym sr) ∙ two_here revs s o (Plain l') e; counted = omega arith }
-          at (inr sr) (inr or) z = record { forker = has.forker; stands = two_other revs s o (Plain l') e r sr or ∙ has.stands; counted = has.counted }
+              record {
+                forker = Plain l';
+                stands = ap after (sym sr) ∙ two_here revs s o (Plain l') e;
+                counted = omega arith;
+              }
+          at (inr sr) (inr or) z = record {
+            forker = has.forker;
+            stands = two_other revs s o (Plain l') e r sr or ∙ has.stands;
+            counted = has.counted;
+          }
           at (inr sr) (inl or) (own _ a _) = absurd (sr (sym a ∙ or))
-          at (inr sr) (inl or) (new c _ a _) = gone M revs r (ap revs (sym or ∙ a) ∙ fresh_of revs forked s l here) has.stands
+          at (inr sr) (inl or) (new c _ a _) =
+              gone M revs r (ap revs (sym or ∙ a) ∙ fresh_of revs forked s l here) has.stands
           at (inr sr) (inl or) (marks lq _ was _ _ ee) =
               let is : has.forker ≡ Plain lq = some_inj (sym has.stands ∙ ap revs (sym or) ∙ was) in
               record {
@@ -53,7 +65,8 @@ module _ (M : Machine) where
                 counted = subst (λ v. k < M.forks (local_of v)) is has.counted;
               }
 
-      go : (s ≡ child r k) ⊎ (s ≢ child r k) → (o ≡ child r k) ⊎ (o ≢ child r k) → Place M revs s l l' o e → HasForker M after r k
+      go : (s ≡ child r k) ⊎ (s ≢ child r k) → (o ≡ child r k) ⊎ (o ≢ child r k) → Place M revs s l l' o e
+          → HasForker M after r k
       go (inl y) z p = still (forked r k (Plain l) (ap revs (sym y) ∙ here))
       go (inr y) (inr z) p = still (forked r k f (sym (two_other revs s o (Plain l') e (child r k) y z) ∙ there))
       go (inr y) (inl z) (own _ a _) = absurd (y (sym a ∙ z))
@@ -64,7 +77,8 @@ module _ (M : Machine) where
           let less : k < M.forks l' = omega (arith, both.1) in
           record { forker = Plain l'; stands = ap after (sym both.0) ∙ two_here revs s o (Plain l') e; counted = less }
 
-  pub keeps_forked : Counts M → (g h : Global M.Local) (r : Path) → WellForked M g → step M g r ≡ Some h → WellForked M h
+  pub keeps_forked : Counts M → (g h : Global M.Local) (r : Path) → WellForked M g → step M g r ≡ Some h
+      → WellForked M h
   keeps_forked counts Twice h r good s = elim_none s
     where
       elim_none : {P : Type 0} → None ≡ Some h → P
@@ -75,7 +89,8 @@ module _ (M : Machine) where
       by h (writes l l' o e here x) = forked_step counts revs good r l l' o e here x
       by h (twice l q lq here does there) = tt
 
-  root_alone : (m : M.Local) (r : Path) (k : ℕ) (e : Entry M.Local) → with_at nowhere [] (Plain m) (child r k) ≡ Some e → ⊥
+  root_alone : (m : M.Local) (r : Path) (k : ℕ) (e : Entry M.Local) → with_at nowhere [] (Plain m) (child r k) ≡ Some e
+      → ⊥
   root_alone m [] k e s = cc
   root_alone m (x ∷ r) k e s = cc
 

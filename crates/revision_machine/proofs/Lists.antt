@@ -18,13 +18,15 @@ module _ {A : Type 0} where
   at_length (x ∷ xs) y ys = at_length xs y ys
 
   -- at the end, or before it
-  pub at_more : (xs : List A) (y : A) (n : ℕ) (x : A) → at_number (xs ++ y ∷ []) n ≡ Some x → (at_number xs n ≡ Some x) ⊎ ((n ≡ length xs) × (x ≡ y))
+  pub at_more : (xs : List A) (y : A) (n : ℕ) (x : A) → at_number (xs ++ y ∷ []) n ≡ Some x
+      → (at_number xs n ≡ Some x) ⊎ ((n ≡ length xs) × (x ≡ y))
   at_more [] y zero x e = inr (refl, sym (some_inj e))
   at_more [] y (suc n) x e = none_some e
   at_more (z ∷ xs) y zero x e = inl e
   at_more (z ∷ xs) y (suc n) x e = by (at_more xs y n x e)
     where
-      by : (at_number xs n ≡ Some x) ⊎ ((n ≡ length xs) × (x ≡ y)) → (at_number xs n ≡ Some x) ⊎ ((suc n ≡ suc (length xs)) × (x ≡ y))
+      by : (at_number xs n ≡ Some x) ⊎ ((n ≡ length xs) × (x ≡ y))
+          → (at_number xs n ≡ Some x) ⊎ ((suc n ≡ suc (length xs)) × (x ≡ y))
       by (inl h) = inl h
       by (inr h) = inr (ap suc h.0, h.1)
 
@@ -69,7 +71,8 @@ module _ {A : Type 0} where
   put_length (x ∷ xs) (suc n) y = ap suc (put_length xs n y)
 
   -- what is found after a write
-  pub at_put : (xs : List A) (n : ℕ) (y : A) (m : ℕ) (x : A) → at_number (put_number xs n y) m ≡ Some x → (at_number xs m ≡ Some x) ⊎ ((m ≡ n) × (x ≡ y))
+  pub at_put : (xs : List A) (n : ℕ) (y : A) (m : ℕ) (x : A) → at_number (put_number xs n y) m ≡ Some x
+      → (at_number xs m ≡ Some x) ⊎ ((m ≡ n) × (x ≡ y))
   at_put [] n y m x e = inl e
   at_put (z ∷ xs) zero y zero x e = inr (refl, sym (some_inj e))
   at_put (z ∷ xs) zero y (suc m) x e = inl e
@@ -93,7 +96,8 @@ module _ {A : Type 0} where
   put_twice (z ∷ xs) (suc n) x y = ap (λ k. z ∷ k) (put_twice xs n x y)
 
   -- writes at two places
-  pub put_both : (xs : List A) (n m : ℕ) (x y : A) → n ≢ m → put_number (put_number xs n x) m y ≡ put_number (put_number xs m y) n x
+  pub put_both : (xs : List A) (n m : ℕ) (x y : A) → n ≢ m
+      → put_number (put_number xs n x) m y ≡ put_number (put_number xs m y) n x
   put_both [] n m x y h = refl
   put_both (z ∷ xs) zero zero x y h = absurd (h refl)
   put_both (z ∷ xs) zero (suc m) x y h = refl

@@ -19,7 +19,8 @@ pub not_same : (p q : Path) → same p q ≡ false → p ≢ q
 not_same p q e is = let clash : true ≡ false = sym (ap (same p) (sym is) ∙ same_refl p) ∙ e in cc
 
 module _ (M : Machine) where
-  pub stepped_some : (g h : Global M.Local) (p : Path) (r : Option (GlobalState M.Local)) (s : GlobalState M.Local) → SteppedTo M h p r → r ≡ Some s → h ≡ g → step M g p ≡ Some (global_of s)
+  pub stepped_some : (g h : Global M.Local) (p : Path) (r : Option (GlobalState M.Local)) (s : GlobalState M.Local)
+      → SteppedTo M h p r → r ≡ Some s → h ≡ g → step M g p ≡ Some (global_of s)
   stepped_some g h p r s t is e = ap (λ v. step M v p) (sym e) ∙ subst (SteppedTo M h p) is t
 
   follows_one : (g h k : Global M.Local) (p : Path) → Follows M g p h → Follows M g p k → h ≡ k
@@ -32,7 +33,9 @@ module _ (M : Machine) where
   follows_told a p g h k t (inl s) = steps_to M a p g h k t s
   follows_told a p g h k t (inr e) = twice_stays M a p h (subst (λ v. Tells M a p v h) e.0 t) ∙ sym e.1
 
-  module _ (main : M.Local) (counts : Counts M) (g a b : Global M.Local) (p q : Path) (reached : Reached M main g) (apart : p ≢ q) (one : step M g p ≡ Some a) (other : step M g q ≡ Some b) (x y : StepOutcome) (left right : Global M.Local) (to_left : IsOutcome M x q a left) (to_right : IsOutcome M y p b right) where
+  module _ (main : M.Local) (counts : Counts M) (g a b : Global M.Local) (p q : Path) (reached : Reached M main g)
+      (apart : p ≢ q) (one : step M g p ≡ Some a) (other : step M g q ≡ Some b) (x y : StepOutcome)
+      (left right : Global M.Local) (to_left : IsOutcome M x q a left) (to_right : IsOutcome M y p b right) where
     d : Diamond M p q a b
     d = diamond_law M main counts g a b p q reached apart one other
 
@@ -57,7 +60,8 @@ module _ (M : Machine) where
     -- any state that both orders lead to is this one
     only_end : (h : Global M.Local) → BothLead M g p q h → h ≡ left
     only_end h both =
-        let same_middle : both.one.middle ≡ a = (let e : Some both.one.middle ≡ Some a = sym both.one.first ∙ one in cc) in
+        let same_middle : both.one.middle ≡ a =
+        (let e : Some both.one.middle ≡ Some a = sym both.one.first ∙ one in cc) in
         follows_one a h d.end q (subst (λ v. Follows M v q h) same_middle both.one.second) d.first ∙ sym left_is
 
     steps_both : IsNoPair M g p q → ⊥
@@ -71,5 +75,6 @@ module _ (M : Machine) where
       twice = λ both. absurd (is.2 (sym (only_end Twice both)));
       no_pair = λ none. absurd (steps_both none);
     }
-    orders two.Twice is = record { tells = both_to Twice (sym is); twice = λ both. refl; no_pair = λ none. absurd (steps_both none) }
+    orders two.Twice is =
+        record { tells = both_to Twice (sym is); twice = λ both. refl; no_pair = λ none. absurd (steps_both none) }
     orders two.NoPair is = absurd is

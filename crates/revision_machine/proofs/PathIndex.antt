@@ -56,8 +56,10 @@ kept ps p q None apart out = λ is. by (in-push ps p q is)
     by (inr e) = true≢false (sym (subst (λ v. same v q ≡ true) e (same_refl q)) ∙ apart)
 kept ps p q (Some i) apart at = slice_get-front ps p q i at
 
-pub indexed_push : (m n : BTreeMap Key ℕ) (ps : List Path) (p : Path) → IsIndexed m ps → IsEntered m n p (length ps) → IsIndexed n (ps ++ p ∷ [])
-indexed_push m n ps p indexed entered q = subst (IsPlace q (ps ++ p ∷ [])) (sym (ap (λ f. f q) entered)) (go (same p q) refl)
+pub indexed_push : (m n : BTreeMap Key ℕ) (ps : List Path) (p : Path) → IsIndexed m ps → IsEntered m n p (length ps)
+    → IsIndexed n (ps ++ p ∷ [])
+indexed_push m n ps p indexed entered q =
+    subst (IsPlace q (ps ++ p ∷ [])) (sym (ap (λ f. f q) entered)) (go (same p q) refl)
   where
     go : (b : Bool) → same p q ≡ b → IsPlace q (ps ++ p ∷ []) (cond b (Some (length ps)) (place_by m q))
     go true e = slice_get-last ps p ∙ ap Some (same-eq p q e)
@@ -67,34 +69,43 @@ length-take_within : {A : Type 0} (i : ℕ) (xs : List A) → i < length xs → 
 length-take_within i xs lt = omega (arith, length-take i xs)
 
 -- a new revision
-pub indexed_forked : {L : Type 0} (m n : BTreeMap Key ℕ) (ss set_to : List (Revision L)) (t : Revision L) (p : Path) (k : ℕ)
-    → paths set_to ≡ paths ss → t.path ≡ p → k ≡ length set_to → IsIndexed m (paths ss) → IsEntered m n p k → IsIndexed n (paths (set_to ++ t ∷ []))
+pub indexed_forked :
+    {L : Type 0} (m n : BTreeMap Key ℕ) (ss set_to : List (Revision L)) (t : Revision L) (p : Path) (k : ℕ)
+    → paths set_to ≡ paths ss → t.path ≡ p → k ≡ length set_to → IsIndexed m (paths ss) → IsEntered m n p k
+    → IsIndexed n (paths (set_to ++ t ∷ []))
 indexed_forked m n ss set_to t p k same_paths tp place indexed entered =
     subst (IsIndexed n) (sym (paths-push set_to t))
     (indexed_push m n (paths set_to) t.path (subst (IsIndexed m) (sym same_paths) indexed)
-    (subst (IsEntered m n t.path) (place ∙ sym (length-paths set_to)) (subst (λ v. IsEntered m n v k) (sym tp) entered)))
+    (subst (IsEntered m n t.path) (place ∙ sym (length-paths set_to))
+    (subst (λ v. IsEntered m n v k) (sym tp) entered)))
 
 -- one more revision of a list
-pub indexed_more : {L : Type 0} (m n : BTreeMap Key ℕ) (ss : List (Revision L)) (i : ℕ) (x : Revision L) → i < length ss → x ≡ get_or ss i x
+pub indexed_more : {L : Type 0} (m n : BTreeMap Key ℕ) (ss : List (Revision L)) (i : ℕ) (x : Revision L) → i < length ss
+    → x ≡ get_or ss i x
     → IsIndexed m (paths (take i ss)) → IsEntered m n x.path i → IsIndexed n (paths (take (i + 1) ss))
 indexed_more m n ss i x lt r indexed entered =
     subst (λ v. IsIndexed n (paths v)) (sym (take_more ss i x lt))
-    (indexed_forked m n (take i ss) (take i ss) (get_or ss i x) x.path i refl (sym (ap (λ v. v.path) r)) (sym (length-take_within i ss lt)) indexed entered)
+    (indexed_forked m n (take i ss) (take i ss) (get_or ss i x) x.path i refl (sym (ap (λ v. v.path) r))
+    (sym (length-take_within i ss lt)) indexed entered)
 
 -- ---- the place of a path
 
 path_at : {L : Type 0} (ss : List (Revision L)) (i : ℕ) (p : Path) → slice_get (paths ss) i ≡ Some p → IsAt ss i p
 path_at [] i p e = absurd cc
 path_at (s ∷ ss) zero p e = record { within = omega arith; path = λ d. (let f : Some s.path ≡ Some p = e in cc) }
-path_at (s ∷ ss) (suc i) p e = let a = path_at ss i p e in record { within = (let h = a.within in omega arith); path = λ d. a.path d }
+path_at (s ∷ ss) (suc i) p e =
+    let a = path_at ss i p e in record { within = (let h = a.within in omega arith); path = λ d. a.path d }
 
-pub found_at : {L : Type 0} (places : BTreeMap Key ℕ) (ss : List (Revision L)) (p : Path) (i : ℕ) → IsIndexed places (paths ss) → place_by places p ≡ Some i → IsAt ss i p
+pub found_at : {L : Type 0} (places : BTreeMap Key ℕ) (ss : List (Revision L)) (p : Path) (i : ℕ)
+    → IsIndexed places (paths ss) → place_by places p ≡ Some i → IsAt ss i p
 found_at places ss p i indexed e = path_at ss i p (subst (IsPlace p (paths ss)) e (indexed p))
 
-pub not_found : {L : Type 0} (places : BTreeMap Key ℕ) (ss : List (Revision L)) (p : Path) → IsIndexed places (paths ss) → place_by places p ≡ None → globe ss p ≡ None
+pub not_found : {L : Type 0} (places : BTreeMap Key ℕ) (ss : List (Revision L)) (p : Path) → IsIndexed places (paths ss)
+    → place_by places p ≡ None → globe ss p ≡ None
 not_found places ss p indexed e = globe_out ss p (subst (IsPlace p (paths ss)) e (indexed p))
 
 -- what a look-up says of the list
-pub looked_up : {L : Type 0} (places : BTreeMap Key ℕ) (ss : List (Revision L)) (p : Path) → IsIndexed places (paths ss) → (o : Option ℕ) → o ≡ place_by places p → MatchOption o (globe ss p ≡ None) (λ i. IsAt ss i p)
+pub looked_up : {L : Type 0} (places : BTreeMap Key ℕ) (ss : List (Revision L)) (p : Path) → IsIndexed places (paths ss)
+    → (o : Option ℕ) → o ≡ place_by places p → MatchOption o (globe ss p ≡ None) (λ i. IsAt ss i p)
 looked_up places ss p indexed None e = not_found places ss p indexed (sym e)
 looked_up places ss p indexed (Some i) e = found_at places ss p i indexed (sym e)

@@ -39,7 +39,8 @@ decide_in p (q ∷ ps) = go (decide_same p q) (decide_in p ps)
 -- one more path in a list of which no two are the same
 pub distinct_more : (ps : List Path) (c : Path) → IsDistinct ps → (IsIn c ps → ⊥) → IsDistinct (ps ++ c ∷ [])
 distinct_more [] c d out = (λ v. v, tt)
-distinct_more (p ∷ ps) c d out = (λ v. not_in ps v d.0 (λ e. out (inl (sym e))), distinct_more ps c d.1 (λ v. out (inr v)))
+distinct_more (p ∷ ps) c d out =
+    (λ v. not_in ps v d.0 (λ e. out (inl (sym e))), distinct_more ps c d.1 (λ v. out (inr v)))
   where
     not_in : (qs : List Path) → IsIn p (qs ++ c ∷ []) → (IsIn p qs → ⊥) → (p ≡ c → ⊥) → ⊥
     not_in [] (inl e) f g = g e
@@ -67,10 +68,12 @@ overwrite {A} m r a b = fun_ext λ p. go (same r p) p
     go true p = refl
     go false p = refl
 
-pub swap : {A : Type 0} (m : PathMap A) (r o : Path) (a b : A) → r ≢ o → with_at (with_at m r a) o b ≡ with_at (with_at m o b) r a
+pub swap : {A : Type 0} (m : PathMap A) (r o : Path) (a b : A) → r ≢ o
+    → with_at (with_at m r a) o b ≡ with_at (with_at m o b) r a
 swap {A} m r o a b apart = fun_ext λ p. go p (same r p) refl (same o p) refl
   where
-    go : (p : Path) (s : Bool) → same r p ≡ s → (t : Bool) → same o p ≡ t → cond t (Some b) (cond s (Some a) (m p)) ≡ cond s (Some a) (cond t (Some b) (m p))
+    go : (p : Path) (s : Bool) → same r p ≡ s → (t : Bool) → same o p ≡ t
+        → cond t (Some b) (cond s (Some a) (m p)) ≡ cond s (Some a) (cond t (Some b) (m p))
     go p true e true f = absurd (apart (same-eq r p e ∙ sym (same-eq o p f)))
     go p true e false f = refl
     go p false e true f = refl

@@ -11,7 +11,8 @@ pub one_ok : {T E : Type 0} {A B : Type 0} (r : Result T E) → (A → B) → On
 one_ok (Ok v) f a = f a
 one_ok (Err e) f a = tt
 
-module _ {A : Type 0} (s front back : List A) (n : ℕ) (value : s ≡ front ++ back) (len : length front ≡ n) (within : n < length s) where
+module _ {A : Type 0} (s front back : List A) (n : ℕ) (value : s ≡ front ++ back) (len : length front ≡ n)
+    (within : n < length s) where
   back_there : 0 < length back
   back_there =
       let e : length s ≡ length (front ++ back) = ap length value in
@@ -26,11 +27,13 @@ module _ {A : Type 0} (s front back : List A) (n : ℕ) (value : s ≡ front ++ 
   get_back : (y d : A) → get_or back 0 y ≡ get_or s n d
   get_back y d =
       let z : n - n ≡ 0 = omega arith in
-      get_or_default back 0 y d back_there ∙ ap (λ v. get_or back v d) (sym z) ∙ sym (get_or-append_right front back n n d len (omega arith)) ∙ ap (λ v. get_or v n d) (sym value)
+      get_or_default back 0 y d back_there ∙ ap (λ v. get_or back v d) (sym z)
+      ∙ sym (get_or-append_right front back n n d len (omega arith)) ∙ ap (λ v. get_or v n d) (sym value)
 
   -- the element at n changed in the second part, for any first part of that length
   set_second : (f : List A) (y : A) → length f ≡ n → set (f ++ back) n y ≡ f ++ set back 0 y
-  set_second f y e = let z : n - n ≡ 0 = omega arith in set-append_right f back n n y e (omega arith) ∙ ap (λ v. f ++ set back v y) z
+  set_second f y e =
+      let z : n - n ≡ 0 = omega arith in set-append_right f back n n y e (omega arith) ∙ ap (λ v. f ++ set back v y) z
 
   -- i stands in the first part
   pub set_both : (i : ℕ) → i < n → (a b : A) → set front i a ++ set back 0 b ≡ set (set s i a) n b
@@ -46,16 +49,25 @@ module _ {A : Type 0} (s front back : List A) (n : ℕ) (value : s ≡ front ++ 
       sym (ap (λ v. set v j b) first ∙ set-append_left front (set back 0 a) j b lt')
 
   module _ (f : A → A → A) (k : A → A) (d : A) where
-    pub joined_first : (i : ℕ) → i < n → (x y a b : A) → a ≡ f (get_or front i x) (get_or back 0 y) → b ≡ k (get_or back 0 y) → set front i a ++ set back 0 b ≡ set (set s i (f (get_or s i d) (get_or s n d))) n (k (get_or s n d))
+    pub joined_first : (i : ℕ) → i < n → (x y a b : A) → a ≡ f (get_or front i x) (get_or back 0 y)
+        → b ≡ k (get_or back 0 y)
+        → set front i a ++ set back 0 b ≡ set (set s i (f (get_or s i d) (get_or s n d))) n (k (get_or s n d))
     joined_first i lt x y a b ea eb =
-        set_both i lt a b ∙ ap (λ v. set (set s i v) n b) (ea ∙ ap (λ v. f v (get_or back 0 y)) (get_front i x d lt) ∙ ap (f (get_or s i d)) (get_back y d))
+        set_both i lt a b
+        ∙ ap (λ v. set (set s i v) n b)
+        (ea ∙ ap (λ v. f v (get_or back 0 y)) (get_front i x d lt) ∙ ap (f (get_or s i d)) (get_back y d))
         ∙ ap (λ v. set (set s i (f (get_or s i d) (get_or s n d))) n v) (eb ∙ ap k (get_back y d))
 
-    pub joined_second : (j : ℕ) → j < n → (x y a b : A) → a ≡ f (get_or back 0 x) (get_or front j y) → b ≡ k (get_or front j y) → set front j b ++ set back 0 a ≡ set (set s n (f (get_or s n d) (get_or s j d))) j (k (get_or s j d))
+    pub joined_second : (j : ℕ) → j < n → (x y a b : A) → a ≡ f (get_or back 0 x) (get_or front j y)
+        → b ≡ k (get_or front j y)
+        → set front j b ++ set back 0 a ≡ set (set s n (f (get_or s n d) (get_or s j d))) j (k (get_or s j d))
     joined_second j lt x y a b ea eb =
-        set_both_back j lt a b ∙ ap (λ v. set (set s n v) j b) (ea ∙ ap (λ v. f v (get_or front j y)) (get_back x d) ∙ ap (f (get_or s n d)) (get_front j y d lt))
+        set_both_back j lt a b
+        ∙ ap (λ v. set (set s n v) j b)
+        (ea ∙ ap (λ v. f v (get_or front j y)) (get_back x d) ∙ ap (f (get_or s n d)) (get_front j y d lt))
         ∙ ap (λ v. set (set s n (f (get_or s n d) (get_or s j d))) j v) (eb ∙ ap k (get_front j y d lt))
 
 -- a list written through a slice of all of it
 pub written_all : {A : Type 0} (old new : List A) (n : ℕ) → length new ≡ n → take n (new ++ drop (length new) old) ≡ new
-written_all old new n e = ap (λ v. take v (new ++ drop (length new) old)) (sym e) ∙ take-append_seam new (drop (length new) old)
+written_all old new n e =
+    ap (λ v. take v (new ++ drop (length new) old)) (sym e) ∙ take-append_seam new (drop (length new) old)

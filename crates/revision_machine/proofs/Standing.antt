@@ -23,20 +23,29 @@ module _ (M : Machine) where
     where
       by : (h : Global M.Local) → Way M revs r h → Stands M h
       by h (twice l q lq here does there) = tt
-      by h (writes l l' o e here role) = record { main = of_main (decide_same r []) (decide_same o []); marked = λ p v. of_marked p v (decide_same r p) (decide_same o p) (place M role) }
+      by h (writes l l' o e here role) = record {
+        main = of_main (decide_same r []) (decide_same o []);
+        marked = λ p v. of_marked p v (decide_same r p) (decide_same o p) (place M role);
+      }
         where
-          of_main : (r ≡ []) ⊎ (r ≢ []) → (o ≡ []) ⊎ (o ≢ []) → (v : Entry M.Local) × (put_two revs r (Plain l') o e [] ≡ Some v)
+          of_main : (r ≡ []) ⊎ (r ≢ []) → (o ≡ []) ⊎ (o ≢ [])
+              → (v : Entry M.Local) × (put_two revs r (Plain l') o e [] ≡ Some v)
           of_main (inl a) b = (Plain l', ap (put_two revs r (Plain l') o e) (sym a) ∙ two_here revs r o (Plain l') e)
-          of_main (inr a) (inl b) = (e, ap (put_two revs r (Plain l') o e) (sym b) ∙ two_there revs r o (Plain l') e (λ c. a (c ∙ b)))
+          of_main (inr a) (inl b) =
+              (e, ap (put_two revs r (Plain l') o e) (sym b) ∙ two_there revs r o (Plain l') e (λ c. a (c ∙ b)))
           of_main (inr a) (inr b) = let was = w.main in (was.0, two_other revs r o (Plain l') e [] a b ∙ was.1)
 
-          of_marked : (p : Path) (v : M.Local) → (r ≡ p) ⊎ (r ≢ p) → (o ≡ p) ⊎ (o ≢ p) → Place M revs r l l' o e → put_two revs r (Plain l') o e p ≡ Some (Joined v) → M.next p v ≡ Ended
-          of_marked p v (inl a) b x there = plain_joined (some_inj (sym (two_here revs r o (Plain l') e) ∙ ap (put_two revs r (Plain l') o e) a ∙ there))
+          of_marked : (p : Path) (v : M.Local) → (r ≡ p) ⊎ (r ≢ p) → (o ≡ p) ⊎ (o ≢ p) → Place M revs r l l' o e
+              → put_two revs r (Plain l') o e p ≡ Some (Joined v) → M.next p v ≡ Ended
+          of_marked p v (inl a) b x there =
+              plain_joined
+              (some_inj (sym (two_here revs r o (Plain l') e) ∙ ap (put_two revs r (Plain l') o e) a ∙ there))
           of_marked p v (inr a) (inr b) x there = w.marked p v (sym (two_other revs r o (Plain l') e p a b) ∙ there)
           of_marked p v (inr a) (inl b) x there = of_place x
             where
               at_o : e ≡ Joined v
-              at_o = some_inj (sym (two_there revs r o (Plain l') e (λ c. a (c ∙ b))) ∙ ap (put_two revs r (Plain l') o e) b ∙ there)
+              at_o = some_inj (sym (two_there revs r o (Plain l') e (λ c. a (c ∙ b)))
+                  ∙ ap (put_two revs r (Plain l') o e) b ∙ there)
 
               of_place : Place M revs r l l' o e → M.next p v ≡ Ended
               of_place (own does is ee) = plain_joined (sym ee ∙ at_o)
@@ -45,10 +54,16 @@ module _ (M : Machine) where
                   let same : lq ≡ v = joined_inj (sym ee ∙ at_o) in (λ i. M.next (sym b i) (sym same i)) ∙ ended
 
   begins : (main : M.Local) → Stands M (start M main)
-  begins main = record { main = (Plain main, at_here nowhere [] (Plain main)); marked = λ p l there. go p l (decide_same [] p) there }
+  begins main = record {
+    main = (Plain main, at_here nowhere [] (Plain main));
+    marked = λ p l there. go p l (decide_same [] p) there;
+  }
     where
-      go : (p : Path) (l : M.Local) → ([] ≡ p) ⊎ ([] ≢ p) → with_at nowhere [] (Plain main) p ≡ Some (Joined l) → M.next p l ≡ Ended
-      go p l (inl a) there = plain_joined (some_inj (sym (at_here nowhere [] (Plain main)) ∙ ap (with_at nowhere [] (Plain main)) a ∙ there))
+      go : (p : Path) (l : M.Local) → ([] ≡ p) ⊎ ([] ≢ p) → with_at nowhere [] (Plain main) p ≡ Some (Joined l)
+          → M.next p l ≡ Ended
+      go p l (inl a) there =
+          plain_joined
+          (some_inj (sym (at_here nowhere [] (Plain main)) ∙ ap (with_at nowhere [] (Plain main)) a ∙ there))
       go p l (inr a) there = no_none (sym (at_other nowhere [] (Plain main) p a) ∙ there)
 
   pub standing_law : (main : M.Local) → StandingLaw M main

@@ -11,11 +11,13 @@ append_none : (xs : Statements) → append xs no_statements ≡ xs
 append_none no_statements = refl
 append_none (statements x xs) = ap (statements x) (append_none xs)
 
-on_these_push : (below : Statements) (bs : List (Bor (List Stmt))) (b : Bor (List Stmt)) → on_these below (bs ++ b ∷ []) ≡ append (stmts b.now) (on_these below bs)
+on_these_push : (below : Statements) (bs : List (Bor (List Stmt))) (b : Bor (List Stmt))
+    → on_these below (bs ++ b ∷ []) ≡ append (stmts b.now) (on_these below bs)
 on_these_push below [] b = refl
 on_these_push below (c ∷ bs) b = on_these_push (append (stmts c.now) below) bs b
 
-pub remaining_push : (bs : List (Bor (List Stmt))) (b : Bor (List Stmt)) → remaining (bs ++ b ∷ []) ≡ append (stmts b.now) (remaining bs)
+pub remaining_push : (bs : List (Bor (List Stmt))) (b : Bor (List Stmt))
+    → remaining (bs ++ b ∷ []) ≡ append (stmts b.now) (remaining bs)
 remaining_push bs b = on_these_push no_statements bs b
 
 pub remaining_one : (b : Bor (List Stmt)) → remaining (b ∷ []) ≡ stmts b.now
@@ -37,14 +39,19 @@ pub append_ended : (xs : List Stmt) (rest : Statements) → length xs ≡ 0 → 
 append_ended xs rest e = ap (λ b. append b rest) (stmts_none xs e)
 
 -- the next statement of the last block is taken
-pub taken : (blocks popped : List (Bor (List Stmt))) (b : Bor (List Stmt)) (x : Stmt) (others : List Stmt) (after : Statements) → blocks ≡ popped ++ b ∷ [] → b.now ≡ x ∷ others → after ≡ append (stmts others) (remaining popped)
+pub taken : (blocks popped : List (Bor (List Stmt))) (b : Bor (List Stmt)) (x : Stmt) (others : List Stmt)
+    (after : Statements)
+    → blocks ≡ popped ++ b ∷ [] → b.now ≡ x ∷ others → after ≡ append (stmts others) (remaining popped)
     → remaining blocks ≡ statements (stmt x) after
 taken blocks popped b x others after e first kept =
-    ap remaining e ∙ remaining_push popped b ∙ ap (λ xs. append (stmts xs) (remaining popped)) first ∙ ap (statements (stmt x)) (sym kept)
+    ap remaining e ∙ remaining_push popped b ∙ ap (λ xs. append (stmts xs) (remaining popped)) first
+    ∙ ap (statements (stmt x)) (sym kept)
 
 -- the last block has ended
-pub ended : (blocks popped : List (Bor (List Stmt))) (b : Bor (List Stmt)) → blocks ≡ popped ++ b ∷ [] → length b.now ≡ 0 → remaining popped ≡ remaining blocks
-ended blocks popped b e none = sym (ap remaining e ∙ remaining_push popped b ∙ append_ended b.now (remaining popped) none)
+pub ended : (blocks popped : List (Bor (List Stmt))) (b : Bor (List Stmt)) → blocks ≡ popped ++ b ∷ []
+    → length b.now ≡ 0 → remaining popped ≡ remaining blocks
+ended blocks popped b e none =
+    sym (ap remaining e ∙ remaining_push popped b ∙ append_ended b.now (remaining popped) none)
 
 length_turned : {A : Type 0} (below xs : List A) → length (turned below xs) ≡ length xs + length below
 length_turned below [] = omega arith

@@ -21,11 +21,13 @@ module _ {V : Type 0} (name : Name) where
   abbrev is_it : Name × V → Bool
   is_it e = same name e.0
 
-  at : (es : Table V) (i : ℕ) (d : Name × V) → i < length es → is_it (get_or es i d) ≡ true → ((k : ℕ) → k < i → is_it (get_or es k d) ≡ false) → Some (get_or es i d).1 ≡ find name es
+  at : (es : Table V) (i : ℕ) (d : Name × V) → i < length es → is_it (get_or es i d) ≡ true
+      → ((k : ℕ) → k < i → is_it (get_or es k d) ≡ false) → Some (get_or es i d).1 ≡ find name es
   at [] i d lt hit miss = absurd (omega arith)
   at (e ∷ es) zero d lt hit miss = ap (λ b. cond b (Some e.1) (find name es)) (sym hit)
   at (e ∷ es) (suc i) d lt hit miss =
-      at es i d (omega arith) hit (λ k below. miss (suc k) (omega arith)) ∙ ap (λ b. cond b (Some e.1) (find name es)) (sym (miss 0 (omega arith)))
+      at es i d (omega arith) hit (λ k below. miss (suc k) (omega arith))
+      ∙ ap (λ b. cond b (Some e.1) (find name es)) (sym (miss 0 (omega arith)))
 
   -- the value at the place of the first of a name
   pub found : (es : Table V) (i : ℕ) (d : Name × V) → position is_it es ≡ Some i → Some (get_or es i d).1 ≡ find name es
@@ -41,31 +43,45 @@ module _ {V : Type 0} (name : Name) where
   pub not_found : (es : Table V) → position is_it es ≡ None → None ≡ find name es
   not_found es h = missing 0 es (sym (position_from-zero is_it es) ∙ h)
 
-  push_from : (i : ℕ) (es : Table V) (w : Name) (x : V) → position_from is_it i (es ++ (w, x) ∷ []) ≡ or_else (position_from is_it i es) (if same name w then Some (i + length es) else None)
+  push_from : (i : ℕ) (es : Table V) (w : Name) (x : V)
+      → position_from is_it i (es ++ (w, x) ∷ [])
+      ≡ or_else (position_from is_it i es) (if same name w then Some (i + length es) else None)
   push_from i [] w x = let e : i + 0 ≡ i = omega arith in ap (λ n. if same name w then Some n else None) (sym e)
   push_from i (e ∷ es) w x = by (same name e.0) (push_from (i + 1) es w x) (omega arith)
     where
-      by : (b : Bool) → position_from is_it (i + 1) (es ++ (w, x) ∷ []) ≡ or_else (position_from is_it (i + 1) es) (if same name w then Some (i + 1 + length es) else None) → i + 1 + length es ≡ i + suc (length es)
-          → cond b (Some i) (position_from is_it (i + 1) (es ++ (w, x) ∷ [])) ≡ or_else (cond b (Some i) (position_from is_it (i + 1) es)) (if same name w then Some (i + suc (length es)) else None)
+      by : (b : Bool)
+          → position_from is_it (i + 1) (es ++ (w, x) ∷ [])
+          ≡ or_else (position_from is_it (i + 1) es) (if same name w then Some (i + 1 + length es) else None)
+          → i + 1 + length es ≡ i + suc (length es)
+          → cond b (Some i) (position_from is_it (i + 1) (es ++ (w, x) ∷ []))
+          ≡ or_else (cond b (Some i) (position_from is_it (i + 1) es))
+          (if same name w then Some (i + suc (length es)) else None)
       by true rest n = refl
-      by false rest n = rest ∙ ap (λ k. or_else (position_from is_it (i + 1) es) (if same name w then Some k else None)) n
+      by false rest n =
+          rest ∙ ap (λ k. or_else (position_from is_it (i + 1) es) (if same name w then Some k else None)) n
 
   -- the place of a name after one more local
-  pub pushed : (es : Table V) (w : Name) (x : V) → position is_it (es ++ (w, x) ∷ []) ≡ or_else (position is_it es) (if same name w then Some (length es) else None)
+  pub pushed : (es : Table V) (w : Name) (x : V)
+      → position is_it (es ++ (w, x) ∷ [])
+      ≡ or_else (position is_it es) (if same name w then Some (length es) else None)
   pushed es w x =
       position_from-zero is_it (es ++ (w, x) ∷ []) ∙ push_from 0 es w x
       ∙ ap (λ o. or_else o (if same name w then Some (0 + length es) else None)) (sym (position_from-zero is_it es))
-      ∙ (let e : 0 + length es ≡ length es = omega arith in ap (λ n. or_else (position is_it es) (if same name w then Some n else None)) e)
+      ∙ (let e : 0 + length es ≡ length es = omega arith in
+      ap (λ n. or_else (position is_it es) (if same name w then Some n else None)) e)
 
 stays : (o : Option ℕ) (i : ℕ) (k : Option ℕ) → o ≡ Some i → o ≡ or_else o k
 stays None i k h = cc
 stays (Some j) i k h = refl
 
 module _ {V : Type 0} where
-  kept : (name w : Name) (es : Table V) (i : ℕ) (b : Bool) → same name w ≡ b → position (λ (e : Name × V). same w e.0) es ≡ Some i
-      → position (λ (e : Name × V). same name e.0) es ≡ or_else (position (λ (e : Name × V). same name e.0) es) (if b then Some (length es) else None)
+  kept : (name w : Name) (es : Table V) (i : ℕ) (b : Bool) → same name w ≡ b
+      → position (λ (e : Name × V). same w e.0) es ≡ Some i
+      → position (λ (e : Name × V). same name e.0) es
+      ≡ or_else (position (λ (e : Name × V). same name e.0) es) (if b then Some (length es) else None)
   kept name w es i true h place =
-      stays (position (λ (e : Name × V). same name e.0) es) i (Some (length es)) (ap (λ n. position (λ (e : Name × V). same n e.0) es) (same_equal name w h) ∙ place)
+      stays (position (λ (e : Name × V). same name e.0) es) i (Some (length es))
+      (ap (λ n. position (λ (e : Name × V). same n e.0) es) (same_equal name w h) ∙ place)
   kept name w es i false h place = sym (or_else-none (position (λ (e : Name × V). same name e.0) es))
 
 -- ---- the numbers of names
@@ -85,7 +101,8 @@ module _ (t : Table ℕ) (w : Name) (k : ℕ) where
   came : (n : Name) (j : ℕ) → find n (added t w k) ≡ Some j → Came n j
   came n j h = by (find n t) (same n w) refl refl (sym (find-added n w k t) ∙ h)
     where
-      by : (o : Option ℕ) (b : Bool) → find n t ≡ o → same n w ≡ b → or_else o (if b then Some k else None) ≡ Some j → Came n j
+      by : (o : Option ℕ) (b : Bool) → find n t ≡ o → same n w ≡ b → or_else o (if b then Some k else None) ≡ Some j
+          → Came n j
       by (Some x) b p q found = inl (p ∙ found)
       by None true p q found = let e : k ≡ j = cc in inr (ap (λ m. find m t) (sym (same_equal n w q)) ∙ p, (q, e))
       by None false p q found = cc
@@ -97,7 +114,10 @@ module _ (t : Table ℕ) (w : Name) (k : ℕ) where
       where
         by : Came n j → j < length (added t w k)
         by (inl old) = let lt = below n j old in let le = length_added t w k in omega arith
-        by (inr new) = let e = ap length (grown t w k new.0) in let same_number : k ≡ j = new.1.1 in omega (arith, length-append t ((w, k) ∷ []))
+        by (inr new) =
+            let e = ap length (grown t w k new.0) in
+            let same_number : k ≡ j = new.1.1 in
+            omega (arith, length-append t ((w, k) ∷ []))
 
     pub apart_added : AreApart t → AreApart (added t w k)
     apart_added apart n o j hn ho = by (came n j hn) (came o j ho)
@@ -109,7 +129,8 @@ module _ (t : Table ℕ) (w : Name) (k : ℕ) where
         by (inr a) (inr b) = ap (same n) (same_equal o w b.1.0) ∙ a.1.0
 
 -- what holds of a table before a call that enters a name, and of the table with the name, holds after the call
-pub either : {A E : Type 0} (P : Table ℕ → Type 0) (r : Result A E) (old more new : Table ℕ) → OnOk r (new ≡ more) → OnErr r (new ≡ old) → P old → P more → P new
+pub either : {A E : Type 0} (P : Table ℕ → Type 0) (r : Result A E) (old more new : Table ℕ) → OnOk r (new ≡ more)
+    → OnErr r (new ≡ old) → P old → P more → P new
 either P (Ok x) old more new ok err before after = subst P (sym ok) after
 either P (Err x) old more new ok err before after = subst P (sym err) before
 
@@ -118,16 +139,19 @@ either P (Err x) old more new ok err before after = subst P (sym err) before
 module _ {V : Type 0} (numbers : Table ℕ) where
   module _ (places : List (Option ℕ)) (es : Table V) where
     -- the number of a name is one of a place
-    pub number_within : IsPlaced numbers places es → (w : Name) (o : Option ℕ) → o ≡ find w numbers → IfSome o (λ k. k < length places)
+    pub number_within : IsPlaced numbers places es → (w : Name) (o : Option ℕ) → o ≡ find w numbers
+        → IfSome o (λ k. k < length places)
     number_within placed w None e = tt
     number_within placed w (Some k) e = slice_get_within places k _ (placed w k (sym e))
 
     -- a name without a number is none of one more local, whose name has one
-    pub known_push : (w : Name) (x : V) (others : Bool) (o : Option ℕ) → o ≡ find w numbers → AreKnown numbers others es → AreKnown numbers (others || is_none o) (es ++ (w, x) ∷ [])
+    pub known_push : (w : Name) (x : V) (others : Bool) (o : Option ℕ) → o ≡ find w numbers → AreKnown numbers others es
+        → AreKnown numbers (others || is_none o) (es ++ (w, x) ∷ [])
     known_push w x true o e known h n absent = absurd (true≢false h)
     known_push w x false None e known h n absent = absurd (true≢false h)
     known_push w x false (Some k) e known h n absent =
-        pushed n es w x ∙ ap (λ p. or_else p (if same n w then Some (length es) else None)) (known refl n absent) ∙ by (same n w) refl
+        pushed n es w x ∙ ap (λ p. or_else p (if same n w then Some (length es) else None)) (known refl n absent)
+        ∙ by (same n w) refl
       where
         by : (b : Bool) → same n w ≡ b → or_else None (if b then Some (length es) else None) ≡ None
         by true q = let c : Some k ≡ None = e ∙ ap (λ m. find m numbers) (sym (same_equal n w q)) ∙ absent in cc
@@ -141,11 +165,13 @@ module _ {V : Type 0} (numbers : Table ℕ) where
       abbrev then_first : Name → Bool → Option ℕ
       then_first n b = or_else (first n) (if b then Some (length es) else None)
 
-      no_number : (n : Name) (j : ℕ) → find n numbers ≡ Some j → find w numbers ≡ None → (b : Bool) → same n w ≡ b → first n ≡ then_first n b
+      no_number : (n : Name) (j : ℕ) → find n numbers ≡ Some j → find w numbers ≡ None → (b : Bool) → same n w ≡ b
+          → first n ≡ then_first n b
       no_number n j h e true q = let c : Some j ≡ None = sym h ∙ ap (λ m. find m numbers) (same_equal n w q) ∙ e in cc
       no_number n j h e false q = sym (or_else-none (first n))
 
-      new_place : (n : Name) (j k : ℕ) → find n numbers ≡ Some j → find w numbers ≡ Some k → first w ≡ None → (b : Bool) → same n w ≡ b
+      new_place : (n : Name) (j k : ℕ) → find n numbers ≡ Some j → find w numbers ≡ Some k → first w ≡ None → (b : Bool)
+          → same n w ≡ b
           → slice_get (set places k (Some (length es))) j ≡ Some (then_first n b)
       new_place n j k h e none true q =
           let number : Some j ≡ Some k = sym h ∙ ap (λ m. find m numbers) (same_equal n w q) ∙ e in
@@ -163,7 +189,8 @@ module _ {V : Type 0} (numbers : Table ℕ) where
           ∙ ap Some (get_or-set_other places k j (Some (length es)) None other)
           ∙ sym (slice_get-get_or places j None lt) ∙ placed n j h ∙ ap Some (sym (or_else-none (first n)))
 
-      by_number : (n : Name) (j k : ℕ) → find n numbers ≡ Some j → find w numbers ≡ Some k → (o : Option ℕ) → first w ≡ o
+      by_number : (n : Name) (j k : ℕ) → find n numbers ≡ Some j → find w numbers ≡ Some k → (o : Option ℕ)
+          → first w ≡ o
           → slice_get (if is_some o then places else set places k (Some (length es))) j ≡ Some (then_first n (same n w))
       by_number n j k h e (Some i) q = placed n j h ∙ ap Some (kept n w es i (same n w) refl q)
       by_number n j k h e None q = new_place n j k h e q (same n w) refl
@@ -172,7 +199,8 @@ module _ {V : Type 0} (numbers : Table ℕ) where
           → slice_get (noted places o (length es)) j ≡ Some (then_first n (same n w))
       noted_place n j h None e = placed n j h ∙ ap Some (no_number n j h e (same n w) refl)
       noted_place n j h (Some k) e =
-          ap (λ o. slice_get (if is_some o then places else set places k (Some (length es))) j) (get_or_from_slice_get places k (first w) None (placed w k e))
+          ap (λ o. slice_get (if is_some o then places else set places k (Some (length es))) j)
+          (get_or_from_slice_get places k (first w) None (placed w k e))
           ∙ by_number n j k h e (first w) refl
 
       -- one more local, whose place is noted

@@ -21,5 +21,6 @@ location_row None z = refl
 location_row (Some x) z = in_row x z
 
 -- the location of a cell is where its row says
-pub cell_location_at : (s : Setting) (name : Name) (z : ℤ) → location_at (info_of s.program name) z ≡ cell_location s name z
+pub cell_location_at : (s : Setting) (name : Name) (z : ℤ)
+    → location_at (info_of s.program name) z ≡ cell_location s name z
 cell_location_at s name z = location_row (variable_named (variables s.program) name) z

@@ -4,7 +4,8 @@ use Rattle.rev_num.specs.declared.outcome.Cause.{Cause}
 use Rattle.merge_decl.specs.Value.{and_then}
 use Rattle.revision_data.specs.Reading.{prefixed}
 
-pub one_more : {A : Type 0} (xs : List A) (y : A) (rest : Result (List A) Cause) → prefixed xs (and_then rest (λ ys. Ok (y ∷ ys))) ≡ prefixed (xs ++ y ∷ []) rest
+pub one_more : {A : Type 0} (xs : List A) (y : A) (rest : Result (List A) Cause)
+    → prefixed xs (and_then rest (λ ys. Ok (y ∷ ys))) ≡ prefixed (xs ++ y ∷ []) rest
 one_more xs y (Ok ys) = ap Ok (sym (append_assoc xs (y ∷ []) ys))
 one_more xs y (Err c) = refl
 

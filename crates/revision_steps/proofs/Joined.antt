@@ -9,6 +9,7 @@ join_split x [] = sym (append-nil x)
 join_split x (y ∷ ys) = ap (λ t. x ++ (space ∷ t)) (join_split y ys)
 
 pub texts_split : (texts : List (Vec ℕ Global)) (d : Vec ℕ Global) → 1 ≤ length texts
-    → join_with_byte space (map (λ t. t.items) texts) ≡ (get_or texts 0 d).items ++ flat_map behind_space (map (λ t. t.items) (drop 1 texts))
+    → join_with_byte space (map (λ t. t.items) texts)
+    ≡ (get_or texts 0 d).items ++ flat_map behind_space (map (λ t. t.items) (drop 1 texts))
 texts_split [] d some = absurd (omega arith)
 texts_split (t ∷ texts) d some = join_split t.items (map (λ t. t.items) texts)

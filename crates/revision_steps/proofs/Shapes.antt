@@ -11,12 +11,20 @@ use Rattle.rev_syntax.specs.declared.tree.Form.TheFolds.{fold-roll-Form}
 use Rattle.rev_syntax.specs.declared.tree.Form.TheVariants.{While, AssignCell, rolls-While, rolls-AssignCell}
 use Rattle.rev_syntax.proofs.Shapes.{stmt_is}
 
-pub stmt-AssignCell : (s : Stmt) (name : Name) (index e : Expr) → s.form ≡ AssignCell name index e → stmt s ≡ statement s.at s.line (assign_cell (placed_name name) (expression index) (expression e))
+pub stmt-AssignCell : (s : Stmt) (name : Name) (index e : Expr) → s.form ≡ AssignCell name index e
+    → stmt s ≡ statement s.at s.line (assign_cell (placed_name name) (expression index) (expression e))
 stmt-AssignCell s name index e is =
     stmt_is s ∙ ap (λ f. statement s.at s.line (statement_form f)) is
-    ∙ ap (statement s.at s.line) (ap statement_form (sym (rolls-AssignCell name index e)) ∙ fold-roll-Form StatementForm (Expression × Statements) Statements Statement statement_form_level arm_level block_level statement_level (Form-F.AssignCell name index e))
+    ∙ ap (statement s.at s.line)
+    (ap statement_form (sym (rolls-AssignCell name index e))
+    ∙ fold-roll-Form StatementForm (Expression × Statements) Statements Statement statement_form_level arm_level
+    block_level statement_level (Form-F.AssignCell name index e))
 
-pub stmt-While : (s : Stmt) (test : Expr) (body : Block) → s.form ≡ While test body → stmt s ≡ statement s.at s.line (repeat (expression test) (block body))
+pub stmt-While : (s : Stmt) (test : Expr) (body : Block) → s.form ≡ While test body
+    → stmt s ≡ statement s.at s.line (repeat (expression test) (block body))
 stmt-While s test body is =
     stmt_is s ∙ ap (λ f. statement s.at s.line (statement_form f)) is
-    ∙ ap (statement s.at s.line) (ap statement_form (sym (rolls-While test body)) ∙ fold-roll-Form StatementForm (Expression × Statements) Statements Statement statement_form_level arm_level block_level statement_level (Form-F.While test body))
+    ∙ ap (statement s.at s.line)
+    (ap statement_form (sym (rolls-While test body))
+    ∙ fold-roll-Form StatementForm (Expression × Statements) Statements Statement statement_form_level arm_level
+    block_level statement_level (Form-F.While test body))

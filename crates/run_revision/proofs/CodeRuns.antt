@@ -3,17 +3,17 @@ use Rattle.std.proofs.Common.{◌≡◌, refl, ℕ, List, Option, Some, None, sy
 use Rattle.revision_machine.specs.Numbered.{Entries, World, Both, Listing, begin, Replays, IsOver}
 use Rattle.revision_machine.proofs.Paths.{some_inj}
 use Rattle.revision_machine.proofs.Numbers.{none_some}
-use Rattle.hub_algebra.specs.Replay.{replay}
-use Rattle.hub_algebra.proofs.Replay.{replay_is}
-use Rattle.hub_table.specs.declared.state.HubState.{HubState}
-use Rattle.hub_table.specs.declared.state.HubState.TheVariants.{All, Twice, NoMemory}
+use Rattle.hub_core.specs.Replay.{replay}
+use Rattle.hub_core.proofs.Replay.{replay_is}
+use Rattle.hub_core.specs.declared.state.HubState.{HubState}
+use Rattle.hub_core.specs.declared.state.HubState.TheVariants.{All, Twice, NoMemory}
 use Rattle.turn_hub.specs.Closing.{Legal}
 use Rattle.code_machine.specs.Local.{CodeRun, Local}
 use Rattle.code_machine.specs.Machines.{numbered, start_in}
-use Rattle.code_hub.specs.CodeState.{CodeState, state_of, states, shown_all, shown_some}
-use Rattle.code_hub.specs.Values.{is_end, code_hub}
-use Rattle.code_hub.proofs.Shown.{replays}
-use Rattle.code_hub.proofs.Meeting.{over_is}
+use Rattle.run_revision.specs.CodeState.{CodeState, state_of, states, shown_all, shown_some}
+use Rattle.run_revision.specs.CodeValues.{is_end, code_hub}
+use Rattle.run_revision.proofs.Shown.{replays}
+use Rattle.run_revision.proofs.Meeting.{over_is}
 use Rattle.run_revision.specs.CodeRuns.{IsLegalOf, RunsAreOfCode}
 
 module _ (g : CodeRun) where
@@ -33,7 +33,8 @@ module _ (g : CodeRun) where
   both : (o : Option (World (Local ℕ))) → shown_some g o ≡ Some Both → o ≡ Some Both
   both None e = none_some e
   both (Some Both) e = refl
-  both (Some (Listing w)) e = absurd (let x : ◌≡◌ {A = World CodeState} (Listing (shown_all g w)) Both = some_inj e in cc)
+  both (Some (Listing w)) e =
+      absurd (let x : ◌≡◌ {A = World CodeState} (Listing (shown_all g w)) Both = some_inj e in cc)
 
   module _ (main : Local ℕ) (ns : List ℕ) where
     -- the schedule leads to it
@@ -47,15 +48,19 @@ module _ (g : CodeRun) where
         let s = shows (replay (numbered g) main ns) u (sym (replays g main ns) ∙ e) in
         record { world = s.world; replays = (replay_is (numbered g) main ns (Listing s.world)).0 s.is; same = s.same }
 
-    pub leads_both : replay states (state_of g main) ns ≡ Some Both → Replays (numbered g) (begin (numbered g) main) ns Both
-    leads_both e = (replay_is (numbered g) main ns Both).0 (both (replay (numbered g) main ns) (sym (replays g main ns) ∙ e))
+    pub leads_both : replay states (state_of g main) ns ≡ Some Both
+        → Replays (numbered g) (begin (numbered g) main) ns Both
+    leads_both e =
+        (replay_is (numbered g) main ns Both).0 (both (replay (numbered g) main ns) (sym (replays g main ns) ∙ e))
 
-    pub over_there : (u : Entries CodeState) (l : Leads u) → IsOver states (state_of g main) (Listing u) → IsOver (numbered g) main (Listing l.world)
+    pub over_there : (u : Entries CodeState) (l : Leads u) → IsOver states (state_of g main) (Listing u)
+        → IsOver (numbered g) main (Listing l.world)
     over_there u l over = over_is g main l.world (subst (λ z. IsOver states (state_of g main) (Listing z)) l.same over)
 
     legal : (state : HubState) (u : Entries CodeState) → Legal code_hub is_end (state_of g main) state ns u
         → (state ≡ All → IsOver states (state_of g main) (Listing u)) → IsLegalOf g main state ns
-    legal All u e over = let l = leads u e in (l.world, record { replays = l.replays; over = over_there u l (over refl) })
+    legal All u e over =
+        let l = leads u e in (l.world, record { replays = l.replays; over = over_there u l (over refl) })
     legal Twice u e over = leads_both e.4
     legal NoMemory u e over = let l = leads u e in (l.world, l.replays)
 

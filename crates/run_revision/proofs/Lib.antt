@@ -1,3 +1,5 @@
+pub mod Shown
+pub mod Meeting
 pub mod Standing
 pub mod Events
 pub mod Taking

@@ -21,8 +21,10 @@ module _ (g : CodeRun) (run : Run) (delta : Delta) (base : ℕ → ℕ) (first :
   pub at_own : (c : State ℕ) → IsAt g run delta base first c → IsAt g run delta base first own_state
   at_own c h = subst (IsAt g run delta base first) (one_state g run delta base first c h) h
 
-  pub own_args : (n : ℕ) (c : State ℕ) (args : List (Word ℕ)) → IsAtFork g run delta base first n c args → args ≡ arguments_at g own_state
-  own_args n c args h = sym (ap arguments_of h.forks) ∙ ap (arguments_at g) (one_state g run delta base first c h.stands)
+  pub own_args : (n : ℕ) (c : State ℕ) (args : List (Word ℕ)) → IsAtFork g run delta base first n c args
+      → args ≡ arguments_at g own_state
+  own_args n c args h =
+      sym (ap arguments_of h.forks) ∙ ap (arguments_at g) (one_state g run delta base first c h.stands)
 
   pub fork_own : (n : ℕ) (c : State ℕ) (args : List (Word ℕ)) → IsAtFork g run delta base first n c args
       → IsAtFork g run delta base first n own_state (arguments_at g own_state)
@@ -40,10 +42,13 @@ end_own g j v h = subst (λ z. IsEnd g z v) (one_end g j v h) h
 
 -- ---- a forker and its child's number
 
-last_fork : (n line : ℕ) (xs : List (Listed ℕ)) → last_named n (xs ++ listed.forked 0 line ∷ []) ≡ xs ++ listed.forked n line ∷ []
+last_fork : (n line : ℕ) (xs : List (Listed ℕ))
+    → last_named n (xs ++ listed.forked 0 line ∷ []) ≡ xs ++ listed.forked n line ∷ []
 last_fork n line [] = refl
 last_fork n line (x ∷ []) = refl
 last_fork n line (x ∷ y ∷ ys) = ap (λ l. x ∷ l) (last_fork n line (y ∷ ys))
 
-pub renamed_parent : (share : ℕ) (c : State ℕ) (args : List (Word ℕ)) (n : ℕ) → renamed (events.parent share c args 0) n ≡ events.parent share c args n
-renamed_parent share c args n = ap (λ ls. record (events.parent share c args n) { listed = ls }) (last_fork n c.line c.listed)
+pub renamed_parent : (share : ℕ) (c : State ℕ) (args : List (Word ℕ)) (n : ℕ)
+    → renamed (events.parent share c args 0) n ≡ events.parent share c args n
+renamed_parent share c args n =
+    ap (λ ls. record (events.parent share c args n) { listed = ls }) (last_fork n c.line c.listed)

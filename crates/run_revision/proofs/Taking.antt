@@ -10,10 +10,10 @@ use Rattle.hub_workers.specs.Legs.{HaveMet}
 use Rattle.code_machine.specs.Local.{CodeRun, Trap, Phase, running, done, trapped, Local, end_of}
 use Rattle.code_machine.specs.Joining.{inherit, join_in}
 use Rattle.code_machine.specs.Machines.{act_in, wish_of}
-use Rattle.code_hub.specs.CodeState.{state_of, told, next}
-use Rattle.code_hub.specs.Values.{JoinerValue, LeftValue, is_trap, joined, is_end, code_hub}
-use Rattle.code_hub.specs.Laws.{MeetingFits}
-use Rattle.code_hub.proofs.Meeting.{meetings_fit}
+use Rattle.run_revision.specs.CodeState.{state_of, told, next}
+use Rattle.run_revision.specs.CodeValues.{JoinerValue, LeftValue, is_trap, joined, is_end, code_hub}
+use Rattle.run_revision.specs.Laws.{MeetingFits}
+use Rattle.run_revision.proofs.Meeting.{meetings_fit}
 use Rattle.rev_vm.specs.Meaning.{IsEnd, IsPhase}
 use Rattle.rev_vm.specs.States.{end_for, phase_as}
 use Rattle.run_revision.specs.Hands.{HandValue, begins}
@@ -25,7 +25,8 @@ no_trap (finish.Trapped u) e = cc
 abbrev pub trap_for : CodeTrap → Trap ℕ
 trap_for u = record { cause = u.cause; line = u.line; origin = u.origin }
 
-module _ (own its mine : CodeRun) (s : State ℕ) (try : Bool) (on : ℕ) (group : List ℕ) (v : EndValue) (h : HandValue) (a : JoinerValue) (e : LeftValue)
+module _ (own its mine : CodeRun) (s : State ℕ) (try : Bool) (on : ℕ) (group : List ℕ) (v : EndValue) (h : HandValue)
+    (a : JoinerValue) (e : LeftValue)
     (at_is : ◌≡◌ {A = JoinerValue} (record { run = own; state = s; try = try; on = on; group = group }) a)
     (end_is : ◌≡◌ {A = LeftValue} (record { run = its; left = end_for its v }) e)
     (hand_is : mine ≡ h.run) (met : HaveMet code_hub is_end (begins h) a e) where
@@ -56,12 +57,14 @@ module _ (own its mine : CodeRun) (s : State ℕ) (try : Bool) (on : ℕ) (group
   joined_is = sym (ap (λ z. joined z e) at_is) ∙ ap (λ j. state_of own (join_in own s try on j j.phase)) left_is
 
   -- by a joinee that trapped
-  pub stopped_is : (u : CodeTrap) → v.finish ≡ finish.Trapped u → a.try ≡ false → joined a e ≡ state_of own (inherit s false on (trap_for u))
+  pub stopped_is : (u : CodeTrap) → v.finish ≡ finish.Trapped u → a.try ≡ false
+      → joined a e ≡ state_of own (inherit s false on (trap_for u))
   stopped_is u fell plain =
       joined_is ∙ (ap (λ f. state_of own (join_in own s try on (end_for own v) (phase_as f))) fell
       ∙ ap (λ b. state_of own (inherit s b on (trap_for u))) (ap (λ z. z.try) at_is ∙ plain))
 
-phase_stops : (g : CodeRun) (c : State ℕ) (ph : Phase ℕ) (f : Finish) → IsPhase ph f → told g (wish_of (act_in g c ph)) ≡ Stops
+phase_stops : (g : CodeRun) (c : State ℕ) (ph : Phase ℕ) (f : Finish) → IsPhase ph f
+    → told g (wish_of (act_in g c ph)) ≡ Stops
 phase_stops g c running f h = absurd h
 phase_stops g c done f h = refl
 phase_stops g c (trapped t) f h = refl

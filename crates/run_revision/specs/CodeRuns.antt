@@ -6,15 +6,15 @@
 --               what a hub leaves of a run from `main` is a run of the code
 use Rattle.std.specs.Prelude.{ℕ, List, Option}
 use Rattle.revision_machine.specs.Numbered.{Entries, Both, Listing, begin, Replays, CompleteSchedule}
-use Rattle.hub_table.specs.declared.kept.Kept.{Kept}
-use Rattle.hub_table.specs.declared.state.HubState.{HubState}
-use Rattle.hub_table.specs.declared.state.HubState.TheVariants.{All, Twice, NoMemory}
+use Rattle.hub_core.specs.declared.kept.Kept.{Kept}
+use Rattle.hub_core.specs.declared.state.HubState.{HubState}
+use Rattle.hub_core.specs.declared.state.HubState.TheVariants.{All, Twice, NoMemory}
 use Rattle.code_machine.specs.Local.{CodeRun, IsVerified, Local}
 use Rattle.code_machine.specs.Machines.{numbered, IsMain, start_in}
 use Rattle.turn_hub.specs.Closing.{ClosedHub}
-use Rattle.code_hub.specs.CodeState.{CodeState}
-use Rattle.code_hub.specs.Values.{RunnerValue, JoinerValue, LeftValue, is_end, code_hub}
-use Rattle.code_hub.specs.Laws.{IsStart}
+use Rattle.run_revision.specs.CodeState.{CodeState}
+use Rattle.run_revision.specs.CodeValues.{RunnerValue, JoinerValue, LeftValue, is_end, code_hub}
+use Rattle.run_revision.specs.Laws.{IsStart}
 
 module _ (g : CodeRun) (main : Local ℕ) where
   abbrev pub IsLegalOf : HubState → List ℕ → Type 0

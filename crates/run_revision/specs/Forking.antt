@@ -11,7 +11,7 @@ use Rattle.rev_code.specs.State as listed
 use Rattle.rev_code.specs.Step.{Comes, goes, traps, forks, joins, ends, stuck, step}
 use Rattle.rev_code.specs.Events as events
 use Rattle.code_machine.specs.Local.{CodeRun, under, at_work}
-use Rattle.code_hub.specs.CodeState.{CodeState, state_of}
+use Rattle.run_revision.specs.CodeState.{CodeState, state_of}
 
 pub record ForkValue : Type 0 where
   pub run : CodeRun

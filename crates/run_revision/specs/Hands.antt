@@ -2,8 +2,8 @@
 --   begins      the runs that it is for: `main` with this fuel
 use Rattle.std.specs.Prelude.{ℕ, ◌<◌, ◌^◌, List}
 use Rattle.code_machine.specs.Local.{CodeRun}
-use Rattle.code_hub.specs.CodeState.{CodeState}
-use Rattle.code_hub.specs.Laws.{IsStart}
+use Rattle.run_revision.specs.CodeState.{CodeState}
+use Rattle.run_revision.specs.Laws.{IsStart}
 
 pub record HandValue : Type 0 where
   pub run : CodeRun

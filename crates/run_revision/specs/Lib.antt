@@ -1,3 +1,6 @@
+pub mod CodeState
+pub mod CodeValues
+pub mod Laws
 pub mod Values
 pub mod Forking
 pub mod Hands

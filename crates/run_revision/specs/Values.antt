@@ -6,7 +6,7 @@ use Rattle.rev_code.specs.declared.code.Code.{Code}
 use Rattle.rev_code.specs.State.{State}
 use Rattle.code_machine.specs.Local.{Phase, running, done, trapped, at_work}
 use Rattle.code_machine.specs.Ends.{shows_join}
-use Rattle.code_hub.specs.CodeState.{CodeState, state_of}
+use Rattle.run_revision.specs.CodeState.{CodeState, state_of}
 
 abbrev pub no_code : Code
 no_code = record { vars = []; texts = []; layouts = []; blocks = [] }

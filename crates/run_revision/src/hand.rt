@@ -1,6 +1,6 @@
 //! What a thread works with.
 ghost use Rattle.std.specs.Prelude.{◌≡◌, ◌+◌, ℕ, List};
-ghost use Rattle.block_merges.specs.Merging.{AreMergesOf};
+ghost use Rattle.fun_run.specs.Merging.{AreMergesOf};
 ghost use Rattle.block_run.specs.Area.{count};
 ghost use Rattle.rev_vm.specs.Starts.{run_under};
 
@@ -45,7 +45,7 @@ pub struct CodeHand<'a, P: Snapshot, M: MergeBy, K: Keeper<P>> {
 
 impl<'a, P: Snapshot, M: MergeBy, K: Keeper<P>> Model for CodeHand<'a, P, M, K> {
     ghost use Rattle.std.specs.Prelude.{◌≡◌};
-    ghost use Rattle.block_merges.specs.Merging.{AreMergesOf};
+    ghost use Rattle.fun_run.specs.Merging.{AreMergesOf};
     ghost use Rattle.block_run.specs.Area.{count};
     ghost use Rattle.rev_vm.specs.Starts.{run_under};
     ghost use Rattle.run_revision.specs.Hands.{HandValue};

@@ -15,7 +15,7 @@ pub struct CodeJoiner<'a, P: Snapshot> {
 }
 
 impl<'a, P: Snapshot> Model for CodeJoiner<'a, P> {
-    ghost use Rattle.code_hub.specs.Values.{JoinerValue};
+    ghost use Rattle.run_revision.specs.CodeValues.{JoinerValue};
     ghost use Rattle.rev_vm.specs.Starts.{run_under};
     ghost use Rattle.rev_vm.specs.Values.{StandsAtJoin, joiner_state, joiner_group};
 

@@ -1,6 +1,6 @@
 //! What revisions leave that have ended.
 ghost use Rattle.std.specs.Prelude.{◌≡◌};
-ghost use Rattle.code_hub.specs.Values.{is_trap};
+ghost use Rattle.run_revision.specs.CodeValues.{is_trap};
 ghost use Rattle.rev_vm.specs.Meaning.{IsEnd};
 ghost use Rattle.run_revision.specs.Values.{made_by_join};
 
@@ -17,7 +17,7 @@ pub struct CodeEnd<'a> {
 }
 
 impl<'a> Model for CodeEnd<'a> {
-    ghost use Rattle.code_hub.specs.Values.{LeftValue};
+    ghost use Rattle.run_revision.specs.CodeValues.{LeftValue};
     ghost use Rattle.rev_vm.specs.Meaning.{IsEnd};
     ghost use Rattle.rev_vm.specs.Starts.{run_under};
     ghost use Rattle.rev_vm.specs.States.{end_for};

@@ -1,6 +1,7 @@
-//! Revisions of verified code as those of a hub, over any snapshot.
+//! Verified code as a machine of a hub, and its revisions as those of a hub.
 #![tactic(auto)]
 
+mod code_laws;
 mod forking;
 mod hand;
 mod joiner;
@@ -11,6 +12,7 @@ mod machine;
 mod runner;
 mod state;
 
+pub use code_laws::{joiner_laws, world_laws};
 pub use forking::{CodeFork, CodeParent};
 pub use hand::{CodeHand, Keeper};
 pub use joiner::{CodeJoiner, Ended, JoinedBy};

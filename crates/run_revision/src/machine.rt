@@ -1,6 +1,6 @@
 //! Revisions of verified code as a machine of revisions.
 ghost use Rattle.std.specs.Prelude.{◌≡◌};
-ghost use Rattle.code_hub.specs.Values.{code_hub, is_end};
+ghost use Rattle.run_revision.specs.CodeValues.{code_hub, is_end};
 ghost use Rattle.run_revision.specs.Values.{made_by_join};
 
 use crate::hand::Keeper;
@@ -8,9 +8,9 @@ use crate::joiner::{CodeJoiner, Ended, JoinedBy};
 use crate::left::CodeEnd;
 use crate::runner::CodeRunner;
 use crate::state::AnyState;
+use hub_core::Revision;
 use leg_run::CodeSetting;
 use std::marker::PhantomData;
-use turn_rule::Revision;
 use version_map::{MergeBy, Snapshot};
 
 /// The machine of verified code, over these snapshots, for threads with these merges and keepers.

@@ -1,7 +1,7 @@
 //! Revisions before their legs.
 ghost use Rattle.std.specs.Prelude.{◌≡◌, IfErr, IfOk};
 ghost use Rattle.block_run.specs.Area.{count};
-ghost use Rattle.code_hub.specs.Laws.{IsStart};
+ghost use Rattle.run_revision.specs.Laws.{IsStart};
 ghost use Rattle.rev_vm.specs.Opening.{StartsWith};
 ghost use Rattle.rev_vm.specs.Starts.{run_under};
 
@@ -19,8 +19,8 @@ pub struct CodeRunner<'a, P: Snapshot> {
 }
 
 impl<'a, P: Snapshot> Model for CodeRunner<'a, P> {
-    ghost use Rattle.code_hub.specs.CodeState.{state_of};
-    ghost use Rattle.code_hub.specs.Values.{RunnerValue};
+    ghost use Rattle.run_revision.specs.CodeState.{state_of};
+    ghost use Rattle.run_revision.specs.CodeValues.{RunnerValue};
     ghost use Rattle.code_machine.specs.Local.{at_work};
     ghost use Rattle.rev_vm.specs.Starts.{run_under};
     ghost use Rattle.rev_vm.specs.Values.{StandsFor, runner_state, runner_group};

@@ -8,7 +8,7 @@ pub struct AnyState {
 }
 
 impl Model for AnyState {
-    ghost use Rattle.code_hub.specs.CodeState.{CodeState};
+    ghost use Rattle.run_revision.specs.CodeState.{CodeState};
     ghost use Rattle.run_revision.specs.Values.{nothing};
 
     ghost Value = { CodeState };

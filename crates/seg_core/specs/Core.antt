@@ -1,4 +1,4 @@
--- Segments, and the references of holders to them, as plain data. Sums are those of list_sums.
+-- Segments, and the references of holders to them, as plain data. Sums are those of rev_num.
 -- A segment is named by a number from 1 on; 0 names none.
 --   Seg            free, building by a holder with a delta so far, or live with a delta, a parent,
 --   a count
@@ -10,7 +10,7 @@ use Rattle.std.specs.Prelude.{◌≡◌, ℕ, zero, suc, ◌+◌, ◌<◌, List,
 use mathlib.Core.Option as m
 use lib.ListN.{get_elem?}
 use Rattle.version_map.specs.Overlay.{word_or}
-pub use Rattle.list_sums.specs.Sums.{total, is_at, times}
+pub use Rattle.rev_num.specs.Sums.{total, is_at, times}
 
 pub data Seg : Type 0 where
   free : Seg

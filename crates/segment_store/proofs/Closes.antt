@@ -1,6 +1,6 @@
 -- Where all holds were gathered, no segment is live.
 use Rattle.std.proofs.Common.{Bool, true, false, eqb, cond, eq-eqb, ◌*◌, mul-le-mul_right, ◌≡◌, ℕ}
-use Rattle.std.proofs.Common.{zero, suc, ◌+◌, ◌-◌, ◌%◌, ◌<◌, ◌≤◌, ◌≢◌, List, [], ◌∷◌, get_or, sym}
+use Rattle.std.proofs.Common.{zero, suc, ◌+◌, ◌-◌, ◌<◌, ◌≤◌, ◌≢◌, List, [], ◌∷◌, get_or, sym}
 use Rattle.std.proofs.Common.{refl, ap, ◌∙◌, subst, arith, inl}
 use Rattle.std.proofs.Math.Nat.{mul-mod_left}
 use Rattle.segment_store.specs.Live.{live_segments}

@@ -42,11 +42,11 @@ use Rattle.code_generation.specs.Generated.{value_word, var_of, kinds_of, proc_b
 use Rattle.code_generation.proofs.Naming.{get_right, values_count, variable_lies}
 use Rattle.code_generation.specs.Stands.{HasItems}
 use Rattle.code_generation.proofs.Standing.{whole_stands}
-use Rattle.expression_run.specs.Agrees.{word}
-use Rattle.expression_run.proofs.Blocks.{kinds_length}
-use Rattle.program_funs.proofs.Funs.{program_funs}
-use Rattle.statement_places.specs.Places.{Tables}
-use Rattle.statement_places.specs.States.{location_word, IsTop, StandsAt}
+use Rattle.expression_meaning.specs.Agrees.{word}
+use Rattle.expression_meaning.proofs.Blocks.{kinds_length}
+use Rattle.expression_meaning.proofs.Funs.{program_funs}
+use Rattle.expression_meaning.specs.Places.{Tables}
+use Rattle.expression_meaning.specs.States.{location_word, IsTop, StandsAt}
 use Rattle.statement_run.specs.Laws.{tables}
 use Rattle.statement_run.proofs.Linked.{IsProc, IsLinked}
 use Rattle.statement_run.proofs.Programs.{body_begins, proc_body, main_body, main_of}
@@ -70,7 +70,8 @@ zero_start k.Int = refl
 zero_start k.Bool = refl
 zero_start k.Rev = refl
 
-constant_start : (t : ValueKind) (x : Value) → kind_of x ≡ t → value_formed x ≡ true → start_word {H = Path} t (value_word (constant_value x)) ≡ word (constant_value x)
+constant_start : (t : ValueKind) (x : Value) → kind_of x ≡ t → value_formed x ≡ true
+    → start_word {H = Path} t (value_word (constant_value x)) ≡ word (constant_value x)
 constant_start k.Int (v.Int z) e h = ap words.int (number_back z h)
 constant_start k.Bool (v.Bool true) e h = refl
 constant_start k.Bool (v.Bool false) e h = refl
@@ -82,27 +83,39 @@ constant_start k.Bool (v.Rev z) e h = absurd (let q : k.Rev ≡ k.Bool = e in cc
 constant_start k.Rev (v.Int z) e h = absurd (let q : k.Int ≡ k.Rev = e in cc)
 constant_start k.Rev (v.Bool z) e h = absurd (let q : k.Bool ≡ k.Rev = e in cc)
 
-first_start : (t : ValueKind) (c : Option Constant) → FirstTyped c t → first_formed c ≡ true → start_word {H = Path} t (value_word (first_value t c)) ≡ word (first_value t c)
+first_start : (t : ValueKind) (c : Option Constant) → FirstTyped c t → first_formed c ≡ true
+    → start_word {H = Path} t (value_word (first_value t c)) ≡ word (first_value t c)
 first_start t None typed h = zero_start t
 first_start t (Some c) typed h = constant_start t c.value typed h
 
-cells_start : (n : ℕ) (w : Word Path) (x : Value) (ls : List (Location Path)) (xs : List Value) → w ≡ word x → ls ≡ map location_word (fresh xs) → replicate n (record { snapshot = w; written = None }) ++ ls ≡ map location_word (fresh (replicate n x ++ xs))
+cells_start : (n : ℕ) (w : Word Path) (x : Value) (ls : List (Location Path)) (xs : List Value) → w ≡ word x
+    → ls ≡ map location_word (fresh xs)
+    → replicate n (record { snapshot = w; written = None }) ++ ls ≡ map location_word (fresh (replicate n x ++ xs))
 cells_start zero w x ls xs e h = h
-cells_start (suc n) w x ls xs e h = let z = cells_start n w x ls xs e h in λ j. record { snapshot = e j; written = None } ∷ z j
+cells_start (suc n) w x ls xs e h =
+    let z = cells_start n w x ls xs e h in λ j. record { snapshot = e j; written = None } ∷ z j
 
-starts_same : (outer inner : Names) (all before laid es : List Declaration) → DeclarationsTyped outer inner before es → IsTrue (list_all declaration_small es)
-    → start_locations (map (var_of all) (variables_behind laid es)) ≡ map location_word (fresh (start_values (variables_behind laid es)))
+starts_same : (outer inner : Names) (all before laid es : List Declaration) → DeclarationsTyped outer inner before es
+    → IsTrue (list_all declaration_small es)
+    → start_locations (map (var_of all) (variables_behind laid es))
+    ≡ map location_word (fresh (start_values (variables_behind laid es)))
 starts_same outer inner all before laid [] typed small = refl
 starts_same outer inner all before laid (fun w ps r body ∷ es) typed small =
-    starts_same outer inner all (fun w ps r body ∷ before) (laid ++ fun w ps r body ∷ []) es typed.1 (and_parts (declaration_small (fun w ps r body)) (list_all declaration_small es) small).1
+    starts_same outer inner all (fun w ps r body ∷ before) (laid ++ fun w ps r body ∷ []) es typed.1
+    (and_parts (declaration_small (fun w ps r body)) (list_all declaration_small es) small).1
 starts_same outer inner all before laid (merge w m j r body ∷ es) typed small =
-    starts_same outer inner all (merge w m j r body ∷ before) (laid ++ merge w m j r body ∷ []) es typed.1 (and_parts (declaration_small (merge w m j r body)) (list_all declaration_small es) small).1
+    starts_same outer inner all (merge w m j r body ∷ before) (laid ++ merge w m j r body ∷ []) es typed.1
+    (and_parts (declaration_small (merge w m j r body)) (list_all declaration_small es) small).1
 starts_same outer inner all before laid (proc w ps r body ∷ es) typed small =
-    starts_same outer inner all (proc w ps r body ∷ before) (laid ++ proc w ps r body ∷ []) es typed.1 (and_parts (declaration_small (proc w ps r body)) (list_all declaration_small es) small).1
+    starts_same outer inner all (proc w ps r body ∷ before) (laid ++ proc w ps r body ∷ []) es typed.1
+    (and_parts (declaration_small (proc w ps r body)) (list_all declaration_small es) small).1
 starts_same outer inner all before laid (shared x ∷ es) typed small =
     let smalls = and_parts (declaration_small (shared x)) (list_all declaration_small es) small in
-    let formed = (and_parts (name_formed x.name && by_formed x.by && size_formed x.size) (first_formed x.first) smalls.0).1 in
-    cells_start (variable_behind laid x).info.cells (start_word x.holds (value_word (first_value x.holds x.first))) (first_value x.holds x.first) (start_locations (map (var_of all) (variables_behind (laid ++ shared x ∷ []) es))) (start_values (variables_behind (laid ++ shared x ∷ []) es))
+    let formed =
+    (and_parts (name_formed x.name && by_formed x.by && size_formed x.size) (first_formed x.first) smalls.0).1 in
+    cells_start (variable_behind laid x).info.cells (start_word x.holds (value_word (first_value x.holds x.first)))
+    (first_value x.holds x.first) (start_locations (map (var_of all) (variables_behind (laid ++ shared x ∷ []) es)))
+    (start_values (variables_behind (laid ++ shared x ∷ []) es))
     (first_start x.holds x.first typed.0.first formed)
     (starts_same outer inner all (shared x ∷ before) (laid ++ shared x ∷ []) es typed.1 smalls.1)
 
@@ -124,15 +137,23 @@ module _ (s : Setting) (well : IsAccepted s.program) where
       let pr : Procedure = procedure_named (procedures s.program) name in
       let d = proc_body s g name declared s.program.main 0 0 0 q layouts_there texts_there e in
       let b : CodeBlock = proc_block g.numbers (names s) q.params q.result pr.body d.0 in
-      let is : ProcIs (names s) q pr = proc_is (names s) (within declared) [] 0 declared name q (rules_kept s.program well).declarations well.small.declarations e in
+      let is : ProcIs (names s) q pr =
+      proc_is (names s) (within declared) [] 0 declared name q (rules_kept s.program well).declarations
+      well.small.declarations e in
       let ks : List ValueKind = statements_kinds (names s) (scopes.with_params [] q.params) pr.body in
       record {
         block = b;
-        is = get_right (value_blocks g.numbers declared) (body_blocks g.numbers (names s) declared s.program.main 0) (funs declared) (proc_number name declared) (values_count g.numbers declared) ∙ d.1.0;
+        is = get_right (value_blocks g.numbers declared) (body_blocks g.numbers (names s) declared s.program.main 0)
+            (funs declared) (proc_number name declared) (values_count g.numbers declared)
+            ∙ d.1.0;
         class = refl;
         result = refl;
         params = ap (λ n. take n (kinds_of q.params ++ ks)) (kinds_length q.params) ∙ take_front (kinds_of q.params) ks;
-        begins = λ xs left are. subst (λ ns. IsTop s g b (record { locals = locals_of ns xs; rest = pr.body; left = left }) 0 (first_locals b (map word xs))) (sym is.params)
+        begins = λ xs left are.
+            subst (λ ns.
+            IsTop s g b (record { locals = locals_of ns xs; rest = pr.body; left = left }) 0
+            (first_locals b (map word xs)))
+            (sym is.params)
             (body_begins s g q.params q.result pr.body b d.1.1 is.new is.body is.small is.returns xs left are);
       }
 
@@ -146,7 +167,8 @@ module _ (s : Setting) (well : IsAccepted s.program) where
     inputs = refl;
   }
 
-  pub main_stands : (n : ℕ) (b : CodeBlock) → slice_get (code_of s.program).blocks n ≡ Some b → is_main b.class ≡ true → (fuel : ℕ) → StandsAt s g (main s fuel) (events.start n b [] (start_locations (code_of s.program).vars) fuel)
+  pub main_stands : (n : ℕ) (b : CodeBlock) → slice_get (code_of s.program).blocks n ≡ Some b → is_main b.class ≡ true
+      → (fuel : ℕ) → StandsAt s g (main s fuel) (events.start n b [] (start_locations (code_of s.program).vars) fuel)
   main_stands n b here is fuel =
       let typed = rules_kept s.program well in
       let at = main_of s g declared (body_blocks g.numbers (names s) declared s.program.main 0) n b here is in
@@ -154,12 +176,20 @@ module _ (s : Setting) (well : IsAccepted s.program) where
         record { locals = []; rest = s.program.main; left = None },
         [],
         record {
-          shared = (starts_same (names s) (within declared) declared [] [] declared typed.declarations well.small.declarations, refl, refl, refl, refl, refl);
+          shared = (
+            starts_same (names s) (within declared) declared [] [] declared typed.declarations well.small.declarations,
+            refl,
+            refl,
+            refl,
+            refl,
+            refl,
+          );
           frames = refl;
           block = b;
           is = here;
           stack = refl;
-          top = body_begins s g [] None s.program.main b body nothing typed.main well.small.main nothing [] None nothing;
+          top = body_begins s g [] None s.program.main b body nothing typed.main well.small.main nothing [] None
+              nothing;
           below = nothing;
         },
       )

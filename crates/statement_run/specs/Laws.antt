@@ -28,9 +28,9 @@ use Rattle.rev_code.specs.Events as events
 use Rattle.code_rules.specs.Tables.{is_main}
 use Rattle.code_generation.specs.Numbers.{numbers, Scope}
 use Rattle.code_generation.specs.Generated.{code_of}
-use Rattle.expression_run.specs.Agrees.{at_with, Reads}
-use Rattle.statement_places.specs.Places.{Tables, IsWithin, AreNames}
-use Rattle.statement_places.specs.States.{IsShared, Stands, StandsAt, Behind, AtJoin}
+use Rattle.expression_meaning.specs.Agrees.{at_with, Reads}
+use Rattle.expression_meaning.specs.Places.{Tables, IsWithin, AreNames}
+use Rattle.expression_meaning.specs.States.{IsShared, Stands, StandsAt, Behind, AtJoin}
 use Rattle.statement_run.specs.Steps.{Carries, Walks, Few, Did}
 
 abbrev pub tables : Setting → Tables

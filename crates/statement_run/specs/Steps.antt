@@ -21,9 +21,9 @@ use Rattle.rev_code.specs.State.{State}
 use Rattle.rev_code.specs.Step as r
 use Rattle.rev_code.specs.Step.{goes, traps, ends, step, Steps}
 use Rattle.rev_code.specs.Events as events
-use Rattle.expression_run.specs.Agrees.{word}
-use Rattle.statement_places.specs.Places.{Tables}
-use Rattle.statement_places.specs.States.{IsShared, StandsAt, AtJoin}
+use Rattle.expression_meaning.specs.Agrees.{word}
+use Rattle.expression_meaning.specs.Places.{Tables}
+use Rattle.expression_meaning.specs.States.{IsShared, StandsAt, AtJoin}
 
 -- the words on the stack are those of the value, if there is to be one
 abbrev pub Carries : (given : Option ValueKind) → Option Value → List (Word Path) → Type 0

@@ -27,9 +27,14 @@ use Rattle.static_rules.proofs.Whole.{same}
 -- the fault of this place and number
 abbrev fault_of : ℕ → ℕ → TypeFault
 fault_of at n =
-    cond (nat_eq n 1) (UnknownName at) (cond (nat_eq n 2) (Redeclared at) (cond (nat_eq n 3) (WrongType at) (cond (nat_eq n 4) (WrongCount at) (cond (nat_eq n 5) (NoReturn at)
-    (cond (nat_eq n 6) (exceeded at Locations) (cond (nat_eq n 7) (exceeded at Procedures) (cond (nat_eq n 8) (exceeded at Funs) (cond (nat_eq n 9) (exceeded at Parameters)
-    (cond (nat_eq n 10) (exceeded at Locals) (cond (nat_eq n 11) (exceeded at Items) (cond (nat_eq n 12) (exceeded at Weight) OutOfMemory)))))))))))
+    cond (nat_eq n 1) (UnknownName at)
+    (cond (nat_eq n 2) (Redeclared at)
+    (cond (nat_eq n 3) (WrongType at) (cond (nat_eq n 4) (WrongCount at) (cond (nat_eq n 5) (NoReturn at)
+    (cond (nat_eq n 6) (exceeded at Locations)
+    (cond (nat_eq n 7) (exceeded at Procedures)
+    (cond (nat_eq n 8) (exceeded at Funs) (cond (nat_eq n 9) (exceeded at Parameters)
+    (cond (nat_eq n 10) (exceeded at Locals)
+    (cond (nat_eq n 11) (exceeded at Items) (cond (nat_eq n 12) (exceeded at Weight) OutOfMemory)))))))))))
 
 limit_is : (at : ℕ) (which : Limit) → exceeded at which ≡ fault_of at (rank (exceeded at which))
 limit_is at Locations = refl
@@ -58,12 +63,14 @@ same_place a b m n (inr h) (inr g) = let e = h.1 in let d = g.1 in (h.0, omega a
 one_first : (p : ProgramTree) (f g : TypeFault) → IsFirstBroken p f → IsFirstBroken p g → f ≡ g
 one_first p f g a b =
     let e = same_place (place f) (place g) (rank f) (rank g) (a.first g b.broken) (b.first f a.broken) in
-    fault_is f (own_limits p f ((same p f).1 a.broken)) ∙ (λ i. fault_of (e.0 i) (e.1 i)) ∙ sym (fault_is g (own_limits p g ((same p g).1 b.broken)))
+    fault_is f (own_limits p f ((same p f).1 a.broken)) ∙ (λ i. fault_of (e.0 i) (e.1 i))
+    ∙ sym (fault_is g (own_limits p g ((same p g).1 b.broken)))
 
 pub first_broken : (p : ProgramTree) (f : TypeFault) → IsFirst place rank (faults p) f → IsFirstBroken p f
 first_broken p f h = record { broken = (same p f).0 h.among; first = λ g b. h.first g ((same p g).1 b) }
 
-decide : (p : ProgramTree) → IsSmall p → fun_faults p ≡ [] → (o : Option TypeFault) → least place rank (faults p) ≡ o → IsWellTyped p ⊎ ((f : TypeFault) × IsFirstBroken p f)
+decide : (p : ProgramTree) → IsSmall p → fun_faults p ≡ [] → (o : Option TypeFault) → least place rank (faults p) ≡ o
+    → IsWellTyped p ⊎ ((f : TypeFault) × IsFirstBroken p f)
 decide p small funs None e = inl (well_typed p small funs (none_is place rank (faults p) e))
 decide p small funs (Some f) e = inr (f, first_broken p f (first_is place rank (faults p) f e))
 
@@ -92,12 +99,15 @@ decided p small kept = record {
 }
 
 pub same_first : SameFirst
-same_first p f = (first_broken p f, λ h. record { among = (same p f).1 h.broken; first = λ g m. h.first g ((same p g).0 m) })
+same_first p f =
+    (first_broken p f, λ h. record { among = (same p f).1 h.broken; first = λ g m. h.first g ((same p g).0 m) })
 
 -- ---- one outcome
 
 fun_of : ℕ → ℕ → MergeFault
-fun_of at n = cond (nat_eq n (funs.rank (fun.UnknownFun at))) (fun.UnknownFun at) (cond (nat_eq n (funs.rank (fun.LaterFun at))) (fun.LaterFun at)
+fun_of at n =
+    cond (nat_eq n (funs.rank (fun.UnknownFun at))) (fun.UnknownFun at)
+    (cond (nat_eq n (funs.rank (fun.LaterFun at))) (fun.LaterFun at)
     (cond (nat_eq n (funs.rank (fun.Arity at))) (fun.Arity at) fun.OutOfMemory))
 
 fun_is : (f : MergeFault) → f ≡ fun_of (funs.place f) (funs.rank f)
@@ -109,7 +119,8 @@ fun_is fun.OutOfMemory = refl
 
 one_fun : (p : ProgramTree) (f g : MergeFault) → IsFirstBrokenFun p f → IsFirstBrokenFun p g → f ≡ g
 one_fun p f g a b =
-    let e = same_place (funs.place f) (funs.place g) (funs.rank f) (funs.rank g) (a.first g b.broken) (b.first f a.broken) in
+    let e = same_place (funs.place f) (funs.place g) (funs.rank f) (funs.rank g) (a.first g b.broken)
+    (b.first f a.broken) in
     fun_is f ∙ (λ i. fun_of (e.0 i) (e.1 i)) ∙ sym (fun_is g)
 
 one_outcome : (p : ProgramTree) → IsSmall p → (a b : Outcome p) → fault_in p a ≡ fault_in p b
@@ -123,12 +134,14 @@ one_outcome p small (of_types e f h) (of_funs g k) = absurd (e g k.broken)
 one_outcome p small (of_types e f h) (accepted d w) = absurd ((decided p small e).not_both f w h.broken)
 one_outcome p small (of_types e f h) (of_types d g k) = (λ i. (None, Some (one_first p f g h k i)))
 
-some_outcome : (p : ProgramTree) → IsSmall p → (o : Option MergeFault) → least funs.place funs.rank (fun_faults p) ≡ o → Outcome p
+some_outcome : (p : ProgramTree) → IsSmall p → (o : Option MergeFault) → least funs.place funs.rank (fun_faults p) ≡ o
+    → Outcome p
 some_outcome p small (Some f) e = of_funs f ((same_first_fun p f).0 (first_is funs.place funs.rank (fun_faults p) f e))
-some_outcome p small None e = let kept = (funs_kept p).0 (none_is funs.place funs.rank (fun_faults p) e) in elim ((decided p small kept).one) [
-  | inl w ↦ accepted kept w
-  | inr g ↦ of_types kept g.0 g.1
-]
+some_outcome p small None e =
+    let kept = (funs_kept p).0 (none_is funs.place funs.rank (fun_faults p) e) in elim ((decided p small kept).one) [
+      | inl w ↦ accepted kept w
+      | inr g ↦ of_types kept g.0 g.1
+    ]
 
 pub has_one : OneOutcome
 has_one p small = record { outcome = some_outcome p small _ refl; one = one_outcome p small }

@@ -1,10 +1,10 @@
 -- The applications of a program are those of the list by which the funs are expanded.
-use Rattle.std.proofs.Common.{◌≡◌, inl, inr, ℕ, ◌+◌, Some, None, List, [], ◌∷◌, ◌++◌, length, refl, sym, subst, arith}
+use Rattle.std.proofs.Common.{◌≡◌, inl, inr, ℕ, ◌+◌, Some, None, List, [], ◌∷◌, ◌++◌, map, length, refl, sym, subst, arith}
 use Rattle.rev_syntax.specs.Trees.{PlacedName, Expression, placed, ExpressionForm, Expressions, Links, int, bool, no_rev, var, cell, apply, input, inputs, pick, unary, chain, no_expressions, expression, no_links, link, RightSide, plain, called, forked, tried, PrintItem, text, shown, Statement, statement, StatementForm, bind, assign, assign_cell, choose, choose_or, repeat, call, return, fork, join, print, assert, Statements, no_statements, statements, Arms, no_arms, arm, Declaration, fun, merge, shared, proc, ProgramTree}
 use Rattle.merge_decl.specs.FunRules.{Use, count, expression_uses, expression_form_uses, expressions_uses, links_uses, right_side_uses, items_uses, statement_uses, statement_form_uses, statements_uses, arms_uses, declaration_uses, declarations_uses, uses_in}
 use Rattle.merge_decl.specs.Least.{Among}
 use Rattle.merge_decl.proofs.Firsts.{right_among as at_end}
-use Rattle.static_rules.specs.Places.{IsBehind, Site, ArmOf, first_arm, later_arm, Lies, in_proc, in_main, next, in_arm, in_else, Stands, expressions_of, link_expressions, parts_of, right_side_expressions, item_expressions, arm_expressions, statement_form_expressions, arms_of}
+use Rattle.static_rules.specs.Places.{IsBehind, Site, ArmOf, first_arm, later_arm, Lies, in_proc, in_main, next, in_arm, in_else, Stands, expressions_of, parts_of, right_side_expressions, item_expressions, arm_expressions, statement_form_expressions, arms_of, links_of}
 use Rattle.static_rules.specs.Funs.{Inside, itself, deeper, Applies, of_fun, of_merge, of_statement}
 use Rattle.static_rules.proofs.Blocks.{among_at, behind_by, behind_of, further, longer, no_arm}
 use Rattle.static_rules.proofs.Decls.{++-nil, in_front}
@@ -51,7 +51,8 @@ mutual
   expression_in : (n : ℕ) (e x : Expression) → Inside e x → AllUse (IsIn n e) (expression_uses n x)
   expression_in n e (placed at s) i = form_in n e at s i
 
-  form_in : (n : ℕ) (e : Expression) (at : ℕ) (s : ExpressionForm) → Inside e (placed at s) → AllUse (IsIn n e) (expression_form_uses n s)
+  form_in : (n : ℕ) (e : Expression) (at : ℕ) (s : ExpressionForm) → Inside e (placed at s)
+      → AllUse (IsIn n e) (expression_form_uses n s)
   form_in n e at (int z) i = none_use (IsIn n e)
   form_in n e at (bool b) i = none_use (IsIn n e)
   form_in n e at no_rev i = none_use (IsIn n e)
@@ -59,23 +60,30 @@ mutual
   form_in n e at (inputs at') i = none_use (IsIn n e)
   form_in n e at (cell w index) i = expression_in n e index (deeper i (inl refl))
   form_in n e at (apply w args) i =
-      cons_use (IsIn n e) _ _ (record { at = at; args = args; inside = i; counted = refl; number = refl }) (list_in n e args (λ x a. deeper i a))
+      cons_use (IsIn n e) _ _ (record { at = at; args = args; inside = i; counted = refl; number = refl })
+      (list_in n e args (λ x a. deeper i a))
   form_in n e at (input at' index) i = expression_in n e index (deeper i (inl refl))
   form_in n e at (pick test a b) i =
       both_use (IsIn n e) _ _
-      (both_use (IsIn n e) _ _ (expression_in n e test (deeper i (inl refl))) (expression_in n e a (deeper i (inr (inl refl)))))
+      (both_use (IsIn n e) _ _ (expression_in n e test (deeper i (inl refl)))
+      (expression_in n e a (deeper i (inr (inl refl)))))
       (expression_in n e b (deeper i (inr (inr (inl refl)))))
   form_in n e at (unary op part) i = expression_in n e part (deeper i (inl refl))
   form_in n e at (chain first rest) i =
-      both_use (IsIn n e) _ _ (expression_in n e first (deeper i (inl refl))) (chain_in n e rest (λ x a. deeper i (inr a)))
+      both_use (IsIn n e) _ _ (expression_in n e first (deeper i (inl refl)))
+      (chain_in n e rest (λ x a. deeper i (inr a)))
 
-  list_in : (n : ℕ) (e : Expression) (xs : Expressions) → ((x : Expression) → Among (expressions_of xs) x → Inside e x) → AllUse (IsIn n e) (expressions_uses n xs)
+  list_in : (n : ℕ) (e : Expression) (xs : Expressions) → ((x : Expression) → Among (expressions_of xs) x → Inside e x)
+      → AllUse (IsIn n e) (expressions_uses n xs)
   list_in n e no_expressions h = none_use (IsIn n e)
-  list_in n e (expression x xs) h = both_use (IsIn n e) _ _ (expression_in n e x (h x (inl refl))) (list_in n e xs (λ y m. h y (inr m)))
+  list_in n e (expression x xs) h =
+      both_use (IsIn n e) _ _ (expression_in n e x (h x (inl refl))) (list_in n e xs (λ y m. h y (inr m)))
 
-  chain_in : (n : ℕ) (e : Expression) (ls : Links) → ((x : Expression) → Among (link_expressions ls) x → Inside e x) → AllUse (IsIn n e) (links_uses n ls)
+  chain_in : (n : ℕ) (e : Expression) (ls : Links)
+      → ((x : Expression) → Among (map (λ l. l.1) (links_of ls)) x → Inside e x) → AllUse (IsIn n e) (links_uses n ls)
   chain_in n e no_links h = none_use (IsIn n e)
-  chain_in n e (link op x rest) h = both_use (IsIn n e) _ _ (expression_in n e x (h x (inl refl))) (chain_in n e rest (λ y m. h y (inr m)))
+  chain_in n e (link op x rest) h =
+      both_use (IsIn n e) _ _ (expression_in n e x (h x (inl refl))) (chain_in n e rest (λ y m. h y (inr m)))
 
 module _ (p : ProgramTree) where
   -- an application of the program
@@ -93,10 +101,16 @@ module _ (p : ProgramTree) where
   both : (xs ys : List Use) → Fine xs → Fine ys → Fine (xs ++ ys)
   both = both_use IsApplied
 
-  applied : (n : ℕ) (e : Expression) → ((w : PlacedName) (args : Expressions) (at : ℕ) → Inside e (placed at (apply w args)) → Applies p n w args) → Fine (expression_uses n e)
+  applied : (n : ℕ) (e : Expression)
+      → ((w : PlacedName) (args : Expressions) (at : ℕ) → Inside e (placed at (apply w args)) → Applies p n w args)
+      → Fine (expression_uses n e)
   applied n e h u m =
       let g = expression_in n e e itself u m in
-      record { args = g.args; applies = subst (λ k. Applies p k u.name g.args) g.number (h u.name g.args g.at g.inside); counted = g.counted }
+      record {
+        args = g.args;
+        applies = subst (λ k. Applies p k u.name g.args) g.number (h u.name g.args g.at g.inside);
+        counted = g.counted;
+      }
 
   -- the expressions of a form are fine
   abbrev FormFine : StatementForm → Type 0
@@ -105,16 +119,20 @@ module _ (p : ProgramTree) where
   form_fine : (i : Site) (form : StatementForm) → Stands p i form → FormFine form
   form_fine i form st e m = applied all e (λ w args at inside. of_statement st m inside)
 
-  fine_list : (xs : Expressions) → ((e : Expression) → Among (expressions_of xs) e → Fine (expression_uses all e)) → Fine (expressions_uses all xs)
+  fine_list : (xs : Expressions) → ((e : Expression) → Among (expressions_of xs) e → Fine (expression_uses all e))
+      → Fine (expressions_uses all xs)
   fine_list no_expressions h = none_use IsApplied
   fine_list (expression x xs) h = both _ _ (h x (inl refl)) (fine_list xs (λ y m. h y (inr m)))
 
-  fine_items : (xs : List PrintItem) → ((e : Expression) → Among (item_expressions xs) e → Fine (expression_uses all e)) → Fine (items_uses all xs)
+  fine_items : (xs : List PrintItem) → ((e : Expression) → Among (item_expressions xs) e → Fine (expression_uses all e))
+      → Fine (items_uses all xs)
   fine_items [] h = none_use IsApplied
   fine_items (text at bytes ∷ xs) h = fine_items xs h
   fine_items (shown x ∷ xs) h = both _ _ (h x (inl refl)) (fine_items xs (λ y m. h y (inr m)))
 
-  fine_right_side : (x : RightSide) → ((e : Expression) → Among (right_side_expressions x) e → Fine (expression_uses all e)) → Fine (right_side_uses all x)
+  fine_right_side : (x : RightSide)
+      → ((e : Expression) → Among (right_side_expressions x) e → Fine (expression_uses all e))
+      → Fine (right_side_uses all x)
   fine_right_side (plain e) h = h e (inl refl)
   fine_right_side (called at w args) h = fine_list args h
   fine_right_side (forked at w args) h = fine_list args h
@@ -125,19 +143,23 @@ module _ (p : ProgramTree) where
     fine_statements no_statements i o = none_use IsApplied
     fine_statements (statements x rest) i o = both _ _ (fine_statement x rest i o) (fine_statements rest _ (next o))
 
-    fine_statement : (x : Statement) (rest : Statements) (i : Site) → Lies p i (statements x rest) → Fine (statement_uses all x)
+    fine_statement : (x : Statement) (rest : Statements) (i : Site) → Lies p i (statements x rest)
+        → Fine (statement_uses all x)
     fine_statement (statement at line form) rest i o =
         fine_form form i (record { at = at; line = line; rest = rest; lies = o })
 
     fine_form : (form : StatementForm) (i : Site) → Stands p i form → Fine (statement_form_uses all form)
     fine_form (bind w x) i st = fine_right_side x (form_fine i (bind w x) st)
     fine_form (assign w x) i st = fine_right_side x (form_fine i (assign w x) st)
-    fine_form (assign_cell w x e) i st = let h = form_fine i (assign_cell w x e) st in both _ _ (h x (inl refl)) (h e (inr (inl refl)))
+    fine_form (assign_cell w x e) i st =
+        let h = form_fine i (assign_cell w x e) st in both _ _ (h x (inl refl)) (h e (inr (inl refl)))
     fine_form (choose arms) i st = fine_arms arms (form_fine i (choose arms) st) (λ m t b a. (_, in_arm st.lies a))
     fine_form (choose_or arms last) i st =
-        both _ _ (fine_arms arms (form_fine i (choose_or arms last) st) (λ m t b a. (_, in_arm st.lies a))) (fine_statements last _ (in_else st.lies))
+        both _ _ (fine_arms arms (form_fine i (choose_or arms last) st) (λ m t b a. (_, in_arm st.lies a)))
+        (fine_statements last _ (in_else st.lies))
     fine_form (repeat test body) i st =
-        both _ _ (form_fine i (repeat test body) st test (inl refl)) (fine_statements body _ (in_arm st.lies (first_arm test body no_arms)))
+        both _ _ (form_fine i (repeat test body) st test (inl refl))
+        (fine_statements body _ (in_arm st.lies (first_arm test body no_arms)))
     fine_form (call w args) i st = fine_list args (form_fine i (call w args) st)
     fine_form (return None) i st = none_use IsApplied
     fine_form (return (Some e)) i st = form_fine i (return (Some e)) st e (inl refl)
@@ -147,24 +169,30 @@ module _ (p : ProgramTree) where
     fine_form (assert e) i st = form_fine i (assert e) st e (inl refl)
 
     fine_arms : (arms : Arms) → ((e : Expression) → Among (arm_expressions arms) e → Fine (expression_uses all e))
-        → ((m : ℕ) (t : Expression) (b : Statements) → ArmOf arms m t b → (i : Site) × Lies p i b) → Fine (arms_uses all arms)
+        → ((m : ℕ) (t : Expression) (b : Statements) → ArmOf arms m t b → (i : Site) × Lies p i b)
+        → Fine (arms_uses all arms)
     fine_arms no_arms h g = none_use IsApplied
     fine_arms (arm test body rest) h g =
         let o = g 0 test body (first_arm test body rest) in
         both _ _ (both _ _ (h test (inl refl)) (fine_statements body o.0 o.1))
         (fine_arms rest (λ e m. h e (inr m)) (λ m t b a. g _ t b (later_arm test body a)))
 
-  fine_declaration : (before : List Declaration) (e : Declaration) → IsBehind before e p.declarations → Fine (declaration_uses all (length before) e)
+  fine_declaration : (before : List Declaration) (e : Declaration) → IsBehind before e p.declarations
+      → Fine (declaration_uses all (length before) e)
   fine_declaration before (fun f ps r body) b = applied (length before) body (λ w args at inside. of_fun b inside)
   fine_declaration before (merge f m j r body) b = applied (length before) body (λ w args at inside. of_merge b inside)
   fine_declaration before (shared x) b = none_use IsApplied
-  fine_declaration before (proc w ps r body) b = fine_statements body _ (in_proc (record { among = among_at before _ p.declarations b }))
+  fine_declaration before (proc w ps r body) b =
+      fine_statements body _ (in_proc (record { among = among_at before _ p.declarations b }))
 
-  fine_declarations : (before es : List Declaration) (d : ℕ) → d ≡ length before → p.declarations ≡ before ++ es → Fine (declarations_uses all d es)
+  fine_declarations : (before es : List Declaration) (d : ℕ) → d ≡ length before → p.declarations ≡ before ++ es
+      → Fine (declarations_uses all d es)
   fine_declarations before [] d is e = none_use IsApplied
   fine_declarations before (x ∷ es) d is e =
-      both _ _ (subst (λ k. Fine (declaration_uses all k x)) (sym is) (fine_declaration before x (behind_by before x es p.declarations e)))
-      (fine_declarations (before ++ x ∷ []) es (d + 1) (let h = longer before x in omega arith) (further p.declarations before x es e))
+      both _ _ (subst (λ k. Fine (declaration_uses all k x)) (sym is)
+      (fine_declaration before x (behind_by before x es p.declarations e)))
+      (fine_declarations (before ++ x ∷ []) es (d + 1) (let h = longer before x in omega arith)
+      (further p.declarations before x es e))
 
   pub each_applied : (u : Use) → Among (uses_in p) u → IsApplied u
   each_applied = both _ _ (fine_declarations [] p.declarations 0 refl refl) (fine_statements p.main _ in_main)
@@ -178,17 +206,20 @@ In xs ys = (u : Use) → Has xs u → Has ys u
 same_uses : (n : ℕ) (x y : Expression) → x ≡ y → In (expression_uses n y) (expression_uses n x)
 same_uses n x y is u h = subst (λ e. Has (expression_uses n e) u) (sym is) h
 
-uses_in_list : (n : ℕ) (xs : Expressions) (x : Expression) → Among (expressions_of xs) x → In (expression_uses n x) (expressions_uses n xs)
+uses_in_list : (n : ℕ) (xs : Expressions) (x : Expression) → Among (expressions_of xs) x
+    → In (expression_uses n x) (expressions_uses n xs)
 uses_in_list n no_expressions x m u h = absurd m
 uses_in_list n (expression y xs) x (inl is) u h = has_front _ _ u (same_uses n y x is u h)
 uses_in_list n (expression y xs) x (inr m) u h = has_end (expression_uses n y) _ u (uses_in_list n xs x m u h)
 
-uses_in_chain : (n : ℕ) (ls : Links) (x : Expression) → Among (link_expressions ls) x → In (expression_uses n x) (links_uses n ls)
+uses_in_chain : (n : ℕ) (ls : Links) (x : Expression) → Among (map (λ l. l.1) (links_of ls)) x
+    → In (expression_uses n x) (links_uses n ls)
 uses_in_chain n no_links x m u h = absurd m
 uses_in_chain n (link op y rest) x (inl is) u h = has_front _ _ u (same_uses n y x is u h)
 uses_in_chain n (link op y rest) x (inr m) u h = has_end (expression_uses n y) _ u (uses_in_chain n rest x m u h)
 
-uses_in_part : (n : ℕ) (s : ExpressionForm) (x : Expression) → Among (parts_of s) x → In (expression_uses n x) (expression_form_uses n s)
+uses_in_part : (n : ℕ) (s : ExpressionForm) (x : Expression) → Among (parts_of s) x
+    → In (expression_uses n x) (expression_form_uses n s)
 uses_in_part n (int z) x m u h = absurd m
 uses_in_part n (bool b) x m u h = absurd m
 uses_in_part n no_rev x m u h = absurd m
@@ -196,11 +227,14 @@ uses_in_part n (var w) x m u h = absurd m
 uses_in_part n (inputs at) x m u h = absurd m
 uses_in_part n (cell w y) x (inl is) u h = same_uses n y x is u h
 uses_in_part n (cell w y) x (inr m) u h = absurd m
-uses_in_part n (apply w args) x m u h = has_end (record { name = w; args = count args; within = n } ∷ []) _ u (uses_in_list n args x m u h)
+uses_in_part n (apply w args) x m u h =
+    has_end (record { name = w; args = count args; within = n } ∷ []) _ u (uses_in_list n args x m u h)
 uses_in_part n (input at y) x (inl is) u h = same_uses n y x is u h
 uses_in_part n (input at y) x (inr m) u h = absurd m
-uses_in_part n (pick t a b) x (inl is) u h = has_front _ _ u (has_front _ (expression_uses n a) u (same_uses n t x is u h))
-uses_in_part n (pick t a b) x (inr (inl is)) u h = has_front _ _ u (has_end (expression_uses n t) _ u (same_uses n a x is u h))
+uses_in_part n (pick t a b) x (inl is) u h =
+    has_front _ _ u (has_front _ (expression_uses n a) u (same_uses n t x is u h))
+uses_in_part n (pick t a b) x (inr (inl is)) u h =
+    has_front _ _ u (has_end (expression_uses n t) _ u (same_uses n a x is u h))
 uses_in_part n (pick t a b) x (inr (inr (inl is))) u h =
     has_end (expression_uses n t ++ expression_uses n a) _ u (same_uses n b x is u h)
 uses_in_part n (pick t a b) x (inr (inr (inr m))) u h = absurd m
@@ -214,17 +248,20 @@ uses_inside n e itself u h = h
 uses_inside n e (deeper {at = at} {s = s} {x = x} i m) u h = uses_inside n e i u (uses_in_part n s x m u h)
 
 -- the application itself
-use_inside : (n : ℕ) (e : Expression) (at : ℕ) (w : PlacedName) (args : Expressions) → Inside e (placed at (apply w args))
+use_inside : (n : ℕ) (e : Expression) (at : ℕ) (w : PlacedName) (args : Expressions)
+    → Inside e (placed at (apply w args))
     → Has (expression_uses n e) (record { name = w; args = count args; within = n })
 use_inside n e at w args i = uses_inside n e i _ (record { it = inl refl })
 
-uses_in_items : (n : ℕ) (xs : List PrintItem) (x : Expression) → Among (item_expressions xs) x → In (expression_uses n x) (items_uses n xs)
+uses_in_items : (n : ℕ) (xs : List PrintItem) (x : Expression) → Among (item_expressions xs) x
+    → In (expression_uses n x) (items_uses n xs)
 uses_in_items n [] x m u h = absurd m
 uses_in_items n (text at bytes ∷ xs) x m u h = uses_in_items n xs x m u h
 uses_in_items n (shown y ∷ xs) x (inl is) u h = has_front _ _ u (same_uses n y x is u h)
 uses_in_items n (shown y ∷ xs) x (inr m) u h = has_end (expression_uses n y) _ u (uses_in_items n xs x m u h)
 
-uses_in_right_side : (n : ℕ) (r : RightSide) (x : Expression) → Among (right_side_expressions r) x → In (expression_uses n x) (right_side_uses n r)
+uses_in_right_side : (n : ℕ) (r : RightSide) (x : Expression) → Among (right_side_expressions r) x
+    → In (expression_uses n x) (right_side_uses n r)
 uses_in_right_side n (plain y) x (inl is) u h = same_uses n y x is u h
 uses_in_right_side n (plain y) x (inr m) u h = absurd m
 uses_in_right_side n (called at w args) x m u h = uses_in_list n args x m u h
@@ -232,14 +269,16 @@ uses_in_right_side n (forked at w args) x m u h = uses_in_list n args x m u h
 uses_in_right_side n (tried at y) x (inl is) u h = same_uses n y x is u h
 uses_in_right_side n (tried at y) x (inr m) u h = absurd m
 
-uses_in_tests : (n : ℕ) (arms : Arms) (x : Expression) → Among (arm_expressions arms) x → In (expression_uses n x) (arms_uses n arms)
+uses_in_tests : (n : ℕ) (arms : Arms) (x : Expression) → Among (arm_expressions arms) x
+    → In (expression_uses n x) (arms_uses n arms)
 uses_in_tests n no_arms x m u h = absurd m
 uses_in_tests n (arm t body rest) x (inl is) u h =
     has_front _ _ u (has_front _ (statements_uses n body) u (same_uses n t x is u h))
 uses_in_tests n (arm t body rest) x (inr m) u h =
     has_end (expression_uses n t ++ statements_uses n body) _ u (uses_in_tests n rest x m u h)
 
-uses_in_form : (n : ℕ) (form : StatementForm) (x : Expression) → Among (statement_form_expressions form) x → In (expression_uses n x) (statement_form_uses n form)
+uses_in_form : (n : ℕ) (form : StatementForm) (x : Expression) → Among (statement_form_expressions form) x
+    → In (expression_uses n x) (statement_form_uses n form)
 uses_in_form n (bind w r) x m u h = uses_in_right_side n r x m u h
 uses_in_form n (assign w r) x m u h = uses_in_right_side n r x m u h
 uses_in_form n (assign_cell w i e) x (inl is) u h = has_front _ _ u (same_uses n i x is u h)
@@ -260,12 +299,14 @@ uses_in_form n (print xs) x m u h = uses_in_items n xs x m u h
 uses_in_form n (assert y) x (inl is) u h = same_uses n y x is u h
 uses_in_form n (assert y) x (inr m) u h = absurd m
 
-uses_in_arm : (n : ℕ) {arms : Arms} {m : ℕ} {t : Expression} {b : Statements} → ArmOf arms m t b → In (statements_uses n b) (arms_uses n arms)
+uses_in_arm : (n : ℕ) {arms : Arms} {m : ℕ} {t : Expression} {b : Statements} → ArmOf arms m t b
+    → In (statements_uses n b) (arms_uses n arms)
 uses_in_arm n (first_arm t b rest) u h = has_front _ (arms_uses n rest) u (has_end (expression_uses n t) _ u h)
 uses_in_arm n (later_arm t' s {rest = rest} a) u h =
     has_end (expression_uses n t' ++ statements_uses n s) (arms_uses n rest) u (uses_in_arm n a u h)
 
-uses_in_block : (n : ℕ) (form : StatementForm) {m : ℕ} {t : Expression} {b : Statements} → ArmOf (arms_of form) m t b → In (statements_uses n b) (statement_form_uses n form)
+uses_in_block : (n : ℕ) (form : StatementForm) {m : ℕ} {t : Expression} {b : Statements} → ArmOf (arms_of form) m t b
+    → In (statements_uses n b) (statement_form_uses n form)
 uses_in_block n (choose arms) a u h = uses_in_arm n a u h
 uses_in_block n (choose_or arms last) a u h = has_front _ _ u (uses_in_arm n a u h)
 uses_in_block n (repeat t body) a u h =
@@ -282,19 +323,24 @@ uses_in_block n (assert e) a u h = absurd (no_arm a)
 
 uses_behind : (n d : ℕ) (before : List Declaration) (e : Declaration) (rest : List Declaration)
     → In (declaration_uses n (d + length before) e) (declarations_uses n d (before ++ e ∷ rest))
-uses_behind n d [] e rest u h = has_front _ _ u (subst (λ k. Has (declaration_uses n k e) u) (let z : d + 0 ≡ d = omega arith in z) h)
+uses_behind n d [] e rest u h =
+    has_front _ _ u (subst (λ k. Has (declaration_uses n k e) u) (let z : d + 0 ≡ d = omega arith in z) h)
 uses_behind n d (x ∷ before) e rest u h =
     has_end (declaration_uses n d x) _ u (uses_behind n (d + 1) before e rest u
-    (subst (λ k. Has (declaration_uses n k e) u) (let z : d + length (x ∷ before) ≡ d + 1 + length before = omega arith in z) h))
+    (subst (λ k. Has (declaration_uses n k e) u)
+    (let z : d + length (x ∷ before) ≡ d + 1 + length before = omega arith in z) h))
 
 module _ (p : ProgramTree) where
   abbrev every : ℕ
   every = length p.declarations
 
-  uses_at : (before : List Declaration) (e : Declaration) → IsBehind before e p.declarations → In (declaration_uses every (length before) e) (uses_in p)
+  uses_at : (before : List Declaration) (e : Declaration) → IsBehind before e p.declarations
+      → In (declaration_uses every (length before) e) (uses_in p)
   uses_at before e b u h =
-      has_front _ _ u (subst (λ es. Has (declarations_uses every 0 es) u) (sym b.parts) (uses_behind every 0 before e b.rest u
-      (subst (λ k. Has (declaration_uses every k e) u) (let z : length before ≡ 0 + length before = omega arith in z) h)))
+      has_front _ _ u
+      (subst (λ es. Has (declarations_uses every 0 es) u) (sym b.parts) (uses_behind every 0 before e b.rest u
+      (subst (λ k. Has (declaration_uses every k e) u) (let z : length before ≡ 0 + length before = omega arith in z)
+      h)))
 
   uses_of_block : {i : Site} {ss : Statements} → Lies p i ss → In (statements_uses every ss) (uses_in p)
   uses_of_block (in_proc {w = w} {ps = ps} {r = r} {body = body} d) u h =
@@ -306,10 +352,12 @@ module _ (p : ProgramTree) where
   uses_of_block (in_else {at = at} {line = line} {arms = arms} {last = last} {rest = rest} o) u h =
       uses_of_block o u (has_front _ _ u (has_end (arms_uses every arms) _ u h))
 
-  pub use_applied : {n : ℕ} {w : PlacedName} {args : Expressions} → Applies p n w args → Has (uses_in p) (record { name = w; args = count args; within = n })
+  pub use_applied : {n : ℕ} {w : PlacedName} {args : Expressions} → Applies p n w args
+      → Has (uses_in p) (record { name = w; args = count args; within = n })
   use_applied (of_fun {before = before} {f = f} {ps = ps} {r = r} {body = body} {at = at} {w = w} {args = args} b i) =
       uses_at before (fun f ps r body) b _ (use_inside (length before) body at w args i)
-  use_applied (of_merge {before = before} {f = f} {m = m} {j = j} {r = r} {body = body} {at = at} {w = w} {args = args} b i) =
+  use_applied
+      (of_merge {before = before} {f = f} {m = m} {j = j} {r = r} {body = body} {at = at} {w = w} {args = args} b i) =
       uses_at before (merge f m j r body) b _ (use_inside (length before) body at w args i)
   use_applied (of_statement {form = form} {e = e} {at = at} {w = w} {args = args} st m i) =
       uses_of_block st.lies _ (has_front _ _ _ (uses_in_form every form e m _ (use_inside every e at w args i)))

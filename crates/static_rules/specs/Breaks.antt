@@ -3,13 +3,12 @@
 -- `Breaks`: a program breaks a rule, and this is the fault, in the order of the list in the language's
 -- reference; `array_named`: whether a name is that of an array; `IsFun`: a fun or a merge;
 -- `parameters_of`: the declared parameters; `IsFirstBroken`: the broken rule at the least place.
-use Rattle.std.specs.Prelude.{◌≡◌, ◌≢◌, ℕ, ◌+◌, ◌≤◌, ◌<◌, Bool, true, false, Option, Some, None, List, [], length}
+use Rattle.std.specs.Prelude.{◌≡◌, ◌≢◌, ℕ, ◌+◌, ◌≤◌, ◌<◌, Bool, true, false, Option, Some, None, option_map, List, [], length}
 use Rattle.rev_num.specs.declared.value.ValueKind.{ValueKind}
 use Rattle.rev_num.specs.declared.value.ValueKind.TheVariants as k
 use Rattle.rev_num.specs.Value.{kind_of}
 use Rattle.rev_syntax.specs.Trees.{PlacedName, Parameter, ArraySize, Constant, SharedDeclaration, Expression, placed, Expressions, input, inputs, RightSide, called, PrintItem, StatementForm, bind, assign, return, print, Statements, Declaration, fun, merge, shared, proc, ProgramTree}
-use Rattle.merge_decl.specs.FunRules.{count}
-use Rattle.merge_decl.specs.Least.{Among, IsBefore}
+use Rattle.merge_decl.specs.Least.{Among, IsFirstOf}
 use Rattle.merge_decl.specs.Table.{find}
 use Rattle.merge_decl.specs.Weights.{weights_after, declaration_weight}
 use Rattle.rev_report.specs.declared.limit.Limit.TheVariants as limits
@@ -17,33 +16,24 @@ use Rattle.rev_kinds.specs.declared.fault.TypeFault.{TypeFault}
 use Rattle.rev_kinds.specs.declared.fault.TypeFault.TheVariants.{UnknownName, Redeclared, WrongType, WrongCount, NoReturn}
 use Rattle.rev_kinds.specs.declared.names.Holder.{Holder}
 use Rattle.rev_report.specs.Limits.{most}
-use Rattle.rev_kinds.specs.Faults.{exceeded, place, rank}
+use Rattle.rev_kinds.specs.Faults.{exceeded, row}
 use Rattle.rev_kinds.specs.Kinds.{Callee, Names, Locals, kind_in, name_kind, right_side_kind, right_side_place, expression_place, item_place}
 use Rattle.rev_types.specs.Scopes.{outside, cells_of, size_cells}
-use Rattle.rev_types.specs.Judgement.{IsNew, IsMergeOf, name_of}
+use Rattle.rev_types.specs.Judgement.{IsNew, IsMergeOf, word_of}
 use Rattle.rev_types.specs.Limits.{cells, procs, funs}
-use Rattle.static_rules.specs.Places.{IsBehind, Declares, Site, Stands, Occurs, Uses, Wanted, NoHandle, word_of, param_words, right_side_of, call_of}
+use Rattle.static_rules.specs.Places.{IsBehind, Declares, Site, Stands, Occurs, Uses, Wanted, NoHandle, expressions_of, parameters_of, param_words, right_side_of, call_of}
 use Rattle.rev_types.specs.Judgement.{Ends}
 
 -- whether a name is that of an array, if it is known
 abbrev pub array_named : Option (Option ValueKind) → Option Holder → Option Bool
 array_named (Some found) h = Some false
-array_named None (Some h) = Some h.array
-array_named None None = None
+array_named None h = option_map (λ x. x.array) h
 
 -- a fun or a merge
 abbrev pub IsFun : Declaration → Type 0
 IsFun (fun w ps r body) = Unit {0}
 IsFun (merge w m j r body) = Unit {0}
-IsFun (shared x) = ⊥
-IsFun (proc w ps r body) = ⊥
-
--- the declared parameters of a fun or a procedure
-abbrev pub parameters_of : Declaration → List Parameter
-parameters_of (fun w ps r body) = ps
-parameters_of (merge w m j r body) = []
-parameters_of (shared x) = []
-parameters_of (proc w ps r body) = ps
+IsFun _ = ⊥
 
 -- a program breaks a rule or a limit, and this is the fault with its place
 pub data Breaks (p : ProgramTree) : TypeFault → Type 0 where
@@ -62,7 +52,7 @@ pub data Breaks (p : ProgramTree) : TypeFault → Type 0 where
 
   -- a declaration with the name of one before
   declared_again : {before : List Declaration} (d : Declaration) {e : Declaration}
-      → IsBehind before e p.declarations → Among before d → name_of d ≡ name_of e → Breaks p (Redeclared (word_of e).at)
+      → IsBehind before e p.declarations → Among before d → (word_of d).text ≡ (word_of e).text → Breaks p (Redeclared (word_of e).at)
   -- a parameter with the name of an earlier one of the declaration
   parameter_again : {e : Declaration} {before : List PlacedName} (v : PlacedName) {w : PlacedName}
       → Declares p e → IsBehind before w (param_words e) → Among before v → v.text ≡ w.text → Breaks p (Redeclared w.at)
@@ -117,7 +107,7 @@ pub data Breaks (p : ProgramTree) : TypeFault → Type 0 where
 
   -- another number of arguments than parameters
   other_count : {i : Site} {form : StatementForm} {w : PlacedName} {args : Expressions} {f : Callee}
-      → Stands p i form → call_of form ≡ Some (w, args) → i.names.procs w.text ≡ Some f → count args ≢ length f.params
+      → Stands p i form → call_of form ≡ Some (w, args) → i.names.procs w.text ≡ Some f → length (expressions_of args) ≢ length f.params
       → Breaks p (WrongCount w.at)
   -- an array of size 0
   no_cells : {x : SharedDeclaration} {size : ArraySize}
@@ -159,6 +149,5 @@ abbrev pub BreaksNone : ProgramTree → Type 0
 BreaksNone p = (f : TypeFault) → Breaks p f → ⊥
 
 -- of all that a program breaks this is at the least place, and there of the least number
-pub record IsFirstBroken (p : ProgramTree) (f : TypeFault) : Type 0 where
-  pub broken : Breaks p f
-  pub first : (g : TypeFault) → Breaks p g → IsBefore place rank f g
+abbrev pub IsFirstBroken : ProgramTree → TypeFault → Type 0
+IsFirstBroken p f = IsFirstOf (Breaks p) row f

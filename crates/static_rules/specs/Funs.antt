@@ -5,13 +5,13 @@
 -- funs, and this is the fault; `IsFirstBrokenFun`: the first such; `KeepsFunRules`: there is none.
 use Rattle.std.specs.Prelude.{◌≡◌, ◌≢◌, ℕ, ◌≤◌, List, length}
 use Rattle.rev_num.specs.declared.value.ValueKind.{ValueKind}
-use Rattle.rev_syntax.specs.Trees.{PlacedName, Parameter, Expression, placed, ExpressionForm, Expressions, apply, StatementForm, Declaration, fun, merge, shared, proc, ProgramTree}
+use Rattle.rev_syntax.specs.Trees.{PlacedName, Parameter, Expression, placed, ExpressionForm, Expressions, apply, StatementForm, Declaration, fun, merge, ProgramTree}
 use Rattle.merge_decl.specs.Names.{Name}
-use Rattle.merge_decl.specs.Least.{Among, IsBefore}
-use Rattle.merge_decl.specs.FunRules.{count, place, rank}
+use Rattle.merge_decl.specs.Least.{Among, IsFirstOf}
+use Rattle.merge_decl.specs.FunRules.{row}
 use Rattle.merge_decl.specs.declared.expand.MergeFault.{MergeFault}
 use Rattle.merge_decl.specs.declared.expand.MergeFault.TheVariants.{UnknownFun, LaterFun, Arity}
-use Rattle.static_rules.specs.Places.{IsBehind, Site, Stands, parts_of, statement_form_expressions}
+use Rattle.static_rules.specs.Places.{IsBehind, Site, Stands, expressions_of, parts_of, statement_form_expressions}
 
 -- an expression itself, or a part of it
 pub data Inside (e : Expression) : Expression → Type 0 where
@@ -38,9 +38,7 @@ pub data Applies (p : ProgramTree) : ℕ → PlacedName → Expressions → Type
 -- a fun of this name
 abbrev pub IsFunOf : Name → Declaration → Type 0
 IsFunOf name (fun w ps r body) = w.text ≡ name
-IsFunOf name (merge w m j r body) = ⊥
-IsFunOf name (shared x) = ⊥
-IsFunOf name (proc w ps r body) = ⊥
+IsFunOf name _ = ⊥
 
 -- the fun that a name means, with two of one name the first: behind these declarations, and with
 -- these parameters
@@ -64,13 +62,12 @@ pub data BreaksFun (p : ProgramTree) : MergeFault → Type 0 where
       → BreaksFun p (LaterFun w.at)
   -- another number of arguments than the fun has parameters
   other_arity : {n : ℕ} {w : PlacedName} {args : Expressions} {before : List Declaration} {ps : List Parameter}
-      → Applies p n w args → IsFirstFun p w.text before ps → count args ≢ length ps
+      → Applies p n w args → IsFirstFun p w.text before ps → length (expressions_of args) ≢ length ps
       → BreaksFun p (Arity w.at)
 
 -- of all rules on funs that a program breaks this is at the least place, and there of the least number
-pub record IsFirstBrokenFun (p : ProgramTree) (f : MergeFault) : Type 0 where
-  pub broken : BreaksFun p f
-  pub first : (g : MergeFault) → BreaksFun p g → IsBefore place rank f g
+abbrev pub IsFirstBrokenFun : ProgramTree → MergeFault → Type 0
+IsFirstBrokenFun p f = IsFirstOf (BreaksFun p) row f
 
 -- a program breaks no rule on funs
 abbrev pub KeepsFunRules : ProgramTree → Type 0

@@ -4,16 +4,16 @@
 -- `Lies` and `Stands`: a statement with its `Site`, which is what is known there; `Occurs`: an
 -- expression; `Uses`: a name that is read or assigned; `Wanted` and `NoHandle`: the kind that an
 -- expression is to have, or not to have.
-use Rattle.std.specs.Prelude.{◌≡◌, ℕ, ◌+◌, Bool, true, false, Option, Some, None, List, [], ◌∷◌, ◌++◌, map, slice_get, length}
+use Rattle.std.specs.Prelude.{◌≡◌, ℕ, ◌+◌, Bool, true, false, Option, Some, None, List, [], ◌∷◌, ◌++◌, length, map, option_and_then}
+use Rattle.std.specs.List.{zip}
 use Rattle.rev_num.specs.declared.value.ValueKind.{ValueKind}
 use Rattle.rev_num.specs.declared.value.ValueKind.TheVariants as k
-use Rattle.rev_syntax.specs.Trees.{PlacedName, Parameter, Expression, placed, ExpressionForm, Expressions, Links, int, bool, no_rev, var, cell, apply, input, inputs, pick, unary, chain, no_expressions, expression, no_links, link, RightSide, plain, called, forked, tried, PrintItem, text, shown, Statement, statement, StatementForm, bind, assign, assign_cell, choose, choose_or, repeat, call, return, fork, join, print, assert, Statements, statements, Arms, no_arms, arm, Declaration, fun, merge, shared, proc, ProgramTree}
+use Rattle.rev_syntax.specs.Trees.{PlacedName, Parameter, Expression, placed, ExpressionForm, Expressions, Links, var, cell, apply, input, pick, unary, chain, no_expressions, expression, no_links, link, RightSide, plain, called, forked, tried, PrintItem, text, shown, Statement, statement, StatementForm, bind, assign, assign_cell, choose, choose_or, repeat, call, return, fork, join, print, assert, Statements, statements, Arms, no_arms, arm, Declaration, fun, merge, shared, proc, ProgramTree}
 use Rattle.rev_syntax.specs.declared.tree.UnaryOp.{UnaryOp}
 use Rattle.rev_syntax.specs.declared.tree.BinaryOp.{BinaryOp}
-use Rattle.rev_syntax.specs.declared.tree.BinaryOp.TheVariants as b
 use Rattle.merge_decl.specs.Least.{Among}
 use Rattle.merge_decl.specs.Table.{find}
-use Rattle.rev_kinds.specs.Kinds.{Callee, Names, Locals, kind_in, name_kind, operand_kind}
+use Rattle.rev_kinds.specs.Kinds.{Callee, Names, Locals, kind_in, name_kind, operand_kind, operands, compares}
 use Rattle.rev_types.specs.Scopes.{locals_after, outside, within, with_params, merge_locals}
 use Rattle.rev_types.specs.Limits.{statement_lets, statements_lets, arms_lets}
 
@@ -36,23 +36,15 @@ abbrev pub links_of : Links → List (BinaryOp × Expression)
 links_of no_links = []
 links_of (link op x rest) = (op, x) ∷ links_of rest
 
-abbrev pub link_expressions : Links → List Expression
-link_expressions no_links = []
-link_expressions (link op x rest) = x ∷ link_expressions rest
-
 -- the expressions right below an expression
 abbrev pub parts_of : ExpressionForm → List Expression
-parts_of (int n) = []
-parts_of (bool x) = []
-parts_of no_rev = []
-parts_of (var w) = []
-parts_of (inputs at) = []
 parts_of (cell w index) = index ∷ []
 parts_of (apply w args) = expressions_of args
 parts_of (input at index) = index ∷ []
 parts_of (pick test x y) = test ∷ x ∷ y ∷ []
 parts_of (unary op e) = e ∷ []
-parts_of (chain first rest) = first ∷ link_expressions rest
+parts_of (chain first rest) = first ∷ map (λ l. l.1) (links_of rest)
+parts_of _ = []
 
 abbrev pub right_side_expressions : RightSide → List Expression
 right_side_expressions (plain e) = e ∷ []
@@ -94,16 +86,13 @@ right_side_of _ = None
 abbrev pub right_side_call : RightSide → Option (PlacedName × Expressions)
 right_side_call (called at w args) = Some (w, args)
 right_side_call (forked at w args) = Some (w, args)
-right_side_call (plain e) = None
-right_side_call (tried at e) = None
+right_side_call _ = None
 
 -- the name and the arguments behind the `call` or the `rfork` of a statement that has one
 abbrev pub call_of : StatementForm → Option (PlacedName × Expressions)
-call_of (bind w x) = right_side_call x
-call_of (assign w x) = right_side_call x
 call_of (call w args) = Some (w, args)
 call_of (fork w args) = Some (w, args)
-call_of _ = None
+call_of form = option_and_then right_side_call (right_side_of form)
 
 -- the tests and blocks of an `if` or a `while`
 abbrev pub arms_of : StatementForm → Arms
@@ -169,38 +158,6 @@ pub data Uses (p : ProgramTree) : Names → Locals → PlacedName → Bool → T
   written_cell : {i : Site} {w : PlacedName} {index e : Expression}
       → Stands p i (assign_cell w index e) → Uses p i.names i.locals w true
 
--- the kind that an operator wants of both its operands, if it wants one
-abbrev pub operands : BinaryOp → Option ValueKind
-operands b.Add = Some k.Int
-operands b.Sub = Some k.Int
-operands b.Mul = Some k.Int
-operands b.Div = Some k.Int
-operands b.Rem = Some k.Int
-operands b.Eq = None
-operands b.Ne = None
-operands b.Lt = Some k.Int
-operands b.Le = Some k.Int
-operands b.Gt = Some k.Int
-operands b.Ge = Some k.Int
-operands b.And = Some k.Bool
-operands b.Or = Some k.Bool
-
--- whether an operator compares its operands, which are to be of one kind
-abbrev pub compares : BinaryOp → Bool
-compares b.Eq = true
-compares b.Ne = true
-compares b.Lt = true
-compares b.Le = true
-compares b.Gt = true
-compares b.Ge = true
-compares _ = false
-
--- an argument that is given for this parameter
-pub record IsGiven (args : Expressions) (ps : List Parameter) (e : Expression) (q : Parameter) : Type 0 where
-  pub number : ℕ
-  pub argument : slice_get (expressions_of args) number ≡ Some e
-  pub parameter : slice_get ps number ≡ Some q
-
 -- an expression at which this kind is wanted
 pub data Wanted (p : ProgramTree) : Names → Locals → Expression → ValueKind → Type 0 where
   fun_body : {w : PlacedName} {ps : List Parameter} {r : ValueKind} {e : Expression}
@@ -222,11 +179,11 @@ pub data Wanted (p : ProgramTree) : Names → Locals → Expression → ValueKin
   written_value : {i : Site} {w : PlacedName} {index e : Expression} {t : ValueKind}
       → Stands p i (assign_cell w index e) → name_kind (find w.text i.locals) (i.names.shared w.text) ≡ Some t
       → Wanted p i.names i.locals e t
-  call_argument : {i : Site} {form : StatementForm} {w : PlacedName} {args : Expressions} {f : Callee} {e : Expression} {q : Parameter}
-      → Stands p i form → call_of form ≡ Some (w, args) → i.names.procs w.text ≡ Some f → IsGiven args f.params e q
+  call_argument : {i : Site} {form : StatementForm} {w : PlacedName} {args : Expressions} {f : Callee} {e : Expression} (q : Parameter)
+      → Stands p i form → call_of form ≡ Some (w, args) → i.names.procs w.text ≡ Some f → Among (zip (expressions_of args) f.params) (e, q)
       → Wanted p i.names i.locals e q.kind
-  fun_argument : {c : Names} {l : Locals} {at : ℕ} {w : PlacedName} {args : Expressions} {f : Callee} {e : Expression} {q : Parameter}
-      → Occurs p c l (placed at (apply w args)) → c.funs w.text ≡ Some f → IsGiven args f.params e q → Wanted p c l e q.kind
+  fun_argument : {c : Names} {l : Locals} {at : ℕ} {w : PlacedName} {args : Expressions} {f : Callee} {e : Expression} (q : Parameter)
+      → Occurs p c l (placed at (apply w args)) → c.funs w.text ≡ Some f → Among (zip (expressions_of args) f.params) (e, q) → Wanted p c l e q.kind
   at_index : {c : Names} {l : Locals} {at : ℕ} {w : PlacedName} {e : Expression} → Occurs p c l (placed at (cell w e)) → Wanted p c l e k.Int
   at_position : {c : Names} {l : Locals} {at at' : ℕ} {e : Expression} → Occurs p c l (placed at (input at' e)) → Wanted p c l e k.Int
   picked_by : {c : Names} {l : Locals} {at : ℕ} {e x y : Expression} → Occurs p c l (placed at (pick e x y)) → Wanted p c l e k.Bool
@@ -251,18 +208,16 @@ pub data NoHandle (p : ProgramTree) : Names → Locals → Expression → Type 0
 
 -- ---- declarations
 
-abbrev pub word_of : Declaration → PlacedName
-word_of (fun w ps r body) = w
-word_of (merge w m j r body) = w
-word_of (shared x) = x.name
-word_of (proc w ps r body) = w
+-- the declared parameters of a fun or a procedure
+abbrev pub parameters_of : Declaration → List Parameter
+parameters_of (fun w ps r body) = ps
+parameters_of (proc w ps r body) = ps
+parameters_of _ = []
 
 abbrev pub parameter_word : Parameter → PlacedName
 parameter_word q = q.name
 
 -- the names of a declaration's parameters
 abbrev pub param_words : Declaration → List PlacedName
-param_words (fun w ps r body) = map parameter_word ps
 param_words (merge w m j r body) = m ∷ j ∷ r ∷ []
-param_words (shared x) = []
-param_words (proc w ps r body) = map parameter_word ps
+param_words e = map parameter_word (parameters_of e)

@@ -67,7 +67,8 @@ module _ {H : Type 0} (s : Setting H) (c : State H) where
 
   e_local : (n : ℕ) (o : Option ValueKind) (ws : List (Word H)) → Up (r.into_local c n o ws)
   e_local n (Some k) (w ∷ rest) =
-      e_if (same_kind k (kind_of w)) (goes (record c { at = suc c.at; stack = rest; locals = slice_set c.locals n w })) stuck
+      e_if (same_kind k (kind_of w)) (goes (record c { at = suc c.at; stack = rest; locals = slice_set c.locals n w }))
+      stuck
       (to_next c.block (suc c.at) (slice_set c.locals n w) rest c.below c.text still) to_nothing
   e_local n (Some k) [] = to_nothing
   e_local n None ws = to_nothing
@@ -78,7 +79,8 @@ module _ {H : Type 0} (s : Setting H) (c : State H) where
 
   e_into_scalar : (o : Option Place) (ws : List (Word H)) → Up (r.into_scalar c o ws)
   e_into_scalar (Some q) (w ∷ rest) =
-      e_if (same_kind q.var.kind (kind_of w)) (r.after_write c rest q.first w) stuck (to_write rest q.first w) to_nothing
+      e_if (same_kind q.var.kind (kind_of w)) (r.after_write c rest q.first w) stuck (to_write rest q.first w)
+      to_nothing
   e_into_scalar (Some q) [] = to_nothing
   e_into_scalar None ws = to_nothing
 
@@ -96,7 +98,8 @@ module _ {H : Type 0} (s : Setting H) (c : State H) where
 
   e_into_cell : (o : Option Place) (ws : List (Word H)) → Up (r.into_cell c o ws)
   e_into_cell (Some q) (w ∷ int n ∷ rest) =
-      e_if (same_kind q.var.kind (kind_of w)) (r.write_cell c rest w (cell_at q n)) stuck (e_write rest w (cell_at q n)) to_nothing
+      e_if (same_kind q.var.kind (kind_of w)) (r.write_cell c rest w (cell_at q n)) stuck (e_write rest w (cell_at q n))
+      to_nothing
   e_into_cell _ _ = to_nothing
 
   e_test : (o : Option ℕ) → Up (r.test_cell c o)
@@ -160,7 +163,8 @@ module _ {H : Type 0} (s : Setting H) (c : State H) where
   e_call n None = to_nothing
   e_call n (Some b) = e_call_with n b (r.arguments (r.params b) c.stack)
 
-  e_fork_with : (n : ℕ) (b : CodeBlock) → only is_procedure (slice_get s.code.blocks n) ≡ Some b → (o : Option (List (Word H))) → r.arguments (r.params b) c.stack ≡ o → Up (r.fork_with c n o)
+  e_fork_with : (n : ℕ) (b : CodeBlock) → only is_procedure (slice_get s.code.blocks n) ≡ Some b
+      → (o : Option (List (Word H))) → r.arguments (r.params b) c.stack ≡ o → Up (r.fork_with c n o)
   e_fork_with n b is None e = to_nothing
   e_fork_with n b is (Some args) e = to_fork n b args is e
 
@@ -185,10 +189,12 @@ module _ {H : Type 0} (s : Setting H) (c : State H) where
   e_return (Some x) (w ∷ rest) =
       e_if (same_kind x (kind_of w)) (r.leave c c.below (Some w)) stuck (e_leave c.below (Some w)) to_nothing
 
-  e_print_with : (texts : List (List ℕ)) (items : List LayoutItem) (o : Option (List (Word H))) → Up (r.print_with texts c items o)
+  e_print_with : (texts : List (List ℕ)) (items : List LayoutItem) (o : Option (List (Word H)))
+      → Up (r.print_with texts c items o)
   e_print_with texts items None = to_nothing
   e_print_with texts items (Some ws) =
-      to_next c.block (suc c.at) c.locals (drop (length ws) c.stack) c.below (c.text ++ line_of texts items ws) (line_of texts items ws, refl)
+      to_next c.block (suc c.at) c.locals (drop (length ws) c.stack) c.below (c.text ++ line_of texts items ws)
+      (line_of texts items ws, refl)
 
   e_print : (texts : List (List ℕ)) (o : Option (List LayoutItem)) → Up (r.print texts c o)
   e_print texts None = to_nothing
@@ -256,10 +262,13 @@ module _ {H : Type 0} (s : Setting H) (c : State H) where
 -- ---- where steps lead
 
 -- what holds of each form, and of where steps lead from a state if it holds there from the next one
-module _ {H : Type 0} (s : Setting H) (P : State H → Comes H → Type 0) (of_form : (c : State H) (o : Comes H) → ComesTo s c o → P c o) where
-  pub holds_of_reach : ((c d : State H) (o : Comes H) → P c (goes d) → P d o → P c o) → (k : ℕ) (c : State H) → P c (reach s k c)
+module _ {H : Type 0} (s : Setting H) (P : State H → Comes H → Type 0)
+    (of_form : (c : State H) (o : Comes H) → ComesTo s c o → P c o) where
+  pub holds_of_reach : ((c d : State H) (o : Comes H) → P c (goes d) → P d o → P c o) → (k : ℕ) (c : State H)
+      → P c (reach s k c)
   holds_of_reach then_on zero c = of_form c (step s c) (step_form s c)
-  holds_of_reach then_on (suc k) c = by (step s c) (of_form c (step s c) (step_form s c)) (λ d. holds_of_reach then_on k d)
+  holds_of_reach then_on (suc k) c =
+      by (step s c) (of_form c (step s c) (step_form s c)) (λ d. holds_of_reach then_on k d)
     where
       by : (o : Comes H) → P c o → ((d : State H) → P d (reach s k d)) → P c (onward (λ d. reach s k d) o)
       by (goes d) h later = then_on c d (reach s k d) h (later d)

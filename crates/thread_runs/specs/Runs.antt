@@ -8,14 +8,14 @@
 use Rattle.std.specs.Prelude.{◌≡◌, ℕ, List, Option, Some}
 use Rattle.std.specs.Global.{Box}
 use Rattle.revision_machine.specs.Numbered.{World, Both, Listing, paths_of}
-use Rattle.hub_algebra.specs.Forkers.{ForkersAre}
-use Rattle.hub_table.specs.declared.state.HubState.{HubState}
-use Rattle.hub_table.specs.declared.state.HubState.TheVariants.{All, Twice}
-use Rattle.hub_outcomes.specs.Ends.{AreEndsOf}
+use Rattle.hub_core.specs.Forkers.{ForkersAre}
+use Rattle.hub_core.specs.declared.state.HubState.{HubState}
+use Rattle.hub_core.specs.declared.state.HubState.TheVariants.{All, Twice}
+use Rattle.thread_runs.specs.Ends.{AreEndsOf}
 use Rattle.version_map.specs.declared.end.EndValue.{EndValue}
 use Rattle.code_machine.specs.Local.{CodeRun, Local}
 use Rattle.code_machine.specs.Outcome.{outcome}
-use Rattle.code_outcomes.specs.Outcomes.{IsCompleteRun}
+use Rattle.code_machine_laws.specs.Outcomes.{IsCompleteRun}
 use Rattle.segment_store.specs.Group.{closed_group}
 use Rattle.turn_hub.specs.Names.{schedule_numbers, schedule_forkers, schedule_state, schedule_group}
 use Rattle.thread_runs.specs.declared.ran.Ran.{Ran}

@@ -3,7 +3,7 @@
 ghost use Rattle.std.specs.Prelude.{◌≡◌};
 ghost use Rattle.thread_runs.specs.Runs.{numbers_of, state_of, forkers_of, ends_of};
 
-use hub_table::HubState;
+use hub_core::HubState;
 use rev_num::Outcome;
 use run_revision::AnyState;
 use segment_store::Closed;

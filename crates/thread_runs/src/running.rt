@@ -1,16 +1,19 @@
 //! A run of verified code by threads.
 
-ghost use Rattle.std.specs.Prelude.{◌≤◌, IfOk};
+ghost use Rattle.std.specs.Prelude.{◌≤◌, IfOk, map};
 ghost use Rattle.rev_num.specs.Limits.{most_fuel};
-ghost use Rattle.code_outcomes.specs.Outcomes.{HasOutcome};
+ghost use Rattle.code_machine_laws.specs.Outcomes.{HasOutcome};
+ghost use Rattle.merge_kernels.specs.Terms.{definition};
+ghost use Rattle.rev_workers.specs.Plans.{IsPlanFor};
 ghost use Rattle.thread_runs.specs.Runs.{IsRunOf};
 
 use crate::ran::Ran;
+use crate::{outcome_of_run, owned_ends};
 use code_runs::note_inputs;
 use code_verifier::Verified;
-use hub_outcomes::{outcome_of_run, owned_ends};
 use hub_workers::Gate;
 use leg_run::CodeSetting;
+use merge_kernels::KernelPlan;
 use rev_workers::{Ran as Left, run_threads as run_over_store};
 use std::alloc::{AllocError, Global};
 use std::sync::Wait;
@@ -19,10 +22,11 @@ use std::thread::Threads;
 /// A run of verified code with these inputs, share and fuel, of which there are at most
 /// 4,000,000,000 units, by so many threads, of which the caller is one. A thread enters the gate
 /// before each leg. Revisions share what they have not written in so many segments at most; where
-/// none is free a fork copies. All threads have ended when it returns. Want of memory is the one
+/// none is free a fork copies. At locations with a choice of the plan its kernels make the merges.
+/// All threads have ended when it returns. Want of memory is the one
 /// error, which stands for segments in use at the close of the store too. No clause tells of
-/// threads, of the gate or of copies.
-pub fn run_threads<R: Threads + Wait + Sync, G: Gate + Sync>(
+/// threads, of the gate, of copies or of kernels.
+pub fn run_threads<'k, R: Threads + Wait + Sync, G: Gate + Sync>(
     rt: &R,
     alloc: Global,
     code: Verified,
@@ -32,9 +36,12 @@ pub fn run_threads<R: Threads + Wait + Sync, G: Gate + Sync>(
     workers: u32,
     segments: u32,
     gate: &G,
+    plan: &'k KernelPlan<'k>,
 ) -> Result<Ran, AllocError>
     requires fuel { fuel ≤ most_fuel }
     requires workers { 1 ≤ workers }
+    requires plan { IsPlanFor code.code plan.now.choices.items
+        (map (λ k. definition k.def) plan.now.kernels.now) }
     ensures run { IfOk result (λ r. IsRunOf
         (record { code = code.code; inputs = inputs.items; share = share }) fuel r) }
     ensures outcome { IfOk result (λ r. HasOutcome
@@ -42,7 +49,7 @@ pub fn run_threads<R: Threads + Wait + Sync, G: Gate + Sync>(
 {
     note_inputs(&inputs);
     let setting = CodeSetting::new(alloc, code.into_code(), inputs, share)?;
-    let Ok(left) = run_over_store(rt, alloc, &setting, fuel, workers, segments, gate) else {
+    let Ok(left) = run_over_store(rt, alloc, &setting, fuel, workers, segments, gate, plan) else {
         return Err(AllocError);
     };
     let outcome = outcome_of_run(alloc, &setting, &left.run)?;

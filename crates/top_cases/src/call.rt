@@ -2,6 +2,7 @@
 
 use crate::meeting::Meeting;
 use hub_workers::{Gate, OpenGate};
+use merge_kernels::Kernel;
 use rev_io::{CalmSink, CalmSource, MemSink, MemSource, Sink, Source};
 use rev_top::rev_main;
 use std::alloc::{AllocError, Global};
@@ -45,9 +46,10 @@ fn called<R: AllocGlobal + Threads + Wait + Sync, S: Source, O: Sink, E: Sink, G
     out: &mut O,
     err: &mut E,
     gate: &G,
+    kernels: &[Kernel],
 ) -> (u8, Option<Ran>) {
     let mut ran = None;
-    let status = rev_main(rt, words, source, out, err, gate, &mut ran);
+    let status = rev_main(rt, words, source, out, err, gate, &mut ran, kernels);
     (status, ran)
 }
 
@@ -75,10 +77,11 @@ fn answer_behind<R: AllocGlobal + Threads + Wait + Sync, S: Source, G: Gate + Sy
     words: &[String],
     source: &mut S,
     gate: &G,
+    kernels: &[Kernel],
 ) -> Result<Answer, AllocError> {
     let mut out = CalmSink::new(rt.alloc());
     let mut err = CalmSink::new(rt.alloc());
-    let call = called(rt, words, source, &mut out, &mut err, gate);
+    let call = called(rt, words, source, &mut out, &mut err, gate, kernels);
     answer_of(rt.alloc(), call, out.bytes(), err.bytes())
 }
 
@@ -87,9 +90,10 @@ pub fn calm_answer<R: AllocGlobal + Threads + Wait + Sync>(
     rt: &R,
     words: &[String],
     source: Vec<u8>,
+    kernels: &[Kernel],
 ) -> Result<Answer, AllocError> {
     let mut source = CalmSource::new(source);
-    answer_behind(rt, words, &mut source, &OpenGate)
+    answer_behind(rt, words, &mut source, &OpenGate, kernels)
 }
 
 /// What a call answers whose source gives so many bytes at a time, and fails at this call.
@@ -99,9 +103,10 @@ fn answer_reading<R: AllocGlobal + Threads + Wait + Sync>(
     source: Vec<u8>,
     step: usize,
     fails: u64,
+    kernels: &[Kernel],
 ) -> Result<Answer, AllocError> {
     let mut source = MemSource::new(source, step.max(1), vec![in rt.alloc(); fails]?);
-    let mut answer = answer_behind(rt, words, &mut source, &OpenGate)?;
+    let mut answer = answer_behind(rt, words, &mut source, &OpenGate, kernels)?;
     answer.is_unread = source.read(&mut [0; 4]).is_err();
     Ok(answer)
 }
@@ -123,12 +128,21 @@ fn answer_writing<R: AllocGlobal + Threads + Wait + Sync>(
     source: Vec<u8>,
     step: usize,
     fails: [Option<u64>; 2],
+    kernels: &[Kernel],
 ) -> Result<Answer, AllocError> {
     let mut source = CalmSource::new(source);
     let [out, err] = fails;
     let mut out = sink_of(rt.alloc(), step, out)?;
     let mut err = sink_of(rt.alloc(), step, err)?;
-    let call = called(rt, words, &mut source, &mut out, &mut err, &OpenGate);
+    let call = called(
+        rt,
+        words,
+        &mut source,
+        &mut out,
+        &mut err,
+        &OpenGate,
+        kernels,
+    );
     answer_of(rt.alloc(), call, out.bytes(), err.bytes())
 }
 
@@ -138,10 +152,11 @@ fn answer_meeting<R: AllocGlobal + Threads + Wait + Sync>(
     words: &[String],
     source: Vec<u8>,
     pairs: [(u32, u32); 2],
+    kernels: &[Kernel],
 ) -> Result<Answer, AllocError> {
     let mut source = CalmSource::new(source);
     let gate = Meeting::new(pairs);
-    let mut answer = answer_behind(rt, words, &mut source, &gate)?;
+    let mut answer = answer_behind(rt, words, &mut source, &gate, kernels)?;
     answer.has_met = gate.has_met();
     Ok(answer)
 }
@@ -152,16 +167,17 @@ pub fn answer_by<R: AllocGlobal + Threads + Wait + Sync>(
     words: &[String],
     source: Vec<u8>,
     manner: Manner,
+    kernels: &[Kernel],
 ) -> Result<Answer, AllocError> {
     match manner {
-        Manner::Calm => calm_answer(rt, words, source),
-        Manner::Reads { step, call } => answer_reading(rt, words, source, step, call),
+        Manner::Calm => calm_answer(rt, words, source, kernels),
+        Manner::Reads { step, call } => answer_reading(rt, words, source, step, call, kernels),
         Manner::Writes { step, call } => {
-            answer_writing(rt, words, source, step, [Some(call), Some(call)])
+            answer_writing(rt, words, source, step, [Some(call), Some(call)], kernels)
         },
         Manner::Prints { step, call } => {
-            answer_writing(rt, words, source, step, [Some(call), None])
+            answer_writing(rt, words, source, step, [Some(call), None], kernels)
         },
-        Manner::Meets(pairs) => answer_meeting(rt, words, source, pairs),
+        Manner::Meets(pairs) => answer_meeting(rt, words, source, pairs, kernels),
     }
 }

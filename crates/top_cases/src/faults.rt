@@ -24,7 +24,7 @@ fn answers<R: AllocGlobal + Threads + Wait + Sync>(
     status: u8,
 ) -> Result<bool, AllocError> {
     let words = one_word(rt.alloc(), word)?;
-    let answer = calm_answer(rt, words.as_slice(), text)?;
+    let answer = calm_answer(rt, words.as_slice(), text, &[])?;
     let is_written = answer.out.as_slice() == out && answer.err.as_slice() == err;
     Ok(is_written && answer.status == status)
 }

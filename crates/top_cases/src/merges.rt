@@ -2,6 +2,7 @@
 
 use case_tables::{CaseFault, Pieces, field, typed_of};
 use rev_num::NumFault;
+use revision_data::merged_value;
 use std::alloc::Global;
 
 /// What the last merge of the text gives for the joiner's value, the joinee's and the root's.
@@ -18,7 +19,7 @@ fn merged(
         return None;
     }
     let last = (count - 1) as u32;
-    Some(typed.merge_value(last, main, join, root))
+    Some(merged_value(&typed, last, main, join, root))
 }
 
 /// What a text says that a merge gives: a number or a fault.

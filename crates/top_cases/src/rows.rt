@@ -2,8 +2,9 @@
 
 use crate::call::{Answer, Manner, answer_by};
 use crate::faults::{is_refused, is_sound};
+use crate::kernels::Kernels;
 use crate::merges::merges;
-use crate::wanted::is_wanted;
+use crate::wanted::{are_called, is_wanted};
 use case_tables::{CaseFault, Pieces, Rounds, Tally, behind, field, has, number_of, numbers_of};
 use std::alloc::Global;
 use std::io;
@@ -14,7 +15,7 @@ use std::thread::Threads;
 pub const MARKS: &[&str] = &[
     "#", ":", "let", "*", "$", "|", "first", "byte", "behind", "reads", "unread", "writes",
     "prints", "meet", ">", "!", "=", "any", "begins", "keep", "ran", "copies", "third", "merge",
-    "gives", "?", "@", "+",
+    "gives", "?", "@", "+", "kernels", "sums", "rows",
 ];
 
 /// The words of a row.
@@ -136,13 +137,16 @@ fn manner_of(alloc: Global, pieces: &Pieces, row: &str) -> Result<Manner, CaseFa
 /// What the call of a row answers.
 fn answer_to<R: AllocGlobal + Threads + Wait + Sync>(
     rt: &R,
+    kernels: &Kernels,
     pieces: &Pieces,
     row: &str,
 ) -> Result<Answer, CaseFault> {
     let manner = manner_of(rt.alloc(), pieces, row)?;
     let words = words_of(rt.alloc(), pieces, row)?;
     let source = source_of(rt.alloc(), pieces, row)?;
-    Ok(answer_by(rt, words.as_slice(), source, manner)?)
+    let chosen = kernels.of_row(rt.alloc(), row)?;
+    kernels.forget();
+    Ok(answer_by(rt, words.as_slice(), source, manner, chosen)?)
 }
 
 /// Keeps what was printed, without its last line end, as a piece, where the row names that.
@@ -163,14 +167,15 @@ fn keep_printed(
 /// Whether a call answers what its row wants.
 fn is_good<R: AllocGlobal + Threads + Wait + Sync>(
     rt: &R,
+    kernels: &Kernels,
     pieces: &mut Pieces,
     row: &str,
 ) -> Result<bool, CaseFault> {
     if let Some(numbers) = field(row, "merge") {
         return merges(rt.alloc(), pieces, row, numbers);
     }
-    let answer = answer_to(rt, pieces, row)?;
-    let good = is_wanted(rt.alloc(), pieces, row, &answer)?;
+    let answer = answer_to(rt, kernels, pieces, row)?;
+    let good = is_wanted(rt.alloc(), pieces, row, &answer)? && are_called(kernels, row)?;
     keep_printed(rt.alloc(), pieces, row, answer.out.as_slice())?;
     Ok(good)
 }
@@ -178,6 +183,7 @@ fn is_good<R: AllocGlobal + Threads + Wait + Sync>(
 /// Whether a round of a row is good.
 fn is_good_round<R: AllocGlobal + Threads + Wait + Sync>(
     rt: &R,
+    kernels: &Kernels,
     pieces: &mut Pieces,
     row: &str,
     rounds: &Rounds,
@@ -185,13 +191,14 @@ fn is_good_round<R: AllocGlobal + Threads + Wait + Sync>(
 ) -> Result<bool, CaseFault> {
     rounds.add_to(rt.alloc(), pieces, round)?;
     pieces.add_lets(rt.alloc(), row)?;
-    is_good(rt, pieces, row)
+    is_good(rt, kernels, pieces, row)
 }
 
 /// Plays the rounds of a row of one call. What its names stand for is forgotten behind each, but
 /// for what was printed and is kept.
 fn play_rounds<R: AllocGlobal + Print + Threads + Wait + Sync>(
     rt: &R,
+    kernels: &Kernels,
     pieces: &mut Pieces,
     tally: &mut Tally,
     row: &str,
@@ -202,7 +209,7 @@ fn play_rounds<R: AllocGlobal + Print + Threads + Wait + Sync>(
     };
     let outer = pieces.count();
     for round in 0..rounds.count() {
-        let good = is_good_round(rt, pieces, row, &rounds, round);
+        let good = is_good_round(rt, kernels, pieces, row, &rounds, round);
         tally.count(rt, row, good)?;
         if !has(row, "keep") {
             pieces.keep(outer);
@@ -234,12 +241,13 @@ fn play_texts<R: AllocGlobal + Print + Threads + Wait + Sync>(
 /// Plays a row: by whole calls of the program where it has words, by a merge, or by its texts.
 pub fn play<R: AllocGlobal + Print + Threads + Wait + Sync>(
     rt: &R,
+    kernels: &Kernels,
     pieces: &mut Pieces,
     tally: &mut Tally,
     row: &str,
 ) -> io::Result<()> {
     if has(row, "$") || has(row, "merge") {
-        return play_rounds(rt, pieces, tally, row);
+        return play_rounds(rt, kernels, pieces, tally, row);
     }
     match pieces.define(rt.alloc(), row) {
         Ok(()) => play_texts(rt, pieces, tally, row),

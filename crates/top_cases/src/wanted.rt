@@ -1,8 +1,10 @@
 //! What a row wants of an answer.
 
 use crate::call::Answer;
+use crate::kernels::Kernels;
 use case_tables::{CaseFault, Pieces, field, has, number_of, numbers_of};
 use std::alloc::Global;
+use std::sync::atomic::{AtomicU64, Ordering};
 use thread_runs::Ran;
 
 /// Whether both outputs are those of the row.
@@ -99,4 +101,17 @@ pub fn is_wanted(
         return Ok(false);
     }
     Ok(answer.has_met && is_handed_out(row, ran) && is_over(ran))
+}
+
+/// Whether a count is that of the row, if it names one.
+fn is_count(row: &str, mark: &str, count: &AtomicU64) -> Result<bool, CaseFault> {
+    match field(row, mark) {
+        Some(text) => Ok(number_of(text)? == count.load(Ordering::SeqCst)),
+        None => Ok(true),
+    }
+}
+
+/// Whether the kernels that add up were called as often as the row says.
+pub fn are_called(kernels: &Kernels, row: &str) -> Result<bool, CaseFault> {
+    Ok(is_count(row, "sums", kernels.sums)? && is_count(row, "rows", kernels.rows)?)
 }

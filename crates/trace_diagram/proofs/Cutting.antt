@@ -12,7 +12,8 @@ not_without b [] back h = h.0 refl
 not_without b (c ∷ front) back h = not_without b front back h.1
 
 -- one place of the first such byte
-pub cut_once : (b : ℕ) (front back front' back' : List ℕ) → IsWithout b front → IsWithout b front' → front ++ b ∷ back ≡ front' ++ b ∷ back' → (front ≡ front') × (back ≡ back')
+pub cut_once : (b : ℕ) (front back front' back' : List ℕ) → IsWithout b front → IsWithout b front'
+    → front ++ b ∷ back ≡ front' ++ b ∷ back' → (front ≡ front') × (back ≡ back')
 cut_once b [] back [] back' one two h = let tail : back ≡ back' = cc in (refl, tail)
 cut_once b [] back (c ∷ front') back' one two h = let head : c ≡ b = cc in absurd (two.0 head)
 cut_once b (c ∷ front) back [] back' one two h = let head : c ≡ b = cc in absurd (one.0 head)

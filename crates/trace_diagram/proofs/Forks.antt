@@ -30,7 +30,8 @@ abbrev pub dotted : List ℕ → List ℕ → List ℕ
 dotted [] rest = rest
 dotted (k ∷ ks) rest = decimal k ++ 46 ∷ dotted ks rest
 
-pub dotted_more : (ks : List ℕ) (k : ℕ) (rest : List ℕ) → dotted (ks ++ k ∷ []) rest ≡ dotted ks (decimal k ++ 46 ∷ rest)
+pub dotted_more : (ks : List ℕ) (k : ℕ) (rest : List ℕ)
+    → dotted (ks ++ k ∷ []) rest ≡ dotted ks (decimal k ++ 46 ∷ rest)
 dotted_more [] k rest = refl
 dotted_more (j ∷ ks) k rest = ap (λ t. decimal j ++ 46 ∷ t) (dotted_more ks k rest)
 
@@ -72,22 +73,26 @@ wide j small = omega arith
 pub no_dot : (j : ℕ) → j < 2 ^ 32 → IsWithout 46 (decimal j)
 no_dot j small = decimal_without 46 j (λ digit. omega (arith, digit)) (wide j small)
 
-split : (front more : List ℕ) (j : ℕ) (r : Path) → IsWithout 46 front → FitsPath (j ∷ r) → path_text (j ∷ r) ≡ front ++ 46 ∷ more → Split front more j r
+split : (front more : List ℕ) (j : ℕ) (r : Path) → IsWithout 46 front → FitsPath (j ∷ r)
+    → path_text (j ∷ r) ≡ front ++ 46 ∷ more → Split front more j r
 split front more j [] one fit is = absurd (not_without 46 front more (subst (IsWithout 46) is (no_dot j fit.0)))
 split front more j (i ∷ r) one fit is =
     let both = cut_once 46 (decimal j) (path_text (i ∷ r)) front more (no_dot j fit.0) one is in
     record { first = both.0; others = record { forks = record { some = omega arith; fit = fit.1 }; text = both.1 } }
 
-whole : (rest : List ℕ) (j : ℕ) (r : Path) → IsWithout 46 rest → path_text (j ∷ r) ≡ rest → (r ≡ []) × (decimal j ≡ rest)
+whole : (rest : List ℕ) (j : ℕ) (r : Path) → IsWithout 46 rest → path_text (j ∷ r) ≡ rest
+    → (r ≡ []) × (decimal j ≡ rest)
 whole rest j [] none is = (refl, is)
-whole rest j (i ∷ r) none is = absurd (not_without 46 (decimal j) (path_text (i ∷ r)) (subst (IsWithout 46) (sym is) none))
+whole rest j (i ∷ r) none is =
+    absurd (not_without 46 (decimal j) (path_text (i ∷ r)) (subst (IsWithout 46) (sym is) none))
 
 same_number : (j k : ℕ) (front : List ℕ) → j < 2 ^ 32 → k < 2 ^ 32 → decimal j ≡ front → decimal k ≡ front → j ≡ k
 same_number j k front small few is at = decimal_injective j k (wide j small) (wide k few) (is ∙ sym at)
 
 -- ---- a step
 
-pub begins_more : (bytes ks rest front more : List ℕ) (k : ℕ) → IsCut 46 rest front more → k < 2 ^ 32 → decimal k ≡ front → AllBegin bytes ks rest → AllBegin bytes (ks ++ k ∷ []) more
+pub begins_more : (bytes ks rest front more : List ℕ) (k : ℕ) → IsCut 46 rest front more → k < 2 ^ 32
+    → decimal k ≡ front → AllBegin bytes ks rest → AllBegin bytes (ks ++ k ∷ []) more
 begins_more bytes ks rest front more k cut small is all path h = go (all path h)
   where
     go : Begins bytes ks rest path → Begins bytes (ks ++ k ∷ []) more path
@@ -98,10 +103,16 @@ begins_more bytes ks rest front more k cut small is all path h = go (all path h)
         by (j ∷ r) at s =
             let parts = split front more j r cut.first s.forks.fit (s.text ∙ cut.is) in
             let same = same_number j k front s.forks.fit.0 small parts.first is in
-            record { others = r; is = at ∙ ap (λ n. ks ++ n ∷ r) same ∙ sym (append_assoc ks (k ∷ []) r); spells = parts.others }
+            record {
+              others = r;
+              is = at ∙ ap (λ n. ks ++ n ∷ r) same ∙ sym (append_assoc ks (k ∷ []) r);
+              spells = parts.others;
+            }
 
 -- where the front is no number, the bytes are no path
-pub no_number : (bytes ks rest front more : List ℕ) → IsCut 46 rest front more → ((n : ℕ) → n < 2 ^ 32 → decimal n ≡ front → ⊥) → AllBegin bytes ks rest → (path : Path) → Forks path → path_text path ≡ bytes → ⊥
+pub no_number : (bytes ks rest front more : List ℕ) → IsCut 46 rest front more
+    → ((n : ℕ) → n < 2 ^ 32 → decimal n ≡ front → ⊥) → AllBegin bytes ks rest → (path : Path) → Forks path
+    → path_text path ≡ bytes → ⊥
 no_number bytes ks rest front more cut none all path forks text = go (all path (record { forks = forks; text = text }))
   where
     go : Begins bytes ks rest path → ⊥
@@ -112,7 +123,8 @@ no_number bytes ks rest front more cut none all path forks text = go (all path (
         by (j ∷ r) s = none j s.forks.fit.0 (split front more j r cut.first s.forks.fit (s.text ∙ cut.is)).first
 
 -- the same of the last one
-pub no_last : (bytes ks rest : List ℕ) → IsWithout 46 rest → ((n : ℕ) → n < 2 ^ 32 → decimal n ≡ rest → ⊥) → AllBegin bytes ks rest → (path : Path) → Forks path → path_text path ≡ bytes → ⊥
+pub no_last : (bytes ks rest : List ℕ) → IsWithout 46 rest → ((n : ℕ) → n < 2 ^ 32 → decimal n ≡ rest → ⊥)
+    → AllBegin bytes ks rest → (path : Path) → Forks path → path_text path ≡ bytes → ⊥
 no_last bytes ks rest last none all path forks text = go (all path (record { forks = forks; text = text }))
   where
     go : Begins bytes ks rest path → ⊥
@@ -129,9 +141,11 @@ forks_more ks k h small = record { some = some ks; fit = fits_more ks k h small 
     some [] = omega arith
     some (j ∷ js) = omega arith
 
-pub spells_more : (bytes ks rest : List ℕ) (k : ℕ) → decimal k ≡ rest → dotted ks rest ≡ bytes → path_text (ks ++ k ∷ []) ≡ bytes
+pub spells_more : (bytes ks rest : List ℕ) (k : ℕ) → decimal k ≡ rest → dotted ks rest ≡ bytes
+    → path_text (ks ++ k ∷ []) ≡ bytes
 spells_more bytes ks rest k is front = dotted_path ks k ∙ ap (dotted ks) is ∙ front
 
-pub dotted_cut : (bytes ks rest front more : List ℕ) (k : ℕ) → IsCut 46 rest front more → decimal k ≡ front → dotted ks rest ≡ bytes → dotted (ks ++ k ∷ []) more ≡ bytes
+pub dotted_cut : (bytes ks rest front more : List ℕ) (k : ℕ) → IsCut 46 rest front more → decimal k ≡ front
+    → dotted ks rest ≡ bytes → dotted (ks ++ k ∷ []) more ≡ bytes
 dotted_cut bytes ks rest front more k cut is at =
     dotted_more ks k more ∙ ap (λ t. dotted ks (t ++ 46 ∷ more)) is ∙ ap (dotted ks) (sym cut.is) ∙ at

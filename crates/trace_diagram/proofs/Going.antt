@@ -22,24 +22,35 @@ widen : (r : Path) (lines : List (List ℕ)) → Goes (in_text r) lines → Goes
 widen r [] h = h
 widen r (line ∷ lines) h = (h.0, inr h.1, h.2)
 
-texts_go : (r : Path) (ts lines : List (List ℕ)) → AllByRecursion (λ l. IsTrue (list_all is_printable l)) ts → Goes (in_text r) lines → Goes (in_text r) (map quoted ts ++ lines)
+texts_go : (r : Path) (ts lines : List (List ℕ)) → AllByRecursion (λ l. IsTrue (list_all is_printable l)) ts
+    → Goes (in_text r) lines → Goes (in_text r) (map quoted ts ++ lines)
 texts_go r [] lines fit h = h
-texts_go r (t ∷ ts) lines fit h = (in_text r, inl (record { text = t; quote = record { printable = fit.0; is = refl }; to = refl }), texts_go r ts lines fit.1 h)
+texts_go r (t ∷ ts) lines fit h = (
+  in_text r,
+  inl (record { text = t; quote = record { printable = fit.0; is = refl }; to = refl }),
+  texts_go r ts lines fit.1 h,
+)
 
-writes_go : (r : Path) (ws : List Change) (lines : List (List ℕ)) → AllByRecursion FitsChange ws → Goes (in_writes r) lines → Goes (in_writes r) (map change_text ws ++ lines)
+writes_go : (r : Path) (ws : List Change) (lines : List (List ℕ)) → AllByRecursion FitsChange ws
+    → Goes (in_writes r) lines → Goes (in_writes r) (map change_text ws ++ lines)
 writes_go r [] lines fit h = h
-writes_go r (c ∷ ws) lines fit h = (in_writes r, inl (record { change = c; fits = fit.0; is = refl; to = refl }), writes_go r ws lines fit.1 h)
+writes_go r (c ∷ ws) lines fit h =
+    (in_writes r, inl (record { change = c; fits = fit.0; is = refl; to = refl }), writes_go r ws lines fit.1 h)
 
-events_go : (r : Path) (es : List TraceEvent) (lines : List (List ℕ)) → AllByRecursion FitsEvent es → Goes (in_events r) lines → Goes (in_events r) (map event_text es ++ lines)
+events_go : (r : Path) (es : List TraceEvent) (lines : List (List ℕ)) → AllByRecursion FitsEvent es
+    → Goes (in_events r) lines → Goes (in_events r) (map event_text es ++ lines)
 events_go r [] lines fit h = h
-events_go r (e ∷ es) lines fit h = (in_events r, inl (record { entry = e; fits = fit.0; is = refl; to = refl }), events_go r es lines fit.1 h)
+events_go r (e ∷ es) lines fit h =
+    (in_events r, inl (record { entry = e; fits = fit.0; is = refl; to = refl }), events_go r es lines fit.1 h)
 
 -- the lines of a part behind its first
 abbrev pub behind_head : Part → List (List ℕ)
 behind_head p =
-    map event_text p.events ++ (end_text p.end ∷ fuel_text p.fuel ∷ (map change_text p.written ++ map quoted (text_lines p.text)))
+    map event_text p.events
+    ++ (end_text p.end ∷ fuel_text p.fuel ∷ (map change_text p.written ++ map quoted (text_lines p.text)))
 
-part_goes : (p : Part) (lines : List (List ℕ)) → IsPart p → Goes (in_text p.path) lines → Goes (in_events p.path) (behind_head p ++ lines)
+part_goes : (p : Part) (lines : List (List ℕ)) → IsPart p → Goes (in_text p.path) lines
+    → Goes (in_events p.path) (behind_head p ++ lines)
 part_goes p lines fit h =
     subst (Goes (in_events p.path)) (sym (append_assoc (map event_text p.events) _ lines))
     (events_go p.path p.events _ fit.events (
@@ -48,20 +59,27 @@ part_goes p lines fit h =
       (
         in_writes p.path,
         record { fuel = p.fuel; fits = fit.fuel; is = refl; to = refl },
-        subst (Goes (in_writes p.path)) (sym (append_assoc (map change_text p.written) (map quoted (text_lines p.text)) lines))
-            (writes_go p.path p.written _ fit.written (widen p.path _ (texts_go p.path (text_lines p.text) lines fit.text.printable h))),
+        subst (Goes (in_writes p.path))
+            (sym (append_assoc (map change_text p.written) (map quoted (text_lines p.text)) lines))
+            (writes_go p.path p.written _ fit.written
+            (widen p.path _ (texts_go p.path (text_lines p.text) lines fit.text.printable h))),
       ),
     ))
 
-parts_go : (p : Part) (ps : List Part) → AllByRecursion IsPart (p ∷ ps) → MainIsLast (p ∷ ps) → Goes (in_events p.path) (behind_head p ++ flat_map part_lines ps)
+parts_go : (p : Part) (ps : List Part) → AllByRecursion IsPart (p ∷ ps) → MainIsLast (p ∷ ps)
+    → Goes (in_events p.path) (behind_head p ++ flat_map part_lines ps)
 parts_go p [] each order = part_goes p [] each.0 order
 parts_go p (q ∷ ps) each order =
-    part_goes p (part_lines q ++ flat_map part_lines ps) each.0
-    (in_events q.path, inr (record { part = record { path = q.path; fits = each.1.0.path; is = refl; to = refl }; later = order.0 }), parts_go q ps each.1 order.1)
+    part_goes p (part_lines q ++ flat_map part_lines ps) each.0 (
+      in_events q.path,
+      inr (record { part = record { path = q.path; fits = each.1.0.path; is = refl; to = refl }; later = order.0 }),
+      parts_go q ps each.1 order.1,
+    )
 
 all_go : (ps : List Part) → AllByRecursion IsPart ps → MainIsLast ps → Goes no_part (flat_map part_lines ps)
 all_go [] each order = absurd order
-all_go (p ∷ ps) each order = (in_events p.path, record { path = p.path; fits = each.0.path; is = refl; to = refl }, parts_go p ps each order)
+all_go (p ∷ ps) each order =
+    (in_events p.path, record { path = p.path; fits = each.0.path; is = refl; to = refl }, parts_go p ps each order)
 
 pub trace_goes : (t : Trace) → IsTrace t → Goes no_part (flat_map part_lines t.parts)
 trace_goes t h = all_go t.parts h.each h.order
@@ -76,7 +94,14 @@ abbrev main_part : Part
 main_part = record { path = []; events = []; end = part_end.Done; fuel = 0; written = []; text = [] }
 
 main_form : IsPart main_part
-main_form = record { path = tt; events = tt; end = tt; fuel = omega arith; written = tt; text = record { whole = refl; printable = tt } }
+main_form = record {
+  path = tt;
+  events = tt;
+  end = tt;
+  fuel = omega arith;
+  written = tt;
+  text = record { whole = refl; printable = tt };
+}
 
 -- the part of `main`, where this is not that of `main`
 abbrev parts_behind : Path → List Part
@@ -101,7 +126,9 @@ completed_form p form = record {
   text = form.text;
 }
 
-missing : (e : Option PartEnd) (f : Option ℕ) (ws : List Change) (text : List ℕ) → NotYet e f ws text → (more : List (List ℕ)) × (last_lines (Some (unwrap_or e part_end.Done)) (Some (unwrap_or f 0)) ws text ≡ last_lines e f ws text ++ more)
+missing : (e : Option PartEnd) (f : Option ℕ) (ws : List Change) (text : List ℕ) → NotYet e f ws text
+    → (more : List (List ℕ))
+    × (last_lines (Some (unwrap_or e part_end.Done)) (Some (unwrap_or f 0)) ws text ≡ last_lines e f ws text ++ more)
 missing None f ws text h = (_, refl)
 missing (Some e) None ws text h = (fuel_text 0 ∷ (map change_text ws ++ map quoted (text_lines text)), refl)
 missing (Some e) (Some f) ws text h = ([], sym (nothing (last_lines (Some e) (Some f) ws text)))
@@ -110,10 +137,15 @@ missing (Some e) (Some f) ws text h = ([], sym (nothing (last_lines (Some e) (So
     nothing [] = refl
     nothing (x ∷ xs) = ap (λ t. x ∷ t) (nothing xs)
 
-completed_lines : (p : PartialTrace) → IsPartial p → (more : List (List ℕ)) × (part_lines (completed p) ≡ open_lines p ++ more)
+completed_lines : (p : PartialTrace) → IsPartial p
+    → (more : List (List ℕ)) × (part_lines (completed p) ≡ open_lines p ++ more)
 completed_lines p form =
-    let h = missing p.end p.fuel p.written p.text form.not_yet in
-    (h.0, ap (λ t. head_text p.path ∷ (map event_text p.events ++ t)) h.1 ∙ ap (λ t. head_text p.path ∷ t) (sym (append_assoc (map event_text p.events) (last_lines p.end p.fuel p.written p.text) h.0)))
+    let h = missing p.end p.fuel p.written p.text form.not_yet in (
+      h.0,
+      ap (λ t. head_text p.path ∷ (map event_text p.events ++ t)) h.1
+          ∙ ap (λ t. head_text p.path ∷ t)
+          (sym (append_assoc (map event_text p.events) (last_lines p.end p.fuel p.written p.text) h.0)),
+    )
 
 each_behind : (r : Path) → AllByRecursion IsPart (parts_behind r)
 each_behind [] = tt
@@ -123,18 +155,22 @@ main_behind : (x : Part) (r : Path) → x.path ≡ r → MainIsLast (x ∷ parts
 main_behind x [] is = is
 main_behind x (k ∷ r) is = (ap (λ q. before q []) is, refl)
 
-main_last : (ps : List Part) (x : Part) (rest : List Part) → Ascends ps x.path → MainIsLast (x ∷ rest) → MainIsLast (ps ++ x ∷ rest)
+main_last : (ps : List Part) (x : Part) (rest : List Part) → Ascends ps x.path → MainIsLast (x ∷ rest)
+    → MainIsLast (ps ++ x ∷ rest)
 main_last [] x rest h last = last
 main_last (p ∷ []) x rest h last = (h, last)
 main_last (p ∷ q ∷ ps) x rest h last = (h.0, main_last (q ∷ ps) x rest h.1 last)
 
-each_append : (ps qs : List Part) → AllByRecursion IsPart ps → AllByRecursion IsPart qs → AllByRecursion IsPart (ps ++ qs)
+each_append : (ps qs : List Part) → AllByRecursion IsPart ps → AllByRecursion IsPart qs
+    → AllByRecursion IsPart (ps ++ qs)
 each_append [] qs h k = k
 each_append (p ∷ ps) qs h k = (h.0, each_append ps qs h.1 k)
 
-pub flat_append : {A B : Type 0} (f : A → List B) (xs ys : List A) → flat_map f (xs ++ ys) ≡ flat_map f xs ++ flat_map f ys
+pub flat_append : {A B : Type 0} (f : A → List B) (xs ys : List A)
+    → flat_map f (xs ++ ys) ≡ flat_map f xs ++ flat_map f ys
 flat_append f [] ys = refl
-flat_append f (x ∷ xs) ys = ap (λ t. f x ++ t) (flat_append f xs ys) ∙ sym (append_assoc (f x) (flat_map f xs) (flat_map f ys))
+flat_append f (x ∷ xs) ys =
+    ap (λ t. f x ++ t) (flat_append f xs ys) ∙ sym (append_assoc (f x) (flat_map f xs) (flat_map f ys))
 
 abbrev whole_trace : PartialTrace → Trace
 whole_trace p = record { parts = p.parts ++ completed p ∷ parts_behind p.path }
@@ -145,7 +181,8 @@ whole_form p form = record {
   order = main_last p.parts (completed p) (parts_behind p.path) form.order (main_behind (completed p) p.path refl);
 }
 
-whole_lines : (p : PartialTrace) → IsPartial p → (more : List (List ℕ)) × (flat_map part_lines (whole_trace p).parts ≡ partial_lines p ++ more)
+whole_lines : (p : PartialTrace) → IsPartial p
+    → (more : List (List ℕ)) × (flat_map part_lines (whole_trace p).parts ≡ partial_lines p ++ more)
 whole_lines p form =
     let h = completed_lines p form in
     let last : List (List ℕ) = flat_map part_lines (parts_behind p.path) in (
@@ -164,7 +201,8 @@ partial_begins p form =
         whole_trace p,
         record {
           form = whole_form p form;
-          text = sym (ap (λ ls. flat_map ended (first_line ∷ ls)) h.1 ∙ flat_append ended (first_line ∷ partial_lines p) h.0);
+          text = sym (ap (λ ls. flat_map ended (first_line ∷ ls)) h.1
+              ∙ flat_append ended (first_line ∷ partial_lines p) h.0);
         },
       ),
     )

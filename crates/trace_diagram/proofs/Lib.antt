@@ -13,3 +13,4 @@ pub mod Reading
 pub mod ChangeForms
 pub mod Forks
 pub mod OneText
+pub mod Dividing

@@ -57,14 +57,19 @@ place_line place h = place_without 10 refl (λ e. omega arith) (λ e. omega arit
 head_line : (r : Path) → FitsPath r → IsWithout 10 (head_text r)
 head_line r fit = without-append 10 (codes "revision ") (path_text r) (word (codes "revision ") refl) (path_line r fit)
 
-located_line : (r : Path) (n : ℕ) → FitsPath r → n < 2 ^ 32 → IsWithout 10 (path_text r ++ (codes " line " ++ decimal n))
+located_line : (r : Path) (n : ℕ) → FitsPath r → n < 2 ^ 32
+    → IsWithout 10 (path_text r ++ (codes " line " ++ decimal n))
 located_line r n fit small =
     without-append 10 (path_text r) (codes " line " ++ decimal n) (path_line r fit)
     (without-append 10 (codes " line ") (decimal n) (word (codes " line ") refl) (small_line n small))
 
 event_line : (e : TraceEvent) → FitsEvent e → IsWithout 10 (event_text e)
-event_line (event.Forked r n) fit = without-append 10 (codes "forked ") (path_text r ++ (codes " line " ++ decimal n)) (word (codes "forked ") refl) (located_line r n fit.0 fit.1)
-event_line (event.Joined r n) fit = without-append 10 (codes "joined ") (path_text r ++ (codes " line " ++ decimal n)) (word (codes "joined ") refl) (located_line r n fit.0 fit.1)
+event_line (event.Forked r n) fit =
+    without-append 10 (codes "forked ") (path_text r ++ (codes " line " ++ decimal n)) (word (codes "forked ") refl)
+    (located_line r n fit.0 fit.1)
+event_line (event.Joined r n) fit =
+    without-append 10 (codes "joined ") (path_text r ++ (codes " line " ++ decimal n)) (word (codes "joined ") refl)
+    (located_line r n fit.0 fit.1)
 
 fault_line : (f : NumFault) → IsWithout 10 (codes ": " ++ fault_text f)
 fault_line fault.Overflow = word (codes ": overflow") refl
@@ -82,21 +87,28 @@ cause_line (cause.Merge n f) place h =
     without-append 10 (codes "merge of ") (place ++ (codes ": " ++ fault_text f)) (word (codes "merge of ") refl)
     (without-append 10 place (codes ": " ++ fault_text f) (place_line place h) (fault_line f))
 
-where_line : (n : ℕ) (r : Path) → n < 2 ^ 32 → FitsPath r → IsWithout 10 (codes " at line " ++ (decimal n ++ (codes " in revision " ++ path_text r)))
+where_line : (n : ℕ) (r : Path) → n < 2 ^ 32 → FitsPath r
+    → IsWithout 10 (codes " at line " ++ (decimal n ++ (codes " in revision " ++ path_text r)))
 where_line n r small fit =
-    without-append 10 (codes " at line ") (decimal n ++ (codes " in revision " ++ path_text r)) (word (codes " at line ") refl)
+    without-append 10 (codes " at line ") (decimal n ++ (codes " in revision " ++ path_text r))
+    (word (codes " at line ") refl)
     (without-append 10 (decimal n) (codes " in revision " ++ path_text r) (small_line n small)
     (without-append 10 (codes " in revision ") (path_text r) (word (codes " in revision ") refl) (path_line r fit)))
 
 end_line : (e : PartEnd) → FitsEnd e → IsWithout 10 (end_text e)
 end_line part_end.Done fit = word (codes "end done") refl
 end_line (part_end.Trapped t p) fit =
-    without-append 10 (codes "end ") (cause_text t.cause p ++ (codes " at line " ++ (decimal t.line ++ (codes " in revision " ++ path_text t.origin)))) (word (codes "end ") refl)
-    (without-append 10 (cause_text t.cause p) (codes " at line " ++ (decimal t.line ++ (codes " in revision " ++ path_text t.origin))) (cause_line t.cause p fit.place_of)
+    without-append 10 (codes "end ")
+    (cause_text t.cause p ++ (codes " at line " ++ (decimal t.line ++ (codes " in revision " ++ path_text t.origin))))
+    (word (codes "end ") refl)
+    (without-append 10 (cause_text t.cause p)
+    (codes " at line " ++ (decimal t.line ++ (codes " in revision " ++ path_text t.origin)))
+    (cause_line t.cause p fit.place_of)
     (where_line t.line t.origin fit.small fit.path))
 
 fuel_line : (n : ℕ) → n < 2 ^ 64 → IsWithout 10 (fuel_text n)
-fuel_line n small = without-append 10 (codes "fuel ") (decimal n) (word (codes "fuel ") refl) (decimal_without 10 n no_digit small)
+fuel_line n small =
+    without-append 10 (codes "fuel ") (decimal n) (word (codes "fuel ") refl) (decimal_without 10 n no_digit small)
 
 change_line : (c : Change) → FitsChange c → IsWithout 10 (change_text c)
 change_line c fit =
@@ -112,7 +124,8 @@ part_line line next h = subst IsOneLine h.is (head_line h.path h.fits)
 
 behind_line : (r : Path) (line : List ℕ) (next : Stage) → Behind r line next → IsOneLine line
 behind_line r line next (inl h) =
-    subst IsOneLine h.quote.is (without-append 10 (codes "> ") h.text (word (codes "> ") refl) (printable_one_line h.text h.quote.printable))
+    subst IsOneLine h.quote.is
+    (without-append 10 (codes "> ") h.text (word (codes "> ") refl) (printable_one_line h.text h.quote.printable))
 behind_line r line next (inr h) = part_line line next h.part
 
 pub follows_line : (s : Stage) (line : List ℕ) (next : Stage) → Follows s line next → IsOneLine line

@@ -20,21 +20,26 @@ use Rattle.trace_diagram.proofs.Forks.{decimal_without, wide, no_dot}
 letterless : (k : ℕ) (r : Path) → FitsPath (k ∷ r) → IsWithout 109 (path_text (k ∷ r))
 letterless k [] fit = decimal_without 109 k (λ digit. omega (arith, digit)) (wide k fit.0)
 letterless k (j ∷ r) fit =
-    without-append 109 (decimal k) (46 ∷ path_text (j ∷ r)) (decimal_without 109 k (λ digit. omega (arith, digit)) (wide k fit.0))
+    without-append 109 (decimal k) (46 ∷ path_text (j ∷ r))
+    (decimal_without 109 k (λ digit. omega (arith, digit)) (wide k fit.0))
     (λ e. omega arith, letterless j r fit.1)
 
 first_digit : (k : ℕ) (r : Path) → FitsPath (k ∷ r) → codes "main" ≡ path_text (k ∷ r) → ⊥
-first_digit k r fit is = let none : IsWithout 109 (codes "main") = subst (IsWithout 109) (sym is) (letterless k r fit) in none.0 refl
+first_digit k r fit is =
+    let none : IsWithout 109 (codes "main") = subst (IsWithout 109) (sym is) (letterless k r fit) in none.0 refl
 
 pub path_injective : (p q : Path) → FitsPath p → FitsPath q → path_text p ≡ path_text q → p ≡ q
 path_injective [] [] f g is = refl
 path_injective [] (k ∷ q) f g is = absurd (first_digit k q g is)
 path_injective (j ∷ p) [] f g is = absurd (first_digit j p f (sym is))
 path_injective (j ∷ []) (k ∷ []) f g is = ap (λ n. n ∷ []) (decimal_injective j k (wide j f.0) (wide k g.0) is)
-path_injective (j ∷ []) (k ∷ i ∷ q) f g is = absurd (not_without 46 (decimal k) (path_text (i ∷ q)) (subst (IsWithout 46) is (no_dot j f.0)))
-path_injective (j ∷ h ∷ p) (k ∷ []) f g is = absurd (not_without 46 (decimal j) (path_text (h ∷ p)) (subst (IsWithout 46) (sym is) (no_dot k g.0)))
+path_injective (j ∷ []) (k ∷ i ∷ q) f g is =
+    absurd (not_without 46 (decimal k) (path_text (i ∷ q)) (subst (IsWithout 46) is (no_dot j f.0)))
+path_injective (j ∷ h ∷ p) (k ∷ []) f g is =
+    absurd (not_without 46 (decimal j) (path_text (h ∷ p)) (subst (IsWithout 46) (sym is) (no_dot k g.0)))
 path_injective (j ∷ h ∷ p) (k ∷ i ∷ q) f g is =
-    let both = cut_once 46 (decimal j) (path_text (h ∷ p)) (decimal k) (path_text (i ∷ q)) (no_dot j f.0) (no_dot k g.0) is in
+    let both =
+    cut_once 46 (decimal j) (path_text (h ∷ p)) (decimal k) (path_text (i ∷ q)) (no_dot j f.0) (no_dot k g.0) is in
     let heads = decimal_injective j k (wide j f.0) (wide k g.0) both.0 in
     let tails = path_injective (h ∷ p) (i ∷ q) f.1 g.1 both.1 in
     λ x. heads x ∷ tails x
@@ -95,6 +100,7 @@ one_next (in_writes r) line a b (inr x) (inl y) = absurd (no_write r line b a y 
 one_next (in_text r) line a b x y = behind_next r line a b x y
 
 -- after a line that follows, the rest goes on from the next stage
-pub goes_behind : (s next : Stage) (line : List ℕ) (lines : List (List ℕ)) → Follows s line next → Goes s (line ∷ lines) → Goes next lines
+pub goes_behind : (s next : Stage) (line : List ℕ) (lines : List (List ℕ)) → Follows s line next → Goes s (line ∷ lines)
+    → Goes next lines
 goes_behind s next line lines follows goes =
     subst (λ n. Goes n lines) (one_next s line goes.0 next goes.1 follows) goes.2

@@ -8,3 +8,4 @@ pub mod Reading
 pub mod Ends
 pub mod Following
 pub mod Drafts
+pub mod Dividing

@@ -1,4 +1,5 @@
-//! Traces: what each revision of a run did, as a value and as a text.
+//! Traces, their text both ways, and where the trace begins in a source that holds a text and a
+//! trace.
 #![tactic(auto)]
 
 mod copies;
@@ -11,6 +12,7 @@ mod lines;
 mod places;
 mod printer;
 mod reader;
+mod source;
 mod spelled;
 
 pub use diagram::{Change, Part, PartEnd, Trace, TraceEvent};
@@ -18,3 +20,4 @@ pub use fault::TraceFault;
 pub use laws::{fault_laws, text_laws};
 pub use printer::print_trace;
 pub use reader::read_trace;
+pub use source::{source_law, trace_start};

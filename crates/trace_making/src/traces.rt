@@ -1,43 +1,20 @@
 //! The trace of a program.
 
-ghost use Rattle.std.specs.Prelude.{◌≡◌, ◌≤◌, IfOk};
-ghost use Rattle.std.specs.List.Sorted.{IsPermutation, IsSortedBy};
+ghost use Rattle.std.specs.Prelude.{◌≤◌, IfOk};
+ghost use Rattle.std.specs.List.Sorted.{IsPermutation};
 ghost use Rattle.rev_num.specs.Limits.{most_fuel};
 ghost use Rattle.rev_syntax.specs.View.{program as whole};
-ghost use Rattle.trace_making.specs.Made.{is_sooner, parts_by, post_order};
-ghost use Rattle.trace_making.specs.Traced.{HasTrace};
+ghost use Rattle.audit_rules.specs.Traced.{HasTrace};
+ghost use Rattle.trace_making.specs.Made.{parts_by};
 
-use crate::parts::part_of;
-use crate::places::places_of;
 use plain_runner::PlainLanguage;
-use rev_num::{Bytes, Items, Path};
+use rev_num::{Bytes, Items};
 use rev_types::Typed;
 use revision_machine::{GlobalState, Revision};
 use revision_steps::Local;
 use std::alloc::{AllocError, Global};
-use std::cmp::Ordering;
 use trace_diagram::{Part, Trace};
-
-/// How the first path stands to the second in post-order.
-fn post_order(first: &Path, second: &Path) -> Ordering
-    ensures { result ≡ post_order first.now second.now }
-{
-    if Path::after_in_post_order(second, first) {
-        Ordering::Less
-    } else if first.is(second) {
-        Ordering::Equal
-    } else {
-        Ordering::Greater
-    }
-}
-
-/// Puts the parts into post-order.
-pub fn put_in_order(parts: &mut Vec<Part>)
-    ensures moved { IsPermutation parts.old.items parts.new.items }
-    ensures sorted { IsSortedBy is_sooner parts.new.items }
-{
-    parts.sort_unstable_by(|a, b| post_order(&a.path, &b.path));
-}
+use trace_parts::{part_of, places_of, put_in_order};
 
 /// The parts of these revisions, in any order.
 fn parts_of<'a>(

@@ -10,13 +10,13 @@
 --   IsHalted     a halt was entered, before the call or by it
 use Rattle.std.specs.Prelude.{◌≡◌, ℕ, Bool, true, false, Some, List, length, cond, MatchBool}
 use Rattle.revision_machine.specs.Numbered.{at_number, put_number}
-use Rattle.hub_algebra.specs.Hub.{Meets}
-use Rattle.hub_algebra.specs.HubMachine.{HubMachine, numbered, values}
-use Rattle.hub_table.specs.declared.state.HubState.TheVariants.{All, Twice}
-use Rattle.hub_table.specs.Halts.{halt_by}
-use Rattle.turn_rule.specs.declared.view.View.{View}
-use Rattle.turn_rule.specs.declared.view.Said.{Said}
-use Rattle.turn_rule.specs.declared.view.Said.TheVariants as mark
+use Rattle.hub_core.specs.Hub.{Meets}
+use Rattle.hub_core.specs.HubMachine.{HubMachine, numbered, values}
+use Rattle.hub_core.specs.declared.state.HubState.TheVariants.{All, Twice}
+use Rattle.hub_core.specs.Halts.{halt_by}
+use Rattle.hub_core.specs.declared.view.View.{View}
+use Rattle.hub_core.specs.declared.view.Said.{Said}
+use Rattle.hub_core.specs.declared.view.Said.TheVariants as mark
 use Rattle.turn_hub.specs.declared.answers.Taken.{Taken}
 use Rattle.turn_hub.specs.declared.answers.Taken.TheVariants as taken
 use Rattle.turn_hub.specs.declared.answers.Onward.{Onward}
@@ -27,8 +27,8 @@ use Rattle.turn_hub.specs.declared.answers.JoinStep.{JoinStep}
 use Rattle.turn_hub.specs.declared.answers.JoinStep.TheVariants as step
 use Rattle.turn_hub.specs.declared.answers.EndStep.{EndStep}
 use Rattle.turn_hub.specs.declared.answers.EndStep.TheVariants as ending
-use Rattle.turn_rule.specs.Views.{ended_said, ready_said, all_said, or_no_memory, sees}
-use Rattle.turn_rule.specs.Seats.{HasState, HasFork, HasJoin, ForkedAs, KeepsAll, KeepsOthers, LacksPass, AddsEntry, AddsNone}
+use Rattle.hub_core.specs.Views.{ended_said, ready_said, all_said, or_no_memory, sees}
+use Rattle.hub_core.specs.Seats.{HasState, HasFork, HasJoin, ForkedAs, KeepsAll, KeepsOthers, LacksPass, AddsEntry, AddsNone}
 
 module _ {L : Type 0} where
   -- nothing was entered before this turn

@@ -9,22 +9,22 @@ use Rattle.std.specs.Prelude.{◌≡◌, ◌↔◌, ℕ, true, List, [], ◌∷�
 use Rattle.atomic_table.specs.declared.shared.Seat.{Seat}
 use Rattle.revision_machine.specs.Machine.{Plain, Joined}
 use Rattle.revision_machine.specs.Numbered.{Numbered, Entries, Both, Listing, Stops, IsOver, at_number, paths_of}
-use Rattle.hub_algebra.specs.declared.status.Status.{Status}
-use Rattle.hub_algebra.specs.Replay.{replay}
-use Rattle.hub_algebra.specs.Forkers.{ForkersAre}
-use Rattle.hub_algebra.specs.Hub.{AllFit, EndsAre, end_of}
-use Rattle.hub_algebra.specs.HubMachine.{HubMachine, numbered, values}
-use Rattle.hub_table.specs.declared.state.HubState.{HubState}
-use Rattle.hub_table.specs.declared.state.HubState.TheVariants.{All, Twice, NoMemory}
-use Rattle.hub_table.specs.declared.kept.Kept.{Kept}
-use Rattle.hub_table.specs.declared.kept.Kept.TheVariants as left
-use Rattle.hub_table.specs.declared.value.Turn.{Turn}
-use Rattle.hub_table.specs.Counts.{total}
-use Rattle.hub_table.specs.Left.{kept_of}
-use Rattle.turn_rule.specs.declared.view.View.{View}
-use Rattle.turn_rule.specs.Passes.{named, AreStartsOf}
-use Rattle.turn_rule.specs.Views.{either_saw, either_halt}
-use Rattle.turn_rule.specs.Rule.{is_out, is_over, Sound, AreOfGroup}
+use Rattle.hub_core.specs.declared.status.Status.{Status}
+use Rattle.hub_core.specs.Replay.{replay}
+use Rattle.hub_core.specs.Forkers.{ForkersAre}
+use Rattle.hub_core.specs.Hub.{AllFit, EndsAre, end_of}
+use Rattle.hub_core.specs.HubMachine.{HubMachine, numbered, values}
+use Rattle.hub_core.specs.declared.state.HubState.{HubState}
+use Rattle.hub_core.specs.declared.state.HubState.TheVariants.{All, Twice, NoMemory}
+use Rattle.hub_core.specs.declared.kept.Kept.{Kept}
+use Rattle.hub_core.specs.declared.kept.Kept.TheVariants as left
+use Rattle.hub_core.specs.declared.value.Turn.{Turn}
+use Rattle.hub_core.specs.Counts.{total}
+use Rattle.hub_core.specs.Left.{kept_of}
+use Rattle.hub_core.specs.declared.view.View.{View}
+use Rattle.hub_core.specs.Passes.{named, AreStartsOf}
+use Rattle.hub_core.specs.Views.{either_saw, either_halt}
+use Rattle.hub_core.specs.Rule.{is_out, is_over, Sound, AreOfGroup}
 
 module _ {L S : Type 0} where
   -- 1 where one of them was answered Finished or Halted, or entered a halt

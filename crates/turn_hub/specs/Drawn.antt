@@ -2,15 +2,15 @@
 --   IsDrawn    it is out with this seat, and its joinee has ended
 use Rattle.std.specs.Prelude.{◌≡◌, ℕ, true}
 use Rattle.revision_machine.specs.Numbered.{at_number, put_number}
-use Rattle.hub_algebra.specs.declared.status.Status.TheVariants.{Out}
-use Rattle.hub_algebra.specs.HubMachine.{HubMachine}
-use Rattle.hub_table.specs.declared.value.Turn.{Turn}
-use Rattle.hub_table.specs.Found.{ended_here}
+use Rattle.hub_core.specs.declared.status.Status.TheVariants.{Out}
+use Rattle.hub_core.specs.HubMachine.{HubMachine}
+use Rattle.hub_core.specs.declared.value.Turn.{Turn}
+use Rattle.hub_core.specs.Found.{ended_here}
 use Rattle.turn_hub.specs.declared.answers.Onward.{Onward}
 use Rattle.turn_hub.specs.declared.answers.Onward.TheVariants as onward
-use Rattle.turn_rule.specs.declared.view.View.{View}
-use Rattle.turn_rule.specs.Rule.{slots_of}
-use Rattle.turn_rule.specs.Views.{draws}
+use Rattle.hub_core.specs.declared.view.View.{View}
+use Rattle.hub_core.specs.Rule.{slots_of}
+use Rattle.hub_core.specs.Views.{draws}
 
 module _ {L R A E : Type 0} (d : HubMachine L R A E) where
   pub record IsDrawn (v w : View L) (t t' : Turn R A E) (n : ℕ) (a : A) : Type 0 where

@@ -9,16 +9,16 @@
 use Rattle.std.specs.Global.{Box}
 use Rattle.std.specs.Prelude.{◌≡◌, ℕ, List, map, Option}
 use Rattle.atomic_table.specs.declared.shared.Seat.{Seat}
-use Rattle.hub_table.specs.declared.state.HubState.{HubState}
-use Rattle.hub_table.specs.declared.value.Turn.{Turn}
+use Rattle.hub_core.specs.declared.state.HubState.{HubState}
+use Rattle.hub_core.specs.declared.value.Turn.{Turn}
 use Rattle.turn_hub.specs.declared.closing.HubRun.{HubRun}
 use Rattle.turn_hub.specs.declared.closing.order.HubSchedule.{HubSchedule}
 use Rattle.turn_hub.specs.declared.hub.TurnHub.{TurnHub}
-use Rattle.turn_rule.specs.declared.revision.Revision.{Ghosts}
+use Rattle.hub_core.specs.declared.revision.Revision.{Ghosts}
 use Rattle.turn_hub.specs.declared.seat.HubSeat.{HubSeat}
-use Rattle.turn_rule.specs.declared.view.View.{View}
-use Rattle.turn_rule.specs.Seats.{AreOf}
-use Rattle.turn_rule.specs.Views.{first_of}
+use Rattle.hub_core.specs.declared.view.View.{View}
+use Rattle.hub_core.specs.Seats.{AreOf}
+use Rattle.hub_core.specs.Views.{first_of}
 
 module _ {S : Type 0} where
   abbrev pub schedule_numbers : HubSchedule S → List ℕ

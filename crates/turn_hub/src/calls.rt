@@ -5,11 +5,11 @@ use crate::answers::{EndStep, JoinAnswer, JoinStep, Onward, Taken};
 use crate::ended::has_ended;
 use crate::hub::TurnHub;
 use crate::seat::HubSeat;
+use hub_core::Revision;
 use std::sync::Wait;
-use turn_rule::Revision;
 
 impl<L: Revision> TurnHub<L> {
-    ghost use Rattle.turn_rule.specs.Seats.{HasFork, HasJoin, HasEnd, HasTrap, HadTurn};
+    ghost use Rattle.hub_core.specs.Seats.{HasFork, HasJoin, HasEnd, HasTrap, HadTurn};
     ghost use Rattle.turn_hub.specs.Answers.{TakenSays, Forked, JoinSays, JoinedOn};
     ghost use Rattle.turn_hub.specs.Answers.{EndedSays, EndedOn, IsHalted};
 

@@ -1,9 +1,9 @@
 //! The close of a hub.
 ghost use Rattle.std.specs.Prelude.{◌≡◌, ◌<◌, ℕ, List, [], length, map};
-ghost use Rattle.turn_rule.specs.Views.{first_of, both};
-ghost use Rattle.turn_rule.specs.Seats.{IsIdle, AreOf, AreBehind};
-ghost use Rattle.turn_rule.specs.Passes.{named, AreStartsOf};
-ghost use Rattle.hub_algebra.specs.HubMachine.{numbered};
+ghost use Rattle.hub_core.specs.Views.{first_of, both};
+ghost use Rattle.hub_core.specs.Seats.{IsIdle, AreOf, AreBehind};
+ghost use Rattle.hub_core.specs.Passes.{named, AreStartsOf};
+ghost use Rattle.hub_core.specs.HubMachine.{numbered};
 ghost use Rattle.turn_hub.specs.Closing.{saw_of, halt_known, held_by, ClosedTurn, IsClosed};
 ghost use Rattle.turn_hub.specs.Closing.{IsKeptRun};
 
@@ -13,9 +13,8 @@ mod retyped;
 use crate::hub::TurnHub;
 use crate::seat::{HubSeat, Place};
 use atomic_table::Badge;
-use hub_table::{HubState, Kept, Parted, Turn};
+use hub_core::{HubState, Kept, Parted, Revision, TakeIn, Turn, View, Witness};
 pub use order::HubSchedule;
-use turn_rule::{Revision, TakeIn, View, Witness};
 
 /// A run that a hub kept: the schedule is legal from the start that the witness tells, and the
 /// forkers and the ends are those of the world that it leads to. `close` makes one, and `as_of`

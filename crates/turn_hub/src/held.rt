@@ -1,27 +1,25 @@
 //! What a seat does in the turn that it has.
 ghost use Rattle.std.specs.Prelude.{◌≡◌, ◌≤◌, ℕ, List, true, false, IfErr, OnOk, MatchBool};
 ghost use Rattle.revision_machine.specs.Numbered.{at_number, put_number};
-ghost use Rattle.hub_algebra.specs.declared.status.Status.TheVariants.{Waiting, Over};
+ghost use Rattle.hub_core.specs.declared.status.Status.TheVariants.{Waiting, Over};
 
 use crate::answers::{EndStep, JoinAnswer, Onward};
 use crate::hub::TurnHub;
 use crate::seat::Place;
 use crate::taking::take_in;
-use hub_algebra::Status;
-use hub_table::{HubState, Turn, empty};
-use turn_rule::{Revision, Said, View};
+use hub_core::{HubState, Revision, Said, Status, Turn, View, empty};
 
 impl<L: Revision> TurnHub<L> {
-    ghost use Rattle.hub_table.specs.declared.state.HubState.TheVariants.{All};
-    ghost use Rattle.hub_table.specs.Found.{ended_here};
-    ghost use Rattle.hub_table.specs.Counts.{times};
+    ghost use Rattle.hub_core.specs.declared.state.HubState.TheVariants.{All};
+    ghost use Rattle.hub_core.specs.Found.{ended_here};
+    ghost use Rattle.hub_core.specs.Counts.{times};
     ghost use Rattle.turn_hub.specs.Answers.{OnwardSays, JoinSays, HasCome, IsSameTurn};
     ghost use Rattle.turn_hub.specs.Answers.{IsOneTurn, EndStepSays};
     ghost use Rattle.turn_hub.specs.Drawn.{IsDrawnHere};
-    ghost use Rattle.turn_rule.specs.Passes.{named, Fresh};
-    ghost use Rattle.turn_rule.specs.Rule.{InHand, IsOpen, Told, says};
-    ghost use Rattle.turn_rule.specs.Seats.{HasJoin, HasEnd, HasTrap, IsResting};
-    ghost use Rattle.turn_rule.specs.Views.{hands_in, ends_in, sees};
+    ghost use Rattle.hub_core.specs.Passes.{named, Fresh};
+    ghost use Rattle.hub_core.specs.Rule.{InHand, IsOpen, Told, says};
+    ghost use Rattle.hub_core.specs.Seats.{HasJoin, HasEnd, HasTrap, IsResting};
+    ghost use Rattle.hub_core.specs.Views.{hands_in, ends_in, sees};
 
     // Takes the first that is ready out of the value.
     fn draw_next(

@@ -6,13 +6,13 @@ use crate::patience::{Patience, WAITS, pause};
 use crate::seat::Place;
 use atomic_table::{Badge, Table};
 use crossbeam_utils::CachePadded;
-use hub_table::{HubState, Turn, empty};
+use hub_core::{
+    Commit, Draw, Give, HandIn, HubState, OneHolder, Revision, StopNoMemory, StopTwice, Take, Turn,
+    View, empty,
+};
 use std::alloc::Global;
 use std::sync::Wait;
 use std::sync::atomic::{AtomicU64, Ordering};
-use turn_rule::{
-    Commit, Draw, Give, HandIn, OneHolder, Revision, StopNoMemory, StopTwice, Take, View,
-};
 
 /// What threads look at that have not the turn. It can be written in any turn, and what lies beside
 /// it in a hub is only read, so it has a cache line of its own.
@@ -48,12 +48,12 @@ pub struct TurnHub<L: Revision> {
 }
 
 impl<L: Revision> TurnHub<L> {
-    ghost use Rattle.hub_table.specs.declared.state.HubState.TheVariants as state;
-    ghost use Rattle.hub_table.specs.Counts.{times};
-    ghost use Rattle.turn_rule.specs.Passes.{named};
-    ghost use Rattle.turn_rule.specs.Views.{rests, commits, hands_in, draws, stops, or_no_memory};
-    ghost use Rattle.turn_rule.specs.Seats.{IsIdle};
-    ghost use Rattle.turn_rule.specs.Rule.{Took, Told, InHand, IsOpen};
+    ghost use Rattle.hub_core.specs.declared.state.HubState.TheVariants as state;
+    ghost use Rattle.hub_core.specs.Counts.{times};
+    ghost use Rattle.hub_core.specs.Passes.{named};
+    ghost use Rattle.hub_core.specs.Views.{rests, commits, hands_in, draws, stops, or_no_memory};
+    ghost use Rattle.hub_core.specs.Seats.{IsIdle};
+    ghost use Rattle.hub_core.specs.Rule.{Took, Told, InHand, IsOpen};
 
     // One try for the turn.
     fn take_turn(&self, place: &mut Place<L>) -> bool

@@ -1,6 +1,6 @@
 //! A hub on a turn: one slot, which has the schedule and the revisions, or is out with the one
-//! seat that has the turn. It is generic in a machine of revisions by numbers. `hub_table` has
-//! what lies in the slot, and `turn_rule` the rule that each step keeps.
+//! seat that has the turn. It is generic in a machine of revisions by numbers. `hub_core` has
+//! what lies in the slot, and the rule that each step keeps.
 #![tactic(auto)]
 
 mod answers;

@@ -2,21 +2,20 @@
 ghost use Rattle.std.specs.Prelude.{◌≡◌, ◌<◌, ◌≤◌, [], ◌∷◌, length, map, Some, None};
 ghost use Rattle.std.specs.Prelude.{IfOk, IfErr, IfSome, vec_capacity};
 ghost use Rattle.std.specs.Global.{Box};
-ghost use Rattle.hub_algebra.specs.declared.status.Status.TheVariants.{Ready};
-ghost use Rattle.hub_table.specs.declared.state.HubState.TheVariants as state;
-ghost use Rattle.hub_table.specs.Left.{IsReadyAlone};
-ghost use Rattle.turn_rule.specs.Seats.{AreOf, AreNew};
-ghost use Rattle.turn_rule.specs.Views.{opens, first_of};
+ghost use Rattle.hub_core.specs.declared.status.Status.TheVariants.{Ready};
+ghost use Rattle.hub_core.specs.declared.state.HubState.TheVariants as state;
+ghost use Rattle.hub_core.specs.Left.{IsReadyAlone};
+ghost use Rattle.hub_core.specs.Seats.{AreOf, AreNew};
+ghost use Rattle.hub_core.specs.Views.{opens, first_of};
 
 use crate::hub::{Signs, TurnHub};
 use crate::patience::Patience;
 use crate::seat::{HubSeat, Place};
 use atomic_table::{Badge, Refused, Table, TableRule};
 use crossbeam_utils::CachePadded;
-use hub_table::{HubState, Revisions, Turn, append};
+use hub_core::{Another, HubState, OneHolder, Revision, Revisions, Turn, View, append};
 use std::alloc::Global;
 use std::marker::PhantomData;
-use turn_rule::{Another, OneHolder, Revision, View};
 
 // The mark of the run queue of a hub that was opened: revision 0 is ready.
 const FIRST_MARK: u64 = 1;
@@ -95,8 +94,8 @@ fn home_of<R, A, E>(
 }
 
 impl<L: Revision> TurnHub<L> {
-    ghost use Rattle.turn_rule.specs.Seats.{IsIdle};
-    ghost use Rattle.turn_rule.specs.Views.{most, part};
+    ghost use Rattle.hub_core.specs.Seats.{IsIdle};
+    ghost use Rattle.hub_core.specs.Views.{most, part};
 
     // A hub with one seat, which has every part of the right to close.
     fn open_one(

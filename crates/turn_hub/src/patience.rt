@@ -1,5 +1,7 @@
 //! How long a thread waits between two looks at a turn that is taken.
 
+ghost use Rattle.std.specs.Prelude.{◌≡◌, ◌+◌, ◌-◌, ◌*◌, ◌/◌, min};
+
 use std::sync::atomic::{AtomicU64, Ordering};
 
 // So many steps, a tenth of a microsecond, are the shortest wait.
@@ -31,22 +33,30 @@ pub struct Patience {
 }
 
 impl Patience {
-    pub fn new() -> Patience {
+    pub fn new() -> Patience
+        ensures { result.taken ≡ 0 }
+    {
         Patience { taken: 0 }
     }
 
     /// The turn was found free.
-    pub fn found_free(&mut self) {
+    pub fn found_free(&mut self)
+        ensures { self.new.taken ≡ self.old.taken - 1 }
+    {
         self.taken = self.taken.saturating_sub(1);
     }
 
     /// The turn was found taken.
-    pub fn found_taken(&mut self) {
+    pub fn found_taken(&mut self)
+        ensures { self.new.taken ≡ min (self.old.taken + RISE) (LONGEST * EACH_POWER) }
+    {
         self.taken = self.taken.saturating_add(RISE).min(LONGEST * EACH_POWER);
     }
 
     /// The number of the first wait.
-    pub fn first_wait(&self) -> u32 {
+    pub fn first_wait(&self) -> u32
+        ensures { result ≡ min (self.now.taken / EACH_POWER) LONGEST }
+    {
         (self.taken / EACH_POWER).min(LONGEST)
     }
 }

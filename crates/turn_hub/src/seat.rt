@@ -3,8 +3,7 @@ ghost use Rattle.std.specs.Prelude.{◌≡◌, []};
 
 use crate::patience::Patience;
 use atomic_table::Seat;
-use hub_table::Turn;
-use turn_rule::{Revision, View};
+use hub_core::{Revision, Turn, View};
 
 /// A seat at the table of a hub.
 pub type Place<L> = Seat<

@@ -2,7 +2,7 @@
 ghost use Rattle.turn_hub.specs.Answers.{TakesIn};
 
 use crate::answers::JoinAnswer;
-use turn_rule::Revision;
+use hub_core::Revision;
 
 /// The joiner with the end of its joinee.
 pub fn take_in<L: Revision>(

@@ -12,7 +12,8 @@ use Rattle.version_map.specs.declared.end.Written.{Written}
 use Rattle.version_map.specs.Composing.{Merges, Composition, before_later, and_later, composed, entries}
 use Rattle.version_map.specs.Parts.{before}
 
-pub before_one_more : {W : Type 0} (xs : List W) (x : W) (c : Composition W) → before xs (before_later x c) ≡ before (xs ++ x ∷ []) c
+pub before_one_more : {W : Type 0} (xs : List W) (x : W) (c : Composition W)
+    → before xs (before_later x c) ≡ before (xs ++ x ∷ []) c
 before_one_more [] x c = refl
 before_one_more (y ∷ ys) x c = ap (before_later y) (before_one_more ys x c)
 
@@ -35,25 +36,31 @@ composed_here merge mains ws i d z h k =
     ∙ ap (λ xs. composed merge (get_or mains i d ∷ drop (i + 1) mains) (entries xs)) (drop_more ws i z k)
 
 -- one entry more is composed
-pub goes_on : (merge : Merges ℕ) (mains values : List ℕ) (ws : List Written) (i d v : ℕ) (z : Written) (c : Composition ℕ)
+pub goes_on :
+    (merge : Merges ℕ) (mains values : List ℕ) (ws : List Written) (i d v : ℕ) (z : Written) (c : Composition ℕ)
     → i < length mains → i < length ws → i < length values
     → Ok v ≡ merge (get_or ws i z).location (get_or mains i d) (get_or ws i z).value (get_or ws i z).root
     → c ≡ before (take i values) (composed merge (drop i mains) (entries (drop i ws)))
     → c ≡ before (take (i + 1) (set values i v)) (composed merge (drop (i + 1) mains) (entries (drop (i + 1) ws)))
 goes_on merge mains values ws i d v z c h k m e so =
     let later : Composition ℕ = composed merge (drop (i + 1) mains) (entries (drop (i + 1) ws)) in
-    so ∙ (ap (before (take i values)) (composed_here merge mains ws i d z h k ∙ ap (λ r. and_later (get_or ws i z).location r later) (sym e))
+    so
+    ∙ (ap (before (take i values))
+    (composed_here merge mains ws i d z h k ∙ ap (λ r. and_later (get_or ws i z).location r later) (sym e))
     ∙ (before_one_more (take i values) v later ∙ ap (λ vs. before vs later) (sym (take_more_set values i v m))))
 
 -- this entry faults
-pub stops : (merge : Merges ℕ) (mains values : List ℕ) (ws : List Written) (i d : ℕ) (f : NumFault) (z : Written) (c : Composition ℕ)
+pub stops : (merge : Merges ℕ) (mains values : List ℕ) (ws : List Written) (i d : ℕ) (f : NumFault) (z : Written)
+    (c : Composition ℕ)
     → i < length mains → i < length ws
     → Err f ≡ merge (get_or ws i z).location (get_or mains i d) (get_or ws i z).value (get_or ws i z).root
     → c ≡ before (take i values) (composed merge (drop i mains) (entries (drop i ws)))
     → c ≡ Err ((get_or ws i z).location, f)
 stops merge mains values ws i d f z c h k e so =
     let later : Composition ℕ = composed merge (drop (i + 1) mains) (entries (drop (i + 1) ws)) in
-    so ∙ (ap (before (take i values)) (composed_here merge mains ws i d z h k ∙ ap (λ r. and_later (get_or ws i z).location r later) (sym e))
+    so
+    ∙ (ap (before (take i values))
+    (composed_here merge mains ws i d z h k ∙ ap (λ r. and_later (get_or ws i z).location r later) (sym e))
     ∙ before_fault (take i values) ((get_or ws i z).location, f))
 
 -- no entry is left

@@ -3,3 +3,4 @@ pub mod Composing
 pub mod Faulting
 pub mod RowSteps
 pub mod RowParts
+pub mod Following

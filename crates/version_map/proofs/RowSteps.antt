@@ -35,21 +35,31 @@ module _ (m : Merges ℕ) (l : ℕ) (xs ys zs : List ℕ) (i : ℕ) where
   here h j k =
       let next : l + i + 1 ≡ l + (i + 1) = omega arith in
       (λ t. merged_row m (l + i) (drop_more xs i 0 h t) (drop_more ys i 0 j t) (drop_more zs i 0 k t))
-      ∙ ap (λ n. and_words (m (l + i) (get_or xs i 0) (get_or ys i 0) (get_or zs i 0)) (merged_row m n (drop (i + 1) xs) (drop (i + 1) ys) (drop (i + 1) zs))) next
+      ∙ ap (λ n.
+      and_words (m (l + i) (get_or xs i 0) (get_or ys i 0) (get_or zs i 0))
+      (merged_row m n (drop (i + 1) xs) (drop (i + 1) ys) (drop (i + 1) zs)))
+      next
 
-  pub row_goes_on : (values : List ℕ) (v : ℕ) (c : Option (List ℕ)) → i < length xs → i < length ys → i < length zs → i < length values
+  pub row_goes_on : (values : List ℕ) (v : ℕ) (c : Option (List ℕ)) → i < length xs → i < length ys → i < length zs
+      → i < length values
       → Ok v ≡ m (l + i) (get_or xs i 0) (get_or ys i 0) (get_or zs i 0)
       → c ≡ behind (take i values) (left i) → c ≡ behind (take (i + 1) (set values i v)) (left (i + 1))
   row_goes_on values v c h j k n is so =
       so ∙ (ap (behind (take i values)) (here h j k ∙ ap (λ r. and_words r (left (i + 1))) (sym is))
-      ∙ (behind_more (take i values) v (left (i + 1)) ∙ ap (λ ws. behind ws (left (i + 1))) (sym (take_more_set values i v n))))
+      ∙ (behind_more (take i values) v (left (i + 1))
+      ∙ ap (λ ws. behind ws (left (i + 1))) (sym (take_more_set values i v n))))
 
   pub row_stops : (values : List ℕ) (f : NumFault) (c : Option (List ℕ)) → i < length xs → i < length ys → i < length zs
       → Err f ≡ m (l + i) (get_or xs i 0) (get_or ys i 0) (get_or zs i 0)
       → c ≡ behind (take i values) (left i) → None ≡ c
   row_stops values f c h j k is so =
-      sym (so ∙ (ap (behind (take i values)) (here h j k ∙ ap (λ r. and_words r (left (i + 1))) (sym is)) ∙ behind_none (take i values)))
+      sym (so
+      ∙ (ap (behind (take i values)) (here h j k ∙ ap (λ r. and_words r (left (i + 1))) (sym is))
+      ∙ behind_none (take i values)))
 
-  pub row_ends : (values : List ℕ) (c : Option (List ℕ)) → length xs ≤ i → length values ≤ i → c ≡ behind (take i values) (left i) → Some values ≡ c
+  pub row_ends : (values : List ℕ) (c : Option (List ℕ)) → length xs ≤ i → length values ≤ i
+      → c ≡ behind (take i values) (left i) → Some values ≡ c
   row_ends values c h n so =
-      sym (so ∙ ((λ t. behind (take_all i values n t) (merged_row m (l + i) (drop_all i xs h t) (drop i ys) (drop i zs))) ∙ behind_all values))
+      sym (so
+      ∙ ((λ t. behind (take_all i values n t) (merged_row m (l + i) (drop_all i xs h t) (drop i ys) (drop i zs)))
+      ∙ behind_all values))

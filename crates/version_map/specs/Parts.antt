@@ -1,7 +1,8 @@
 -- A part of a composition.
 --   before   a composition behind new words that are known
 --   IsPart   from this place on, these are the new words of the next n entries
-use Rattle.std.specs.Prelude.{◌≡◌, ℕ, ◌+◌, List, [], ◌∷◌, length, drop}
+--   HasPut   they were put there, behind the words that stood before that place
+use Rattle.std.specs.Prelude.{◌≡◌, ℕ, ◌+◌, List, [], ◌∷◌, ◌++◌, length, take, drop}
 use Rattle.version_map.specs.declared.end.Written.{Written}
 use Rattle.version_map.specs.Composing.{Merges, Composition, before_later, composed, entries}
 
@@ -14,3 +15,7 @@ IsPart m mains ws at n values =
     (length values ≡ n)
     × (composed m (drop at mains) (entries (drop at ws))
     ≡ before values (composed m (drop (at + n) mains) (entries (drop (at + n) ws))))
+
+abbrev pub HasPut : Merges ℕ → (mains : List ℕ) → List Written → (at n : ℕ) → (old new : List ℕ) → Type 0
+HasPut m mains ws at n old new =
+    (part : List ℕ) × IsPart m mains ws at n part × (take (at + n) new ≡ take at old ++ part)

@@ -63,7 +63,7 @@ impl Delta {
         self.cells[at] = word;
     }
 
-    /// Takes every value away. It costs a write for each 64 locations.
+    /// Takes every value away.
     pub fn clear(&mut self)
         ensures size { locations self.new ≡ locations self.old }
         ensures empty { IsEmpty self.new }

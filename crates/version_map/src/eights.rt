@@ -1,6 +1,6 @@
 //! Eight words, and eight written locations that follow each other.
 
-ghost use Rattle.std.specs.Prelude.{◌≡◌, ◌≤◌, ◌+◌, ◌++◌, ◌^◌, true, drop, length, map, take};
+ghost use Rattle.std.specs.Prelude.{◌≡◌, ◌≤◌, ◌+◌, ◌++◌, ◌^◌, true, false, drop, length, map, take};
 ghost use Rattle.version_map.specs.Following.{Follow};
 
 use crate::end::Written;
@@ -46,10 +46,8 @@ pub fn follow(written: &[Written], at: usize, first: u32) -> bool
     requires { at + 8 ≤ length written.now }
     ensures run { result ≡ true → Follow (drop at written.now) first 8 }
     ensures short { result ≡ true → first + 8 ≤ 2 ^ 32 }
+    ensures apart { result ≡ false → Follow (drop at written.now) first 8 → ⊥ }
 {
-    if first > u32::MAX - 7 {
-        return false;
-    }
     for k in 0..8usize {
         if written[at + k].location as u64 != first as u64 + k as u64 {
             return false;
@@ -63,6 +61,7 @@ pub fn put_eight(values: &mut [u64], at: usize, eight: [u64; 8])
     requires { at + 8 ≤ length values.old }
     ensures length { length values.new ≡ length values.old }
     ensures eight { take (at + 8) values.new ≡ take at values.old ++ eight }
+    ensures behind { drop (at + 8) values.new ≡ drop (at + 8) values.old }
 {
     for k in 0..8usize {
         values[at + k] = eight[k];

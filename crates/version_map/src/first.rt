@@ -51,7 +51,7 @@ impl First {
         self.roots.set(location, word)
     }
 
-    /// Takes every word away. It costs a write for each 64 locations.
+    /// Takes every word away.
     pub fn clear(&mut self)
         ensures size { locations self.new.roots ≡ locations self.old.roots }
         ensures empty { IsEmpty self.new.roots }

@@ -1,11 +1,11 @@
 //! What a joiner takes over of a revision that is done.
 
-ghost use Rattle.std.specs.Prelude.{◌≡◌, ◌<◌, ◌≤◌, ◌+◌, ◌^◌, ℕ, Bool, All, IfSome, length};
+ghost use Rattle.std.specs.Prelude.{◌≡◌, ◌<◌, ◌≤◌, ◌+◌, ◌^◌, ℕ, Bool, true, false, All, IfSome, length};
 ghost use Rattle.rev_num.specs.declared.value.NumFault.{NumFault};
 ghost use Rattle.version_map.specs.Composing.{Merges, TrapsAtLeast, composed, entries};
 ghost use Rattle.version_map.specs.Composing.{IsComposed};
 ghost use Rattle.version_map.specs.Eights.{merged_eight};
-ghost use Rattle.version_map.specs.Parts.{IsPart};
+ghost use Rattle.version_map.specs.Parts.{HasPut, IsPart};
 
 use crate::eights::{eight_roots, eight_values, eight_words, follow, put_eight};
 use crate::end::{EndValue, Written};
@@ -46,7 +46,8 @@ pub trait MergeBy {
     ) -> Option<[u64; 8]>
         requires within { first + 8 ≤ size self.old }
         requires short { first + 8 ≤ 2 ^ 32 }
-        ensures value { result ≡ merged_eight (row self.old first) (merges self.old) first main join root }
+        ensures value { result
+            ≡ merged_eight (row self.old first) (merges self.old) first main join root }
         ensures size { size self.new ≡ size self.old }
         ensures merges { merges self.new ≡ merges self.old }
         ensures row { row self.new ≡ row self.old }
@@ -96,8 +97,7 @@ pub fn compose<M: MergeBy>(
     let written = end.written.as_slice();
     let mut at = 0;
     while at < written.len() {
-        if let Some(eight) = merge_row(mains, written, at, merges) {
-            put_eight(values, at, eight);
+        if compose_eight(mains, written, at, merges, values) {
             at += 8;
         } else {
             let w = written[at];
@@ -114,6 +114,38 @@ pub fn compose<M: MergeBy>(
         }
     }
     Ok(())
+}
+
+/// Puts the new words of eight locations from this place on, where they follow each other, are
+/// merged at once, and none of their merges faults; and tells whether it did.
+fn compose_eight<M: MergeBy>(
+    mains: &[u64],
+    written: &[Written],
+    at: usize,
+    merges: &mut M,
+    values: &mut [u64],
+) -> bool
+    requires mains { length mains.now ≡ length written.now }
+    requires values { length values.old ≡ length written.now }
+    requires within { All (λ w. w.location < M.size merges.old) written.now }
+    requires here { at < length written.now }
+    ensures length { length values.new ≡ length values.old }
+    ensures kept { result ≡ false → values.new ≡ values.old }
+    ensures put { result ≡ true → (at + 8 ≤ length written.now)
+        × HasPut (M.merges merges.old) mains.now written.now at 8 values.old values.new }
+    ensures size { M.size merges.new ≡ M.size merges.old }
+    ensures merges { M.merges merges.new ≡ M.merges merges.old }
+{
+    if !merges.row_at(written[at].location) {
+        return false;
+    }
+    match merge_row(mains, written, at, merges) {
+        Some(eight) => {
+            put_eight(values, at, eight);
+            true
+        },
+        None => false,
+    }
 }
 
 /// The new words of eight locations from this place on, where they follow each other, are merged
@@ -135,7 +167,7 @@ fn merge_row<M: MergeBy>(
         return None;
     }
     let first = written[at].location;
-    if !merges.row_at(first) || !follow(written, at, first) {
+    if !follow(written, at, first) {
         return None;
     }
     let main = eight_words(mains, at);

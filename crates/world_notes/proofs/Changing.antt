@@ -25,9 +25,14 @@ module _ {A : Type 0} where
   set_here (x ∷ xs) zero y z e = sym (some_same e)
   set_here (x ∷ xs) (suc n) y z e = set_here xs n y z e
 
-pub changed : (n : ℕ) (Changes : Noted → Noted → Type 0) (old : List Noted) (now y : Noted) → n < length old → now ≡ get_or old n now → Changes now y → IsChanged n Changes old (slice_set old n y)
+pub changed : (n : ℕ) (Changes : Noted → Noted → Type 0) (old : List Noted) (now y : Noted) → n < length old
+    → now ≡ get_or old n now → Changes now y → IsChanged n Changes old (slice_set old n y)
 changed n Changes old now y less is h = record {
   count = set_length old n y;
   others = λ m other. set_other old n m y other;
-  own = λ z e. (now, at_there old n now less ∙ ap (λ k. Some k) (sym is), subst (Changes now) (sym (set_here old n y z e)) h);
+  own = λ z e. (
+    now,
+    at_there old n now less ∙ ap (λ k. Some k) (sym is),
+    subst (Changes now) (sym (set_here old n y z e)) h,
+  );
 }

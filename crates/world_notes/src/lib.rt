@@ -2,10 +2,9 @@
 #![tactic(auto)]
 
 mod noted;
+mod noter;
 mod notes;
-mod replaying;
-mod running;
+mod runs;
 
 pub use noted::Noted;
-pub use replaying::replay_noting;
-pub use running::{finish_noting, first_notes};
+pub use runs::{finish_noting, first_notes, replay_noting};

@@ -4,9 +4,10 @@ ghost use Rattle.std.specs.Prelude.{◌≡◌, ◌<◌, ℕ, IfOk, OnOk, length}
 ghost use Rattle.code_machine.specs.Local.{CodeRun, Local};
 ghost use Rattle.code_world.specs.declared.world.World as rust;
 ghost use Rattle.code_world.specs.Answers.{LegAnswers};
-ghost use Rattle.revision_machine.specs.Numbered.{Entries, Listing};
+ghost use Rattle.revision_machine.specs.Numbered.{World as DefinedWorld};
 ghost use Rattle.world_notes.specs.Changes.{HasAdded, HasEnd, HasNoted, IsBorn, IsChanged};
 ghost use Rattle.world_notes.specs.Changes.{IsEndIn, IsOverNow};
+ghost use Rattle.world_notes.specs.Notes.{NotesOf};
 
 use crate::noted::Noted;
 use code_world::{LegAnswer, NotedLeg, World};
@@ -92,9 +93,8 @@ pub(crate) fn note_leg(
     number: u32,
     leg: NotedLeg,
 ) -> Result<(), AllocError>
-    requires { (g : CodeRun) × (w : Entries (Local ℕ))
-        × LegAnswers g (Listing w) number leg.answer world.now
-        × (length notes.old.items ≡ length w) }
+    requires { (g : CodeRun) × (w : DefinedWorld (Local ℕ))
+        × LegAnswers g w number leg.answer world.now × NotesOf g w notes.old.items }
     ensures { OnOk result
         (HasNoted world.now number leg.answer leg.meeting notes.old.items notes.new.items) }
 {

@@ -13,9 +13,9 @@ use Rattle.code_machine.proofs.Typing.{worlds_proper, stops_over}
 use Rattle.code_world.specs.Answers.{HasStopped, IsInPhase}
 use Rattle.code_world.proofs.Rows.{none_some}
 use Rattle.revision_machine.proofs.Lists.{at_below, below_at}
-use Rattle.reached_worlds.specs.Reached.{IsReached}
-use Rattle.reached_worlds.specs.Laws.{HasNumber}
-use Rattle.reached_worlds.proofs.Reaching.{small}
+use Rattle.code_machine_laws.specs.Reached.{IsReached}
+use Rattle.code_machine_laws.specs.Laws.{HasNumber}
+use Rattle.code_machine_laws.proofs.Reaching.{small}
 use Rattle.ready_queue.specs.declared.queue.ReadyQueue.{ReadyQueue}
 use Rattle.ready_queue.specs.Queue.{HasReady, HasWaiter, KeepsAll}
 use Rattle.world_runs.specs.Covers.{IsCovered, is_ready, has_stopped, waits_for, Covers, CoversBut}
@@ -27,8 +27,10 @@ module _ (g : CodeRun) (ok : IsVerified g) (w : Entries (Local ℕ)) (h : IsReac
   number_small : (m : ℕ) → HasNumber w m → m < 2 ^ 32
   number_small m (p, e, at) = let a = at_below w m (p, e) at in let b = small g ok w h in omega (arith, a, b)
 
-  pub taken_out : (q q' : ReadyQueue) (n : ℕ) → Covers g w q → ((m : ℕ) → m < 2 ^ 32 → HasReady q m → (m ≡ n) ⊎ HasReady q' m) → q'.waiters ≡ q.waiters → CoversBut g w q' n
-  taken_out q q' n c kept same = record { count = ap (λ v. length v.items) same ∙ c.count; each = λ m other has. by m other has (c.each m has) }
+  pub taken_out : (q q' : ReadyQueue) (n : ℕ) → Covers g w q
+      → ((m : ℕ) → m < 2 ^ 32 → HasReady q m → (m ≡ n) ⊎ HasReady q' m) → q'.waiters ≡ q.waiters → CoversBut g w q' n
+  taken_out q q' n c kept same =
+      record { count = ap (λ v. length v.items) same ∙ c.count; each = λ m other has. by m other has (c.each m has) }
     where
       by : (m : ℕ) → m ≢ n → HasNumber w m → IsCovered g w q m → IsCovered g w q' m
       by m other has (is_ready r) = ready (kept m (number_small m has) r)
@@ -37,10 +39,15 @@ module _ (g : CodeRun) (ok : IsVerified g) (w : Entries (Local ℕ)) (h : IsReac
           ready (inl is) = absurd (other is)
           ready (inr r') = is_ready r'
       by m other has (has_stopped s) = has_stopped s
-      by m other has (waits_for k x y) = waits_for k x (record { waiters = y.waiters; there = ap (λ v. Rattle.std.specs.Prelude.slice_get v.items k) same ∙ y.there; among = y.among })
+      by m other has (waits_for k x y) = waits_for k x (record {
+        waiters = y.waiters;
+        there = ap (λ v. Rattle.std.specs.Prelude.slice_get v.items k) same ∙ y.there;
+        among = y.among;
+      })
 
   -- one that is not ready has no leg
-  none_covered : (q : ReadyQueue) (m : ℕ) → (HasReady q m → ⊥) → Covers g w q → numbers.leg (numbered g) (Listing w) m ≡ None
+  none_covered : (q : ReadyQueue) (m : ℕ) → (HasReady q m → ⊥) → Covers g w q
+      → numbers.leg (numbered g) (Listing w) m ≡ None
   none_covered q m not c = by (at_number w m) refl
     where
       covered : IsCovered g w q m → numbers.leg (numbered g) (Listing w) m ≡ None
@@ -52,15 +59,19 @@ module _ (g : CodeRun) (ok : IsVerified g) (w : Entries (Local ℕ)) (h : IsReac
       by None e = none_there g w m e
       by (Some (p, x)) e = covered (c.each m (p, x, e))
 
-  pub least_has_it : (q : ReadyQueue) (n : ℕ) → Covers g w q → ((m : ℕ) → m < 2 ^ 32 → HasReady q m → n ≤ m) → n < 2 ^ 32 → (m : ℕ) → m < n → numbers.leg (numbered g) (Listing w) m ≡ None
-  least_has_it q n c least few m less = none_covered q m (λ r. let a = least m (omega (arith, less, few)) r in omega (arith, a, less)) c
+  pub least_has_it : (q : ReadyQueue) (n : ℕ) → Covers g w q → ((m : ℕ) → m < 2 ^ 32 → HasReady q m → n ≤ m)
+      → n < 2 ^ 32 → (m : ℕ) → m < n → numbers.leg (numbered g) (Listing w) m ≡ None
+  least_has_it q n c least few m less =
+      none_covered q m (λ r. let a = least m (omega (arith, less, few)) r in omega (arith, a, less)) c
 
-  pub none_has_it : (q : ReadyQueue) → Covers g w q → ((m : ℕ) → HasReady q m → ⊥) → (m : ℕ) → numbers.leg (numbered g) (Listing w) m ≡ None
+  pub none_has_it : (q : ReadyQueue) → Covers g w q → ((m : ℕ) → HasReady q m → ⊥) → (m : ℕ)
+      → numbers.leg (numbered g) (Listing w) m ≡ None
   none_has_it q c none m = none_covered q m (none m) c
 
   -- ---- after none
 
-  pub waits_now : (q q' : ReadyQueue) (n on : ℕ) → CoversBut g w q n → WaitsOn g w n on → HasWaiter q' on n → KeepsAll q q' → length q'.waiters.items ≡ length q.waiters.items → Covers g w q'
+  pub waits_now : (q q' : ReadyQueue) (n on : ℕ) → CoversBut g w q n → WaitsOn g w n on → HasWaiter q' on n
+      → KeepsAll q q' → length q'.waiters.items ≡ length q.waiters.items → Covers g w q'
   waits_now q q' n on c x here keeps count = record { count = count ∙ c.count; each = λ m has. pick m has (decide m n) }
     where
       by : (m : ℕ) → IsCovered g w q m → IsCovered g w q' m
@@ -80,22 +91,30 @@ module _ (g : CodeRun) (ok : IsVerified g) (w : Entries (Local ℕ)) (h : IsReac
       pick m has (inr other) = c.each m other has
 
   pub none_such : (q : ReadyQueue) (n : ℕ) → CoversBut g w q n → at_number w n ≡ None → Covers g w q
-  none_such q n c e = record { count = c.count; each = λ m has. c.each m (λ is. none_some (sym e ∙ ap (at_number w) (sym is) ∙ has.2)) has }
+  none_such q n c e = record {
+    count = c.count;
+    each = λ m has. c.each m (λ is. none_some (sym e ∙ ap (at_number w) (sym is) ∙ has.2)) has;
+  }
 
 -- ---- after a leg
 
-pub phase_stops : (g : CodeRun) (u : Entries (Local ℕ)) (n : ℕ) (p : Phase ℕ) → (p ≡ done) ⊎ ((t : Trap ℕ) × (p ≡ trapped t)) → IsInPhase u n p → HasStopped g u n
+pub phase_stops : (g : CodeRun) (u : Entries (Local ℕ)) (n : ℕ) (p : Phase ℕ)
+    → (p ≡ done) ⊎ ((t : Trap ℕ) × (p ≡ trapped t)) → IsInPhase u n p → HasStopped g u n
 phase_stops g u n p over (r, l, at, is) = (r, Plain l, at, ap (λ x. wish_of (act_in g l.state x)) is ∙ by p over)
   where
     by : (x : Phase ℕ) → (x ≡ done) ⊎ ((t : Trap ℕ) × (x ≡ trapped t)) → wish_of (act_in g l.state x) ≡ Stops
     by x (inl e) = ap (λ y. wish_of (act_in g l.state y)) e
     by x (inr (t, e)) = ap (λ y. wish_of (act_in g l.state y)) e
 
-module _ (g : CodeRun) (ok : IsVerified g) (w u : Entries (Local ℕ)) (h : IsReached g (Listing u)) (n : ℕ) (leg : numbers.leg (numbered g) (Listing w) n ≡ Some (Listing u)) where
+module _ (g : CodeRun) (ok : IsVerified g) (w u : Entries (Local ℕ)) (h : IsReached g (Listing u)) (n : ℕ)
+    (leg : numbers.leg (numbered g) (Listing w) n ≡ Some (Listing u)) where
   still_stopped : (m : ℕ) → m ≢ n → HasStopped g w m → HasStopped g u m
   still_stopped m other (r, e, at, stops) = by (legs_change g w u n leg m r e other at)
     where
-      by : (at_number u m ≡ Some (r, e)) ⊎ (Joins (numbered g) w n m × ((l : Local ℕ) × (e ≡ Plain l) × ((numbered g).next l ≡ Stops) × (at_number u m ≡ Some (r, Joined l)))) → HasStopped g u m
+      by : (at_number u m ≡ Some (r, e))
+          ⊎ (Joins (numbered g) w n m
+          × ((l : Local ℕ) × (e ≡ Plain l) × ((numbered g).next l ≡ Stops) × (at_number u m ≡ Some (r, Joined l))))
+          → HasStopped g u m
       by (inl same) = (r, e, same, stops)
       by (inr (j, (l, is, s, now))) = (r, Joined l, now, s)
 
@@ -114,12 +133,14 @@ module _ (g : CodeRun) (ok : IsVerified g) (w u : Entries (Local ℕ)) (h : IsRe
   still_waits_for m other x (r, l, at, is) = record {
     path = x.path;
     joiner = x.joiner;
-    there = running_left g w u (n ∷ []) replays m x.path x.joiner (not_among m other) x.there (λ e. let clash : Wants n ≡ Stops = sym x.wants ∙ e in cc);
+    there = running_left g w u (n ∷ []) replays m x.path x.joiner (not_among m other) x.there
+        (λ e. let clash : Wants n ≡ Stops = sym x.wants ∙ e in cc);
     wants = x.wants;
     other = r;
     joinee = l;
     stands = at;
-    on = λ e. works (stops_over g ok l (worlds_proper g ok h.number h.main h.fuel h.schedule (Listing u) h.replays n r (Plain l) at) e);
+    on = λ e. works (stops_over g ok l
+        (worlds_proper g ok h.number h.main h.fuel h.schedule (Listing u) h.replays n r (Plain l) at) e);
   }
     where
       works : IsOver l → ⊥
@@ -127,12 +148,16 @@ module _ (g : CodeRun) (ok : IsVerified g) (w u : Entries (Local ℕ)) (h : IsRe
       works (inr (t, i)) = (let z : ◌≡◌ {A = Phase ℕ} running (trapped t) = sym is ∙ i in cc)
 
   -- the revision goes on, and is ready
-  pub goes_on : (q q' : ReadyQueue) → CoversBut g w q n → IsInPhase u n running → HasReady q' n → KeepsAll q q' → length q'.waiters.items ≡ length u
+  pub goes_on : (q q' : ReadyQueue) → CoversBut g w q n → IsInPhase u n running → HasReady q' n → KeepsAll q q'
+      → length q'.waiters.items ≡ length u
       → ((m : ℕ) → HasNumber u m → HasNumber w m ⊎ HasReady q' m) → Covers g u q'
-  goes_on q q' c phase here keeps count more = record { count = count; each = λ m has. pick m (decide m n) (more m has) }
+  goes_on q q' c phase here keeps count more =
+      record { count = count; each = λ m has. pick m (decide m n) (more m has) }
     where
       waits : (m k : ℕ) → m ≢ n → (k ≡ n) ⊎ (k ≢ n) → WaitsOn g w m k → HasWaiter q k m → IsCovered g u q' m
-      waits m k other (inl is) x y = waits_for n (still_waits_for m other (subst (WaitsOn g w m) is x) phase) (subst (λ z. HasWaiter q' z m) is (keeps.waits k m y))
+      waits m k other (inl is) x y =
+          waits_for n (still_waits_for m other (subst (WaitsOn g w m) is x) phase)
+          (subst (λ z. HasWaiter q' z m) is (keeps.waits k m y))
       waits m k other (inr apart) x y = waits_for k (still_waits m k other apart x) (keeps.waits k m y)
 
       by : (m : ℕ) → m ≢ n → IsCovered g w q m → IsCovered g u q' m
@@ -146,9 +171,12 @@ module _ (g : CodeRun) (ok : IsVerified g) (w u : Entries (Local ℕ)) (h : IsRe
       pick m (inr other) (inr r) = is_ready r
 
   -- the revision has ended, and those that waited for it are ready
-  pub has_ended_now : (q q' : ReadyQueue) → CoversBut g w q n → HasStopped g u n → ((m : ℕ) → HasWaiter q n m → HasReady q' m) → ((m : ℕ) → HasReady q m → HasReady q' m)
-      → ((k m : ℕ) → k ≢ n → HasWaiter q k m → HasWaiter q' k m) → length q'.waiters.items ≡ length q.waiters.items → length u ≡ length w → Covers g u q'
-  has_ended_now q q' c stopped woken ready others count same = record { count = count ∙ c.count ∙ sym same; each = λ m has. pick m (decide m n) has }
+  pub has_ended_now : (q q' : ReadyQueue) → CoversBut g w q n → HasStopped g u n
+      → ((m : ℕ) → HasWaiter q n m → HasReady q' m) → ((m : ℕ) → HasReady q m → HasReady q' m)
+      → ((k m : ℕ) → k ≢ n → HasWaiter q k m → HasWaiter q' k m) → length q'.waiters.items ≡ length q.waiters.items
+      → length u ≡ length w → Covers g u q'
+  has_ended_now q q' c stopped woken ready others count same =
+      record { count = count ∙ c.count ∙ sym same; each = λ m has. pick m (decide m n) has }
     where
       waits : (m k : ℕ) → m ≢ n → (k ≡ n) ⊎ (k ≢ n) → WaitsOn g w m k → HasWaiter q k m → IsCovered g u q' m
       waits m k other (inl is) x y = is_ready (woken m (subst (λ z. HasWaiter q z m) is y))
@@ -160,19 +188,26 @@ module _ (g : CodeRun) (ok : IsVerified g) (w u : Entries (Local ℕ)) (h : IsRe
       by m other (waits_for k x y) = waits m k other (decide k n) x y
 
       before : (m : ℕ) → HasNumber u m → HasNumber w m
-      before m (p, e, at) = let a = at_below u m (p, e) at in let b = below_at w m (omega (arith, a, same)) in (b.0.0, b.0.1, b.1)
+      before m (p, e, at) =
+          let a = at_below u m (p, e) at in let b = below_at w m (omega (arith, a, same)) in (b.0.0, b.0.1, b.1)
 
       pick : (m : ℕ) → (m ≡ n) ⊎ (m ≢ n) → HasNumber u m → IsCovered g u q' m
       pick m (inl is) has = subst (IsCovered g u q') (sym is) (has_stopped stopped)
       pick m (inr other) has = by m other (c.each m other (before m has))
 
 -- as many revisions as before, or one more
-pub same_numbers : (w u : Entries (Local ℕ)) (q : ReadyQueue) → length u ≡ length w → (m : ℕ) → HasNumber u m → HasNumber w m ⊎ HasReady q m
-same_numbers w u q same m (p, e, at) = let a = at_below u m (p, e) at in let b = below_at w m (omega (arith, a, same)) in inl (b.0.0, b.0.1, b.1)
+pub same_numbers : (w u : Entries (Local ℕ)) (q : ReadyQueue) → length u ≡ length w → (m : ℕ) → HasNumber u m
+    → HasNumber w m ⊎ HasReady q m
+same_numbers w u q same m (p, e, at) =
+    let a = at_below u m (p, e) at in let b = below_at w m (omega (arith, a, same)) in inl (b.0.0, b.0.1, b.1)
 
-pub one_more : (w u : Entries (Local ℕ)) (q : ReadyQueue) → length u ≡ suc (length w) → HasReady q (length w) → (m : ℕ) → HasNumber u m → HasNumber w m ⊎ HasReady q m
+pub one_more : (w u : Entries (Local ℕ)) (q : ReadyQueue) → length u ≡ suc (length w) → HasReady q (length w) → (m : ℕ)
+    → HasNumber u m → HasNumber w m ⊎ HasReady q m
 one_more w u q more here m (p, e, at) = by (decide m (length w))
   where
     by : (m ≡ length w) ⊎ (m ≢ length w) → HasNumber w m ⊎ HasReady q m
     by (inl is) = inr (subst (HasReady q) (sym is) here)
-    by (inr other) = let a = at_below u m (p, e) at in let b = below_at w m (omega (arith, a, more, other)) in inl (b.0.0, b.0.1, b.1)
+    by (inr other) =
+        let a = at_below u m (p, e) at in
+        let b = below_at w m (omega (arith, a, more, other)) in
+        inl (b.0.0, b.0.1, b.1)

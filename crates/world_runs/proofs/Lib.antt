@@ -2,3 +2,4 @@ pub mod Making
 pub mod Covering
 pub mod Noting
 pub mod Leading
+pub mod Keeping

@@ -15,8 +15,8 @@ use Rattle.code_world.specs.Answers.{HasStopped, LegAnswers}
 use Rattle.code_world.specs.declared.answer.LegAnswer.{LegAnswer}
 use Rattle.code_world.specs.declared.answer.LegAnswer.TheVariants as answer
 use Rattle.code_world.specs.declared.world.World as rust
-use Rattle.reached_worlds.specs.Laws.{HasNumber}
-use Rattle.reached_worlds.specs.Reached.{IsReached}
+use Rattle.code_machine_laws.specs.Laws.{HasNumber}
+use Rattle.code_machine_laws.specs.Reached.{IsReached}
 use Rattle.ready_queue.specs.declared.queue.ReadyQueue.{ReadyQueue}
 use Rattle.ready_queue.specs.Queue.{HasReady, HasWaiter}
 

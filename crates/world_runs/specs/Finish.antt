@@ -9,10 +9,10 @@ use Rattle.code_machine.specs.Local.{CodeRun, Local}
 use Rattle.code_machine.specs.Machines.{numbered}
 use Rattle.code_world.specs.declared.world.World as rust
 use Rattle.code_world.specs.Tables.{IsWorld}
-use Rattle.reached_worlds.specs.Reached.{IsReached}
+use Rattle.code_machine_laws.specs.Reached.{IsReached}
 use Rattle.ready_queue.specs.declared.queue.ReadyQueue.{ReadyQueue}
-use Rattle.world_runs.specs.declared.legs.Made.{Made}
-use Rattle.world_runs.specs.declared.legs.Made.TheVariants as made
+use Rattle.world_runs.specs.declared.made.Made.{Made}
+use Rattle.world_runs.specs.declared.made.Made.TheVariants as made
 use Rattle.world_runs.specs.Covers.{CoversWorld}
 
 abbrev pub HasTried : CodeRun → World (Local ℕ) → ℕ → Made → (before after : ReadyQueue) → Type 0

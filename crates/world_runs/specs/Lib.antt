@@ -2,3 +2,4 @@ pub mod Made
 pub mod Replay
 pub mod Covers
 pub mod Finish
+pub mod Kept

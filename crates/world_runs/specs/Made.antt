@@ -10,9 +10,9 @@ use Rattle.code_world.specs.declared.answer.LegAnswer.{LegAnswer}
 use Rattle.code_world.specs.declared.answer.LegAnswer.TheVariants as answer
 use Rattle.code_world.specs.declared.world.World as rust
 use Rattle.code_world.specs.Tables.{IsWorld}
-use Rattle.reached_worlds.specs.Reached.{IsReached}
-use Rattle.world_runs.specs.declared.legs.Made.{Made}
-use Rattle.world_runs.specs.declared.legs.Made.TheVariants as made
+use Rattle.code_machine_laws.specs.Reached.{IsReached}
+use Rattle.world_runs.specs.declared.made.Made.{Made}
+use Rattle.world_runs.specs.declared.made.Made.TheVariants as made
 
 abbrev pub made_of : rust.World → LegAnswer → Made
 made_of v (answer.Waits on) = made.None v

@@ -3,10 +3,12 @@
 
 mod ending;
 mod legs;
+mod made;
 mod notes;
+mod plain;
 mod replaying;
 
-pub use ending::{all_ready, finish};
-pub use legs::{Made, make, sort_out};
-pub use notes::note;
-pub use replaying::{ReplayFault, replay};
+pub use ending::finish_by;
+pub use legs::Legs;
+pub use plain::{finish, replay};
+pub use replaying::{ReplayFault, replay_by};

@@ -12,7 +12,7 @@ use ready_queue::ReadyQueue;
 use std::alloc::{AllocError, Global};
 
 /// Notes how the leg of a revision came out.
-pub fn note(
+pub(crate) fn note(
     alloc: Global,
     queue: &mut ReadyQueue,
     number: u32,

@@ -1,19 +1,19 @@
 -- What was put on the way is a first part of the text of the outcome.
-use Rattle.std.proofs.Common.{◌≡◌, ◌≢◌, ◌∙◌, ℕ, ◌≤◌, List, [], ◌++◌, Ok, Err, refl, sym, ap, subst, append-nil}
+use Rattle.std.proofs.Common.{◌≡◌, ◌≢◌, ◌∙◌, ℕ, ◌≤◌, List, [], ◌++◌, Ok, Err, refl, sym, ap, subst}
 use Rattle.std.specs.Prelude.{Result, IsErrAnd}
-use Rattle.rev_io.specs.Stream.{Stream, Rose, Took, TookSome}
+use Rattle.rev_io.specs.Stream.{Stream, Took}
 use Rattle.rev_num.specs.declared.outcome.Outcome.{Outcome}
 use Rattle.rev_num.specs.declared.outcome.Outcome.TheVariants as o
 use Rattle.revision_machine.specs.Numbered as numbers
 use Rattle.revision_machine.specs.Numbered.{Entries, World, Both, Listing, begin, Replays}
 use Rattle.code_machine.specs.Local.{CodeRun, IsVerified, Local}
 use Rattle.code_machine.specs.Machines.{numbered, IsMain, start_in}
-use Rattle.code_outcomes.specs.Outcomes.{HasOutcome}
+use Rattle.code_machine_laws.specs.Outcomes.{HasOutcome}
 use Rattle.code_world.specs.declared.world.World as rust
 use Rattle.code_world.specs.Said.{main_text}
 use Rattle.code_world.specs.Tables.{IsWorld}
-use Rattle.reached_worlds.specs.Reached.{IsReached, most_fuel}
-use Rattle.reached_worlds.proofs.Reaching.{main_stands}
+use Rattle.code_machine_laws.specs.Reached.{IsReached, most_fuel}
+use Rattle.code_machine_laws.proofs.Reaching.{main_stands}
 use Rattle.world_runs.specs.Finish.{HasFinished}
 use Rattle.code_runs.specs.Completed.{IsAfter}
 use Rattle.step_forms.specs.Forms.{Grows}
@@ -26,7 +26,8 @@ use Rattle.world_streams.specs.Runs.{NeverTwiceFrom, PutsAll, PutsOn, StreamsTo}
 use Rattle.world_streams.proofs.Gaining.{world_says}
 use Rattle.world_streams.proofs.Putting.{some_all, some_longer, some_none}
 
-module _ (g : CodeRun) (ok : IsVerified g) (n : ℕ) (m : IsMain g n) (fuel : ℕ) (few : fuel ≤ most_fuel) (never : NeverJoinsTwice g fuel) where
+module _ (g : CodeRun) (ok : IsVerified g) (n : ℕ) (m : IsMain g n) (fuel : ℕ) (few : fuel ≤ most_fuel)
+    (never : NeverJoinsTwice g fuel) where
   abbrev first : World (Local ℕ)
   first = begin (numbered g) (start_in g n m.body fuel)
 
@@ -39,27 +40,35 @@ module _ (g : CodeRun) (ok : IsVerified g) (n : ℕ) (m : IsMain g n) (fuel : �
   pub first_reached : IsReached g first
   first_reached = reached [] first refl
 
-  says : (ns : List ℕ) (x : Entries (Local ℕ)) → Replays (numbered g) first ns (Listing x) → (v : rust.World) → IsWorld g v (Listing x) → MainSays g x (main_text v)
+  says : (ns : List ℕ) (x : Entries (Local ℕ)) → Replays (numbered g) first ns (Listing x) → (v : rust.World)
+      → IsWorld g v (Listing x) → MainSays g x (main_text v)
   says ns x h v is = let k = main_stands g ok x (reached ns (Listing x) h) in world_says g v x is k.0 k.1
 
   not_twice : (end : Outcome) → HasOutcome g fuel end → end ≢ o.Twice
   not_twice end has = (twice_is_told g fuel end has).0 never
 
-  part_of : (ns : List ℕ) (w : World (Local ℕ)) → Replays (numbered g) first ns w → (v : rust.World) → IsWorld g v w → (end : Outcome) → HasOutcome g fuel end → Grows (main_text v) (said end)
+  part_of : (ns : List ℕ) (w : World (Local ℕ)) → Replays (numbered g) first ns w → (v : rust.World) → IsWorld g v w
+      → (end : Outcome) → HasOutcome g fuel end → Grows (main_text v) (said end)
   part_of ns Both h v is end has = absurd (never n m ns Both h refl)
-  part_of ns (Listing x) h v is end has = first_parts g ok n m fuel few ns (Listing x) h x refl (main_text v) (says ns x h v is) end has (not_twice end has)
+  part_of ns (Listing x) h v is end has =
+      first_parts g ok n m fuel few ns (Listing x) h x refl (main_text v) (says ns x h v is) end has (not_twice end has)
 
-  all_of : (ns : List ℕ) (w : World (Local ℕ)) → Replays (numbered g) first ns w → ((k : ℕ) → numbers.leg (numbered g) w k ≡ Rattle.std.proofs.Common.None) → (v : rust.World) → IsWorld g v w → (end : Outcome) → HasOutcome g fuel end → main_text v ≡ said end
+  all_of : (ns : List ℕ) (w : World (Local ℕ)) → Replays (numbered g) first ns w
+      → ((k : ℕ) → numbers.leg (numbered g) w k ≡ Rattle.std.proofs.Common.None) → (v : rust.World) → IsWorld g v w
+      → (end : Outcome) → HasOutcome g fuel end → main_text v ≡ said end
   all_of ns Both h over v is end has = absurd (never n m ns Both h refl)
-  all_of ns (Listing x) h over v is end has = over_is_all g ok n m fuel few ns (Listing x) h x refl over (main_text v) (says ns x h v is) end has
+  all_of ns (Listing x) h over v is end has =
+      over_is_all g ok n m fuel few ns (Listing x) h x refl over (main_text v) (says ns x h v is) end has
 
   module _ (v : rust.World) (silent : main_text v ≡ []) (old new : Stream) where
     pub puts_part : PutsOn g first v old new → PutsPart g fuel old new
     puts_part p end has =
         some_longer old new p.gain (said end)
-        (subst (λ z. Grows z (said end)) (p.gains ∙ ap (λ z. z ++ p.gain) silent) (part_of p.schedule p.end p.replays p.after p.stands end has)) p.part
+        (subst (λ z. Grows z (said end)) (p.gains ∙ ap (λ z. z ++ p.gain) silent)
+        (part_of p.schedule p.end p.replays p.after p.stands end has))
+        p.part
 
-    pub faults : (e : StreamFault) → StreamsTo {A = rust.World} (λ z. z) g first v old new (Err e) → Streamed g fuel old new (Err e)
+    pub faults : (e : StreamFault) → StreamsTo g first v old new (Err e) → Streamed g fuel old new (Err e)
     faults fault.Sink p = (p.0, puts_part p.1)
     faults fault.OutOfMemory p = (p.0, puts_part p.1)
 
@@ -81,7 +90,8 @@ pub untouched : (g : CodeRun) (fuel : ℕ) (old : Stream) → Streamed g fuel ol
 untouched g fuel old = (refl, λ end has. some_none old old (said end) refl)
 
 -- the world at the end is one behind a complete schedule
-pub after_run : (g : CodeRun) (n : ℕ) (m : IsMain g n) (fuel : ℕ) → fuel ≤ most_fuel → (v : rust.World) → HasFinished g (begin (numbered g) (start_in g n m.body fuel)) v → IsAfter g fuel v
+pub after_run : (g : CodeRun) (n : ℕ) (m : IsMain g n) (fuel : ℕ) → fuel ≤ most_fuel → (v : rust.World)
+    → HasFinished g (begin (numbered g) (start_in g n m.body fuel)) v → IsAfter g fuel v
 after_run g n m fuel few v f =
     let c = f.complete (start_in g n m.body fuel) in
     record {
@@ -93,6 +103,7 @@ after_run g n m fuel few v f =
     }
 
 -- an error that `?` hands on
-pub handed_on : (g : CodeRun) (fuel : ℕ) (old new : Stream) (r : Result Outcome StreamFault) (e : StreamFault) → IsErrAnd r (λ x. x ≡ e) → Streamed g fuel old new (Err e) → Streamed g fuel old new r
+pub handed_on : (g : CodeRun) (fuel : ℕ) (old new : Stream) (r : Result Outcome StreamFault) (e : StreamFault)
+    → IsErrAnd r (λ x. x ≡ e) → Streamed g fuel old new (Err e) → Streamed g fuel old new r
 handed_on g fuel old new (Ok x) e never h = absurd never
 handed_on g fuel old new (Err x) e same h = subst (λ (y : StreamFault). Streamed g fuel old new (Err y)) (sym same) h

@@ -1,5 +1,4 @@
 pub mod Putting
 pub mod Gaining
 pub mod Legs
-pub mod Coming
 pub mod Ending

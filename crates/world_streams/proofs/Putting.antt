@@ -1,10 +1,8 @@
 -- What a sink took, piece after piece.
-use Rattle.std.proofs.Common.{◌≡◌, ◌∙◌, ◌⊎◌, inl, inr, ℕ, zero, suc, ◌≤◌, ◌<◌, ◌+◌, ◌-◌, List, [], ◌∷◌, ◌++◌, take, drop, length, Some, refl, sym, ap, subst, append-nil, append_assoc, length-append, arith}
+use Rattle.std.proofs.Common.{◌≡◌, ◌∙◌, inl, inr, ℕ, zero, suc, ◌≤◌, ◌+◌, List, [], ◌∷◌, ◌++◌, take, drop, length, Some, refl, sym, ap, append-nil, append_assoc, length-append, arith}
 use Rattle.std.proofs.lemmas.Grind.{common_steps}
-use Rattle.std.proofs.lemmas.List.{take_all, take-append-le}
 use Rattle.std.proofs.Math.Seq.{take-length}
 use Rattle.rev_io.specs.Stream.{Stream, Rose, Took, TookSome}
-use Rattle.rev_io.proofs.Streams.{took_more}
 use Rattle.step_forms.specs.Forms.{Grows}
 
 -- ---- lists
@@ -51,8 +49,12 @@ some_longer old new x xy (y, e) t held is =
 -- some behind all of what came before
 pub some_behind : (a b c : Stream) (x y xy : List ℕ) → Took a x b → TookSome b y c → xy ≡ x ++ y → TookSome a xy c
 some_behind a b c x y xy first second whole held is =
-    let k = second (held ++ x) (first.told held is) in
-    (length x + k.0, k.1 ∙ ap Some (append_assoc held x (take k.0 y) ∙ ap (λ z. held ++ z) (take_behind x y k.0 ∙ ap (take (length x + k.0)) (sym whole))))
+    let k = second (held ++ x) (first.told held is) in (
+      length x + k.0,
+      k.1
+          ∙ ap Some (append_assoc held x (take k.0 y)
+          ∙ ap (λ z. held ++ z) (take_behind x y k.0 ∙ ap (take (length x + k.0)) (sym whole))),
+    )
 
 pub rose_behind : (a b c : Stream) (x : List ℕ) → Took a x b → Rose b c → Rose a c
 rose_behind a b c x first (inl less) = inl (let e = first.calm in omega (arith, e, less))

@@ -1,12 +1,12 @@
 //! Legs whose text goes to a sink.
 
 ghost use Rattle.std.specs.Prelude.{◌≡◌, ◌≤◌, drop, length, ℕ, IfOk};
-ghost use Rattle.block_merges.specs.Merging.{AreMergesOf};
+ghost use Rattle.fun_run.specs.Merging.{AreMergesOf};
 ghost use Rattle.block_run.specs.Area.{count};
 ghost use Rattle.code_machine.specs.Local.{Local};
 ghost use Rattle.code_world.specs.Answers.{LegAnswers};
 ghost use Rattle.code_world.specs.Tables.{IsWorld};
-ghost use Rattle.reached_worlds.specs.Reached.{IsReached};
+ghost use Rattle.code_machine_laws.specs.Reached.{IsReached};
 ghost use Rattle.revision_machine.specs.Numbered.{World as DefinedWorld};
 ghost use Rattle.rev_io.specs.Stream.{WritesAll};
 ghost use Rattle.rev_vm.specs.Starts.{run_under};

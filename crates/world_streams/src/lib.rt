@@ -5,6 +5,7 @@ mod fault;
 mod leg;
 mod pieces;
 mod run;
+mod streamer;
 mod streaming;
 
 pub use fault::StreamFault;

@@ -7,10 +7,10 @@ ghost use Rattle.main_texts.specs.Texts.{NeverJoinsTwice};
 
 use crate::fault::StreamFault;
 use crate::run::stream;
-use block_merges::BlockMerges;
 use code_runs::{note_inputs, outcome_after};
 use code_verifier::Verified;
 use code_world::World;
+use fun_run::BlockMerges;
 use leg_run::CodeSetting;
 use rev_io::Sink;
 use rev_num::Outcome;

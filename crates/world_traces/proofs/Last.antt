@@ -25,7 +25,8 @@ main_last (q ∷ x ∷ ps) order p i e = (first, main_last (x ∷ ps) order.1 p 
     first = order.0 x (inl refl)
 
     later : Among (q ∷ x ∷ ps) p → Among (x ∷ ps) p
-    later (inl same) = absurd (let z : false ≡ true = sym (ap (λ v. before v x.path) (ap (λ v. v.path) same ∙ e)) ∙ first in cc)
+    later (inl same) =
+        absurd (let z : false ≡ true = sym (ap (λ v. before v x.path) (ap (λ v. v.path) same ∙ e)) ∙ first in cc)
     later (inr j) = j
 
 pub ends_in_main : EndsInMain

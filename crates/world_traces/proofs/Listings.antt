@@ -62,7 +62,9 @@ module _ (g : CodeRun) (w : Entries (Local ℕ)) where
   listed d = record {
     order = sorted_order entry_part (λ r e. refl) w d;
     all = sorted_all entry_part (λ r e. refl) w;
-    only = λ p i. (let h = sorted_only entry_part (λ r e. refl) w p i in record { number = h.number; path = h.path; entry = h.entry; stands = h.at; is = h.is });
+    only = λ p i.
+        (let h = sorted_only entry_part (λ r e. refl) w p i in
+        record { number = h.number; path = h.path; entry = h.entry; stands = h.at; is = h.is });
   }
 
   inside : (ps qs : List Part) → IsListing g w ps → IsListing g w qs → (p : Part) → Among ps p → Among qs p
@@ -71,19 +73,22 @@ module _ (g : CodeRun) (w : Entries (Local ℕ)) where
   pub the_listing : IsDistinct (paths_of w) → IsTheOnly (IsListing g w) listing
   the_listing d = record {
     is = listed d;
-    only = λ ps a. same_list ps listing a.order (listed d).order (inside ps listing a (listed d)) (inside listing ps (listed d) a);
+    only = λ ps a.
+        same_list ps listing a.order (listed d).order (inside ps listing a (listed d)) (inside listing ps (listed d) a);
   }
 
 -- ---- a world and a state that agree
 
-module _ (A : Machine) (part : Path → A.Local → Part) (R : Path → A.Local → Local ℕ → Type 0) (g : CodeRun) (t : List Path) (w : Entries (Local ℕ)) (revs : PathMap (Entry A.Local)) where
+module _ (A : Machine) (part : Path → A.Local → Part) (R : Path → A.Local → Local ℕ → Type 0) (g : CodeRun)
+    (t : List Path) (w : Entries (Local ℕ)) (revs : PathMap (Entry A.Local)) where
   -- an entry of the world has one of the state
   record Has (r : Path) (x : Option (Entry A.Local)) (e : Entry (Local ℕ)) : Type 0 where
     entry : Entry A.Local
     is : x ≡ Some entry
     related : R r (local_of entry) (local_of e)
 
-  has : (r : Path) (x : Option (Entry A.Local)) (e : Entry (Local ℕ)) → EntryAgrees A (machine_by (numbered g) t) R r x (Some e) → Has r x e
+  has : (r : Path) (x : Option (Entry A.Local)) (e : Entry (Local ℕ))
+      → EntryAgrees A (machine_by (numbered g) t) R r x (Some e) → Has r x e
   has r None e h = absurd h
   has r (Some (Plain a)) (Plain b) h = record { entry = Plain a; is = refl; related = h }
   has r (Some (Plain a)) (Joined b) h = absurd h
@@ -96,18 +101,24 @@ module _ (A : Machine) (part : Path → A.Local → Part) (R : Path → A.Local 
     is : y ≡ Some entry
     related : R r (local_of f) (local_of entry)
 
-  back : (r : Path) (f : Entry A.Local) (y : Option (Entry (Local ℕ))) → EntryAgrees A (machine_by (numbered g) t) R r (Some f) y → Back r f y
+  back : (r : Path) (f : Entry A.Local) (y : Option (Entry (Local ℕ)))
+      → EntryAgrees A (machine_by (numbered g) t) R r (Some f) y → Back r f y
   back r f None h = absurd h
   back r (Plain a) (Some (Plain b)) h = record { entry = Plain b; is = refl; related = h }
   back r (Plain a) (Some (Joined b)) h = absurd h
   back r (Joined a) (Some (Plain b)) h = absurd h
   back r (Joined a) (Some (Joined b)) h = record { entry = Joined b; is = refl; related = h }
 
-  module _ (distinct : IsDistinct (paths_of w)) (agrees : (p : Path) → EntryAgrees A (machine_by (numbered g) t) R p (revs p) (globe_of w p))
-      (alike : (n : ℕ) (r : Path) (e : Entry (Local ℕ)) (f : Entry A.Local) → at_number w n ≡ Some (r, e) → revs r ≡ Some f → R r (local_of f) (local_of e) → part_in g (paths_of w) r (local_of e) ≡ part r (local_of f)) where
-    all_shown : (ps : List Part) → IsListing g w ps → (r : Path) (f : Entry A.Local) → revs r ≡ Some f → Among ps (part r (local_of f))
+  module _ (distinct : IsDistinct (paths_of w))
+      (agrees : (p : Path) → EntryAgrees A (machine_by (numbered g) t) R p (revs p) (globe_of w p))
+      (alike : (n : ℕ) (r : Path) (e : Entry (Local ℕ)) (f : Entry A.Local) → at_number w n ≡ Some (r, e)
+      → revs r ≡ Some f → R r (local_of f) (local_of e)
+      → part_in g (paths_of w) r (local_of e) ≡ part r (local_of f)) where
+    all_shown : (ps : List Part) → IsListing g w ps → (r : Path) (f : Entry A.Local) → revs r ≡ Some f
+        → Among ps (part r (local_of f))
     all_shown ps l r f stands =
-        let b = back r f (globe_of w r) (subst (λ v. EntryAgrees A (machine_by (numbered g) t) R r v (globe_of w r)) stands (agrees r)) in
+        let b = back r f (globe_of w r)
+        (subst (λ v. EntryAgrees A (machine_by (numbered g) t) R r v (globe_of w r)) stands (agrees r)) in
         let n = schedules.numbered w r b.entry b.is in
         subst (Among ps) (alike n.0 r b.entry f n.1 stands b.related) (l.all n.0 r b.entry n.1)
 
@@ -115,8 +126,14 @@ module _ (A : Machine) (part : Path → A.Local → Part) (R : Path → A.Local 
     only_shown ps l p i =
         let o = l.only p i in
         let there = globe_there w o.number o.path o.entry distinct o.stands in
-        let h = has o.path (revs o.path) o.entry (subst (EntryAgrees A (machine_by (numbered g) t) R o.path (revs o.path)) there (agrees o.path)) in
-        record { path = o.path; entry = h.entry; stands = h.is; is = o.is ∙ alike o.number o.path o.entry h.entry o.stands h.is h.related }
+        let h = has o.path (revs o.path) o.entry
+        (subst (EntryAgrees A (machine_by (numbered g) t) R o.path (revs o.path)) there (agrees o.path)) in
+        record {
+          path = o.path;
+          entry = h.entry;
+          stands = h.is;
+          is = o.is ∙ alike o.number o.path o.entry h.entry o.stands h.is h.related;
+        }
 
     pub world_lists : (ps : List Part) → IsListing g w ps → Lists part revs ps
     world_lists ps l = record { order = l.order; all = all_shown ps l; only = only_shown ps l }
@@ -126,20 +143,24 @@ module _ (A : Machine) (part : Path → A.Local → Part) (R : Path → A.Local 
 -- each is found at its path
 at_own : (ps : List Part) → InPostOrder ps → (p : Part) → Among ps p → part_at ps p.path ≡ Some p
 at_own [] order p i = absurd i
-at_own (q ∷ ps) order p (inl e) = subst (λ v. part_at (q ∷ ps) v.path ≡ Some v) e (ap (λ b. cond b (Some q) (part_at ps q.path)) (same_refl q.path))
+at_own (q ∷ ps) order p (inl e) =
+    subst (λ v. part_at (q ∷ ps) v.path ≡ Some v) e (ap (λ b. cond b (Some q) (part_at ps q.path)) (same_refl q.path))
 at_own (q ∷ ps) order p (inr i) =
-    let apart : q.path ≢ p.path = λ e. before_irrefl q.path (subst (λ v. before q.path v ≡ true) (sym e) (order.0 p i)) in
+    let apart : q.path ≢ p.path =
+    λ e. before_irrefl q.path (subst (λ v. before q.path v ≡ true) (sym e) (order.0 p i)) in
     ap (λ b. cond b (Some q) (part_at ps p.path)) (apart-same q.path p.path apart) ∙ at_own ps order.1 p i
 
 module _ (s : Setting) (revs : PathMap (Entry source.Local)) where
   abbrev Is : Path → Option Part → Option (Entry source.Local) → Type 0
   Is = calculus_trace.IsPartOf s
 
-  is_among : (ps : List Part) (r : Path) (e : Entry source.Local) (o : Option Part) → part_at ps r ≡ o → Is r o (Some e) → Among ps (part_of s r (local_of e))
+  is_among : (ps : List Part) (r : Path) (e : Entry source.Local) (o : Option Part) → part_at ps r ≡ o → Is r o (Some e)
+      → Among ps (part_of s r (local_of e))
   is_among ps r e None at h = absurd h
   is_among ps r e (Some p) at h = subst (Among ps) h (found ps r p at).0
 
-  is_shown : (p : Part) (x : Option (Entry source.Local)) → revs p.path ≡ x → Is p.path (Some p) x → IsShown (part_of s) revs p
+  is_shown : (p : Part) (x : Option (Entry source.Local)) → revs p.path ≡ x → Is p.path (Some p) x
+      → IsShown (part_of s) revs p
   is_shown p None at h = absurd h
   is_shown p (Some e) at h = record { path = p.path; entry = e; stands = at; is = h }
 
@@ -147,10 +168,12 @@ module _ (s : Setting) (revs : PathMap (Entry source.Local)) where
   to_lists ps t = record {
     order = t.0;
     all = λ r e stands. is_among ps r e (part_at ps r) refl (subst (Is r (part_at ps r)) stands (t.1 r));
-    only = λ p i. is_shown p (revs p.path) refl (subst (λ o. Is p.path o (revs p.path)) (at_own ps t.0 p i) (t.1 p.path));
+    only = λ p i.
+        is_shown p (revs p.path) refl (subst (λ o. Is p.path o (revs p.path)) (at_own ps t.0 p i) (t.1 p.path));
   }
 
-  each_part : (ps : List Part) → Lists (part_of s) revs ps → (r : Path) (o : Option Part) (x : Option (Entry source.Local)) → part_at ps r ≡ o → revs r ≡ x → Is r o x
+  each_part : (ps : List Part) → Lists (part_of s) revs ps
+      → (r : Path) (o : Option Part) (x : Option (Entry source.Local)) → part_at ps r ≡ o → revs r ≡ x → Is r o x
   each_part ps l r None None at stands = tt
   each_part ps l r None (Some e) at stands =
       none_some (sym at ∙ at_own ps l.order (part_of s r (local_of e)) (l.all r e stands))

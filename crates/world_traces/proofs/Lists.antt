@@ -18,10 +18,12 @@ abbrev pub Within : List Part → List Part → Type 0
 Within ps qs = (x : Part) → Among ps x → Among qs x
 
 -- two lists in post-order begin alike
-heads : (p q : Part) (ps qs : List Part) → InPostOrder (p ∷ ps) → InPostOrder (q ∷ qs) → Among (q ∷ qs) p → Among (p ∷ ps) q → p ≡ q
+heads : (p q : Part) (ps qs : List Part) → InPostOrder (p ∷ ps) → InPostOrder (q ∷ qs) → Among (q ∷ qs) p
+    → Among (p ∷ ps) q → p ≡ q
 heads p q ps qs a b (inl e) j = sym e
 heads p q ps qs a b (inr i) (inl e) = e
-heads p q ps qs a b (inr i) (inr j) = absurd (before_irrefl p.path (before_trans p.path q.path p.path (a.0 q j) (b.0 p i)))
+heads p q ps qs a b (inr i) (inr j) =
+    absurd (before_irrefl p.path (before_trans p.path q.path p.path (a.0 q j) (b.0 p i)))
 
 -- and go on alike
 tails : (p q : Part) (ps qs : List Part) → InPostOrder (p ∷ ps) → p ≡ q → Within (p ∷ ps) (q ∷ qs) → Within ps qs
@@ -54,7 +56,8 @@ put_keeps : (p : Part) (ps : List Part) → Within ps (put p ps)
 put_keeps p [] x i = absurd i
 put_keeps p (q ∷ ps) x i = go (before q.path p.path) i (put_keeps p ps x)
   where
-    go : (b : Bool) → Among (q ∷ ps) x → (Among ps x → Among (put p ps) x) → Among (cond b (q ∷ put p ps) (p ∷ q ∷ ps)) x
+    go : (b : Bool) → Among (q ∷ ps) x → (Among ps x → Among (put p ps) x)
+        → Among (cond b (q ∷ put p ps) (p ∷ q ∷ ps)) x
     go true (inl e) later = inl e
     go true (inr j) later = inr (later j)
     go false j later = inr j
@@ -80,11 +83,15 @@ module _ {A : Type 0} (part : Path → A → Part) (has_path : (r : Path) (a : A
     where
       go : (part x.0 x.1 ≡ p) ⊎ Among (sorted w) p → (Among (sorted w) p → Stands w p) → Stands (x ∷ w) p
       go (inl e) later = record { number = 0; path = x.0; entry = x.1; at = refl; is = sym e }
-      go (inr j) later = let h = later j in record { number = suc h.number; path = h.path; entry = h.entry; at = h.at; is = h.is }
+      go (inr j) later =
+          let h = later j in record { number = suc h.number; path = h.path; entry = h.entry; at = h.at; is = h.is }
 
-  pub sorted_all : (w : List (Path × A)) (n : ℕ) (r : Path) (a : A) → at_number w n ≡ Some (r, a) → Among (sorted w) (part r a)
+  pub sorted_all : (w : List (Path × A)) (n : ℕ) (r : Path) (a : A) → at_number w n ≡ Some (r, a)
+      → Among (sorted w) (part r a)
   sorted_all [] n r a e = none_some e
-  sorted_all (x ∷ w) zero r a e = let same = some_inj e in subst (λ v. Among (sorted (x ∷ w)) (part v.0 v.1)) same (put_in (part x.0 x.1) (sorted w))
+  sorted_all (x ∷ w) zero r a e =
+      let same = some_inj e in
+      subst (λ v. Among (sorted (x ∷ w)) (part v.0 v.1)) same (put_in (part x.0 x.1) (sorted w))
   sorted_all (x ∷ w) (suc n) r a e = put_keeps (part x.0 x.1) (sorted w) (part r a) (sorted_all w n r a e)
 
   -- the paths of the parts are those of the revisions
@@ -92,11 +99,14 @@ module _ {A : Type 0} (part : Path → A → Part) (has_path : (r : Path) (a : A
   sorted_paths [] p i = absurd i
   sorted_paths (x ∷ w) p i = go (put_among (part x.0 x.1) (sorted w) p i) (sorted_paths w p)
     where
-      go : (part x.0 x.1 ≡ p) ⊎ Among (sorted w) p → (Among (sorted w) p → IsIn p.path (paths_of w)) → IsIn p.path (paths_of (x ∷ w))
+      go : (part x.0 x.1 ≡ p) ⊎ Among (sorted w) p → (Among (sorted w) p → IsIn p.path (paths_of w))
+          → IsIn p.path (paths_of (x ∷ w))
       go (inl e) later = inl (ap (λ v. v.path) (sym e) ∙ has_path x.0 x.1)
       go (inr j) later = inr (later j)
 
   pub sorted_order : (w : List (Path × A)) → IsDistinct (paths_of w) → InPostOrder (sorted w)
   sorted_order [] d = tt
   sorted_order (x ∷ w) d =
-      put_order (part x.0 x.1) (sorted w) (λ p i same. d.0 (subst (λ v. IsIn v (paths_of w)) (same ∙ has_path x.0 x.1) (sorted_paths w p i))) (sorted_order w d.1)
+      put_order (part x.0 x.1) (sorted w)
+      (λ p i same. d.0 (subst (λ v. IsIn v (paths_of w)) (same ∙ has_path x.0 x.1) (sorted_paths w p i)))
+      (sorted_order w d.1)

@@ -29,7 +29,8 @@ one_cell n e = grind (arith, nat_tests, e)
 variable_many : (x : CodeVar) → has_cells x.array x.cells ≡ true → length (variable_places x) ≡ x.cells
 variable_many x = by x.array
   where
-    by : (d : Bool) → has_cells d x.cells ≡ true → length (if d then cell_places x.name 0 x.cells else place_of x.name None ∷ []) ≡ x.cells
+    by : (d : Bool) → has_cells d x.cells ≡ true
+        → length (if d then cell_places x.name 0 x.cells else place_of x.name None ∷ []) ≡ x.cells
     by true h = cells_many x.name 0 x.cells
     by false h = sym (one_cell x.cells h)
 
@@ -39,7 +40,8 @@ has_its_cells code x h =
     let b = and_parts (is_name x.name && has_cells x.array x.cells) (is_start x.kind x.start) a.0 in
     (and_parts (is_name x.name) (has_cells x.array x.cells) b.0).1
 
-all_many : (code : Code) (xs : List CodeVar) → list_all (is_var code) xs ≡ true → length (places xs) ≡ length (location_kinds xs)
+all_many : (code : Code) (xs : List CodeVar) → list_all (is_var code) xs ≡ true
+    → length (places xs) ≡ length (location_kinds xs)
 all_many code [] h = refl
 all_many code (x ∷ xs) h =
     let p = and_parts (is_var code x) (list_all (is_var code) xs) h in
@@ -62,14 +64,20 @@ module _ (path : ℕ → Path) (ls : List (Location ℕ)) where
   abbrev place : Shown → List ℕ
   place x = place_of x.name x.cell
 
-  cells_shown : (name : List ℕ) (base cell count : ℕ) → map (λ x. place_of x.name x.cell) (show_cells path name ls base cell count) ≡ cell_places name cell count
+  cells_shown : (name : List ℕ) (base cell count : ℕ)
+      → map (λ x. place_of x.name x.cell) (show_cells path name ls base cell count) ≡ cell_places name cell count
   cells_shown name base cell zero = refl
-  cells_shown name base cell (suc n) = let later = cells_shown name base (suc cell) n in λ i. place_of name (Some cell) ∷ later i
+  cells_shown name base cell (suc n) =
+      let later = cells_shown name base (suc cell) n in λ i. place_of name (Some cell) ∷ later i
 
-  variable_shown : (base : ℕ) (x : CodeVar) → map (λ x. place_of x.name x.cell) (show_variable path ls base x) ≡ variable_places x
+  variable_shown : (base : ℕ) (x : CodeVar)
+      → map (λ x. place_of x.name x.cell) (show_variable path ls base x) ≡ variable_places x
   variable_shown base x = by x.array
     where
-      by : (d : Bool) → map (λ x. place_of x.name x.cell) (if d then show_cells path x.name ls base 0 x.cells else record { name = x.name; cell = None; value = value_at path ls base } ∷ [])
+      by : (d : Bool)
+          → map (λ x. place_of x.name x.cell)
+          (if d then show_cells path x.name ls base 0 x.cells
+          else record { name = x.name; cell = None; value = value_at path ls base } ∷ [])
           ≡ (if d then cell_places x.name 0 x.cells else place_of x.name None ∷ [])
       by true = cells_shown x.name base 0 x.cells
       by false = refl

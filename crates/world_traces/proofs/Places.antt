@@ -9,23 +9,29 @@ use Rattle.rev_types.specs.Layout.{SharedVariable, variables}
 use Rattle.revision_calculus.specs.Program.{Setting}
 use Rattle.revision_calculus.specs.Outcome.{show_cells, show_variable, show_all}
 use Rattle.code_generation.specs.Generated.{var_of}
-use Rattle.join_agreement.specs.Related.{run_of}
+use Rattle.program_meaning.specs.Related.{run_of}
 use Rattle.audit_rules.specs.Parts as calculus_parts
 use Rattle.audit_rules.proofs.Apart.{place}
 use Rattle.world_traces.specs.Parts.{cell_places, variable_places, places}
 
-cells_named : (name : Name) (base cell count : ℕ) → cell_places name cell count ≡ map (λ x. place_of x.name x.cell) (show_cells name [] base cell count)
+cells_named : (name : Name) (base cell count : ℕ)
+    → cell_places name cell count ≡ map (λ x. place_of x.name x.cell) (show_cells name [] base cell count)
 cells_named name base cell zero = refl
-cells_named name base cell (suc n) = let later = cells_named name base (suc cell) n in λ i. place_of name (Some cell) ∷ later i
+cells_named name base cell (suc n) =
+    let later = cells_named name base (suc cell) n in λ i. place_of name (Some cell) ∷ later i
 
-variable_named : (all : List Declaration) (x : SharedVariable) → variable_places (var_of all x) ≡ map (λ x. place_of x.name x.cell) (show_variable [] x x.info.array)
+variable_named : (all : List Declaration) (x : SharedVariable)
+    → variable_places (var_of all x) ≡ map (λ x. place_of x.name x.cell) (show_variable [] x x.info.array)
 variable_named all x = by x.info.array
   where
-    by : (d : Bool) → (if d then cell_places x.declared.name.text 0 x.info.cells else place_of x.declared.name.text None ∷ []) ≡ map (λ x. place_of x.name x.cell) (show_variable [] x d)
+    by : (d : Bool)
+        → (if d then cell_places x.declared.name.text 0 x.info.cells else place_of x.declared.name.text None ∷ [])
+        ≡ map (λ x. place_of x.name x.cell) (show_variable [] x d)
     by true = cells_named x.declared.name.text x.info.base 0 x.info.cells
     by false = refl
 
-all_named : (all : List Declaration) (xs : List SharedVariable) → places (map (var_of all) xs) ≡ map (λ x. place_of x.name x.cell) (show_all xs [])
+all_named : (all : List Declaration) (xs : List SharedVariable)
+    → places (map (var_of all) xs) ≡ map (λ x. place_of x.name x.cell) (show_all xs [])
 all_named all [] = refl
 all_named all (x ∷ xs) =
     let a = variable_named all x in let b = all_named all xs in

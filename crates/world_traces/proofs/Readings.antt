@@ -36,17 +36,27 @@ module _ {H K : Type 0} (f : H → K) (path : K → Path) where
   origin_read r None = refl
   origin_read r (Some h) = refl
 
-  pub end_read : (ps : List (List ℕ)) (r : Path) (x : Phase H) → end_at path ps r (renamed_phase f x) ≡ end_at through ps r x
+  pub end_read : (ps : List (List ℕ)) (r : Path) (x : Phase H)
+      → end_at path ps r (renamed_phase f x) ≡ end_at through ps r x
   end_read ps r running = refl
   end_read ps r done = refl
-  end_read ps r (trapped t) = let a = origin_read r t.origin in λ i. part_end.Trapped (record { cause = t.cause; line = t.line; origin = a i }) (cause_place ps t.cause)
+  end_read ps r (trapped t) =
+      let a = origin_read r t.origin in
+      λ i. part_end.Trapped (record { cause = t.cause; line = t.line; origin = a i }) (cause_place ps t.cause)
 
-  pub changes_read : (ps : List (List ℕ)) (n : ℕ) (ls : List (Location H)) → map (change_of path ps) (written_from n (map (renamed_location f) ls)) ≡ map (change_of through ps) (written_from n ls)
+  pub changes_read : (ps : List (List ℕ)) (n : ℕ) (ls : List (Location H))
+      → map (change_of path ps) (written_from n (map (renamed_location f) ls))
+      ≡ map (change_of through ps) (written_from n ls)
   changes_read ps n [] = refl
   changes_read ps n (l ∷ ls) = by l.written (changes_read ps (suc n) ls)
     where
-      by : (w : Option (Word H)) → map (change_of path ps) (written_from (suc n) (map (renamed_location f) ls)) ≡ map (change_of through ps) (written_from (suc n) ls)
-          → map (change_of path ps) (written_from n (renamed_location f (record { snapshot = l.snapshot; written = w }) ∷ map (renamed_location f) ls)) ≡ map (change_of through ps) (written_from n (record { snapshot = l.snapshot; written = w } ∷ ls))
+      by : (w : Option (Word H))
+          → map (change_of path ps) (written_from (suc n) (map (renamed_location f) ls))
+          ≡ map (change_of through ps) (written_from (suc n) ls)
+          → map (change_of path ps)
+          (written_from n
+          (renamed_location f (record { snapshot = l.snapshot; written = w }) ∷ map (renamed_location f) ls))
+          ≡ map (change_of through ps) (written_from n (record { snapshot = l.snapshot; written = w } ∷ ls))
       by None later = later
       by (Some w) later =
           let value = word_read w in let root = word_read l.snapshot in
@@ -57,7 +67,14 @@ module _ {H K : Type 0} (f : H → K) (path : K → Path) where
       let events = events_read l.state.listed in
       let end = end_read (places g.code.vars) r l.phase in
       let written = changes_read (places g.code.vars) 0 l.state.locations in
-      λ i. record { path = r; events = events i; end = end i; fuel = l.state.fuel; written = written i; text = l.state.text }
+      λ i. record {
+        path = r;
+        events = events i;
+        end = end i;
+        fuel = l.state.fuel;
+        written = written i;
+        text = l.state.text;
+      }
 
 -- numbers that a table reads as the paths that they stand for
 module _ (t : List Path) where
@@ -66,9 +83,11 @@ module _ (t : List Path) where
 
   all_back : (hs : List Path) → ((q : Path) → IsIn q hs → IsIn q t) → AllFixed (λ q. path_in t (number_of t q)) hs
   all_back [] known = tt
-  all_back (h ∷ hs) known = (ap (λ x. or_path x []) (number_back t h (known h (inl refl))), all_back hs (λ q i. known q (inr i)))
+  all_back (h ∷ hs) known =
+      (ap (λ x. or_path x []) (number_back t h (known h (inl refl))), all_back hs (λ q i. known q (inr i)))
 
-  pub numbered_part : (g : CodeRun) (r : Path) (a : Local Path) (b : Local ℕ) → IsNumbered t r a b → part_in g t r b ≡ part_by (λ p. p) g r a
+  pub numbered_part : (g : CodeRun) (r : Path) (a : Local Path) (b : Local ℕ) → IsNumbered t r a b
+      → part_in g t r b ≡ part_by (λ p. p) g r a
   numbered_part g r a b rel =
       ap (part_in g t r) rel.is
       ∙ part_read (number_of t) (path_in t) g r a

@@ -21,8 +21,8 @@ use Rattle.audit_rules.specs.Traces.{InPostOrder, IsTrace}
 use Rattle.code_machine.specs.Local.{CodeRun, Local}
 use Rattle.code_machine.specs.Machines.{numbered}
 use Rattle.code_machine.specs.Starts.{FromEachStart}
-use Rattle.join_agreement.specs.Related.{run_of}
-use Rattle.program_simulation.specs.Laws.{FromStart}
+pub use Rattle.program_meaning.specs.Related.{run_of}
+use Rattle.program_meaning.specs.Laws.{FromStart}
 use Rattle.world_traces.specs.Parts.{part_in}
 
 -- ---- the trace of a world

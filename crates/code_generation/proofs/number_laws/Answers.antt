@@ -1,3 +1,4 @@
+-- Answers of number_laws: the number of a name is its own place in the list of blocks or of variables.
 use Rattle.code_generation.proofs.Naming.{fun_stands, proc_stands, merge_stands, variable_lies}
 use Rattle.code_generation.proofs.number_laws.Goals as goal
 

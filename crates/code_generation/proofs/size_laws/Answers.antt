@@ -1,3 +1,4 @@
+-- Answers of size_laws: by recursion on expressions and statements each form's code is as long as its size says.
 use Rattle.code_generation.proofs.Lengths.{expression_length, statements_length}
 use Rattle.code_generation.proofs.size_laws.Goals as goal
 

@@ -1,3 +1,4 @@
+-- Answers of table_laws: by recursion on statements each let gives one local, and each print one layout.
 use Rattle.code_generation.proofs.Lengths.{statements_locals, statements_prints_length}
 use Rattle.code_generation.proofs.table_laws.Goals as goal
 

@@ -1,3 +1,4 @@
+-- Answers of handle_laws: steps commute with a renaming of handles, and so do legs and what an ended revision leaves.
 use Rattle.code_memos.proofs.Reading.{legs_are_renamed, ends_are_renamed}
 use Rattle.code_memos.proofs.handle_laws.Goals as goal
 

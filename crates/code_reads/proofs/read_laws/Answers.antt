@@ -1,3 +1,4 @@
+-- Answers of read_laws: what an instruction comes to hangs on its reads alone, and so with a row of them.
 use Rattle.code_reads.proofs.Moving.{step_same, reach_same}
 use Rattle.code_reads.proofs.Own.{own_reads_agree}
 use Rattle.code_reads.proofs.read_laws.Goals as goal

@@ -1,3 +1,4 @@
+-- Answers of fault_law: the search goes tables first and then block by block, so what it finds is the first fault.
 use Rattle.code_ways.proofs.OfCode.{first_is, none_is}
 use Rattle.code_ways.proofs.fault_law.Goals as goal
 

@@ -1,3 +1,4 @@
+-- Answers of pass_law: the pass and the rules in words refuse the same instruction first, or neither refuses any.
 use Rattle.code_ways.proofs.Exact.{finds, refuses, accepts, passes}
 use Rattle.code_ways.proofs.pass_law.Goals as goal
 

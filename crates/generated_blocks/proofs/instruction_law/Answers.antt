@@ -1,3 +1,4 @@
+-- Answers of instruction_law: the certificates keep each block in order: funs and merges, then bodies, then main.
 use Rattle.generated_blocks.proofs.Whole.{instructions_accepted}
 use Rattle.generated_blocks.proofs.instruction_law.Goals as goal
 

@@ -1,3 +1,4 @@
+-- Answers of valid_law: its one clause, that marks tell where snapshots and inputs have the same reads, is a lemma.
 use Rattle.noting_run.proofs.Marks.{agrees_by_marks}
 use Rattle.noting_run.proofs.valid_law.Goals as goal
 

@@ -1,3 +1,4 @@
+-- Answers of agreement: one lemma takes each instruction that stays in the block, on words with a kind and without.
 use Rattle.plain_words.proofs.Rows.{rows}
 use Rattle.plain_words.proofs.agreement.Goals as goal
 

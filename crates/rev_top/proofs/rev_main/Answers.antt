@@ -1,3 +1,4 @@
+-- Answers of rev_main: what happened in the call, and what it took of its source, are enough for each clause.
 use Rattle.rev_top.proofs.Accepting.{accepted}
 use Rattle.rev_top.proofs.Kept.{keeps}
 use Rattle.rev_top.proofs.Rans.{ran_says}

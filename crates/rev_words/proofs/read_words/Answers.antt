@@ -1,3 +1,4 @@
+-- Answers of read_words: what the command found has no reading or one that keeps the ranges.
 use Rattle.clap.specs.Words.{found_of, rows_of}
 use Rattle.rev_words.proofs.Ranges.{answer_keeps}
 use Rattle.rev_words.proofs.read_words.Goals as goal

@@ -1,3 +1,4 @@
+-- Answers of birth_laws: four lemmas on a lawful machine, of which three use that its steps count the forks.
 use Rattle.revision_births.proofs.Births.{one_birth, born_stand}
 use Rattle.revision_births.proofs.Leaves.{leaves_end}
 use Rattle.revision_births.proofs.News.{new_is_born}

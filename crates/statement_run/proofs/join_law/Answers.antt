@@ -1,3 +1,4 @@
+-- Answers of join_law: one lemma, by the tables and links of the program's code, leads to the state behind the join.
 use Rattle.statement_run.proofs.Joins.{goes_on_behind}
 use Rattle.statement_run.proofs.Starts.{linked}
 use Rattle.statement_run.specs.Laws.{tables}
@@ -5,4 +6,5 @@ use Rattle.statement_run.proofs.join_law.Goals as goal
 
 pub returns : goal.returns
 returns c = λ s well l left q c at done joined past frames is shared.
-    (let d = goes_on_behind s (tables s) (linked s well) l left q c at done joined past frames is shared in record { c = d.c; on = d.on; few = d.few; stands = d.stand })
+    (let d = goes_on_behind s (tables s) (linked s well) l left q c at done joined past frames is shared in
+    record { c = d.c; on = d.on; few = d.few; stands = d.stand })

@@ -1,3 +1,4 @@
+-- Answers of examples: the least fault in the checker's list is computed, and is the first that the program breaks.
 use Rattle.std.proofs.Common.{◌≡◌, Some, refl}
 use Rattle.rev_syntax.specs.Trees.{ProgramTree}
 use Rattle.merge_decl.specs.Least.{least}

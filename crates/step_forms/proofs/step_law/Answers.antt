@@ -1,3 +1,4 @@
+-- Answers of step_law: one lemma gives each step of each state its form.
 use Rattle.step_forms.proofs.Forms.{step_form}
 use Rattle.step_forms.proofs.step_law.Goals as goal
 

@@ -1,3 +1,4 @@
+-- Answers of text_law: one lemma, by the number of steps, gives what is said behind the text of the state.
 use Rattle.step_forms.proofs.Texts.{reach_says}
 use Rattle.step_forms.proofs.text_law.Goals as goal
 

@@ -3,8 +3,7 @@ ghost use Rattle.std.specs.Prelude.{◌≡◌};
 
 use crate::closing::HubRun;
 use atomic_table::Badge;
-use hub_table::HubState;
-use turn_rule::{Revision, View};
+use hub_core::{HubState, Revision, View};
 
 /// The schedule of a run that a hub kept, without the ends, so that it borrows nothing. It is made
 /// of a `HubRun` alone. It tells where the run began, and what its snapshots belonged to.

@@ -3,7 +3,7 @@ ghost use Rattle.std.specs.Prelude.{◌≡◌};
 ghost use Rattle.turn_hub.specs.Closing.{IsSameMachine, HaveSameEnds};
 
 use crate::closing::HubRun;
-use turn_rule::Revision;
+use hub_core::Revision;
 
 impl<L: Revision> HubRun<L> {
     /// The same run, as one of a machine whose states step, fork and join alike and have the same

@@ -1,3 +1,4 @@
+-- Answers of place_laws: two lemmas, that each location has a place, and that an outcome shows its values by these.
 use Rattle.world_traces.proofs.Names.{each_has_place, shown_by_places}
 use Rattle.world_traces.proofs.place_laws.Goals as goal
 

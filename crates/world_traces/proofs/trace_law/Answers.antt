@@ -1,4 +1,5 @@
-use Rattle.generated_blocks.proofs.Accepted.{code_accepted}
+-- Answers of trace_law: the code of a program is accepted, and of accepted code the agreement of traces is a lemma.
+use Rattle.program_meaning.proofs.Outcomes.{code_accepted}
 use Rattle.world_traces.proofs.Worlds.{traces_agree}
 use Rattle.world_traces.proofs.trace_law.Goals as goal
 

@@ -1,3 +1,4 @@
+-- Answers of world_laws: three lemmas, that each world has a trace, that main ends it, and that two agree.
 use Rattle.world_traces.proofs.Last.{ends_in_main}
 use Rattle.world_traces.proofs.Worlds.{has_trace, one_trace}
 use Rattle.world_traces.proofs.world_laws.Goals as goal

@@ -1,3 +1,4 @@
+-- Answers of first_broken: the tables and walks of the declarations and of main are those of the rule for programs.
 use Rattle.std.proofs.Common.{ap, map, refl, false}
 use Rattle.rev_syntax.specs.View.{declaration, program as whole}
 use Rattle.rev_kinds.specs.declared.names.Checker.{Checker}

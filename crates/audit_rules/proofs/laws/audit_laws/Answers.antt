@@ -1,3 +1,4 @@
+-- Answers of audit_laws: the laws of audits by a map of parts are read for lists, where a part is found by its path.
 use Rattle.audit_rules.proofs.Listed.{end_has_trace}
 use Rattle.audit_rules.proofs.OwnRuns.{own_runs_fit}
 use Rattle.audit_rules.proofs.Traced.{each_is_computed, has_verdict, trace_has_yes, verdict_is_one, yes_tells}

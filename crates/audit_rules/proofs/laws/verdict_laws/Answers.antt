@@ -1,3 +1,4 @@
+-- Answers of verdict_laws: the laws of audits on parts, read for a trace with its verdict as one value.
 use Rattle.audit_rules.proofs.Verdicts.{each_has_one, trace_is_yes, yes_is_true}
 use Rattle.audit_rules.proofs.laws.verdict_laws.Goals as goal
 

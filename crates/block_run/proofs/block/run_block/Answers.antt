@@ -1,3 +1,4 @@
+-- Answers of run_block: each instruction is one step of the machine, and the last one's end follows the steps before.
 use Rattle.std.proofs.Common.{◌≡◌, ◌≢◌, ◌∙◌, ℕ, List, Option, ◌<◌, ◌^◌, length, sym, ap, refl, arith, subst, ◌+◌, ◌≤◌}
 use Rattle.std.specs.Prelude.{ℤ, slice_get}
 use Rattle.rev_code.specs.Step as step
@@ -17,7 +18,8 @@ use Rattle.block_run.proofs.Turning.{inside_now, found_operand, placed, room, on
 use Rattle.block_run.proofs.Locations.{all_kept}
 use Rattle.block_run.proofs.block.run_block.Goals as goal
 
-roomy_still : (code : Code) (b : CodeBlock) (r r' : Registers) (n n' : ℕ) → IsRoomy code b r n → r'.block ≡ r.block → r'.base ≡ r.base → n' ≡ n → IsRoomy code b r' n'
+roomy_still : (code : Code) (b : CodeBlock) (r r' : Registers) (n n' : ℕ) → IsRoomy code b r n → r'.block ≡ r.block
+    → r'.base ≡ r.base → n' ≡ n → IsRoomy code b r' n'
 roomy_still code b r r' n n' h d e f at k =
     let g = subst (λ m. low b r + length (notes_of code m at).shape ≤ n) (sym d) (h at k) in omega (arith, g, e, f)
 
@@ -30,14 +32,17 @@ not_goes (act.Traps f) other = λ e. absurd cc
 not_goes act.Leaves other = λ e. absurd cc
 
 -- the loop leaves the block and the base as they were
-same_registers : (r r' : Registers) → r'.block ≡ r.block → r'.base ≡ r.base → r' ≡ record r { at = r'.at; top = r'.top; fuel = r'.fuel; line = r'.line }
+same_registers : (r r' : Registers) → r'.block ≡ r.block → r'.base ≡ r.base
+    → r' ≡ record r { at = r'.at; top = r'.top; fuel = r'.fuel; line = r'.line }
 same_registers r r' e f =
     ap (λ n. record { block = n; at = r'.at; base = r'.base; top = r'.top; fuel = r'.fuel; line = r'.line }) e
     ∙ ap (λ n. record { block = r.block; at = r'.at; base = n; top = r'.top; fuel = r'.fuel; line = r'.line }) f
 
-stopped : (code : Code) (inputs : List ℤ) (m : Mode) (b : CodeBlock) (c : State ℕ) (s s' : Stop) (ws : List ℕ) (r r' : Registers) (seen : ℕ → ℕ) (root : ℕ → Option ℕ)
+stopped : (code : Code) (inputs : List ℤ) (m : Mode) (b : CodeBlock) (c : State ℕ) (s s' : Stop) (ws : List ℕ)
+    (r r' : Registers) (seen : ℕ → ℕ) (root : ℕ → Option ℕ)
     → s ≡ s' → r ≡ r' → Ends code inputs m b c s ws r seen root → Ends code inputs m b c s' ws r' seen root
-stopped code inputs m b c s s' ws r r' seen root e f h = subst (λ k. Ends code inputs m b c k ws r' seen root) e (subst (λ q. Ends code inputs m b c s ws q seen root) f h)
+stopped code inputs m b c s s' ws r r' seen root e f h =
+    subst (λ k. Ends code inputs m b c k ws r' seen root) e (subst (λ q. Ends code inputs m b c s ws q seen root) f h)
 
 pub loop-last-init : goal.loop-last-init
 loop-last-init g c = record {
@@ -59,7 +64,8 @@ fetch-x-requires g c =
     let v = c.loop-last.invariant in
     let a = v.ahead q.0 q.1 q.2 in
     let is = ap (slice_get c.args.code.now.blocks) v.block ∙ c.requires.block in
-    inside_now c.args.code.now c.requires.accepted c.args.inputs.now q.0 c.args.b.now a.now c.loop-last.words c.loop-last.r _ _ a.here is c.as_slice-instrs.result.now v.instrs
+    inside_now c.args.code.now c.requires.accepted c.args.inputs.now q.0 c.args.b.now a.now c.loop-last.words
+    c.loop-last.r _ _ a.here is c.as_slice-instrs.result.now v.instrs
 
 pub act-requires-clause-operand : goal.act-requires-clause-operand
 act-requires-clause-operand g c =
@@ -68,7 +74,8 @@ act-requires-clause-operand g c =
     let a = v.ahead q.0 q.1 q.2 in
     let is = ap (slice_get c.args.code.now.blocks) v.block ∙ c.requires.block in
     let at = ap (λ xs. slice_get xs c.loop-last.r.at) (sym v.instrs) ∙ c.fetch-x.ensures in
-    found_operand c.args.code.now c.requires.accepted c.args.inputs.now c.requires.inputs q.0 c.args.b.now a.now c.loop-last.words c.loop-last.r _ _ a.here is _ at
+    found_operand c.args.code.now c.requires.accepted c.args.inputs.now c.requires.inputs q.0 c.args.b.now a.now
+    c.loop-last.words c.loop-last.r _ _ a.here is _ at
 
 pub act-requires-clause-placed : goal.act-requires-clause-placed
 act-requires-clause-placed g c =
@@ -77,9 +84,12 @@ act-requires-clause-placed g c =
     let a = v.ahead q.0 q.1 q.2 in
     let is = ap (slice_get c.args.code.now.blocks) v.block ∙ c.requires.block in
     let at = ap (λ xs. slice_get xs c.loop-last.r.at) (sym v.instrs) ∙ c.fetch-x.ensures in
-    let roomy = roomy_still c.args.code.now c.args.b.now c.args.registers.now c.loop-last.r (length c.args.words.now) (length c.loop-last.words) c.requires.room v.block v.base v.words in
+    let roomy =
+    roomy_still c.args.code.now c.args.b.now c.args.registers.now c.loop-last.r (length c.args.words.now)
+    (length c.loop-last.words) c.requires.room v.block v.base v.words in
     let few : length c.args.b.now.instrs < 2 ^ 32 = omega (arith, c.requires.short) in
-    placed c.args.code.now c.requires.accepted c.args.inputs.now c.requires.inputs q.0 c.args.b.now a.now c.loop-last.words c.loop-last.r _ _ a.here is _ at roomy few
+    placed c.args.code.now c.requires.accepted c.args.inputs.now c.requires.inputs q.0 c.args.b.now a.now
+    c.loop-last.words c.loop-last.r _ _ a.here is _ at roomy few
 
 pub act-requires-clause-room : goal.act-requires-clause-room
 act-requires-clause-room g c =
@@ -88,9 +98,12 @@ act-requires-clause-room g c =
     let a = v.ahead q.0 q.1 q.2 in
     let is = ap (slice_get c.args.code.now.blocks) v.block ∙ c.requires.block in
     let at = ap (λ xs. slice_get xs c.loop-last.r.at) (sym v.instrs) ∙ c.fetch-x.ensures in
-    let roomy = roomy_still c.args.code.now c.args.b.now c.args.registers.now c.loop-last.r (length c.args.words.now) (length c.loop-last.words) c.requires.room v.block v.base v.words in
+    let roomy =
+    roomy_still c.args.code.now c.args.b.now c.args.registers.now c.loop-last.r (length c.args.words.now)
+    (length c.loop-last.words) c.requires.room v.block v.base v.words in
     let few : length c.args.b.now.instrs < 2 ^ 32 = omega (arith, c.requires.short) in
-    room c.args.code.now c.requires.accepted c.args.inputs.now c.requires.inputs q.0 c.args.b.now a.now c.loop-last.words c.loop-last.r _ _ a.here is _ at roomy few
+    room c.args.code.now c.requires.accepted c.args.inputs.now c.requires.inputs q.0 c.args.b.now a.now
+    c.loop-last.words c.loop-last.r _ _ a.here is _ at roomy few
 
 pub loop-last-smaller : goal.loop-last-smaller
 loop-last-smaller g c =
@@ -100,7 +113,9 @@ loop-last-smaller g c =
     let is = ap (slice_get c.args.code.now.blocks) v.block ∙ c.requires.block in
     let at = ap (λ xs. slice_get xs c.loop-last.r.at) (sym v.instrs) ∙ c.fetch-x.ensures in
     let e = c.in-Goes.ensures in
-    smaller c.args.code.now c.requires.accepted c.args.inputs.now c.requires.inputs q.0 c.args.b.now a.now c.loop-last.words c.loop-last.r _ _ a.here is _ at c.act.new.words c.act.new.r _ _ _ (few_locations _ _ _ _ v.size c.requires.size a.here.many) e.int e.does e.stays
+    smaller c.args.code.now c.requires.accepted c.args.inputs.now c.requires.inputs q.0 c.args.b.now a.now
+    c.loop-last.words c.loop-last.r _ _ a.here is _ at c.act.new.words c.act.new.r _ _ _
+    (few_locations _ _ _ _ v.size c.requires.size a.here.many) e.int e.does e.stays
 
 pub loop-last-preserved : goal.loop-last-preserved
 loop-last-preserved g c =
@@ -114,12 +129,16 @@ loop-last-preserved g c =
       words = c.act.auto.words ∙ v.words;
       ahead = λ m c0 here.
           let a = v.ahead m c0 here in
-          onward c.args.code.now c.requires.accepted c.args.inputs.now c.requires.inputs m c.args.b.now a.now c.loop-last.words c.loop-last.r _ _ a.here is _ at c.act.new.words c.act.new.r _ _ _ (few_locations _ _ _ _ v.size c.requires.size a.here.many) e.int e.does e.stays c0 a.steps a.same;
+          onward c.args.code.now c.requires.accepted c.args.inputs.now c.requires.inputs m c.args.b.now a.now
+          c.loop-last.words c.loop-last.r _ _ a.here is _ at c.act.new.words c.act.new.r _ _ _
+          (few_locations _ _ _ _ v.size c.requires.size a.here.many) e.int e.does e.stays c0 a.steps a.same;
       kept = λ h.
           let q = c.requires.stands in
           let a = v.ahead q.0 q.1 q.2 in
           kept_on _ _ _ _ _ _ _ _ v.size (v.kept h)
-          (quiet c.args.code.now c.requires.accepted c.args.inputs.now c.requires.inputs q.0 c.args.b.now a.now c.loop-last.words c.loop-last.r _ _ a.here is _ at c.act.new.words c.act.new.r _ _ _ (few_locations _ _ _ _ v.size c.requires.size a.here.many) e.int h stop.Goes e.does e.stays);
+          (quiet c.args.code.now c.requires.accepted c.args.inputs.now c.requires.inputs q.0 c.args.b.now a.now
+          c.loop-last.words c.loop-last.r _ _ a.here is _ at c.act.new.words c.act.new.r _ _ _
+          (few_locations _ _ _ _ v.size c.requires.size a.here.many) e.int h stop.Goes e.does e.stays);
       block = e.stays.block ∙ v.block;
       base = e.stays.base ∙ v.base;
       below = below_still _ _ _ _ _ v.base e.stays.below v.below;
@@ -134,17 +153,26 @@ returns-in_default g c =
     let at = ap (λ xs. slice_get xs c.loop-last.r.at) (sym v.instrs) ∙ c.fetch-x.ensures in
     let e = c.act.ensures in
     let was : c.loop-last.registers ≡ c.args.registers.now = v.registers in
-    let same = same_registers c.loop-last.registers c.act.new.r (e.stays.block ∙ v.block ∙ sym (ap (λ (r : Registers). r.block) was)) (e.stays.base ∙ v.base ∙ sym (ap (λ (r : Registers). r.base) was)) in
+    let same =
+    same_registers c.loop-last.registers c.act.new.r
+    (e.stays.block ∙ v.block ∙ sym (ap (λ (r : Registers). r.block) was))
+    (e.stays.base ∙ v.base ∙ sym (ap (λ (r : Registers). r.base) was)) in
     record {
       ends = λ m c0 here.
           let a = v.ahead m c0 here in
-          stopped c.args.code.now c.args.inputs.now m c.args.b.now c0 _ _ c.act.new.words _ _ _ _ (sym c.stop.ensures) same
-          (ended c.args.code.now c.requires.accepted c.args.inputs.now c.requires.inputs m c.args.b.now a.now c.loop-last.words c.loop-last.r _ _ a.here is _ at c.act.new.words c.act.new.r _ _ _ (few_locations _ _ _ _ v.size c.requires.size a.here.many) e.int (stop_of c.act.result) e.does e.stays (not_goes c.act.result c.in_default.not-Goes) c0 a.steps a.same);
+          stopped c.args.code.now c.args.inputs.now m c.args.b.now c0 _ _ c.act.new.words _ _ _ _ (sym c.stop.ensures)
+          same
+          (ended c.args.code.now c.requires.accepted c.args.inputs.now c.requires.inputs m c.args.b.now a.now
+          c.loop-last.words c.loop-last.r _ _ a.here is _ at c.act.new.words c.act.new.r _ _ _
+          (few_locations _ _ _ _ v.size c.requires.size a.here.many) e.int (stop_of c.act.result) e.does e.stays
+          (not_goes c.act.result c.in_default.not-Goes) c0 a.steps a.same);
       kept = λ h.
           let q = c.requires.stands in
           let a = v.ahead q.0 q.1 q.2 in
           kept_on _ _ _ _ _ _ _ _ v.size (v.kept h)
-          (quiet c.args.code.now c.requires.accepted c.args.inputs.now c.requires.inputs q.0 c.args.b.now a.now c.loop-last.words c.loop-last.r _ _ a.here is _ at c.act.new.words c.act.new.r _ _ _ (few_locations _ _ _ _ v.size c.requires.size a.here.many) e.int h (stop_of c.act.result) e.does e.stays);
+          (quiet c.args.code.now c.requires.accepted c.args.inputs.now c.requires.inputs q.0 c.args.b.now a.now
+          c.loop-last.words c.loop-last.r _ _ a.here is _ at c.act.new.words c.act.new.r _ _ _
+          (few_locations _ _ _ _ v.size c.requires.size a.here.many) e.int h (stop_of c.act.result) e.does e.stays);
       block = ap (λ (r : Registers). r.block) was;
       base = ap (λ (r : Registers). r.base) was;
       below = below_still _ _ _ _ _ v.base e.stays.below v.below;

@@ -1,3 +1,4 @@
+-- Loops of run_block: steps lead from where the machine stood to where it stands; block and words below stay.
 use Rattle.std.proofs.Common.{◌≡◌, ℕ, true, length, take}
 use Rattle.rev_code.specs.State.{State}
 use Rattle.version_map.specs.Deltas.{at}
@@ -15,9 +16,11 @@ invariant-loop-last g l = record {
   words : length l.words ≡ length l.initial.words;
   ahead : (m : Mode) (c : State ℕ) → Here l.code l.inputs m l.b c l.initial.words l.initial.registers
       (under l.initial.memory.delta (g.P.Snapshot.base l.initial.memory.snapshot)) (at l.initial.memory.first.roots)
-      → Ahead l.code l.inputs m l.b c l.words l.r (under l.memory.delta (g.P.Snapshot.base l.memory.snapshot)) (at l.memory.first.roots);
+      → Ahead l.code l.inputs m l.b c l.words l.r (under l.memory.delta (g.P.Snapshot.base l.memory.snapshot))
+      (at l.memory.first.roots);
   kept : is_value_class l.b.class ≡ true → Kept (g.P.Snapshot.size l.initial.memory.snapshot)
-      (under l.initial.memory.delta (g.P.Snapshot.base l.initial.memory.snapshot)) (under l.memory.delta (g.P.Snapshot.base l.memory.snapshot))
+      (under l.initial.memory.delta (g.P.Snapshot.base l.initial.memory.snapshot))
+      (under l.memory.delta (g.P.Snapshot.base l.memory.snapshot))
       (at l.initial.memory.first.roots) (at l.memory.first.roots);
   block : l.r.block ≡ l.initial.registers.block;
   base : l.r.base ≡ l.initial.registers.base;

@@ -1,3 +1,4 @@
+-- Answers of table_of: the first location plus the cells left is the count of all, so the sum does not overflow.
 use Rattle.std.proofs.Common.{◌∙◌, ◌++◌, sym, ap, arith}
 use Rattle.std.proofs.lemmas.List.{append-nil}
 use Rattle.std.proofs.Math.ListN.{drop_of_length-le}
@@ -17,7 +18,8 @@ pub returns-clause-listed : goal.returns-clause-listed
 returns-clause-listed c =
     let vs = c.as_slice-vars.result.now in
     let none = drop_of_length-le vs c.loop-at-test.false in
-    sym (append-nil c.loop-at.table.items) ∙ ap (λ us. c.loop-at.table.items ++ table_from c.loop-at.first us) (sym none)
+    sym (append-nil c.loop-at.table.items)
+    ∙ ap (λ us. c.loop-at.table.items ++ table_from c.loop-at.first us) (sym none)
     ∙ c.loop-at.invariant.table ∙ ap (table_from 0) c.loop-at.invariant.vars
 
 pub returns-clause-table : goal.returns-clause-table

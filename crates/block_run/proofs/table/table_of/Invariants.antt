@@ -1,3 +1,4 @@
+-- Loops of table_of: the table so far with that of the variables left is the whole one, and so with the cells.
 use Rattle.std.proofs.Common.{◌≡◌, ◌+◌, ◌++◌, drop}
 use Rattle.block_run.specs.Area.{count, table_from}
 use Rattle.block_run.proofs.table.table_of.Given as goal

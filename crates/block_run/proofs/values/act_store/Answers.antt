@@ -1,3 +1,4 @@
+-- Answers of act_store: taking the top word into a local is one write in the frame and a pop.
 use Rattle.block_run.proofs.Stacks.{stored}
 use Rattle.block_run.proofs.values.act_store.Goals as goal
 

@@ -1,3 +1,4 @@
+-- Answers of top: the word below the top in the array is the first word of the frame's stack.
 use Rattle.block_run.proofs.Stacks.{upper}
 use Rattle.block_run.proofs.values.top.Goals as goal
 

@@ -1,3 +1,4 @@
+-- Answers of write_code: code with no fault and counts that fit has a file, and that file is read back as the code.
 use Rattle.std.proofs.Common.{◌∙◌, ap}
 use Rattle.code_file.specs.Reads.{reading}
 use Rattle.code_file.proofs.HasFiles.{has_file}
@@ -12,4 +13,5 @@ returns-clause-has c = λ none. record {
 
 pub returns-clause-back : goal.returns-clause-back
 returns-clause-back c = λ none.
-    ap reading c.in_ok-bytes.ensures ∙ code_read c.word_laws.ensures c.args.code.now (has_file c.args.code.now none c.requires c.note_widths.ensures)
+    ap reading c.in_ok-bytes.ensures
+    ∙ code_read c.word_laws.ensures c.args.code.now (has_file c.args.code.now none c.requires c.note_widths.ensures)

@@ -1,3 +1,4 @@
+-- Answers of fault_laws: each law on the first fault follows from this: the file of code is read back as that code.
 use Rattle.code_file.proofs.ReadBack.{code_read}
 use Rattle.code_file.proofs.Firsts.{bad_field_is_first, cut_is_truncated, more_is_trailing}
 use Rattle.code_file.proofs.laws.fault_laws.Goals as goal

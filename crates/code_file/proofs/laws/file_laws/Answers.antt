@@ -1,3 +1,4 @@
+-- Answers of file_laws: that a file is read back as its code rests on the laws of words, and the others rest on that.
 use Rattle.code_file.proofs.ReadBack.{code_read}
 use Rattle.code_file.proofs.FileRead.{file_read}
 use Rattle.code_file.proofs.OneFile.{one_code, no_code}

@@ -1,3 +1,4 @@
+-- Answers of instrs: an instruction that fails ends the reading there; one that is read leaves one less to read.
 use Rattle.std.proofs.Common.{◌∙◌}
 use Rattle.std.proofs.lemmas.Result.{err_from_is_err_and}
 use Rattle.code_file.specs.Fields.{number_32}
@@ -10,15 +11,19 @@ unfolding instrs
 returns-in_err-instr-clause-reads c =
     let p = err_from_is_err_and c.from_residual-in_err-instr.result c.from_residual-in_err-instr.ensures.1 in
     rw (p.1, p.2)
-    (list_stop number_32 (λ _. instr c.args.tries) c.loop-turn.parts.items c.args.cursor.now.whole c.loop-turn.cursor.whole
-    c.args.cursor.now.rest.now c.number_32.new.self.rest.now c.loop-turn.cursor.rest.now c.loop-turn._turn c.in_ok-count.count _
+    (list_stop number_32 (λ _. instr c.args.tries) c.loop-turn.parts.items c.args.cursor.now.whole
+    c.loop-turn.cursor.whole
+    c.args.cursor.now.rest.now c.number_32.new.self.rest.now c.loop-turn.cursor.rest.now c.loop-turn._turn
+    c.in_ok-count.count _
     c.in_ok-count.ensures.reads c.loop-turn.invariant.rest c.loop-turn-test.true c.in_err-instr.ensures.reads)
 
 pub loop-turn-preserved : goal.loop-turn-preserved
 loop-turn-preserved c = record {
   rest =
-      list_turn (λ _. instr c.args.tries) c.loop-turn.parts.items c.push.new.self.items _ c.loop-turn.cursor.whole c.instr.new.cursor.whole c.loop-turn.cursor.rest.now
+      list_turn (λ _. instr c.args.tries) c.loop-turn.parts.items c.push.new.self.items _ c.loop-turn.cursor.whole
+      c.instr.new.cursor.whole c.loop-turn.cursor.rest.now
       c.instr.new.cursor.rest.now c.in_ok-instr.field-0 c.loop-turn._turn c.in_ok-count.count
-      c.loop-turn.invariant.rest c.loop-turn-test.true c.in_ok-instr.ensures.reads c.in_ok-instr.ensures.whole c.in_ok-push.ensures.items;
+      c.loop-turn.invariant.rest c.loop-turn-test.true c.in_ok-instr.ensures.reads c.in_ok-instr.ensures.whole
+      c.in_ok-push.ensures.items;
   whole = c.in_ok-instr.ensures.whole ∙ c.loop-turn.invariant.whole;
 }

@@ -1,3 +1,4 @@
+-- Loops of instrs: reading the instructions left behind those read so far is reading all of them from the first.
 use Rattle.std.proofs.Common.{◌≡◌, ◌-◌, []}
 use Rattle.code_file.specs.Fields.{more}
 use Rattle.code_file.specs.Reads.{instr}
@@ -5,6 +6,7 @@ use Rattle.code_file.proofs.read.instrs.Given as goal
 
 abbrev pub invariant-loop-turn : goal.invariant-loop-turn
 invariant-loop-turn l = record {
-  rest : more l.count (λ _. instr l.tries) [] l.fn.cursor.whole l.initial.cursor.rest.now ≡ more (l.count - l._turn) (λ _. instr l.tries) l.parts.items l.cursor.whole l.cursor.rest.now;
+  rest : more l.count (λ _. instr l.tries) [] l.fn.cursor.whole l.initial.cursor.rest.now
+      ≡ more (l.count - l._turn) (λ _. instr l.tries) l.parts.items l.cursor.whole l.cursor.rest.now;
   whole : l.cursor.whole ≡ l.fn.cursor.whole;
 }

@@ -1,3 +1,4 @@
+-- Loops of note_blocks: each block before this one fits the widths of its fields.
 use Rattle.std.proofs.Common.{All, take}
 use Rattle.code_file.specs.Laws.{IsBlock}
 use Rattle.code_file.proofs.widths.note_blocks.Given as goal

@@ -1,3 +1,4 @@
+-- Loops of note_instrs: each instruction before this one fits the widths of its fields.
 use Rattle.std.proofs.Common.{All, take}
 use Rattle.code_file.specs.Laws.{IsInstr}
 use Rattle.code_file.proofs.widths.note_instrs.Given as goal

@@ -1,3 +1,4 @@
+-- Loops of note_layouts: each item of each layout before this one fits the widths of its fields.
 use Rattle.std.proofs.Common.{All, take}
 use Rattle.code_file.specs.Laws.{IsItem}
 use Rattle.code_file.proofs.widths.note_layouts.Given as goal

@@ -1,3 +1,4 @@
+-- Answers of note_vars: the variable that was noted joins those before it, and at the end those before are all.
 use Rattle.std.proofs.Common.{All, arith, subst}
 use Rattle.std.proofs.lemmas.List.{take_all}
 use Rattle.std.proofs.lemmas.List.Elements.{All-more}
@@ -10,4 +11,6 @@ loop-var-preserved c =
     (subst VarFits c.var-item.is c.note_var.ensures)
 
 pub returns : goal.returns
-returns c = let t = c.loop-var-test.false in subst (All VarFits) (take_all c.loop-var.var-index c.args.vars.now (omega (arith, t))) c.loop-var.invariant
+returns c =
+    let t = c.loop-var-test.false in
+    subst (All VarFits) (take_all c.loop-var.var-index c.args.vars.now (omega (arith, t))) c.loop-var.invariant

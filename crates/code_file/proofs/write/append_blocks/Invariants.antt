@@ -1,3 +1,4 @@
+-- Loops of append_blocks: the output is what it was, followed by the bytes of the blocks so far.
 use Rattle.std.proofs.Common.{◌≡◌, ◌++◌, take}
 use Rattle.std.specs.List.{flat_map}
 use Rattle.code_file.specs.Files.{block_bytes}

@@ -1,3 +1,4 @@
+-- Loops of append_vars: the output is what it was, followed by the bytes of the variables so far.
 use Rattle.std.proofs.Common.{◌≡◌, ◌++◌, take}
 use Rattle.std.specs.List.{flat_map}
 use Rattle.code_file.specs.Files.{var_bytes}

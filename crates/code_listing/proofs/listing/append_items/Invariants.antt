@@ -1,3 +1,4 @@
+-- Loops of append_items: the output is what it was, followed by the texts of the items so far.
 use Rattle.std.proofs.Common.{◌≡◌, ◌++◌, take}
 use Rattle.std.specs.List.{flat_map}
 use Rattle.code_listing.specs.Listing.{item_text}

@@ -1,3 +1,4 @@
+-- Loops of append_locals: the output is what it was, followed by the words for the kinds of the locals so far.
 use Rattle.std.proofs.Common.{◌≡◌, ◌++◌, take}
 use Rattle.std.specs.List.{flat_map}
 use Rattle.code_listing.specs.Listing.{local_text}

@@ -1,3 +1,4 @@
+-- Answers of end_laws: what an end shows is told by the leg or join that made it, by one theorem for each clause.
 use Rattle.code_machine.proofs.Showing.{own_traps, join_traps, by_the_end, ends_fit, merges_defined}
 use Rattle.code_machine.proofs.laws.end_laws.Goals as goal
 
@@ -14,4 +15,5 @@ pub returns-clause-fit : goal.returns-clause-fit
 returns-clause-fit g c = λ run ok l p. ends_fit run ok l p
 
 pub returns-clause-merges : goal.returns-clause-merges
-returns-clause-merges g c = λ run ok n block kind is at x y z a b d. merges_defined run ok n block kind is at x y z a b d
+returns-clause-merges g c =
+    λ run ok n block kind is at x y z a b d. merges_defined run ok n block kind is at x y z a b d

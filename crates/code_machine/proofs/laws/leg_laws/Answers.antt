@@ -1,3 +1,4 @@
+-- Answers of leg_laws: a leg is what the instructions lead to, since each typed state goes on up to an event.
 use Rattle.code_machine.proofs.Legs.{leg_is, has_leg}
 use Rattle.code_machine.proofs.laws.leg_laws.Goals as goal
 

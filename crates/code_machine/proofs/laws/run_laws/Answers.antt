@@ -1,3 +1,4 @@
+-- Answers of run_laws: the code keeps the conditions of revisions, so the general laws of runs hold of it.
 use Rattle.revision_machine.proofs.Ends.{reached_forked, diamond_law, unique_end, twice_in_all}
 use Rattle.revision_machine.proofs.Standing.{standing_law}
 use Rattle.revision_machine.proofs.Blocked.{handle_law, no_blocked_end}
@@ -18,10 +19,14 @@ returns c = record {
   twice = λ g ok n m fuel. twice_in_all (machine g) (start_in g n m.body fuel) (counts g ok);
   forkers = λ g ok n m fuel. reached_forked (machine g) (start_in g n m.body fuel) (counts g ok);
   standing = λ g ok n m fuel. standing_law (machine g) (start_in g n m.body fuel);
-  handles = λ g ok n m fuel. handle_law (machine g) (start_in g n m.body fuel) Holds (counts g ok) (holding g) (first_none g n m.body fuel);
-  unblocked = λ g ok n m fuel. no_blocked_end (machine g) (start_in g n m.body fuel) Holds (counts g ok) (holding g) (first_none g n m.body fuel);
+  handles = λ g ok n m fuel.
+      handle_law (machine g) (start_in g n m.body fuel) Holds (counts g ok) (holding g) (first_none g n m.body fuel);
+  unblocked = λ g ok n m fuel.
+      no_blocked_end (machine g) (start_in g n m.body fuel) Holds (counts g ok) (holding g)
+      (first_none g n m.body fuel);
   bound = λ g ok n m fuel. run_bound g ok n m fuel;
   count = λ g ok n m fuel. run_count g ok n m fuel;
   fuel = λ g ok n m fuel. fuel_spent g ok n m fuel;
-  completes = λ g ok n m fuel. completion_law (machine g) (start_in g n m.body fuel) (λ l. weight g l) (counts g ok) (spends g ok);
+  completes = λ g ok n m fuel.
+      completion_law (machine g) (start_in g n m.body fuel) (λ l. weight g l) (counts g ok) (spends g ok);
 }

@@ -1,3 +1,4 @@
+-- Answers of worked_codes: each schedule of a worked code computes to the outcome in its row.
 use Rattle.std.proofs.Common.{refl}
 use Rattle.std.specs.Fmt.{digits}
 use Rattle.code_machine.proofs.rows.worked_codes.Goals as goal

@@ -1,3 +1,4 @@
+-- Answers of schedule_laws: the world by number keeps the conditions by any table of paths; general laws follow.
 use Rattle.std.proofs.Common.{◌+◌, ◌*◌}
 use Rattle.revision_machine.proofs.Schedules.{schedule_law, run_is_schedule, over_law}
 use Rattle.revision_machine.proofs.ByNumber.{schedule_completes, least_completes}
@@ -18,6 +19,8 @@ returns c = record {
   bound = λ g ok n m fuel. entry_bound g ok n m fuel;
   count = λ g ok n m fuel. revision_count g ok n m fuel;
   fuel = fuel_of_start;
-  completes = λ g ok n m fuel. schedule_completes (numbered g) (start_in g n m.body fuel) (3 * fuel + 2) (entry_bound g ok n m fuel);
-  least = λ g ok n m fuel. least_completes (numbered g) (start_in g n m.body fuel) (3 * fuel + 2) (entry_bound g ok n m fuel);
+  completes = λ g ok n m fuel.
+      schedule_completes (numbered g) (start_in g n m.body fuel) (3 * fuel + 2) (entry_bound g ok n m fuel);
+  least = λ g ok n m fuel.
+      least_completes (numbered g) (start_in g n m.body fuel) (3 * fuel + 2) (entry_bound g ok n m fuel);
 }

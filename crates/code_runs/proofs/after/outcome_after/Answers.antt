@@ -1,3 +1,4 @@
+-- Answers of outcome_after: after a complete schedule main has ended or it is Twice, and that gives the outcome.
 use Rattle.std.proofs.Common.{List, sym, subst}
 use Rattle.revision_machine.specs.Machine.{Plain}
 use Rattle.revision_machine.specs.Numbered.{paths_of}
@@ -35,12 +36,15 @@ pub returns-in-None : goal.returns-in-None
 returns-in-None c = λ fuel a.
     let g = run_under c.args.setting.now in
     let ok = c.args.setting.now.faultless in
-    twice g ok fuel c.args.world a c.into_main.result (c.into_main.ensures g a.world a.stands (over g ok fuel c.args.world a)) c.in-None.is
+    twice g ok fuel c.args.world a c.into_main.result
+    (c.into_main.ensures g a.world a.stands (over g ok fuel c.args.world a)) c.in-None.is
 
 pub returns-in_ok-outcome-in-Some : goal.returns-in_ok-outcome-in-Some
 returns-in_ok-outcome-in-Some c = λ fuel a.
     let g = run_under c.args.setting.now in
     let ok = c.args.setting.now.faultless in
     let left = c.into_main.ensures g a.world a.stands (over g ok fuel c.args.world a) in
-    main_shows g ok fuel c.args.world a c.into_main.result left c.in-Some.field-0 c.in-Some.is c.in_ok-outcome-in-Some.outcome
-    (λ w k. c.in_ok-outcome-in-Some.ensures.world w _ (Plain k.local) k.there k.end (subst (λ (bs : List Birth). Names bs (paths_of w)) (sym c.as_slice.ensures.value) k.names))
+    main_shows g ok fuel c.args.world a c.into_main.result left c.in-Some.field-0 c.in-Some.is
+    c.in_ok-outcome-in-Some.outcome
+    (λ w k. c.in_ok-outcome-in-Some.ensures.world w _ (Plain k.local) k.there k.end
+    (subst (λ (bs : List Birth). Names bs (paths_of w)) (sym c.as_slice.ensures.value) k.names))

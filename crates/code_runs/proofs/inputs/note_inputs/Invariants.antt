@@ -1,3 +1,4 @@
+-- Loops of note_inputs: each input before this one fits 64 bits.
 use Rattle.std.proofs.Common.{◌≡◌, ◌<◌, ℕ, Some, true}
 use Rattle.std.specs.Prelude.{ℤ, slice_get}
 use Rattle.rev_num.specs.Arith.{fits_i64}

@@ -1,3 +1,4 @@
+-- Answers of schedule_laws: replay goes leg by leg in one way, so a schedule is legal or stops at one first entry.
 use Rattle.code_runs.proofs.Schedules.{each_is_legal_or_stops, legal_never_stops, one_stop, world_is_one}
 use Rattle.code_runs.proofs.laws.schedule_laws.Goals as goal
 

@@ -1,6 +1,7 @@
+-- Answers of replay_code: replay comes to the world of a legal schedule, which is finished, or refuses an entry.
 use Rattle.std.proofs.Common.{◌∙◌, sym}
 use Rattle.code_machine.specs.Local.{CodeRun}
-use Rattle.code_outcomes.specs.Outcomes.{HasOutcome}
+use Rattle.code_machine_laws.specs.Outcomes.{HasOutcome}
 use Rattle.rev_vm.specs.Starts.{run_under}
 use Rattle.world_runs.specs.Replay.{IsIllegal}
 use Rattle.world_runs.specs.declared.replaying.ReplayFault.{ReplayFault}
@@ -13,12 +14,16 @@ pub new-requires-clause-inputs : goal.new-requires-clause-inputs
 new-requires-clause-inputs c = c.note_inputs.ensures
 
 pub replay-requires-clause-merges : goal.replay-requires-clause-merges
-replay-requires-clause-merges c = c.in_ok-merges.ensures.merges (run_under c.in_ok-setting.setting) (sym c.code.ensures.code)
+replay-requires-clause-merges c =
+    c.in_ok-merges.ensures.merges (run_under c.in_ok-setting.setting) (sym c.code.ensures.code)
 
 pub complete-requires-clause-underway : goal.complete-requires-clause-underway
 complete-requires-clause-underway c =
-    let r = c.in_ok-world.ensures.ok in
-    (c.args.fuel, replayed_to (run_under c.in_ok-setting.setting) c.args.fuel c.requires c.args.schedule.now r.0 r.1 c.in_ok-world.world r.3)
+    let r = c.in_ok-world.ensures.ok in (
+      c.args.fuel,
+      replayed_to (run_under c.in_ok-setting.setting) c.args.fuel c.requires c.args.schedule.now r.0 r.1
+          c.in_ok-world.world r.3,
+    )
 
 pub complete-requires-clause-merges : goal.complete-requires-clause-merges
 complete-requires-clause-merges c =
@@ -42,7 +47,8 @@ returns-clause-outcome c =
     of_run (λ (g : CodeRun). HasOutcome g c.args.fuel c.in_ok-outcome.outcome)
     c.args.code.code own.code c.args.inputs.items own.inputs.items c.args.share own.share
     (s.code ∙ c.into_code.ensures.code) s.inputs s.share
-    (c.in_ok-outcome.ensures c.args.fuel (replayed_to (run_under own) c.args.fuel c.requires c.args.schedule.now r.0 r.1 c.in_ok-world.world r.3))
+    (c.in_ok-outcome.ensures c.args.fuel
+    (replayed_to (run_under own) c.args.fuel c.requires c.args.schedule.now r.0 r.1 c.in_ok-world.world r.3))
 
 pub returns-in_err-world-clause-fault : goal.returns-in_err-world-clause-fault
 returns-in_err-world-clause-fault c =

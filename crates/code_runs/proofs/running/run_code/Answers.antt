@@ -1,6 +1,7 @@
+-- Answers of run_code: the world at the start is underway, and complete takes it to the outcome of all schedules.
 use Rattle.std.proofs.Common.{◌∙◌, sym}
 use Rattle.code_machine.specs.Local.{CodeRun}
-use Rattle.code_outcomes.specs.Outcomes.{HasOutcome}
+use Rattle.code_machine_laws.specs.Outcomes.{HasOutcome}
 use Rattle.rev_vm.specs.Starts.{run_under}
 use Rattle.code_runs.proofs.Underway.{begun, of_run}
 use Rattle.code_runs.proofs.running.run_code.Goals as goal
@@ -14,7 +15,8 @@ complete-requires-clause-underway c =
     (c.args.fuel, begun (run_under c.in_ok-setting.setting) c.args.fuel b.0 b.1 c.requires c.in_ok-start.start b.2)
 
 pub complete-requires-clause-merges : goal.complete-requires-clause-merges
-complete-requires-clause-merges c = c.in_ok-merges.ensures.merges (run_under c.in_ok-setting.setting) (sym c.code.ensures.code)
+complete-requires-clause-merges c =
+    c.in_ok-merges.ensures.merges (run_under c.in_ok-setting.setting) (sym c.code.ensures.code)
 
 pub returns : goal.returns
 returns c =

@@ -1,3 +1,4 @@
+-- Loops of all_blocks: whether all blocks are well formed hangs on the blocks left alone.
 use Rattle.std.proofs.Common.{◌≡◌, drop}
 use Rattle.std.specs.List.{list_all}
 use Rattle.code_rules.specs.Tables as tables

@@ -1,3 +1,4 @@
+-- Loops of all_small_names: whether all names are small hangs on the variables left alone.
 use Rattle.std.proofs.Common.{◌≡◌, drop}
 use Rattle.std.specs.List.{list_all}
 use Rattle.code_rules.specs.Tables as tables

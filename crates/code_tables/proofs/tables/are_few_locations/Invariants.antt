@@ -1,3 +1,4 @@
+-- Loops of are_few_locations: the total plus the locations of the variables left is that of all; it is at most 4,096.
 use Rattle.std.proofs.Common.{◌≡◌, ◌+◌, ◌≤◌, drop}
 use Rattle.code_rules.specs.Tables as tables
 use Rattle.code_tables.proofs.tables.are_few_locations.Given as goal

@@ -1,3 +1,4 @@
+-- Loops of are_name_bytes: whether all bytes may stand in a name hangs on the bytes left alone.
 use Rattle.std.proofs.Common.{◌≡◌, drop}
 use Rattle.std.specs.List.{list_all}
 use Rattle.code_rules.specs.Tables as tables

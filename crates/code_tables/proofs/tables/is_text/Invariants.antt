@@ -1,3 +1,4 @@
+-- Loops of is_text: whether all bytes may stand in a text hangs on the bytes left alone.
 use Rattle.std.proofs.Common.{◌≡◌, drop}
 use Rattle.std.specs.List.{list_all}
 use Rattle.code_rules.specs.Tables as tables

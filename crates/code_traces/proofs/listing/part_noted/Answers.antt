@@ -1,3 +1,4 @@
+-- Answers of part_noted: the notes hold an end, so the part is made of that end and the noted forks and joins.
 use Rattle.std.proofs.Common.{◌∙◌, sym}
 use Rattle.code_world.proofs.Rows.{none_some, some_same}
 use Rattle.code_traces.specs.Made.{noted_part}

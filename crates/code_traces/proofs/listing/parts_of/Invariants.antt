@@ -1,3 +1,4 @@
+-- Loops of parts_of: the first notes are left, and the parts so far with theirs are those of the world in some order.
 use Rattle.std.proofs.Common.{◌≡◌, ◌++◌, length, take}
 use Rattle.std.specs.List.Sorted.{IsPermutation}
 use Rattle.revision_machine.specs.Numbered.{Entries, paths_of}
@@ -13,8 +14,10 @@ use Rattle.code_traces.proofs.listing.parts_of.Given as goal
 abbrev pub invariant-loop-noted : goal.invariant-loop-noted
 invariant-loop-noted l = record {
   left : l.rest.items ≡ take (length l.rest.items) l.initial.rest.items;
-  parts : (w : Entries (Local ℕ)) → Names l.births (paths_of w) → AreNoted (run_under l.setting) w l.initial.rest.items → AreOver w
-      → IsPermutation (world_parts (run_under l.setting) w) (l.parts.items ++ take (length l.rest.items) (world_parts (run_under l.setting) w));
+  parts : (w : Entries (Local ℕ)) → Names l.births (paths_of w) → AreNoted (run_under l.setting) w l.initial.rest.items
+      → AreOver w
+      → IsPermutation (world_parts (run_under l.setting) w)
+      (l.parts.items ++ take (length l.rest.items) (world_parts (run_under l.setting) w));
 }
 
 abbrev pub decreases-loop-noted : goal.decreases-loop-noted

@@ -1,3 +1,4 @@
+-- Loops of changes_of: the changes so far, with those of the locations left, are the changes of all.
 use Rattle.std.proofs.Common.{◌≡◌, ◌++◌, List, drop, map}
 use Rattle.rev_num.specs.Path.{Path}
 use Rattle.code_world.specs.Endings.{Names}

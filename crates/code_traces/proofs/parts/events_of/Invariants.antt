@@ -1,3 +1,4 @@
+-- Loops of events_of: the events so far, with those of the forks and joins left, are the events of all.
 use Rattle.std.proofs.Common.{◌≡◌, ◌++◌, List, drop, map}
 use Rattle.rev_num.specs.Path.{Path}
 use Rattle.code_world.specs.Endings.{Names}

@@ -1,3 +1,4 @@
+-- Loops of append_kinds: the list is what it was, followed by the kind of the variable for each cell so far.
 use Rattle.std.proofs.Common.{◌≡◌, ◌++◌, replicate}
 use Rattle.code_traces.proofs.tables.append_kinds.Given as goal
 

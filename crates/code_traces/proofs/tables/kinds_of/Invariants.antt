@@ -1,3 +1,4 @@
+-- Loops of kinds_of: the kinds so far, with those of the variables left, are the kinds of all locations.
 use Rattle.std.proofs.Common.{◌≡◌, ◌++◌, drop}
 use Rattle.code_soundness.specs.Typed.{location_kinds}
 use Rattle.code_traces.proofs.tables.kinds_of.Given as goal

@@ -1,3 +1,4 @@
+-- Answers of values_of: the kinds of the items up to the next are those so far and what the next item adds.
 use Rattle.std.proofs.Common.{◌∙◌, ◌++◌, ◌∷◌, [], ap, sym, get_or}
 use Rattle.rev_code.specs.declared.code.LayoutItem.TheVariants as item
 use Rattle.rev_code.specs.Printing.{printed_kinds}

@@ -1,3 +1,4 @@
+-- Loops of values_of: the kinds are those of the values among the items so far.
 use Rattle.std.proofs.Common.{◌≡◌, take}
 use Rattle.rev_code.specs.Printing.{printed_kinds}
 use Rattle.code_verifier.proofs.operands.values_of.Given as goal

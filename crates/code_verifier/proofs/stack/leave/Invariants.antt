@@ -1,3 +1,4 @@
+-- Loops of leave: the shape reached is the first without as many kinds from the top as there were turns.
 use Rattle.std.proofs.Common.{◌≡◌, ◌<◌, drop, length}
 use Rattle.code_verifier.specs.Kept.{shape_at}
 use Rattle.code_verifier.proofs.stack.leave.Given as goal

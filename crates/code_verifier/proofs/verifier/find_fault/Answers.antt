@@ -1,3 +1,4 @@
+-- Answers of find_fault: code that is found small has small blocks, and fewer than 2^32 of them.
 use Rattle.std.proofs.Common.{◌∙◌, sym}
 use Rattle.code_verifier.proofs.Small.{all_small, few_blocks}
 use Rattle.code_verifier.proofs.verifier.find_fault.Goals as goal

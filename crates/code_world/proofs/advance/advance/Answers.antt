@@ -1,3 +1,4 @@
+-- Answers of advance: each event of the leg, a fork, a join, an end or a trap, comes as the definition's leg does.
 use Rattle.std.proofs.Common.{refl, sym, subst}
 use Rattle.code_machine.specs.Local.{done, end_of, has_ended}
 use Rattle.rev_vm.specs.Legs.{trap_of}
@@ -34,4 +35,5 @@ pub returns-in-Ok-Trap : goal.returns-in-Ok-Trap
 returns-in-Ok-Trap c = λ s runs.
     let e = rw c.in-Ok-Trap.field-0-is at (c.in-Ok-Trap.ensures.event s runs) in
     has_ended_trapped (run_under c.args.setting.now) s e.0 e.1 e.2 c.retire-in-Ok-Trap.result.0
-    (subst (IsEnd (run_under c.args.setting.now) (end_of (has_ended e.0 (trap_of e.0 e.1)))) (sym c.retire-in-Ok-Trap.ensures.end) e.3)
+    (subst (IsEnd (run_under c.args.setting.now) (end_of (has_ended e.0 (trap_of e.0 e.1))))
+    (sym c.retire-in-Ok-Trap.ensures.end) e.3)

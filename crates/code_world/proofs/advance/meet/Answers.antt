@@ -1,3 +1,4 @@
+-- Answers of meet: a joined end is done or has trapped, and each way has a function of its own.
 use Rattle.code_world.proofs.advance.meet.Goals as goal
 
 pub meet_done-requires-clause-meeting : goal.meet_done-requires-clause-meeting

@@ -1,3 +1,4 @@
+-- Answers of meet_done: the claim of the end settles as the definition's join does: the joiner runs on or traps.
 use Rattle.std.proofs.Common.{◌∙◌, refl, sym, subst}
 use Rattle.code_machine.specs.Local.{end_of}
 use Rattle.rev_vm.specs.Meaning.{IsEnd}
@@ -17,19 +18,29 @@ claim-requires-clause-of g c =
 pub settle-requires : goal.settle-requires
 settle-requires g c =
     let q = c.requires.meeting in
-    let k = is_claimed q.0 c.args.at c.claim.result.at c.args.end c.claim.result.end q.1 q.2 c.claim.ensures.at c.claim.ensures.end q.3 c.requires.done in
+    let k = is_claimed q.0 c.args.at c.claim.result.at c.args.end c.claim.result.end q.1 q.2 c.claim.ensures.at
+    c.claim.ensures.end q.3 c.requires.done in
     q.4 ∙ sym k.joiner.stands.size ∙ c.claim.result.at.revision.value.memory.written
 
 pub returns-in-Ok-Run-clause-met : goal.returns-in-Ok-Run-clause-met
 returns-in-Ok-Run-clause-met g c = λ r s j m are.
-    let k = rw c.in-Ok-Run.field-0-is at (c.in-Ok-Run.ensures.settled r s j (is_claimed r c.args.at c.claim.result.at c.args.end c.claim.result.end s j c.claim.ensures.at c.claim.ensures.end m c.requires.done) are) in
+    let k = rw c.in-Ok-Run.field-0-is at
+    (c.in-Ok-Run.ensures.settled r s j
+    (is_claimed r c.args.at c.claim.result.at c.args.end c.claim.result.end s j c.claim.ensures.at c.claim.ensures.end m
+    c.requires.done)
+    are) in
     (k.0, sym (meets_is r c.args.at c.claim.result.at s j c.claim.ensures.at) ∙ k.1, k.2)
 
 pub returns-in-Ok-Trap-clause-met : goal.returns-in-Ok-Trap-clause-met
 returns-in-Ok-Trap-clause-met g c = λ r s j m are.
-    let k = rw c.in-Ok-Trap.field-0-is at (c.in-Ok-Trap.ensures.settled r s j (is_claimed r c.args.at c.claim.result.at c.args.end c.claim.result.end s j c.claim.ensures.at c.claim.ensures.end m c.requires.done) are) in
+    let k = rw c.in-Ok-Trap.field-0-is at
+    (c.in-Ok-Trap.ensures.settled r s j
+    (is_claimed r c.args.at c.claim.result.at c.args.end c.claim.result.end s j c.claim.ensures.at c.claim.ensures.end m
+    c.requires.done)
+    are) in
     subst (IsEnd r (end_of (meets r c.args.at s j))) (sym c.retire.ensures.end)
-    (subst (λ l. IsEnd r (end_of l) c.in-Ok-Trap.stopped.end) (meets_is r c.args.at c.claim.result.at s j c.claim.ensures.at) k)
+    (subst (λ l. IsEnd r (end_of l) c.in-Ok-Trap.stopped.end)
+    (meets_is r c.args.at c.claim.result.at s j c.claim.ensures.at) k)
 
 pub returns-in-Ok-Run-clause-size : goal.returns-in-Ok-Run-clause-size
 returns-in-Ok-Run-clause-size g c = c.in-Ok-Run.ensures.merges_size

@@ -1,3 +1,4 @@
+-- Answers of meet_trapped: a TryJoin drops the trap and goes on, and a Join takes it, by the case of the joiner.
 use Rattle.std.proofs.Common.{◌∙◌, true, false, sym, subst}
 use Rattle.code_machine.specs.Local.{end_of}
 use Rattle.rev_vm.specs.Meaning.{IsEnd}
@@ -24,5 +25,6 @@ pub returns-else-is_try : goal.returns-else-is_try
 returns-else-is_try c = λ g s j v stands end fin.
     let t = is_trapped j v g end c.args.trap fin in
     subst (IsEnd g (end_of (meets g c.args.at s j))) (sym c.retire.ensures.end)
-    (subst (λ l. IsEnd g (end_of l) c.trapped.result.end) (sym (inherits g c.args.at s j false t.0 (sym c.is_try.ensures ∙ c.if-is_try.false) t.1))
+    (subst (λ l. IsEnd g (end_of l) c.trapped.result.end)
+    (sym (inherits g c.args.at s j false t.0 (sym c.is_try.ensures ∙ c.if-is_try.false) t.1))
     (c.trapped.ensures.end g s t.0 stands t.2))

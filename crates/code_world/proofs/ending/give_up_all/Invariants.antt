@@ -1,3 +1,4 @@
+-- Loops of give_up_all: nothing but that each turn leaves one slot less.
 use Rattle.std.specs.Vec.Iter.{into_iter_len}
 use Rattle.code_world.proofs.ending.give_up_all.Given as goal
 

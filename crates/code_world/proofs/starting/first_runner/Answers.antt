@@ -1,3 +1,4 @@
+-- Answers of first_runner: the start words fit the variables, so main begins with them and with its fuel.
 use Rattle.std.proofs.Common.{◌∙◌, ap, subst}
 use Rattle.rev_code.specs.declared.code.Code.{Code}
 use Rattle.version_map.specs.contracts.whole.WholeSnapshot.TheImpl.{ghosts}
@@ -11,7 +12,9 @@ pub start_main-requires-clause-size : goal.start_main-requires-clause-size
 start_main-requires-clause-size c = c.in_ok-words.ensures.size ∙ ap (λ (z : Code). count z.vars) c.code.ensures.code
 
 pub start_main-requires-clause-base : goal.start_main-requires-clause-base
-start_main-requires-clause-base c = subst (λ (z : Code). StartsWith z.vars (ghosts.base c.in_ok-words.words)) c.code.ensures.code c.in_ok-words.ensures.base
+start_main-requires-clause-base c =
+    subst (λ (z : Code). StartsWith z.vars (ghosts.base c.in_ok-words.words)) c.code.ensures.code
+    c.in_ok-words.ensures.base
 
 pub returns-in-Ok : goal.returns-in-Ok
 returns-in-Ok c =

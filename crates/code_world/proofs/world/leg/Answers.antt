@@ -1,3 +1,4 @@
+-- Answers of leg: it is what leg_meeting gives, without the entry for the list of forks and joins.
 use Rattle.code_world.proofs.world.leg.Goals as goal
 
 pub leg_meeting-requires-clause-reached : goal.leg_meeting-requires-clause-reached

@@ -1,3 +1,4 @@
+-- Answers of leg_meeting: in Twice no revision has a leg, and a live world's leg is that of its table.
 use Rattle.std.proofs.Common.{None, refl, sym, subst}
 use Rattle.rev_vm.specs.Starts.{run_under}
 use Rattle.code_world.specs.declared.answer.LegAnswer.TheVariants as answer
@@ -11,16 +12,19 @@ use Rattle.code_world.proofs.Touching.{touches_in, touches_twice}
 pub returns-in-Twice-clause-answer : goal.returns-in-Twice-clause-answer
 returns-in-Twice-clause-answer g c = λ w reached is.
     let s = run_under c.args.setting.now in
-    subst (λ a. LegAnswers s w c.args.revision a world.Twice) (sym c.noted_end.ensures.answer) (twice_in s c.args.world w c.in-Twice.is is c.args.revision)
+    subst (λ a. LegAnswers s w c.args.revision a world.Twice) (sym c.noted_end.ensures.answer)
+    (twice_in s c.args.world w c.in-Twice.is is c.args.revision)
 
 pub returns-in-Twice-clause-noted : goal.returns-in-Twice-clause-noted
 returns-in-Twice-clause-noted g c = λ w reached is.
-    noted_so (run_under c.args.setting.now) w c.args.revision answer.Twice c.noted_end.result.answer None c.noted_end.result.meeting c.noted_end.ensures.answer c.noted_end.ensures.meeting refl
+    noted_so (run_under c.args.setting.now) w c.args.revision answer.Twice c.noted_end.result.answer None
+    c.noted_end.result.meeting c.noted_end.ensures.answer c.noted_end.ensures.meeting refl
 
 pub leg-requires-clause-good : goal.leg-requires-clause-good
 leg-requires-clause-good g c =
     let q = c.requires.reached in
-    good_table (run_under c.args.setting.now) c.args.setting.now.faultless c.args.world q.0 c.in-Live.table c.in-Live.is q.1 q.2
+    good_table (run_under c.args.setting.now) c.args.setting.now.faultless c.args.world q.0 c.in-Live.table c.in-Live.is
+    q.1 q.2
 
 pub leg-requires-clause-size : goal.leg-requires-clause-size
 leg-requires-clause-size g c = c.requires.size
@@ -30,15 +34,20 @@ leg-requires-clause-merges g c = c.requires.merges
 
 pub returns-in-Ok-clause-answer : goal.returns-in-Ok-clause-answer
 returns-in-Ok-clause-answer g c = λ w reached is.
-    answers_in (run_under c.args.setting.now) c.args.setting.now.faultless c.args.world w c.in-Live.table c.in-Live.is reached is c.args.revision c.in-Ok.noted.answer c.leg.new.self c.in-Ok.ensures.answer c.world_of.result c.world_of.ensures
+    answers_in (run_under c.args.setting.now) c.args.setting.now.faultless c.args.world w c.in-Live.table c.in-Live.is
+    reached is c.args.revision c.in-Ok.noted.answer c.leg.new.self c.in-Ok.ensures.answer c.world_of.result
+    c.world_of.ensures
 
 pub returns-in-Ok-clause-noted : goal.returns-in-Ok-clause-noted
 returns-in-Ok-clause-noted g c = λ w reached is.
-    c.in-Ok.ensures.noted w (good_listing (run_under c.args.setting.now) c.args.setting.now.faultless c.args.world w c.in-Live.table c.in-Live.is reached is)
+    c.in-Ok.ensures.noted w (good_listing (run_under c.args.setting.now) c.args.setting.now.faultless c.args.world w
+    c.in-Live.table c.in-Live.is reached is)
 
 pub returns-in-Twice-clause-touches : goal.returns-in-Twice-clause-touches
-returns-in-Twice-clause-touches g c = touches_twice c.args.world world.Twice c.args.revision c.noted_end.result.answer c.in-Twice.is
+returns-in-Twice-clause-touches g c =
+    touches_twice c.args.world world.Twice c.args.revision c.noted_end.result.answer c.in-Twice.is
 
 pub returns-in-Ok-clause-touches : goal.returns-in-Ok-clause-touches
 returns-in-Ok-clause-touches g c =
-    touches_in c.args.world c.world_of.result c.in-Live.table c.leg.new.self c.args.revision c.in-Ok.noted.answer c.in-Live.is c.world_of.ensures c.in-Ok.ensures.touches
+    touches_in c.args.world c.world_of.result c.in-Live.table c.leg.new.self c.args.revision c.in-Ok.noted.answer
+    c.in-Live.is c.world_of.ensures c.in-Ok.ensures.touches

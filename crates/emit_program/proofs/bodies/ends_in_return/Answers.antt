@@ -1,3 +1,4 @@
+-- Answers of ends_in_return: whether the last statement returns is kept up with each one, and none is left at last.
 use Rattle.std.proofs.Common.{◌≡◌, ◌∙◌, ◌+◌, ◌∷◌, drop, ap, sym, arith}
 use Rattle.std.proofs.lemmas.List.{drop_more, at_drop_all}
 use Rattle.rev_syntax.specs.View.{stmts}
@@ -12,7 +13,10 @@ loop-s-init c = ends_are (stmts c.deref-s-items.result.now)
 
 pub loop-s-preserved : goal.loop-s-preserved
 loop-s-preserved c =
-    let items = c.deref-s-items.result.now in let at = c.loop-s.s-index in let s = c.s-item.result in let rest = drop (at + 1) items in
+    let items = c.deref-s-items.result.now in
+    let at = c.loop-s.s-index in
+    let s = c.s-item.result in
+    let rest = drop (at + 1) items in
     let here : drop at items ≡ s ∷ rest = drop_more items at s (omega arith) ∙ ap (λ y. y ∷ rest) (sym c.s-item.is) in
     ap (λ r. ends_behind r (stmts rest)) c.is_return-last.ensures
     ∙ ends_more c.loop-s.last s rest

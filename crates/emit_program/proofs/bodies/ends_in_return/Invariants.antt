@@ -1,3 +1,4 @@
+-- Loops of ends_in_return: whether a return ends the statements left behind the last is whether it ends all.
 use Rattle.std.proofs.Common.{◌≡◌, drop}
 use Rattle.rev_syntax.specs.View.{stmts}
 use Rattle.code_generation.specs.Generated.{ends_in_return}

@@ -1,3 +1,4 @@
+-- Answers of emit: a typed program fits all tables, and each part that is made is that part of its code.
 use Rattle.std.proofs.Common.{◌∙◌, [], false, map, ap, refl, sym, subst, arith}
 use Rattle.rev_syntax.specs.View.{declaration, program as whole}
 use Rattle.rev_kinds.specs.declared.names.Checker.{Checker}
@@ -6,8 +7,8 @@ use Rattle.rev_types.specs.Limits.{funs}
 use Rattle.rev_types.specs.Tables.{shared_table, proc_table, fun_table}
 use Rattle.rev_types.proofs.Named.{outer_names}
 use Rattle.code_generation.specs.Generated.{value_blocks}
-use Rattle.emit_expressions.specs.Naming.{numbers_of}
-use Rattle.emit_names.specs.Numbering.{merges_from}
+use Rattle.emit_code.specs.Naming.{numbers_of}
+use Rattle.emit_tables.specs.Numbering.{merges_from}
 use Rattle.emit_program.specs.Fitting.{DeclarationsFit}
 use Rattle.emit_program.proofs.Fits.{typed_fits}
 use Rattle.emit_program.proofs.Whole.{whole_code, declarations_by, main_by, layouts_by}
@@ -21,13 +22,16 @@ value_blocks-requires c =
     omega (arith, e, b)
 
 pub code_vars-requires-clause-merges : goal.code_vars-requires-clause-merges
-code_vars-requires-clause-merges c = c.in_ok-values.ensures.merges ∙ ap (λ l. merges_from 0 (map declaration l)) c.deref.ensures.value
+code_vars-requires-clause-merges c =
+    c.in_ok-values.ensures.merges ∙ ap (λ l. merges_from 0 (map declaration l)) c.deref.ensures.value
 
 pub code_vars-requires-clause-next : goal.code_vars-requires-clause-next
-code_vars-requires-clause-next c = c.in_ok-values.ensures.next ∙ ap (λ l. funs (map declaration l)) c.deref.ensures.value
+code_vars-requires-clause-next c =
+    c.in_ok-values.ensures.next ∙ ap (λ l. funs (map declaration l)) c.deref.ensures.value
 
 pub name_numbers-requires-clause-first : goal.name_numbers-requires-clause-first
-name_numbers-requires-clause-first c = c.in_ok-values.ensures.next ∙ ap (λ l. funs (map declaration l)) c.deref.ensures.value
+name_numbers-requires-clause-first c =
+    c.in_ok-values.ensures.next ∙ ap (λ l. funs (map declaration l)) c.deref.ensures.value
 
 pub name_numbers-requires-clause-vars : goal.name_numbers-requires-clause-vars
 name_numbers-requires-clause-vars c = (typed_fits c.args.typed.now).variables
@@ -43,11 +47,13 @@ emit_values-requires c =
 
 pub emit_bodies-requires-clause-declarations : goal.emit_bodies-requires-clause-declarations
 emit_bodies-requires-clause-declarations c =
-    declarations_by (whole c.args.typed.now.expanded.program) (numbers_of c.in_ok-numbers.numbers) c.in_ok-numbers.ensures (typed_fits c.args.typed.now)
+    declarations_by (whole c.args.typed.now.expanded.program) (numbers_of c.in_ok-numbers.numbers)
+    c.in_ok-numbers.ensures (typed_fits c.args.typed.now)
 
 pub emit_bodies-requires-clause-main : goal.emit_bodies-requires-clause-main
 emit_bodies-requires-clause-main c =
-    main_by (whole c.args.typed.now.expanded.program) (numbers_of c.in_ok-numbers.numbers) c.in_ok-numbers.ensures (typed_fits c.args.typed.now)
+    main_by (whole c.args.typed.now.expanded.program) (numbers_of c.in_ok-numbers.numbers) c.in_ok-numbers.ensures
+    (typed_fits c.args.typed.now)
 
 pub emit_bodies-requires-clause-texts : goal.emit_bodies-requires-clause-texts
 emit_bodies-requires-clause-texts c = (typed_fits c.args.typed.now).texts
@@ -83,7 +89,8 @@ returns c =
     (c.in_ok-names.ensures.procs ∙ ap (λ l. proc_table [] (map declaration l)) v)
     (c.in_ok-names.ensures.funs ∙ ap (λ l. fun_table [] (map declaration l)) v) in
     let n = numbers_of c.in_ok-numbers.numbers in
-    whole_code p n (names_of checker) c.in_ok-vars.vars c.from_vec.result c.from_vec-2.result c.in_ok-blocks.blocks.items c.from_vec-3.result
+    whole_code p n (names_of checker) c.in_ok-vars.vars c.from_vec.result c.from_vec-2.result
+    c.in_ok-blocks.blocks.items c.from_vec-3.result
     c.in_ok-numbers.ensures names c.in_ok-vars.ensures
     (c.from_vec.ensures ∙ c.in_ok-listed.ensures.texts)
     (c.from_vec-2.ensures ∙ c.in_ok-listed.ensures.layouts)

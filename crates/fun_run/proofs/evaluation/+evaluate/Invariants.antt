@@ -1,3 +1,4 @@
+-- Loops of evaluate: for the first arguments steps lead to where the frame stands; words below and memory stay.
 use Rattle.std.proofs.Common.{◌≡◌, ◌-◌, ℕ, List, [], Some, length, take}
 use Rattle.std.specs.Prelude.{slice_get}
 use Rattle.rev_code.specs.Words.{Word}
@@ -18,12 +19,14 @@ invariant-loop-cause g l = record {
   is : slice_get l.code.blocks l.n ≡ Some l.b;
   long : length l.words ≡ length l.fn.words;
   ahead : (args : List (Word ℕ)) → IsArgs l.code l.n args l.fn.words l.low
-      → Ahead l.code [] (value l.n) l.b (fun_start l.n l.b args) l.words l.r (under l.memory.delta (g.P.Snapshot.base l.memory.snapshot)) (at l.memory.first.roots);
+      → Ahead l.code [] (value l.n) l.b (fun_start l.n l.b args) l.words l.r
+      (under l.memory.delta (g.P.Snapshot.base l.memory.snapshot)) (at l.memory.first.roots);
   block : l.r.block ≡ l.n;
   base : l.r.base ≡ l.low;
   below : take l.low l.words ≡ take l.low l.fn.words;
   kept : Kept (g.P.Snapshot.size l.fn.memory.snapshot)
-      (under l.fn.memory.delta (g.P.Snapshot.base l.fn.memory.snapshot)) (under l.memory.delta (g.P.Snapshot.base l.memory.snapshot))
+      (under l.fn.memory.delta (g.P.Snapshot.base l.fn.memory.snapshot))
+      (under l.memory.delta (g.P.Snapshot.base l.memory.snapshot))
       (at l.fn.memory.first.roots) (at l.memory.first.roots);
   size : g.P.Snapshot.size l.memory.snapshot ≡ g.P.Snapshot.size l.fn.memory.snapshot;
   group : g.P.Snapshot.group l.memory.snapshot ≡ g.P.Snapshot.group l.fn.memory.snapshot;

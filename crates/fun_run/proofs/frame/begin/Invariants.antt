@@ -1,3 +1,4 @@
+-- Loops of begin: the words up to here are those up to the first, and then zeros; there are as many as before.
 use Rattle.std.proofs.Common.{◌≡◌, ◌-◌, ◌++◌, length, replicate, take}
 use Rattle.fun_run.proofs.frame.begin.Given as goal
 

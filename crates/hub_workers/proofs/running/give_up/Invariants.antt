@@ -1,3 +1,4 @@
+-- Loops of give_up: what is left has the hand's group, and that group stays.
 use Rattle.std.proofs.Common.{◌≡◌}
 use Rattle.std.specs.Vec.Iter.{into_iter_items, into_iter_len}
 use Rattle.turn_hub.specs.Closing.{AreKeptOf}

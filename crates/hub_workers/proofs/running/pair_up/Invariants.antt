@@ -1,3 +1,4 @@
+-- Loops of pair_up: seats and hands left are of the hub and as many; the workers made are of it, and fit.
 use Rattle.std.proofs.Common.{◌≡◌, ◌+◌, ◌≤◌, length, All, vec_capacity}
 use Rattle.hub_workers.specs.Threads.{IsWorkerOf}
 use Rattle.hub_workers.specs.Running.{IsSeatFor, IsHandFor}

@@ -1,3 +1,4 @@
+-- Loops of part: workers left have worked, seats and hands taken are of the hub, and there is room for all.
 use Rattle.std.proofs.Common.{◌≡◌, ◌+◌, ◌≤◌, length, All, vec_capacity}
 use Rattle.turn_hub.specs.Names.{IsSeatOf, view_of, began}
 use Rattle.hub_workers.specs.Threads.{HasWorked}

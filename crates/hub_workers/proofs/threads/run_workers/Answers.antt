@@ -1,3 +1,4 @@
+-- Answers of run_workers: what the closure promises of each worker holds of the worker at its place.
 use Rattle.std.proofs.Common.{rules, ◌≡◌, length, subst, arith}
 use Rattle.hub_workers.specs.Threads.{HasWorked}
 use Rattle.hub_workers.proofs.threads.run_workers.Goals as goal

@@ -1,5 +1,6 @@
+-- Loops of drive: seat and hand are still the hub's, and what comes next is the seat's, alone if it was.
 use Rattle.std.proofs.Common.{◌≡◌}
-use Rattle.turn_rule.specs.Seats.{IsSameSeat}
+use Rattle.hub_core.specs.Seats.{IsSameSeat}
 use Rattle.hub_workers.specs.Handed.{OnlyNext}
 use Rattle.hub_workers.specs.Work.{IsHandOf, HasNext}
 use Rattle.hub_workers.proofs.worker.drive.Given as goal

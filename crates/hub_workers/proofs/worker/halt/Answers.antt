@@ -1,3 +1,4 @@
+-- Answers of halt: the seat has seen the halt, and what a halted seat had need not be handed in.
 use Rattle.hub_workers.proofs.Handed.{unless_halted}
 use Rattle.hub_workers.proofs.worker.halt.Goals as goal
 

@@ -1,5 +1,6 @@
+-- Loops of work: seat and hand are still the hub's, and where all was handed in before, all is so now.
 use Rattle.std.proofs.Common.{◌≡◌}
-use Rattle.turn_rule.specs.Seats.{IsSameSeat}
+use Rattle.hub_core.specs.Seats.{IsSameSeat}
 use Rattle.hub_workers.specs.Handed.{HasHandedIn}
 use Rattle.hub_workers.specs.Work.{IsHandOf}
 use Rattle.hub_workers.proofs.worker.work.Given as goal

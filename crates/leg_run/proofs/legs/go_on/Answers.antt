@@ -1,3 +1,4 @@
+-- Answers of go_on: the block's steps up to a stop, and then the one instruction there, make a round.
 use Rattle.std.proofs.Common.{◌∙◌, length, take, refl, ap, arith}
 use Rattle.std.proofs.lemmas.Result.{IfOk-weaker}
 use Rattle.std.specs.Prelude.{slice_get}
@@ -16,15 +17,35 @@ pub run_block-requires-clause-accepted : goal.run_block-requires-clause-accepted
 run_block-requires-clause-accepted g c = no_fault_accepted c.args.setting.now.code c.args.setting.now.faultless
 
 pub run_block-requires-clause-table : goal.run_block-requires-clause-table
-run_block-requires-clause-table g c = table_law c.args.setting.now.code (no_fault_accepted c.args.setting.now.code c.args.setting.now.faultless) c.as_slice-table.result.now (c.as_slice-table.ensures.value ∙ c.args.setting.now.listed)
+run_block-requires-clause-table g c =
+    table_law c.args.setting.now.code (no_fault_accepted c.args.setting.now.code c.args.setting.now.faultless)
+    c.as_slice-table.result.now (c.as_slice-table.ensures.value ∙ c.args.setting.now.listed)
 
 pub run_block-requires-clause-short : goal.run_block-requires-clause-short
-run_block-requires-clause-short g c = block_short c.args.setting.now.code (no_fault_accepted c.args.setting.now.code c.args.setting.now.faultless) c.args.run.now.registers.block c.block_at-b.result.now c.block_at-b.ensures
+run_block-requires-clause-short g c =
+    block_short c.args.setting.now.code (no_fault_accepted c.args.setting.now.code c.args.setting.now.faultless)
+    c.args.run.now.registers.block c.block_at-b.result.now c.block_at-b.ensures
 
 pub turn_at-requires : goal.turn_at-requires
 turn_at-requires g c =
     let q = c.requires.stands in
-    let l = leaving_of c.args.setting.now.code c.args.setting.now.faultless c.args.setting.now.inputs.items c.args.setting.now.share c.block_at-b.result.now q.0 c.run_block.new.words c.run_block.new.registers (under c.run_block.new.memory.delta (g.P.Snapshot.base c.run_block.new.memory.snapshot)) (at c.run_block.new.memory.first.roots) c.run_block.result (ends_for c.args.setting.now.code c.args.setting.now.inputs.items c.as_slice-inputs.result.now c.args.setting.now.share c.block_at-b.result.now q.0 c.run_block.result c.run_block.new.words c.run_block.new.registers (under c.run_block.new.memory.delta (g.P.Snapshot.base c.run_block.new.memory.snapshot)) (at c.run_block.new.memory.first.roots) c.as_slice-inputs.ensures.value (c.run_block.ensures.ends (program c.args.setting.now.share) q.0 (here_for c.args.setting.now.code c.args.setting.now.inputs.items c.as_slice-inputs.result.now c.args.setting.now.share c.block_at-b.result.now q.0 c.args.run.now.words.items c.as_mut_slice-words.result.now c.args.run.now.registers (under c.args.memory.now.delta (g.P.Snapshot.base c.args.memory.now.snapshot)) (at c.args.memory.now.first.roots) c.as_slice-inputs.ensures.value c.as_mut_slice-words.ensures.value (here c.args.setting.now.code c.args.setting.now.faultless c.args.setting.now.inputs.items c.args.setting.now.share c.args.run.now (under c.args.memory.now.delta (g.P.Snapshot.base c.args.memory.now.snapshot)) (at c.args.memory.now.first.roots) q.0 q.1 c.block_at-b.result.now c.block_at-b.ensures)))) c.in_default.not-Traps in
+    let l = leaving_of c.args.setting.now.code c.args.setting.now.faultless c.args.setting.now.inputs.items
+    c.args.setting.now.share c.block_at-b.result.now q.0 c.run_block.new.words c.run_block.new.registers
+    (under c.run_block.new.memory.delta (g.P.Snapshot.base c.run_block.new.memory.snapshot))
+    (at c.run_block.new.memory.first.roots) c.run_block.result
+    (ends_for c.args.setting.now.code c.args.setting.now.inputs.items c.as_slice-inputs.result.now
+    c.args.setting.now.share c.block_at-b.result.now q.0 c.run_block.result c.run_block.new.words
+    c.run_block.new.registers (under c.run_block.new.memory.delta (g.P.Snapshot.base c.run_block.new.memory.snapshot))
+    (at c.run_block.new.memory.first.roots) c.as_slice-inputs.ensures.value
+    (c.run_block.ensures.ends (program c.args.setting.now.share) q.0
+    (here_for c.args.setting.now.code c.args.setting.now.inputs.items c.as_slice-inputs.result.now
+    c.args.setting.now.share c.block_at-b.result.now q.0 c.args.run.now.words.items c.as_mut_slice-words.result.now
+    c.args.run.now.registers (under c.args.memory.now.delta (g.P.Snapshot.base c.args.memory.now.snapshot))
+    (at c.args.memory.now.first.roots) c.as_slice-inputs.ensures.value c.as_mut_slice-words.ensures.value
+    (here c.args.setting.now.code c.args.setting.now.faultless c.args.setting.now.inputs.items c.args.setting.now.share
+    c.args.run.now (under c.args.memory.now.delta (g.P.Snapshot.base c.args.memory.now.snapshot))
+    (at c.args.memory.now.first.roots) q.0 q.1 c.block_at-b.result.now c.block_at-b.ensures))))
+    c.in_default.not-Traps in
     let value = c.as_mut_slice-words.ensures.value in
     let il = ap length value in
     let long = c.run_block.auto.words in
@@ -33,13 +54,43 @@ turn_at-requires g c =
       size = c.run_block.ensures.size ∙ c.requires.size;
       block = ap (slice_get c.args.setting.now.code.blocks) c.run_block.ensures.block ∙ c.block_at-b.ensures;
       leaves = (l.instr, l.at, l.leaves);
-      stands = (l.ahead.now, stands_now c.args.setting.now.code c.args.setting.now.faultless c.args.setting.now.inputs.items c.args.setting.now.share c.args.run.now (under c.args.memory.now.delta (g.P.Snapshot.base c.args.memory.now.snapshot)) (at c.args.memory.now.first.roots) q.0 q.1 c.block_at-b.result.now c.block_at-b.ensures c.run_block.new.words c.run_block.new.registers (under c.run_block.new.memory.delta (g.P.Snapshot.base c.run_block.new.memory.snapshot)) (at c.run_block.new.memory.first.roots) l.ahead c.run_block.ensures.block c.run_block.ensures.base (c.run_block.ensures.below ∙ ap (take c.args.run.now.registers.base) value) (long ∙ il) _ (refilled c.run_block.new.words c.args.run.now.words.items c.args.run.now.words.len (omega (arith, k, long, il))) refl refl (record { text = refl; forks = refl; meetings = refl }));
+      stands = (
+        l.ahead.now,
+        stands_now c.args.setting.now.code c.args.setting.now.faultless c.args.setting.now.inputs.items
+            c.args.setting.now.share c.args.run.now
+            (under c.args.memory.now.delta (g.P.Snapshot.base c.args.memory.now.snapshot))
+            (at c.args.memory.now.first.roots) q.0 q.1 c.block_at-b.result.now c.block_at-b.ensures
+            c.run_block.new.words c.run_block.new.registers
+            (under c.run_block.new.memory.delta (g.P.Snapshot.base c.run_block.new.memory.snapshot))
+            (at c.run_block.new.memory.first.roots) l.ahead c.run_block.ensures.block c.run_block.ensures.base
+            (c.run_block.ensures.below ∙ ap (take c.args.run.now.registers.base) value) (long ∙ il) _
+            (refilled c.run_block.new.words c.args.run.now.words.items c.args.run.now.words.len
+            (omega (arith, k, long, il)))
+            refl refl (record { text = refl; forks = refl; meetings = refl }),
+      );
     }
 
 pub returns-in-Traps-clause-rounds : goal.returns-in-Traps-clause-rounds
 returns-in-Traps-clause-rounds g c = λ s st.
-    trapped c.args.setting.now.code c.args.setting.now.faultless c.args.setting.now.inputs.items c.args.setting.now.share c.args.run.now (under c.args.memory.now.delta (g.P.Snapshot.base c.args.memory.now.snapshot)) (at c.args.memory.now.first.roots) s st c.block_at-b.result.now c.block_at-b.ensures c.in-Traps.cause c.run_block.new.words c.run_block.new.registers (under c.run_block.new.memory.delta (g.P.Snapshot.base c.run_block.new.memory.snapshot)) (at c.run_block.new.memory.first.roots)
-    (ends_for c.args.setting.now.code c.args.setting.now.inputs.items c.as_slice-inputs.result.now c.args.setting.now.share c.block_at-b.result.now s (stop.Traps c.in-Traps.cause) c.run_block.new.words c.run_block.new.registers (under c.run_block.new.memory.delta (g.P.Snapshot.base c.run_block.new.memory.snapshot)) (at c.run_block.new.memory.first.roots) c.as_slice-inputs.ensures.value (c.in-Traps.ensures.ends (program c.args.setting.now.share) s (here_for c.args.setting.now.code c.args.setting.now.inputs.items c.as_slice-inputs.result.now c.args.setting.now.share c.block_at-b.result.now s c.args.run.now.words.items c.as_mut_slice-words.result.now c.args.run.now.registers (under c.args.memory.now.delta (g.P.Snapshot.base c.args.memory.now.snapshot)) (at c.args.memory.now.first.roots) c.as_slice-inputs.ensures.value c.as_mut_slice-words.ensures.value (here c.args.setting.now.code c.args.setting.now.faultless c.args.setting.now.inputs.items c.args.setting.now.share c.args.run.now (under c.args.memory.now.delta (g.P.Snapshot.base c.args.memory.now.snapshot)) (at c.args.memory.now.first.roots) s st c.block_at-b.result.now c.block_at-b.ensures)))) _ refl (record { text = refl; forks = refl; meetings = refl })
+    trapped c.args.setting.now.code c.args.setting.now.faultless c.args.setting.now.inputs.items
+    c.args.setting.now.share c.args.run.now
+    (under c.args.memory.now.delta (g.P.Snapshot.base c.args.memory.now.snapshot)) (at c.args.memory.now.first.roots) s
+    st c.block_at-b.result.now c.block_at-b.ensures c.in-Traps.cause c.run_block.new.words c.run_block.new.registers
+    (under c.run_block.new.memory.delta (g.P.Snapshot.base c.run_block.new.memory.snapshot))
+    (at c.run_block.new.memory.first.roots)
+    (ends_for c.args.setting.now.code c.args.setting.now.inputs.items c.as_slice-inputs.result.now
+    c.args.setting.now.share c.block_at-b.result.now s (stop.Traps c.in-Traps.cause) c.run_block.new.words
+    c.run_block.new.registers (under c.run_block.new.memory.delta (g.P.Snapshot.base c.run_block.new.memory.snapshot))
+    (at c.run_block.new.memory.first.roots) c.as_slice-inputs.ensures.value
+    (c.in-Traps.ensures.ends (program c.args.setting.now.share) s
+    (here_for c.args.setting.now.code c.args.setting.now.inputs.items c.as_slice-inputs.result.now
+    c.args.setting.now.share c.block_at-b.result.now s c.args.run.now.words.items c.as_mut_slice-words.result.now
+    c.args.run.now.registers (under c.args.memory.now.delta (g.P.Snapshot.base c.args.memory.now.snapshot))
+    (at c.args.memory.now.first.roots) c.as_slice-inputs.ensures.value c.as_mut_slice-words.ensures.value
+    (here c.args.setting.now.code c.args.setting.now.faultless c.args.setting.now.inputs.items c.args.setting.now.share
+    c.args.run.now (under c.args.memory.now.delta (g.P.Snapshot.base c.args.memory.now.snapshot))
+    (at c.args.memory.now.first.roots) s st c.block_at-b.result.now c.block_at-b.ensures))))
+    _ refl (record { text = refl; forks = refl; meetings = refl })
 
 pub returns-in_default : goal.returns-in_default
 returns-in_default g c =
@@ -49,10 +100,46 @@ returns-in_default g c =
     let k = c.args.run.now.words.ok.0 in
     record {
       rounds = IfOk-weaker c.turn_at.result _ _ (λ t turns s st.
-          let l = leaving_of c.args.setting.now.code c.args.setting.now.faultless c.args.setting.now.inputs.items c.args.setting.now.share c.block_at-b.result.now s c.run_block.new.words c.run_block.new.registers (under c.run_block.new.memory.delta (g.P.Snapshot.base c.run_block.new.memory.snapshot)) (at c.run_block.new.memory.first.roots) c.run_block.result (ends_for c.args.setting.now.code c.args.setting.now.inputs.items c.as_slice-inputs.result.now c.args.setting.now.share c.block_at-b.result.now s c.run_block.result c.run_block.new.words c.run_block.new.registers (under c.run_block.new.memory.delta (g.P.Snapshot.base c.run_block.new.memory.snapshot)) (at c.run_block.new.memory.first.roots) c.as_slice-inputs.ensures.value (c.run_block.ensures.ends (program c.args.setting.now.share) s (here_for c.args.setting.now.code c.args.setting.now.inputs.items c.as_slice-inputs.result.now c.args.setting.now.share c.block_at-b.result.now s c.args.run.now.words.items c.as_mut_slice-words.result.now c.args.run.now.registers (under c.args.memory.now.delta (g.P.Snapshot.base c.args.memory.now.snapshot)) (at c.args.memory.now.first.roots) c.as_slice-inputs.ensures.value c.as_mut_slice-words.ensures.value (here c.args.setting.now.code c.args.setting.now.faultless c.args.setting.now.inputs.items c.args.setting.now.share c.args.run.now (under c.args.memory.now.delta (g.P.Snapshot.base c.args.memory.now.snapshot)) (at c.args.memory.now.first.roots) s st c.block_at-b.result.now c.block_at-b.ensures)))) c.in_default.not-Traps in
-          turned c.args.setting.now.code c.args.setting.now.faultless c.args.setting.now.inputs.items c.args.setting.now.share c.args.run.now (under c.args.memory.now.delta (g.P.Snapshot.base c.args.memory.now.snapshot)) (at c.args.memory.now.first.roots) s st c.block_at-b.result.now c.block_at-b.ensures c.run_block.new.words c.run_block.new.registers (under c.run_block.new.memory.delta (g.P.Snapshot.base c.run_block.new.memory.snapshot)) (at c.run_block.new.memory.first.roots) l.ahead
-          c.turn_at.new.run (under c.turn_at.new.memory.delta (g.P.Snapshot.base c.turn_at.new.memory.snapshot)) (at c.turn_at.new.memory.first.roots) t
-          (turns l.ahead.now (stands_now c.args.setting.now.code c.args.setting.now.faultless c.args.setting.now.inputs.items c.args.setting.now.share c.args.run.now (under c.args.memory.now.delta (g.P.Snapshot.base c.args.memory.now.snapshot)) (at c.args.memory.now.first.roots) s st c.block_at-b.result.now c.block_at-b.ensures c.run_block.new.words c.run_block.new.registers (under c.run_block.new.memory.delta (g.P.Snapshot.base c.run_block.new.memory.snapshot)) (at c.run_block.new.memory.first.roots) l.ahead c.run_block.ensures.block c.run_block.ensures.base (c.run_block.ensures.below ∙ ap (take c.args.run.now.registers.base) value) (long ∙ il) _ (refilled c.run_block.new.words c.args.run.now.words.items c.args.run.now.words.len (omega (arith, k, long, il))) refl refl (record { text = refl; forks = refl; meetings = refl })))) c.turn_at.ensures.turns;
+          let l = leaving_of c.args.setting.now.code c.args.setting.now.faultless c.args.setting.now.inputs.items
+          c.args.setting.now.share c.block_at-b.result.now s c.run_block.new.words c.run_block.new.registers
+          (under c.run_block.new.memory.delta (g.P.Snapshot.base c.run_block.new.memory.snapshot))
+          (at c.run_block.new.memory.first.roots) c.run_block.result
+          (ends_for c.args.setting.now.code c.args.setting.now.inputs.items c.as_slice-inputs.result.now
+          c.args.setting.now.share c.block_at-b.result.now s c.run_block.result c.run_block.new.words
+          c.run_block.new.registers
+          (under c.run_block.new.memory.delta (g.P.Snapshot.base c.run_block.new.memory.snapshot))
+          (at c.run_block.new.memory.first.roots) c.as_slice-inputs.ensures.value
+          (c.run_block.ensures.ends (program c.args.setting.now.share) s
+          (here_for c.args.setting.now.code c.args.setting.now.inputs.items c.as_slice-inputs.result.now
+          c.args.setting.now.share c.block_at-b.result.now s c.args.run.now.words.items c.as_mut_slice-words.result.now
+          c.args.run.now.registers (under c.args.memory.now.delta (g.P.Snapshot.base c.args.memory.now.snapshot))
+          (at c.args.memory.now.first.roots) c.as_slice-inputs.ensures.value c.as_mut_slice-words.ensures.value
+          (here c.args.setting.now.code c.args.setting.now.faultless c.args.setting.now.inputs.items
+          c.args.setting.now.share c.args.run.now
+          (under c.args.memory.now.delta (g.P.Snapshot.base c.args.memory.now.snapshot))
+          (at c.args.memory.now.first.roots) s st c.block_at-b.result.now c.block_at-b.ensures))))
+          c.in_default.not-Traps in
+          turned c.args.setting.now.code c.args.setting.now.faultless c.args.setting.now.inputs.items
+          c.args.setting.now.share c.args.run.now
+          (under c.args.memory.now.delta (g.P.Snapshot.base c.args.memory.now.snapshot))
+          (at c.args.memory.now.first.roots) s st c.block_at-b.result.now c.block_at-b.ensures c.run_block.new.words
+          c.run_block.new.registers
+          (under c.run_block.new.memory.delta (g.P.Snapshot.base c.run_block.new.memory.snapshot))
+          (at c.run_block.new.memory.first.roots) l.ahead
+          c.turn_at.new.run (under c.turn_at.new.memory.delta (g.P.Snapshot.base c.turn_at.new.memory.snapshot))
+          (at c.turn_at.new.memory.first.roots) t
+          (turns l.ahead.now (stands_now c.args.setting.now.code c.args.setting.now.faultless
+          c.args.setting.now.inputs.items c.args.setting.now.share c.args.run.now
+          (under c.args.memory.now.delta (g.P.Snapshot.base c.args.memory.now.snapshot))
+          (at c.args.memory.now.first.roots) s st c.block_at-b.result.now c.block_at-b.ensures c.run_block.new.words
+          c.run_block.new.registers
+          (under c.run_block.new.memory.delta (g.P.Snapshot.base c.run_block.new.memory.snapshot))
+          (at c.run_block.new.memory.first.roots) l.ahead c.run_block.ensures.block c.run_block.ensures.base
+          (c.run_block.ensures.below ∙ ap (take c.args.run.now.registers.base) value) (long ∙ il) _
+          (refilled c.run_block.new.words c.args.run.now.words.items c.args.run.now.words.len
+          (omega (arith, k, long, il)))
+          refl refl (record { text = refl; forks = refl; meetings = refl }))))
+          c.turn_at.ensures.turns;
       size = c.turn_at.ensures.size ∙ c.run_block.ensures.size;
       group = c.turn_at.ensures.group ∙ c.run_block.ensures.group;
     }

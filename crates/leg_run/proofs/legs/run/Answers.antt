@@ -1,3 +1,4 @@
+-- Answers of run: each round leads by steps to a state with a smaller clock, so the last one ends the leg.
 use Rattle.std.proofs.Common.{◌∙◌, refl, subst}
 use Rattle.rev_code.specs.Step as s
 use Rattle.version_map.specs.Deltas.{at}
@@ -9,7 +10,13 @@ use Rattle.leg_run.proofs.legs.run.Goals as goal
 
 pub loop-end-init : goal.loop-end-init
 loop-end-init g c = record {
-  ahead = (state_of c.args.setting.now.code c.args.revision.now.run (under c.args.revision.now.memory.delta (g.P.Snapshot.base c.args.revision.now.memory.snapshot)) (at c.args.revision.now.memory.first.roots), s.none, c.requires.stands);
+  ahead = (
+    state_of c.args.setting.now.code c.args.revision.now.run
+        (under c.args.revision.now.memory.delta (g.P.Snapshot.base c.args.revision.now.memory.snapshot))
+        (at c.args.revision.now.memory.first.roots),
+    s.none,
+    c.requires.stands,
+  );
   size = refl;
   group = refl;
 }
@@ -18,7 +25,19 @@ pub loop-end-preserved : goal.loop-end-preserved
 loop-end-preserved g c =
     let a = c.loop-end.invariant.ahead in
     record {
-      ahead = round_on c.args.setting.now.code c.args.setting.now.faultless c.args.setting.now.inputs.items c.args.setting.now.share c.loop-end.revision.run c.go_on.new.run (under c.loop-end.revision.memory.delta (g.P.Snapshot.base c.loop-end.revision.memory.snapshot)) (under c.go_on.new.memory.delta (g.P.Snapshot.base c.go_on.new.memory.snapshot)) (at c.loop-end.revision.memory.first.roots) (at c.go_on.new.memory.first.roots) a.0 a.2 (state_of c.args.setting.now.code c.args.revision.now.run (under c.args.revision.now.memory.delta (g.P.Snapshot.base c.args.revision.now.memory.snapshot)) (at c.args.revision.now.memory.first.roots)) a.1 (subst (λ t. RoundTo c.args.setting.now.code c.args.setting.now.inputs.items c.args.setting.now.share a.0 t c.go_on.new.run (under c.go_on.new.memory.delta (g.P.Snapshot.base c.go_on.new.memory.snapshot)) (at c.go_on.new.memory.first.roots)) c.in-Goes.is (c.in_ok-go_on.ensures.rounds a.0 a.2));
+      ahead = round_on c.args.setting.now.code c.args.setting.now.faultless c.args.setting.now.inputs.items
+          c.args.setting.now.share c.loop-end.revision.run c.go_on.new.run
+          (under c.loop-end.revision.memory.delta (g.P.Snapshot.base c.loop-end.revision.memory.snapshot))
+          (under c.go_on.new.memory.delta (g.P.Snapshot.base c.go_on.new.memory.snapshot))
+          (at c.loop-end.revision.memory.first.roots) (at c.go_on.new.memory.first.roots) a.0 a.2
+          (state_of c.args.setting.now.code c.args.revision.now.run
+          (under c.args.revision.now.memory.delta (g.P.Snapshot.base c.args.revision.now.memory.snapshot))
+          (at c.args.revision.now.memory.first.roots))
+          a.1 (subst (λ t.
+          RoundTo c.args.setting.now.code c.args.setting.now.inputs.items c.args.setting.now.share a.0 t c.go_on.new.run
+          (under c.go_on.new.memory.delta (g.P.Snapshot.base c.go_on.new.memory.snapshot))
+          (at c.go_on.new.memory.first.roots))
+          c.in-Goes.is (c.in_ok-go_on.ensures.rounds a.0 a.2));
       size = c.in_ok-go_on.ensures.size ∙ c.loop-end.invariant.size;
       group = c.in_ok-go_on.ensures.group ∙ c.loop-end.invariant.group;
     }
@@ -26,7 +45,16 @@ loop-end-preserved g c =
 pub loop-end-smaller : goal.loop-end-smaller
 loop-end-smaller g c =
     let a = c.loop-end.invariant.ahead in
-    round_less c.args.setting.now.code c.args.setting.now.faultless c.args.setting.now.inputs.items c.args.setting.now.share c.loop-end.revision.run c.go_on.new.run (under c.loop-end.revision.memory.delta (g.P.Snapshot.base c.loop-end.revision.memory.snapshot)) (under c.go_on.new.memory.delta (g.P.Snapshot.base c.go_on.new.memory.snapshot)) (at c.loop-end.revision.memory.first.roots) (at c.go_on.new.memory.first.roots) a.0 a.2 (subst (λ t. RoundTo c.args.setting.now.code c.args.setting.now.inputs.items c.args.setting.now.share a.0 t c.go_on.new.run (under c.go_on.new.memory.delta (g.P.Snapshot.base c.go_on.new.memory.snapshot)) (at c.go_on.new.memory.first.roots)) c.in-Goes.is (c.in_ok-go_on.ensures.rounds a.0 a.2))
+    round_less c.args.setting.now.code c.args.setting.now.faultless c.args.setting.now.inputs.items
+    c.args.setting.now.share c.loop-end.revision.run c.go_on.new.run
+    (under c.loop-end.revision.memory.delta (g.P.Snapshot.base c.loop-end.revision.memory.snapshot))
+    (under c.go_on.new.memory.delta (g.P.Snapshot.base c.go_on.new.memory.snapshot))
+    (at c.loop-end.revision.memory.first.roots) (at c.go_on.new.memory.first.roots) a.0 a.2
+    (subst (λ t.
+    RoundTo c.args.setting.now.code c.args.setting.now.inputs.items c.args.setting.now.share a.0 t c.go_on.new.run
+    (under c.go_on.new.memory.delta (g.P.Snapshot.base c.go_on.new.memory.snapshot))
+    (at c.go_on.new.memory.first.roots))
+    c.in-Goes.is (c.in_ok-go_on.ensures.rounds a.0 a.2))
 
 pub go_on-requires-clause-stands : goal.go_on-requires-clause-stands
 go_on-requires-clause-stands g c = let a = c.loop-end.invariant.ahead in (a.0, a.2)
@@ -34,4 +62,14 @@ go_on-requires-clause-stands g c = let a = c.loop-end.invariant.ahead in (a.0, a
 pub returns-in-Ends-clause-leg : goal.returns-in-Ends-clause-leg
 returns-in-Ends-clause-leg g c =
     let a = c.loop-end.invariant.ahead in
-    ends_leg c.args.setting.now.code c.args.setting.now.faultless c.args.setting.now.inputs.items c.args.setting.now.share c.go_on.new.run (under c.go_on.new.memory.delta (g.P.Snapshot.base c.go_on.new.memory.snapshot)) (at c.go_on.new.memory.first.roots) (state_of c.args.setting.now.code c.args.revision.now.run (under c.args.revision.now.memory.delta (g.P.Snapshot.base c.args.revision.now.memory.snapshot)) (at c.args.revision.now.memory.first.roots)) a.0 a.1 c.in-Ends.end (subst (λ t. RoundTo c.args.setting.now.code c.args.setting.now.inputs.items c.args.setting.now.share a.0 t c.go_on.new.run (under c.go_on.new.memory.delta (g.P.Snapshot.base c.go_on.new.memory.snapshot)) (at c.go_on.new.memory.first.roots)) c.in-Ends.is (c.in_ok-go_on.ensures.rounds a.0 a.2))
+    ends_leg c.args.setting.now.code c.args.setting.now.faultless c.args.setting.now.inputs.items
+    c.args.setting.now.share c.go_on.new.run
+    (under c.go_on.new.memory.delta (g.P.Snapshot.base c.go_on.new.memory.snapshot)) (at c.go_on.new.memory.first.roots)
+    (state_of c.args.setting.now.code c.args.revision.now.run
+    (under c.args.revision.now.memory.delta (g.P.Snapshot.base c.args.revision.now.memory.snapshot))
+    (at c.args.revision.now.memory.first.roots))
+    a.0 a.1 c.in-Ends.end (subst
+    (λ t. RoundTo c.args.setting.now.code c.args.setting.now.inputs.items c.args.setting.now.share a.0 t c.go_on.new.run
+    (under c.go_on.new.memory.delta (g.P.Snapshot.base c.go_on.new.memory.snapshot))
+    (at c.go_on.new.memory.first.roots))
+    c.in-Ends.is (c.in_ok-go_on.ensures.rounds a.0 a.2))

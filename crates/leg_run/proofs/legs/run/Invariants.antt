@@ -1,3 +1,4 @@
+-- Loops of run: steps lead from the first state to one where the revision stands; size and group stay.
 use Rattle.std.proofs.Common.{◌≡◌}
 use Rattle.rev_code.specs.State.{State}
 use Rattle.rev_code.specs.Step.{Steps}
@@ -11,9 +12,13 @@ use Rattle.leg_run.proofs.legs.run.Given as goal
 abbrev pub invariant-loop-end : goal.invariant-loop-end
 invariant-loop-end g l = record {
   ahead : (c : State _) × Steps (setting l.setting.code l.setting.inputs.items l.setting.share)
-      (state_of l.setting.code l.initial.revision.run (under l.initial.revision.memory.delta (g.P.Snapshot.base l.initial.revision.memory.snapshot)) (at l.initial.revision.memory.first.roots)) c
+      (state_of l.setting.code l.initial.revision.run
+      (under l.initial.revision.memory.delta (g.P.Snapshot.base l.initial.revision.memory.snapshot))
+      (at l.initial.revision.memory.first.roots))
+      c
       × Stands l.setting.code l.setting.inputs.items l.setting.share l.revision.run
-      (under l.revision.memory.delta (g.P.Snapshot.base l.revision.memory.snapshot)) (at l.revision.memory.first.roots) c;
+      (under l.revision.memory.delta (g.P.Snapshot.base l.revision.memory.snapshot)) (at l.revision.memory.first.roots)
+      c;
   size : g.P.Snapshot.size l.revision.memory.snapshot ≡ g.P.Snapshot.size l.initial.revision.memory.snapshot;
   group : g.P.Snapshot.group l.revision.memory.snapshot ≡ g.P.Snapshot.group l.initial.revision.memory.snapshot;
 }
@@ -21,4 +26,5 @@ invariant-loop-end g l = record {
 abbrev pub decreases-loop-end : goal.decreases-loop-end
 decreases-loop-end g l =
     clock (record { code = l.setting.code; inputs = l.setting.inputs.items; share = l.setting.share })
-    (state_of l.setting.code l.revision.run (under l.revision.memory.delta (g.P.Snapshot.base l.revision.memory.snapshot)) (at l.revision.memory.first.roots))
+    (state_of l.setting.code l.revision.run
+    (under l.revision.memory.delta (g.P.Snapshot.base l.revision.memory.snapshot)) (at l.revision.memory.first.roots))

@@ -1,3 +1,4 @@
+-- Loops of append_items: the text so far, with the bytes of the items left, is the whole text.
 use Rattle.std.proofs.Common.{◌≡◌, ◌+◌, ◌++◌, ◌≤◌, [], drop}
 use Rattle.leg_run.specs.Printed.{bytes_from, gap_at}
 use Rattle.leg_run.proofs.prints.append_items.Given as goal

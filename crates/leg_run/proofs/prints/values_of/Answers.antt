@@ -1,3 +1,4 @@
+-- Answers of values_of: the width of the next item is the first of those left, and none is more than one word.
 use Rattle.std.proofs.Common.{arith}
 use Rattle.leg_run.proofs.Printing.{one_width}
 use Rattle.leg_run.proofs.prints.values_of.Goals as goal

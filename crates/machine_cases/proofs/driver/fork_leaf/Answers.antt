@@ -1,3 +1,4 @@
+-- Answers of fork_leaf: the state that stands at the fork gives the child's state and that of the parent when told.
 use Rattle.rev_code.specs.Events as events
 use Rattle.rev_vm.specs.Starts.{run_under}
 use Rattle.machine_cases.proofs.driver.fork_leaf.Goals as goal

@@ -1,3 +1,4 @@
+-- Answers of meet: a trap at a try is dropped, and the joiner stands for its state behind the join.
 use Rattle.std.specs.Prelude.{true, false}
 use Rattle.rev_code.specs.Events.{past_join}
 use Rattle.rev_vm.specs.Starts.{run_under}

@@ -1,6 +1,7 @@
+-- Loops of run_to_end: the revision goes on or has ended as the code says, and the merges are those at first.
 use Rattle.std.proofs.Common.{◌≡◌}
 use Rattle.block_run.specs.Area.{count}
-use Rattle.block_merges.specs.Merging.{AreMergesOf}
+use Rattle.fun_run.specs.Merging.{AreMergesOf}
 use Rattle.rev_vm.specs.Starts.{run_under}
 use Rattle.machine_cases.specs.Driving.{Goes}
 use Rattle.machine_cases.proofs.driver.run_to_end.Given as goal

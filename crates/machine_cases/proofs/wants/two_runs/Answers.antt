@@ -1,10 +1,12 @@
+-- Answers of two_runs: the merges are those of the code, and the first run leaves them so for the second.
 use Rattle.std.proofs.Common.{subst, sym}
-use Rattle.block_merges.specs.Merging.{AreMergesOf}
+use Rattle.fun_run.specs.Merging.{AreMergesOf}
 use Rattle.rev_vm.specs.Starts.{run_under}
 use Rattle.machine_cases.proofs.wants.two_runs.Goals as goal
 
 pub comes_to-first-requires-clause-merges : goal.comes_to-first-requires-clause-merges
-comes_to-first-requires-clause-merges c = c.in_ok-merges.ensures.merges (run_under c.in-Some.setting) (sym c.code-program.ensures.code)
+comes_to-first-requires-clause-merges c =
+    c.in_ok-merges.ensures.merges (run_under c.in-Some.setting) (sym c.code-program.ensures.code)
 
 pub comes_to-requires-clause-merges : goal.comes_to-requires-clause-merges
 comes_to-requires-clause-merges c =

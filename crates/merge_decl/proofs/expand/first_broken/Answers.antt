@@ -1,3 +1,4 @@
+-- Answers of first_broken: the rule that is kept is the least of the one before and those that this use breaks.
 use Rattle.std.proofs.Common.{◌∙◌, ap}
 use Rattle.merge_decl.specs.FunRules as rule
 use Rattle.merge_decl.specs.Least.{least}
@@ -8,7 +9,8 @@ use Rattle.merge_decl.proofs.expand.first_broken.Goals as goal
 
 pub loop-u-preserved : goal.loop-u-preserved
 loop-u-preserved c =
-    broken_step (λ name. find name c.args.table.now) c.args.uses.now c.loop-u.u-index c.u-item.result c.loop-u.best c.broken.result
+    broken_step (λ name. find name c.args.table.now) c.args.uses.now c.loop-u.u-index c.u-item.result c.loop-u.best
+    c.broken.result
     c.first-best.result _ c.loop-u-test.true c.u-item.is
     (c.broken.ensures ∙ ap (λ h. least rule.place rule.rank (rule.broken_by (use_of c.u-item.result) h))
     (c.find.ensures ∙ ap (λ n. find n c.args.table.now) c.deref.ensures.value))

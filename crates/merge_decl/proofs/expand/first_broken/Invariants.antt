@@ -1,3 +1,4 @@
+-- Loops of first_broken: the best so far, taken with the least that the uses left break, is the least of all.
 use Rattle.std.proofs.Common.{◌≡◌, drop}
 use Rattle.merge_decl.specs.FunRules as rule
 use Rattle.merge_decl.specs.Least.{first_of, least}
@@ -7,5 +8,6 @@ use Rattle.merge_decl.proofs.expand.first_broken.Given as goal
 
 abbrev pub invariant-loop-u : goal.invariant-loop-u
 invariant-loop-u l =
-    first_of rule.place rule.rank l.best (least rule.place rule.rank (rule.broken_in (λ name. find name l.table) (uses_of (drop l.u-index l.uses))))
+    first_of rule.place rule.rank l.best
+    (least rule.place rule.rank (rule.broken_in (λ name. find name l.table) (uses_of (drop l.u-index l.uses))))
     ≡ least rule.place rule.rank (rule.broken_in (λ name. find name l.table) (uses_of l.uses))

@@ -1,3 +1,4 @@
+-- Loops of numbers: the numbers so far, with those of the uses left, are the numbers of all uses.
 use Rattle.std.proofs.Common.{◌≡◌, ◌++◌, drop}
 use Rattle.merge_decl.specs.FunRules as rule
 use Rattle.merge_decl.specs.Table.{find}

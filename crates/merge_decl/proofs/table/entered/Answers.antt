@@ -1,3 +1,4 @@
+-- Answers of entered: the index with the name inserted stands for the entries with the new one behind them.
 use Rattle.std.proofs.Common.{◌≡◌, ◌++◌, ◌∷◌, [], sym, subst, rules}
 use Rattle.merge_decl.specs.Table.{IsIndexed, rows}
 use Rattle.merge_decl.proofs.Tables.{indexed_push, rows_push}
@@ -5,6 +6,8 @@ use Rattle.merge_decl.proofs.table.entered.Goals as goal
 
 pub returns-clause-indexed : goal.returns-clause-indexed
 returns-clause-indexed g c =
-    let whole : rows c.push.new.self.items ≡ rows c.args.entries.now.items ++ (c.args.key.items, c.args.value) ∷ [] = search (rules, rows_push) in
+    let whole : rows c.push.new.self.items ≡ rows c.args.entries.now.items ++ (c.args.key.items, c.args.value) ∷ [] =
+    search (rules, rows_push) in
     subst (λ t. IsIndexed c.insert.new.self t) (sym whole)
-    (indexed_push c.args.index.now c.insert.new.self c.args.key c.args.value (rows c.args.entries.now.items) c.in_ok-insert.ensures.updates c.requires.indexed c.requires.absent)
+    (indexed_push c.args.index.now c.insert.new.self c.args.key c.args.value (rows c.args.entries.now.items)
+    c.in_ok-insert.ensures.updates c.requires.indexed c.requires.absent)

@@ -1,3 +1,4 @@
+-- Loops of expression: the uses so far, with those of the arguments or links left, are the old ones and all theirs.
 use Rattle.std.proofs.Common.{◌≡◌, ◌++◌, drop}
 use Rattle.rev_syntax.specs.View.{expressions, links}
 use Rattle.merge_decl.specs.FunRules as rule

@@ -1,3 +1,4 @@
+-- Loops of form: the uses so far, with those of the arms or statements left, are the old ones and all of theirs.
 use Rattle.std.proofs.Common.{◌≡◌, ◌++◌, drop}
 use Rattle.rev_syntax.specs.View.{arms, stmts}
 use Rattle.merge_decl.specs.FunRules as rule

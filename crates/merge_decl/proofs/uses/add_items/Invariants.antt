@@ -1,3 +1,4 @@
+-- Loops of add_items: the uses so far, with those of the items left, are the old ones and all of the items'.
 use Rattle.std.proofs.Common.{◌≡◌, ◌++◌, drop, map}
 use Rattle.rev_syntax.specs.View.{print_item}
 use Rattle.merge_decl.specs.FunRules as rule

@@ -1,4 +1,5 @@
-use Rattle.std.proofs.Common.{◌≡◌, ◌∙◌, sym, length, map, arith}
+-- Answers of same: lists of links that are not equally long are not equal.
+use Rattle.std.proofs.Common.{◌∙◌, sym, map}
 use Rattle.std.proofs.lemmas.List.{length-map}
 use Rattle.merge_kernels.specs.Terms.{term_link}
 use Rattle.merge_kernels.proofs.Listed.{uneven}

@@ -1,4 +1,5 @@
-use Rattle.std.proofs.Common.{◌≡◌, ◌≢◌, ◌<◌, ℕ, Some, map, slice_get}
+-- Loops of find: no kernel so far has this definition.
+use Rattle.std.proofs.Common.{◌≢◌, ◌<◌, ℕ, Some, map, slice_get}
 use Rattle.merge_kernels.specs.Terms.{definition}
 use Rattle.merge_kernels.proofs.finding.find.Given as goal
 

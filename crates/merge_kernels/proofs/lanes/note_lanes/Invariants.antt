@@ -1,3 +1,4 @@
+-- Loops of note_lanes: each number so far has 64 bits.
 use Rattle.std.proofs.Common.{◌<◌, ℕ, pos, w64}
 use Rattle.std.specs.Prelude.{slice_index_or, FitsSigned}
 use Rattle.merge_kernels.proofs.lanes.note_lanes.Given as goal

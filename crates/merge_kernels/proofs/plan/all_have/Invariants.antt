@@ -1,3 +1,4 @@
+-- Loops of all_have: whether all are this choice is whether those left are.
 use Rattle.std.proofs.Common.{◌≡◌, drop}
 use Rattle.merge_kernels.specs.Plans.{have}
 use Rattle.merge_kernels.proofs.plan.all_have.Given as goal

@@ -1,3 +1,4 @@
+-- Loops of eight_choices: the choices that are copied so far are the first of those from this place on.
 use Rattle.std.proofs.Common.{◌≡◌, length, take, drop}
 use Rattle.merge_kernels.proofs.plan.eight_choices.Given as goal
 

@@ -1,3 +1,4 @@
+-- Loops of closing: the renamed links of all are the links so far with the renamed ones of those left behind them.
 use Rattle.std.proofs.Common.{◌≡◌, map, drop}
 use Rattle.rev_syntax.specs.View.{links}
 use Rattle.merge_kernels.specs.Closing.{renamed_links}

@@ -1,5 +1,6 @@
-use Rattle.std.proofs.Common.{rules, ◌≡◌, ◌∙◌, ap, sym, true, false, Ok, int_lt, w64, arith}
-use Rattle.std.proofs.lemmas.Int.{to_z-of_z, ints}
+-- Answers of least: the code compares as the definition does, and the number that it picks is one of 64 bits.
+use Rattle.std.proofs.Common.{rules, ◌≡◌, ◌∙◌, ap, sym, true, false, Ok, int_lt, w64}
+use Rattle.std.proofs.lemmas.Int.{to_z-of_z}
 use Rattle.merge_kernels.proofs.ThreeValues.{least_is}
 use Rattle.merge_kernels.proofs.three.least.Goals as goal
 

@@ -1,3 +1,4 @@
+-- Loops of ints_of: eight numbers, of which those so far are the numbers of the first words.
 use Rattle.std.proofs.Common.{◌≡◌, length, take, map}
 use Rattle.rev_num.specs.Words.{int_of}
 use Rattle.merge_kernels.proofs.words.ints_of.Given as goal

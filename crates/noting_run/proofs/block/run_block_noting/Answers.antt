@@ -1,3 +1,4 @@
+-- Answers of run_block_noting: each act is a step of the machine with what it reads, so the way grows act by act.
 use Rattle.std.proofs.Common.{◌≡◌, ◌≢◌, ◌∙◌, ℕ, List, Option, ◌<◌, ◌^◌, length, sym, ap, refl, arith, subst, ◌+◌, ◌≤◌}
 use Rattle.std.specs.Prelude.{ℤ, slice_get}
 use Rattle.rev_code.specs.Step as step
@@ -20,7 +21,8 @@ use Rattle.block_run.specs.Stops.{stop_of}
 use Rattle.block_run.proofs.Turning.{inside_now, found_operand, placed, room, smaller, all_same, below_still}
 use Rattle.noting_run.proofs.block.run_block_noting.Goals as goal
 
-roomy_still : (code : Code) (b : CodeBlock) (r r' : Registers) (n n' : ℕ) → IsRoomy code b r n → r'.block ≡ r.block → r'.base ≡ r.base → n' ≡ n → IsRoomy code b r' n'
+roomy_still : (code : Code) (b : CodeBlock) (r r' : Registers) (n n' : ℕ) → IsRoomy code b r n → r'.block ≡ r.block
+    → r'.base ≡ r.base → n' ≡ n → IsRoomy code b r' n'
 roomy_still code b r r' n n' h d e f at k =
     let g = subst (λ m. low b r + length (notes_of code m at).shape ≤ n) (sym d) (h at k) in omega (arith, g, e, f)
 
@@ -33,21 +35,29 @@ not_goes (act.Traps f) other = λ e. absurd cc
 not_goes act.Leaves other = λ e. absurd cc
 
 -- the loop leaves the block and the base as they were
-same_registers : (r r' : Registers) → r'.block ≡ r.block → r'.base ≡ r.base → r' ≡ record r { at = r'.at; top = r'.top; fuel = r'.fuel; line = r'.line }
+same_registers : (r r' : Registers) → r'.block ≡ r.block → r'.base ≡ r.base
+    → r' ≡ record r { at = r'.at; top = r'.top; fuel = r'.fuel; line = r'.line }
 same_registers r r' e f =
     ap (λ n. record { block = n; at = r'.at; base = r'.base; top = r'.top; fuel = r'.fuel; line = r'.line }) e
     ∙ ap (λ n. record { block = r.block; at = r'.at; base = n; top = r'.top; fuel = r'.fuel; line = r'.line }) f
 
-stopped : (code : Code) (inputs : List ℤ) (m : Mode) (b : CodeBlock) (c : State ℕ) (s s' : Stop) (ws : List ℕ) (r r' : Registers) (seen : ℕ → ℕ) (root : ℕ → Option ℕ) (old new : Noted)
-    → s ≡ s' → r ≡ r' → EndsNoting code inputs m b c s ws r seen root old new → EndsNoting code inputs m b c s' ws r' seen root old new
-stopped code inputs m b c s s' ws r r' seen root old new e f h = subst (λ k. EndsNoting code inputs m b c k ws r' seen root old new) e (subst (λ q. EndsNoting code inputs m b c s ws q seen root old new) f h)
+stopped : (code : Code) (inputs : List ℤ) (m : Mode) (b : CodeBlock) (c : State ℕ) (s s' : Stop) (ws : List ℕ)
+    (r r' : Registers) (seen : ℕ → ℕ) (root : ℕ → Option ℕ) (old new : Noted)
+    → s ≡ s' → r ≡ r' → EndsNoting code inputs m b c s ws r seen root old new
+    → EndsNoting code inputs m b c s' ws r' seen root old new
+stopped code inputs m b c s s' ws r r' seen root old new e f h =
+    subst (λ k. EndsNoting code inputs m b c k ws r' seen root old new) e
+    (subst (λ q. EndsNoting code inputs m b c s ws q seen root old new) f h)
 
 pub loop-last-init : goal.loop-last-init
 loop-last-init g c = record {
   instrs = c.as_slice-instrs.ensures;
   registers = refl;
   words = refl;
-  ahead = λ m c0 here. record { ahead = record { now = c0; steps = step.none; here = here; same = all_same c0 }; noted = none_marked c.args.noted.now };
+  ahead = λ m c0 here. record {
+    ahead = record { now = c0; steps = step.none; here = here; same = all_same c0 };
+    noted = none_marked c.args.noted.now;
+  };
   block = refl;
   base = refl;
   below = refl;
@@ -61,38 +71,46 @@ fetch-x-requires g c =
     let v = c.loop-last.invariant in
     let a = (v.ahead q.0 q.1 q.2).ahead in
     let is = ap (slice_get c.args.code.now.blocks) v.block ∙ c.requires.block in
-    inside_now c.args.code.now c.requires.accepted c.args.inputs.now q.0 c.args.b.now a.now c.loop-last.words c.loop-last.r _ _ a.here is c.as_slice-instrs.result.now v.instrs
+    inside_now c.args.code.now c.requires.accepted c.args.inputs.now q.0 c.args.b.now a.now c.loop-last.words
+    c.loop-last.r _ _ a.here is c.as_slice-instrs.result.now v.instrs
 
-pub act-requires-clause-operand : goal.act-requires-clause-operand
-act-requires-clause-operand g c =
+pub act_noting-requires-clause-operand : goal.act_noting-requires-clause-operand
+act_noting-requires-clause-operand g c =
     let q = c.requires.stands in
     let v = c.loop-last.invariant in
     let a = (v.ahead q.0 q.1 q.2).ahead in
     let is = ap (slice_get c.args.code.now.blocks) v.block ∙ c.requires.block in
     let at = ap (λ xs. slice_get xs c.loop-last.r.at) (sym v.instrs) ∙ c.fetch-x.ensures in
-    found_operand c.args.code.now c.requires.accepted c.args.inputs.now c.requires.inputs q.0 c.args.b.now a.now c.loop-last.words c.loop-last.r _ _ a.here is _ at
+    found_operand c.args.code.now c.requires.accepted c.args.inputs.now c.requires.inputs q.0 c.args.b.now a.now
+    c.loop-last.words c.loop-last.r _ _ a.here is _ at
 
-pub act-requires-clause-placed : goal.act-requires-clause-placed
-act-requires-clause-placed g c =
+pub act_noting-requires-clause-placed : goal.act_noting-requires-clause-placed
+act_noting-requires-clause-placed g c =
     let q = c.requires.stands in
     let v = c.loop-last.invariant in
     let a = (v.ahead q.0 q.1 q.2).ahead in
     let is = ap (slice_get c.args.code.now.blocks) v.block ∙ c.requires.block in
     let at = ap (λ xs. slice_get xs c.loop-last.r.at) (sym v.instrs) ∙ c.fetch-x.ensures in
-    let roomy = roomy_still c.args.code.now c.args.b.now c.args.registers.now c.loop-last.r (length c.args.words.now) (length c.loop-last.words) c.requires.room v.block v.base v.words in
+    let roomy =
+    roomy_still c.args.code.now c.args.b.now c.args.registers.now c.loop-last.r (length c.args.words.now)
+    (length c.loop-last.words) c.requires.room v.block v.base v.words in
     let few : length c.args.b.now.instrs < 2 ^ 32 = omega (arith, c.requires.short) in
-    placed c.args.code.now c.requires.accepted c.args.inputs.now c.requires.inputs q.0 c.args.b.now a.now c.loop-last.words c.loop-last.r _ _ a.here is _ at roomy few
+    placed c.args.code.now c.requires.accepted c.args.inputs.now c.requires.inputs q.0 c.args.b.now a.now
+    c.loop-last.words c.loop-last.r _ _ a.here is _ at roomy few
 
-pub act-requires-clause-room : goal.act-requires-clause-room
-act-requires-clause-room g c =
+pub act_noting-requires-clause-room : goal.act_noting-requires-clause-room
+act_noting-requires-clause-room g c =
     let q = c.requires.stands in
     let v = c.loop-last.invariant in
     let a = (v.ahead q.0 q.1 q.2).ahead in
     let is = ap (slice_get c.args.code.now.blocks) v.block ∙ c.requires.block in
     let at = ap (λ xs. slice_get xs c.loop-last.r.at) (sym v.instrs) ∙ c.fetch-x.ensures in
-    let roomy = roomy_still c.args.code.now c.args.b.now c.args.registers.now c.loop-last.r (length c.args.words.now) (length c.loop-last.words) c.requires.room v.block v.base v.words in
+    let roomy =
+    roomy_still c.args.code.now c.args.b.now c.args.registers.now c.loop-last.r (length c.args.words.now)
+    (length c.loop-last.words) c.requires.room v.block v.base v.words in
     let few : length c.args.b.now.instrs < 2 ^ 32 = omega (arith, c.requires.short) in
-    room c.args.code.now c.requires.accepted c.args.inputs.now c.requires.inputs q.0 c.args.b.now a.now c.loop-last.words c.loop-last.r _ _ a.here is _ at roomy few
+    room c.args.code.now c.requires.accepted c.args.inputs.now c.requires.inputs q.0 c.args.b.now a.now
+    c.loop-last.words c.loop-last.r _ _ a.here is _ at roomy few
 
 pub loop-last-smaller : goal.loop-last-smaller
 loop-last-smaller g c =
@@ -102,7 +120,9 @@ loop-last-smaller g c =
     let is = ap (slice_get c.args.code.now.blocks) v.block ∙ c.requires.block in
     let at = ap (λ xs. slice_get xs c.loop-last.r.at) (sym v.instrs) ∙ c.fetch-x.ensures in
     let e = c.in-Goes.ensures in
-    smaller c.args.code.now c.requires.accepted c.args.inputs.now c.requires.inputs q.0 c.args.b.now a.now c.loop-last.words c.loop-last.r _ _ a.here is _ at c.act.new.words c.act.new.r _ _ _ (few_locations _ _ _ _ v.size c.requires.size a.here.many) e.int e.does e.stays
+    smaller c.args.code.now c.requires.accepted c.args.inputs.now c.requires.inputs q.0 c.args.b.now a.now
+    c.loop-last.words c.loop-last.r _ _ a.here is _ at c.act_noting.new.words c.act_noting.new.r _ _ _
+    (few_locations _ _ _ _ v.size c.requires.size a.here.many) e.int e.does e.stays
 
 pub loop-last-preserved : goal.loop-last-preserved
 loop-last-preserved g c =
@@ -113,11 +133,14 @@ loop-last-preserved g c =
     record {
       instrs = v.instrs;
       registers = v.registers;
-      words = c.act.auto.words ∙ v.words;
+      words = c.act_noting.auto.words ∙ v.words;
       ahead = λ m c0 here.
           let n = v.ahead m c0 here in
           let a = n.ahead in
-          onward_noting c.args.code.now c.requires.accepted c.args.inputs.now c.requires.inputs m c.args.b.now a.now c.loop-last.words c.loop-last.r _ _ a.here is _ at c.args.noted.now c.loop-last.noted c.note.new.noted c0 a.steps n.noted c.note.ensures c.act.new.words c.act.new.r _ _ _ (few_locations _ _ _ _ v.size c.requires.size a.here.many) e.int a.same e.does e.stays;
+          onward_noting c.args.code.now c.requires.accepted c.args.inputs.now c.requires.inputs m c.args.b.now a.now
+          c.loop-last.words c.loop-last.r _ _ a.here is _ at c.args.noted.now c.loop-last.noted c.act_noting.new.noted
+          c0 a.steps n.noted e.marked c.act_noting.new.words c.act_noting.new.r _ _ _
+          (few_locations _ _ _ _ v.size c.requires.size a.here.many) e.int a.same e.does e.stays;
       block = e.stays.block ∙ v.block;
       base = e.stays.base ∙ v.base;
       below = below_still _ _ _ _ _ v.base e.stays.below v.below;
@@ -125,35 +148,15 @@ loop-last-preserved g c =
       group = e.group ∙ v.group;
     }
 
-pub note-requires-clause-operand : goal.note-requires-clause-operand
-note-requires-clause-operand g c =
-    let q = c.requires.stands in
-    let v = c.loop-last.invariant in
-    let a = (v.ahead q.0 q.1 q.2).ahead in
-    let is = ap (slice_get c.args.code.now.blocks) v.block ∙ c.requires.block in
-    let at = ap (λ xs. slice_get xs c.loop-last.r.at) (sym v.instrs) ∙ c.fetch-x.ensures in
-    found_operand c.args.code.now c.requires.accepted c.args.inputs.now c.requires.inputs q.0 c.args.b.now a.now c.loop-last.words c.loop-last.r _ _ a.here is _ at
-
-pub note-requires-clause-placed : goal.note-requires-clause-placed
-note-requires-clause-placed g c =
-    let q = c.requires.stands in
-    let v = c.loop-last.invariant in
-    let a = (v.ahead q.0 q.1 q.2).ahead in
-    let is = ap (slice_get c.args.code.now.blocks) v.block ∙ c.requires.block in
-    let at = ap (λ xs. slice_get xs c.loop-last.r.at) (sym v.instrs) ∙ c.fetch-x.ensures in
-    let roomy = roomy_still c.args.code.now c.args.b.now c.args.registers.now c.loop-last.r (length c.args.words.now) (length c.loop-last.words) c.requires.room v.block v.base v.words in
-    let few : length c.args.b.now.instrs < 2 ^ 32 = omega (arith, c.requires.short) in
-    placed c.args.code.now c.requires.accepted c.args.inputs.now c.requires.inputs q.0 c.args.b.now a.now c.loop-last.words c.loop-last.r _ _ a.here is _ at roomy few
-
-pub note-requires-clause-locations : goal.note-requires-clause-locations
-note-requires-clause-locations g c =
+pub act_noting-requires-clause-locations : goal.act_noting-requires-clause-locations
+act_noting-requires-clause-locations g c =
     let q = c.requires.stands in
     let v = c.loop-last.invariant in
     let n = (v.ahead q.0 q.1 q.2).noted.size in
     n ∙ c.requires.locations ∙ sym c.requires.size ∙ sym v.size
 
-pub note-requires-clause-positions : goal.note-requires-clause-positions
-note-requires-clause-positions g c =
+pub act_noting-requires-clause-positions : goal.act_noting-requires-clause-positions
+act_noting-requires-clause-positions g c =
     let q = c.requires.stands in
     let v = c.loop-last.invariant in
     (v.ahead q.0 q.1 q.2).noted.positions ∙ c.requires.positions
@@ -163,15 +166,23 @@ returns-in_default g c =
     let v = c.loop-last.invariant in
     let is = ap (slice_get c.args.code.now.blocks) v.block ∙ c.requires.block in
     let at = ap (λ xs. slice_get xs c.loop-last.r.at) (sym v.instrs) ∙ c.fetch-x.ensures in
-    let e = c.act.ensures in
+    let e = c.act_noting.ensures in
     let was : c.loop-last.registers ≡ c.args.registers.now = v.registers in
-    let same = same_registers c.loop-last.registers c.act.new.r (e.stays.block ∙ v.block ∙ sym (ap (λ (r : Registers). r.block) was)) (e.stays.base ∙ v.base ∙ sym (ap (λ (r : Registers). r.base) was)) in
+    let same =
+    same_registers c.loop-last.registers c.act_noting.new.r
+    (e.stays.block ∙ v.block ∙ sym (ap (λ (r : Registers). r.block) was))
+    (e.stays.base ∙ v.base ∙ sym (ap (λ (r : Registers). r.base) was)) in
     record {
       ends = λ m c0 here.
           let n = v.ahead m c0 here in
           let a = n.ahead in
-          stopped c.args.code.now c.args.inputs.now m c.args.b.now c0 _ _ c.act.new.words _ _ _ _ c.args.noted.now c.note.new.noted (sym c.stop.ensures) same
-          (ended_noting c.args.code.now c.requires.accepted c.args.inputs.now c.requires.inputs m c.args.b.now a.now c.loop-last.words c.loop-last.r _ _ a.here is _ at c.args.noted.now c.loop-last.noted c.note.new.noted c0 a.steps n.noted c.note.ensures c.act.new.words c.act.new.r _ _ _ (few_locations _ _ _ _ v.size c.requires.size a.here.many) e.int a.same (stop_of c.act.result) e.does e.stays (not_goes c.act.result c.in_default.not-Goes));
+          stopped c.args.code.now c.args.inputs.now m c.args.b.now c0 _ _ c.act_noting.new.words _ _ _ _
+          c.args.noted.now c.act_noting.new.noted (sym c.stop.ensures) same
+          (ended_noting c.args.code.now c.requires.accepted c.args.inputs.now c.requires.inputs m c.args.b.now a.now
+          c.loop-last.words c.loop-last.r _ _ a.here is _ at c.args.noted.now c.loop-last.noted c.act_noting.new.noted
+          c0 a.steps n.noted e.marked c.act_noting.new.words c.act_noting.new.r _ _ _
+          (few_locations _ _ _ _ v.size c.requires.size a.here.many) e.int a.same (stop_of c.act_noting.result) e.does
+          e.stays (not_goes c.act_noting.result c.in_default.not-Goes));
       block = ap (λ (r : Registers). r.block) was;
       base = ap (λ (r : Registers). r.base) was;
       below = below_still _ _ _ _ _ v.base e.stays.below v.below;

@@ -1,3 +1,4 @@
+-- Loops of run_block_noting: from each state that stood at first noted steps lead to one that stands now.
 use Rattle.std.proofs.Common.{◌≡◌, ℕ, length, take}
 use Rattle.rev_code.specs.State.{State}
 use Rattle.version_map.specs.Deltas.{at}
@@ -14,7 +15,8 @@ invariant-loop-last g l = record {
   words : length l.words ≡ length l.initial.words;
   ahead : (m : Mode) (c : State ℕ) → Here l.code l.inputs m l.b c l.initial.words l.initial.registers
       (under l.initial.memory.delta (g.P.Snapshot.base l.initial.memory.snapshot)) (at l.initial.memory.first.roots)
-      → AheadNoting l.code l.inputs m l.b c l.words l.r (under l.memory.delta (g.P.Snapshot.base l.memory.snapshot)) (at l.memory.first.roots) l.initial.noted l.noted;
+      → AheadNoting l.code l.inputs m l.b c l.words l.r (under l.memory.delta (g.P.Snapshot.base l.memory.snapshot))
+      (at l.memory.first.roots) l.initial.noted l.noted;
   block : l.r.block ≡ l.initial.registers.block;
   base : l.r.base ≡ l.initial.registers.base;
   below : take l.initial.registers.base l.words ≡ take l.initial.registers.base l.initial.words;

@@ -1,3 +1,4 @@
+-- Answers of note_element: the word on top is the index on the stack, and what is marked is the array's cell at it.
 use Rattle.std.proofs.Common.{◌∷◌, ◌∙◌, sym, ap, subst}
 use Rattle.version_map.specs.Deltas.{at}
 use Rattle.rev_code.specs.Variables.{array}

@@ -1,3 +1,4 @@
+-- Answers of add_all: a number of those so far was there before or is this one, which the heap has just taken in.
 use Rattle.std.proofs.Common.{inl, inr, sym, subst, true≢false}
 use Rattle.ready_queue.specs.Heap.{Has}
 use Rattle.ready_queue.proofs.Queues.{has_more, has_all}
@@ -16,7 +17,8 @@ loop-at-preserved c = record {
 }
 
 pub returns-clause-here : goal.returns-clause-here
-returns-clause-here c = λ n h. c.loop-at.invariant.here n (has_all c.args.numbers.now c.loop-at.at n c.loop-at-test.false h)
+returns-clause-here c =
+    λ n h. c.loop-at.invariant.here n (has_all c.args.numbers.now c.loop-at.at n c.loop-at-test.false h)
 
 pub returns-clause-kept : goal.returns-clause-kept
 returns-clause-kept c = c.loop-at.invariant.kept

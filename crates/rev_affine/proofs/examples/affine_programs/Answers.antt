@@ -1,3 +1,4 @@
+-- Answers of affine_programs: each program keeps the rule by computation, and the third one the typing rules too.
 use Rattle.std.proofs.Common.{refl, arith}
 use Rattle.rev_affine.specs.Examples as x
 use Rattle.rev_affine.proofs.Places.{affine_by}

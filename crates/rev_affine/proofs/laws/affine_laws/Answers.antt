@@ -1,3 +1,4 @@
+-- Answers of affine_laws: a well-typed program that keeps the rule uses each handle once, and the rest follows.
 use Rattle.revision_calculus.proofs.FunKinds.{rules_kept}
 use Rattle.rev_affine.proofs.Paths.{affine_once}
 use Rattle.rev_affine.proofs.Freedom.{never_twice, reached_owned, none_shared}

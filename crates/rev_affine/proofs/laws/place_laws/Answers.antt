@@ -1,3 +1,4 @@
+-- Answers of place_laws: a well-typed program keeps the rules on places, so each place in the lists is a break.
 use Rattle.revision_calculus.proofs.FunKinds.{rules_kept}
 use Rattle.rev_affine.proofs.Places.{places_found, places_sound, decided}
 use Rattle.rev_affine.proofs.laws.place_laws.Goals as goal

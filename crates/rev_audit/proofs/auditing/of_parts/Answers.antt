@@ -1,3 +1,4 @@
+-- Answers of of_parts: the first part that differs says no, and where none does and none is wanting it is yes.
 use Rattle.std.proofs.Common.{Some, subst, sym}
 use Rattle.revision_state.specs.Views.{given}
 use Rattle.audit_rules.specs.Traces.{SaysNo}
@@ -11,7 +12,8 @@ pub nth_part-part-requires : goal.nth_part-part-requires
 nth_part-part-requires c =
     let t = c.args.stated.now in
     let d = c.in-Some.difference in
-    difference_within (given t.setting) t.fuel t.parts.now c.args.unstated d (subst (IsSwept (given t.setting) t.fuel t.parts.now c.args.unstated) c.in-Some.is c.requires.swept)
+    difference_within (given t.setting) t.fuel t.parts.now c.args.unstated d
+    (subst (IsSwept (given t.setting) t.fuel t.parts.now c.args.unstated) c.in-Some.is c.requires.swept)
 
 pub returns-in-Some : goal.returns-in-Some
 returns-in-Some c =
@@ -20,9 +22,13 @@ returns-in-Some c =
     let p = c.nth_part-part.result.now in
     let swept = subst (IsSwept (given t.setting) t.fuel t.parts.now c.args.unstated) c.in-Some.is c.requires.swept in
     let ahead = subst (IsAhead (given t.setting) t.fuel t.parts.now c.args.unstated) c.in-Some.is c.requires.ahead in
-    let no = says_no (given t.setting) t.fuel t.parts.now (accepted t.setting) c.requires.order c.args.unstated d p swept ahead c.nth_part-part.ensures in
-    subst (λ r. SaysNo (given t.setting) t.fuel t.parts.now r (Some c.in_ok-copy-in-Some-2.field-0) (computed_part d.computed)) (sym c.in_ok-copy-in-Some.ensures)
-    (subst (λ v. SaysNo (given t.setting) t.fuel t.parts.now p.path (Some v) (computed_part d.computed)) (sym c.in_ok-copy-in-Some-2.ensures) no)
+    let no = says_no (given t.setting) t.fuel t.parts.now (accepted t.setting) c.requires.order c.args.unstated d p
+    swept ahead c.nth_part-part.ensures in
+    subst (λ r.
+    SaysNo (given t.setting) t.fuel t.parts.now r (Some c.in_ok-copy-in-Some-2.field-0) (computed_part d.computed))
+    (sym c.in_ok-copy-in-Some.ensures)
+    (subst (λ v. SaysNo (given t.setting) t.fuel t.parts.now p.path (Some v) (computed_part d.computed))
+    (sym c.in_ok-copy-in-Some-2.ensures) no)
 
 pub returns : goal.returns
 returns c =

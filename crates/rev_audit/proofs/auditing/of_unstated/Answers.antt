@@ -1,3 +1,4 @@
+-- Answers of of_unstated: a revision that begins without a part, before each part that differs, says no by its run.
 use Rattle.std.proofs.Common.{None, subst, sym}
 use Rattle.revision_state.specs.Views.{given}
 use Rattle.audit_rules.specs.Traces.{SaysNo}
@@ -13,5 +14,7 @@ pub returns : goal.returns
 returns c =
     let t = c.args.stated.now in
     let o = c.in_ok-run.run' in
-    subst (λ r. SaysNo (given t.setting) t.fuel t.parts.now r None (computed_part o.computed)) (sym c.in_ok-revision.ensures)
-    (says_unstated (given t.setting) t.fuel t.parts.now (accepted t.setting) c.requires.order c.args.first c.args.found (computed_part o.computed) o.children.items c.requires.swept c.requires.behind c.in_ok-run.ensures)
+    subst (λ r. SaysNo (given t.setting) t.fuel t.parts.now r None (computed_part o.computed))
+    (sym c.in_ok-revision.ensures)
+    (says_unstated (given t.setting) t.fuel t.parts.now (accepted t.setting) c.requires.order c.args.first c.args.found
+    (computed_part o.computed) o.children.items c.requires.swept c.requires.behind c.in_ok-run.ensures)

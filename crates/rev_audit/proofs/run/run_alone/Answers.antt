@@ -1,3 +1,4 @@
+-- Answers of run_alone: the run that is under way goes on by its steps to its end or to a join that it cannot take.
 use Rattle.std.proofs.Common.{◌≡◌, ◌+◌, ◌<◌, ◌≤◌, ◌∙◌, arith, refl, subst, sym}
 use Rattle.revision_machine.specs.Machine.{Joins, Ended}
 use Rattle.revision_calculus.specs.Step.{next}
@@ -20,9 +21,13 @@ loop-joined-init c =
     let t = c.args.stated.now in
     let a = c.args.first in
     record {
-      goes = under_there (given t.setting) t.fuel t.parts.now a.path a.path a.local _ c.new-children.result.items refl c.new-children.ensures.items (first_under_way (given t.setting) t.fuel t.parts.now (accepted t.setting) a.path a.local c.requires.begins);
+      goes = under_there (given t.setting) t.fuel t.parts.now a.path a.path a.local _ c.new-children.result.items refl
+          c.new-children.ensures.items
+          (first_under_way (given t.setting) t.fuel t.parts.now (accepted t.setting) a.path a.local c.requires.begins);
       path = refl;
-      joined = subst (IsSetOf c.new-joined.result.map) (sym (none_joined (given t.setting) t.fuel t.parts.now (accepted t.setting) a.path a.local c.requires.begins)) (set_none c.new-joined.result.map c.new-joined.ensures);
+      joined = subst (IsSetOf c.new-joined.result.map)
+          (sym (none_joined (given t.setting) t.fuel t.parts.now (accepted t.setting) a.path a.local c.requires.begins))
+          (set_none c.new-joined.result.map c.new-joined.ensures);
     }
 
 pub returns-in-Ended : goal.returns-in-Ended
@@ -34,9 +39,12 @@ returns-in-Ended c =
     let ks = c.run_on.new.children.items in
     let at = c.loop-joined.invariant.path in
     let begins = subst (λ p. BeginsAt (given t.setting) t.fuel t.parts.now p a.local) (sym at) c.requires.begins in
-    let does : next (given t.setting) r l ≡ Ended = subst (StopsAt (given t.setting) t.fuel t.parts.now r l) c.in-Ended.is c.in_ok-next.ensures.stop in
+    let does : next (given t.setting) r l ≡ Ended =
+    subst (StopsAt (given t.setting) t.fuel t.parts.now r l) c.in-Ended.is c.in_ok-next.ensures.stop in
     subst (λ p. ComesTo (given t.setting) t.fuel t.parts.now p a.local (made c.in_ok-part-in-Ended.part) ks) at
-    (comes_made (given t.setting) t.fuel t.parts.now (accepted t.setting) r l ks c.in_ok-next.ensures.goes a.local c.deref.result.now c.in_ok-next.next.path c.in_ok-part-in-Ended.part begins does (c.deref.ensures.value ∙ t.placed) c.in_ok-next.ensures.path c.in_ok-part-in-Ended.ensures)
+    (comes_made (given t.setting) t.fuel t.parts.now (accepted t.setting) r l ks c.in_ok-next.ensures.goes a.local
+    c.deref.result.now c.in_ok-next.next.path c.in_ok-part-in-Ended.part begins does (c.deref.ensures.value ∙ t.placed)
+    c.in_ok-next.ensures.path c.in_ok-part-in-Ended.ensures)
 
 pub joinee_of-requires-clause-fits : goal.joinee_of-requires-clause-fits
 joinee_of-requires-clause-fits c =
@@ -44,10 +52,12 @@ joinee_of-requires-clause-fits c =
     let y = c.in_ok-next.next in
     let ks = c.run_on.new.children.items in
     fits_there (given t.setting) t.fuel t.parts.now (accepted t.setting) y.path y.local ks
-    (under_there (given t.setting) t.fuel t.parts.now c.loop-joined.state.path y.path y.local ks ks c.in_ok-next.ensures.path refl c.in_ok-next.ensures.goes)
+    (under_there (given t.setting) t.fuel t.parts.now c.loop-joined.state.path y.path y.local ks ks
+    c.in_ok-next.ensures.path refl c.in_ok-next.ensures.goes)
 
 pub joinee_of-requires-clause-joined : goal.joinee_of-requires-clause-joined
-joinee_of-requires-clause-joined c = subst (IsSetOf c.loop-joined.joined.map) (sym c.in_ok-next.ensures.joined) c.loop-joined.invariant.joined
+joinee_of-requires-clause-joined c =
+    subst (IsSetOf c.loop-joined.joined.map) (sym c.in_ok-next.ensures.joined) c.loop-joined.invariant.joined
 
 pub returns-in-Twice : goal.returns-in-Twice
 returns-in-Twice c =
@@ -59,10 +69,15 @@ returns-in-Twice c =
     let on = c.in-Wants.on in
     let at = c.loop-joined.invariant.path in
     let begins = subst (λ p. BeginsAt (given t.setting) t.fuel t.parts.now p a.local) (sym at) c.requires.begins in
-    let does : next (given t.setting) r y.local ≡ Joins on = subst (StopsAt (given t.setting) t.fuel t.parts.now r y.local) c.in-Wants.is c.in_ok-next.ensures.stop in
-    let told = subst (IsJoinee (given t.setting) t.fuel t.parts.now r y.local on) c.in-Twice.is (subst (λ p. IsJoinee (given t.setting) t.fuel t.parts.now p y.local on c.in_ok-end.field-0) c.in_ok-next.ensures.path c.in_ok-end.ensures) in
+    let does : next (given t.setting) r y.local ≡ Joins on =
+    subst (StopsAt (given t.setting) t.fuel t.parts.now r y.local) c.in-Wants.is c.in_ok-next.ensures.stop in
+    let told =
+    subst (IsJoinee (given t.setting) t.fuel t.parts.now r y.local on) c.in-Twice.is
+    (subst (λ p. IsJoinee (given t.setting) t.fuel t.parts.now p y.local on c.in_ok-end.field-0)
+    c.in_ok-next.ensures.path c.in_ok-end.ensures) in
     subst (λ p. ComesTo (given t.setting) t.fuel t.parts.now p a.local joined_twice ks) at
-    (comes_twice (given t.setting) t.fuel t.parts.now (accepted t.setting) r y.local ks c.in_ok-next.ensures.goes a.local on begins does told)
+    (comes_twice (given t.setting) t.fuel t.parts.now (accepted t.setting) r y.local ks c.in_ok-next.ensures.goes
+    a.local on begins does told)
 
 pub returns-in-Missing : goal.returns-in-Missing
 returns-in-Missing c =
@@ -74,10 +89,15 @@ returns-in-Missing c =
     let on = c.in-Wants.on in
     let at = c.loop-joined.invariant.path in
     let begins = subst (λ p. BeginsAt (given t.setting) t.fuel t.parts.now p a.local) (sym at) c.requires.begins in
-    let does : next (given t.setting) r y.local ≡ Joins on = subst (StopsAt (given t.setting) t.fuel t.parts.now r y.local) c.in-Wants.is c.in_ok-next.ensures.stop in
-    let told = subst (IsJoinee (given t.setting) t.fuel t.parts.now r y.local on) c.in-Missing.is (subst (λ p. IsJoinee (given t.setting) t.fuel t.parts.now p y.local on c.in_ok-end.field-0) c.in_ok-next.ensures.path c.in_ok-end.ensures) in
+    let does : next (given t.setting) r y.local ≡ Joins on =
+    subst (StopsAt (given t.setting) t.fuel t.parts.now r y.local) c.in-Wants.is c.in_ok-next.ensures.stop in
+    let told =
+    subst (IsJoinee (given t.setting) t.fuel t.parts.now r y.local on) c.in-Missing.is
+    (subst (λ p. IsJoinee (given t.setting) t.fuel t.parts.now p y.local on c.in_ok-end.field-0)
+    c.in_ok-next.ensures.path c.in_ok-end.ensures) in
     subst (λ p. ComesTo (given t.setting) t.fuel t.parts.now p a.local missing ks) at
-    (comes_missing (given t.setting) t.fuel t.parts.now (accepted t.setting) r y.local ks c.in_ok-next.ensures.goes a.local on begins does told.0 told.1)
+    (comes_missing (given t.setting) t.fuel t.parts.now (accepted t.setting) r y.local ks c.in_ok-next.ensures.goes
+    a.local on begins does told.0 told.1)
 
 pub loop-joined-smaller : goal.loop-joined-smaller
 loop-joined-smaller c =
@@ -88,13 +108,25 @@ loop-joined-smaller c =
     let ks = c.run_on.new.children.items in
     let on = c.in-Wants.on in
     let there = c.in_ok-next.ensures.path in
-    let does : next (given t.setting) r y.local ≡ Joins on = subst (StopsAt (given t.setting) t.fuel t.parts.now r y.local) c.in-Wants.is c.in_ok-next.ensures.stop in
-    let told = subst (IsJoinee (given t.setting) t.fuel t.parts.now r y.local on) c.in-Told.is (subst (λ p. IsJoinee (given t.setting) t.fuel t.parts.now p y.local on c.in_ok-end.field-0) there c.in_ok-end.ensures) in
-    let joins = awaited_joins (given t.setting) t.fuel t.parts.now (accepted t.setting) r y.local ks c.in_ok-next.ensures.goes z.local on c.in-Told.end does (subst (λ p. JoinsAwaited (given t.setting) p y.local (awaited y.local.phase) c.in-Told.end z.local) there c.in_ok-state-in-Told.ensures.local) in
-    let k = on_join (given t.setting) t.fuel t.parts.now (accepted t.setting) r y.local ks c.in_ok-next.ensures.goes z.local on c.in-Told.end does told.0 told.1 joins in
+    let does : next (given t.setting) r y.local ≡ Joins on =
+    subst (StopsAt (given t.setting) t.fuel t.parts.now r y.local) c.in-Wants.is c.in_ok-next.ensures.stop in
+    let told =
+    subst (IsJoinee (given t.setting) t.fuel t.parts.now r y.local on) c.in-Told.is
+    (subst (λ p. IsJoinee (given t.setting) t.fuel t.parts.now p y.local on c.in_ok-end.field-0) there
+    c.in_ok-end.ensures) in
+    let joins =
+    awaited_joins (given t.setting) t.fuel t.parts.now (accepted t.setting) r y.local ks c.in_ok-next.ensures.goes
+    z.local on c.in-Told.end does
+    (subst (λ p. JoinsAwaited (given t.setting) p y.local (awaited y.local.phase) c.in-Told.end z.local) there
+    c.in_ok-state-in-Told.ensures.local) in
+    let k = on_join (given t.setting) t.fuel t.parts.now (accepted t.setting) r y.local ks c.in_ok-next.ensures.goes
+    z.local on c.in-Told.end does told.0 told.1 joins in
     let same = c.in_ok-next.ensures.joined in
-    let less : left (paths_of t.parts.now) (joined_by z.local.noted) + 1 ≤ left (paths_of t.parts.now) (joined_by c.loop-joined.state.local.noted) = subst (λ js. left (paths_of t.parts.now) (joined_by z.local.noted) + 1 ≤ left (paths_of t.parts.now) js) same k.2 in
-    let fewer : left (paths_of t.parts.now) (joined_by z.local.noted) < left (paths_of t.parts.now) (joined_by c.loop-joined.state.local.noted) = omega arith in
+    let less : left (paths_of t.parts.now) (joined_by z.local.noted) + 1
+    ≤ left (paths_of t.parts.now) (joined_by c.loop-joined.state.local.noted) =
+    subst (λ js. left (paths_of t.parts.now) (joined_by z.local.noted) + 1 ≤ left (paths_of t.parts.now) js) same k.2 in
+    let fewer : left (paths_of t.parts.now) (joined_by z.local.noted)
+    < left (paths_of t.parts.now) (joined_by c.loop-joined.state.local.noted) = omega arith in
     fewer
 
 pub loop-joined-preserved : goal.loop-joined-preserved
@@ -106,13 +138,26 @@ loop-joined-preserved c =
     let ks = c.run_on.new.children.items in
     let on = c.in-Wants.on in
     let there = c.in_ok-next.ensures.path in
-    let does : next (given t.setting) r y.local ≡ Joins on = subst (StopsAt (given t.setting) t.fuel t.parts.now r y.local) c.in-Wants.is c.in_ok-next.ensures.stop in
-    let told = subst (IsJoinee (given t.setting) t.fuel t.parts.now r y.local on) c.in-Told.is (subst (λ p. IsJoinee (given t.setting) t.fuel t.parts.now p y.local on c.in_ok-end.field-0) there c.in_ok-end.ensures) in
-    let joins = awaited_joins (given t.setting) t.fuel t.parts.now (accepted t.setting) r y.local ks c.in_ok-next.ensures.goes z.local on c.in-Told.end does (subst (λ p. JoinsAwaited (given t.setting) p y.local (awaited y.local.phase) c.in-Told.end z.local) there c.in_ok-state-in-Told.ensures.local) in
-    let k = on_join (given t.setting) t.fuel t.parts.now (accepted t.setting) r y.local ks c.in_ok-next.ensures.goes z.local on c.in-Told.end does told.0 told.1 joins in
-    let mine = subst (IsSetOf c.loop-joined.joined.map) (sym c.in_ok-next.ensures.joined) c.loop-joined.invariant.joined in
+    let does : next (given t.setting) r y.local ≡ Joins on =
+    subst (StopsAt (given t.setting) t.fuel t.parts.now r y.local) c.in-Wants.is c.in_ok-next.ensures.stop in
+    let told =
+    subst (IsJoinee (given t.setting) t.fuel t.parts.now r y.local on) c.in-Told.is
+    (subst (λ p. IsJoinee (given t.setting) t.fuel t.parts.now p y.local on c.in_ok-end.field-0) there
+    c.in_ok-end.ensures) in
+    let joins =
+    awaited_joins (given t.setting) t.fuel t.parts.now (accepted t.setting) r y.local ks c.in_ok-next.ensures.goes
+    z.local on c.in-Told.end does
+    (subst (λ p. JoinsAwaited (given t.setting) p y.local (awaited y.local.phase) c.in-Told.end z.local) there
+    c.in_ok-state-in-Told.ensures.local) in
+    let k = on_join (given t.setting) t.fuel t.parts.now (accepted t.setting) r y.local ks c.in_ok-next.ensures.goes
+    z.local on c.in-Told.end does told.0 told.1 joins in
+    let mine =
+    subst (IsSetOf c.loop-joined.joined.map) (sym c.in_ok-next.ensures.joined) c.loop-joined.invariant.joined in
     record {
-      goes = under_there (given t.setting) t.fuel t.parts.now r z.path z.local ks ks (c.in_ok-state-in-Told.ensures.path ∙ there) refl k.0;
+      goes = under_there (given t.setting) t.fuel t.parts.now r z.path z.local ks ks
+          (c.in_ok-state-in-Told.ensures.path ∙ there) refl k.0;
       path = c.in_ok-state-in-Told.ensures.path ∙ there ∙ c.loop-joined.invariant.path;
-      joined = subst (IsSetOf c.enter.new.self.map) (sym k.1) (set_more c.loop-joined.joined.map c.enter.new.self.map (joined_by y.local.noted) on 0 mine c.in_ok-enter.ensures);
+      joined = subst (IsSetOf c.enter.new.self.map) (sym k.1)
+          (set_more c.loop-joined.joined.map c.enter.new.self.map (joined_by y.local.noted) on 0 mine
+          c.in_ok-enter.ensures);
     }

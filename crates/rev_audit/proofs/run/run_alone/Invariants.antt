@@ -1,3 +1,4 @@
+-- Loops of run_alone: the run is under way at its path, the table has its joins, and each uses up a stated part.
 use Rattle.std.proofs.Common.{◌≡◌}
 use Rattle.revision_state.specs.Views.{given}
 use Rattle.audit_rules.specs.Parts.{joined_by}
@@ -9,7 +10,8 @@ use Rattle.rev_audit.proofs.run.run_alone.Given as goal
 
 abbrev pub invariant-loop-joined : goal.invariant-loop-joined
 invariant-loop-joined l = record {
-  goes : IsUnderWay (given l.stated.setting) l.stated.fuel l.stated.parts.now l.state.path l.state.local l.children.items;
+  goes :
+      IsUnderWay (given l.stated.setting) l.stated.fuel l.stated.parts.now l.state.path l.state.local l.children.items;
   path : l.state.path ≡ l.initial.state.path;
   joined : IsSetOf l.joined.map (joined_by l.state.local.noted);
 }

@@ -1,3 +1,4 @@
+-- Loops of run_on: the run is under way at the path where it began, and it has joined what it had joined at first.
 use Rattle.std.proofs.Common.{◌≡◌}
 use Rattle.revision_calculus.specs.Held.{weight}
 use Rattle.revision_state.specs.Views.{given}
@@ -7,7 +8,8 @@ use Rattle.rev_audit.proofs.run.run_on.Given as goal
 
 abbrev pub invariant-loop-next : goal.invariant-loop-next
 invariant-loop-next l = record {
-  goes : IsUnderWay (given l.stated.setting) l.stated.fuel l.stated.parts.now l.state.path l.state.local l.children.items;
+  goes :
+      IsUnderWay (given l.stated.setting) l.stated.fuel l.stated.parts.now l.state.path l.state.local l.children.items;
   path : l.state.path ≡ l.initial.state.path;
   joined : joined_by l.state.local.noted ≡ joined_by l.initial.state.local.noted;
 }

@@ -1,3 +1,4 @@
+-- Loops of are_same_changes: the changes so far are the same in both lists.
 use Rattle.std.proofs.Common.{◌≡◌, take}
 use Rattle.rev_audit.proofs.same.are_same_changes.Given as goal
 

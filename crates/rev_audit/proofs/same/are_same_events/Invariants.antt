@@ -1,3 +1,4 @@
+-- Loops of are_same_events: the events so far are the same in both lists.
 use Rattle.std.proofs.Common.{◌≡◌, take}
 use Rattle.rev_audit.proofs.same.are_same_events.Given as goal
 

@@ -1,3 +1,4 @@
+-- Answers of first_difference: from the last part on, each that is not the computed one is the first so far.
 use Rattle.std.proofs.Common.{◌≡◌, ◌+◌, ◌-◌, arith, refl, subst}
 use Rattle.revision_state.specs.Views.{given}
 use Rattle.audit_rules.specs.Verdicts.{computed_part}
@@ -9,7 +10,11 @@ use Rattle.rev_audit.proofs.sweep.first_difference.Goals as goal
 pub loop-index-init : goal.loop-index-init
 loop-index-init c =
     let t = c.args.stated.now in
-    record { within = omega arith; kept = c.requires.kept; first = none_yet (given t.setting) t.fuel t.parts.now (accepted t.setting) c.requires.order }
+    record {
+      within = omega arith;
+      kept = c.requires.kept;
+      first = none_yet (given t.setting) t.fuel t.parts.now (accepted t.setting) c.requires.order;
+    }
 
 pub loop-index-preserved-then-not-is_same : goal.loop-index-preserved-then-not-is_same
 loop-index-preserved-then-not-is_same c =
@@ -19,7 +24,9 @@ loop-index-preserved-then-not-is_same c =
     record {
       within = omega arith;
       kept = c.in_ok-computed.ensures.kept;
-      first = differs_here (given t.setting) t.fuel t.parts.now (accepted t.setting) c.requires.order i c.nth_part-part.result.now (record { index = i; computed = c.in_ok-computed.computed }) refl c.nth_part-part.ensures c.in_ok-computed.ensures.computed c.if-not-is_same.ensures;
+      first = differs_here (given t.setting) t.fuel t.parts.now (accepted t.setting) c.requires.order i
+          c.nth_part-part.result.now (record { index = i; computed = c.in_ok-computed.computed }) refl
+          c.nth_part-part.ensures c.in_ok-computed.ensures.computed c.if-not-is_same.ensures;
     }
 
 pub loop-index-preserved-else-not-is_same : goal.loop-index-preserved-else-not-is_same
@@ -32,6 +39,9 @@ loop-index-preserved-else-not-is_same c =
     record {
       within = omega arith;
       kept = c.in_ok-computed.ensures.kept;
-      first = same_more (given t.setting) t.fuel t.parts.now (accepted t.setting) c.requires.order i c.loop-index.found c.nth_part-part.result.now (computed_part c.in_ok-computed.computed) c.nth_part-part.ensures c.in_ok-computed.ensures.computed c.if-not-is_same.ensures
-          (subst (λ n. Differs (given t.setting) t.fuel t.parts.now n c.loop-index.found) step c.loop-index.invariant.first);
+      first = same_more (given t.setting) t.fuel t.parts.now (accepted t.setting) c.requires.order i c.loop-index.found
+          c.nth_part-part.result.now (computed_part c.in_ok-computed.computed) c.nth_part-part.ensures
+          c.in_ok-computed.ensures.computed c.if-not-is_same.ensures
+          (subst (λ n. Differs (given t.setting) t.fuel t.parts.now n c.loop-index.found) step
+          c.loop-index.invariant.first);
     }

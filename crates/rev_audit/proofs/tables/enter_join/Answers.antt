@@ -1,3 +1,4 @@
+-- Answers of enter_join: a fork enters nothing, and a join enters the one revision that it lists.
 use Rattle.std.proofs.lemmas.Result.{on_ok_weaker}
 use Rattle.rev_audit.proofs.Finding.{entered_none, entered_one}
 use Rattle.rev_audit.proofs.tables.enter_join.Goals as goal

@@ -1,3 +1,4 @@
+-- Loops of enter_joins: a revision that the events so far list has the number, and any other what it had at first.
 use Rattle.std.proofs.Common.{◌≡◌, Some, take}
 use Rattle.std.specs.Prelude.{if◌then◌else◌}
 use Rattle.rev_num.specs.Path.{Path}

@@ -1,3 +1,4 @@
+-- Loops of indices_of: the table has the numbers of the parts so far.
 use Rattle.std.proofs.Common.{take}
 use Rattle.revision_machine.specs.PathIndex.{IsIndexed}
 use Rattle.audit_rules.specs.Traces.{paths_of}

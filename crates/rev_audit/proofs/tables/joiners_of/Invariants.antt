@@ -1,3 +1,4 @@
+-- Loops of joiners_of: the table has for each revision the first part from this one on that lists it as joined.
 use Rattle.std.proofs.Common.{◌≡◌, ◌≤◌, drop, length}
 use Rattle.rev_num.specs.Path.{Path}
 use Rattle.revision_machine.specs.PathIndex.{place_by}

@@ -1,3 +1,4 @@
+-- Loops of numbers_of: the table finds each place at its number among the places so far.
 use Rattle.std.proofs.Common.{◌≡◌, ℕ, List, take}
 use Rattle.merge_decl.specs.Table.{find}
 use Rattle.audit_rules.specs.Parts.{number_of}

@@ -1,3 +1,4 @@
+-- Answers of no_slots: each turn adds a slot without a write, and after so many turns there are as many as the count.
 use Rattle.std.proofs.Common.{◌≡◌, ℕ, ◌++◌, ◌∷◌, [], Option, None, replicate, ap, ◌∙◌, arith}
 use Rattle.std.proofs.lemmas.List.{replicate_more}
 use Rattle.revision_alone.specs.declared.ends.AloneWrite.{AloneWrite}

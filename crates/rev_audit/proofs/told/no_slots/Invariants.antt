@@ -1,3 +1,4 @@
+-- Loops of no_slots: there are as many slots without a write as turns were taken.
 use Rattle.std.proofs.Common.{◌≡◌, None, replicate}
 use Rattle.rev_audit.proofs.told.no_slots.Given as goal
 

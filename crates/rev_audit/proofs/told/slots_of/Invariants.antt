@@ -1,3 +1,4 @@
+-- Loops of slots_of: the changes from this one on fit, and the slots are those of these changes.
 use Rattle.std.proofs.Common.{◌≡◌, ◌≤◌, true, drop, length}
 use Rattle.revision_calculus.specs.Kinded.{location_kinds}
 use Rattle.revision_state.specs.Views.{given}
@@ -8,7 +9,8 @@ use Rattle.rev_audit.proofs.told.slots_of.Given as goal
 abbrev pub invariant-loop-j : goal.invariant-loop-j
 invariant-loop-j l = record {
   within : l.j ≤ length l.changes;
-  fit : changes_fit (places (given l.stated.setting)) (location_kinds (given l.stated.setting)) (drop l.j l.changes) ≡ true;
+  fit : changes_fit (places (given l.stated.setting)) (location_kinds (given l.stated.setting)) (drop l.j l.changes)
+      ≡ true;
   so_far : l.slots.items ≡ slots_from 0 (places (given l.stated.setting)) (drop l.j l.changes);
 }
 

@@ -1,3 +1,4 @@
+-- Loops of written_in: the slots ahead are as at first, and the writes so far with those in them are all writes.
 use Rattle.std.proofs.Common.{◌≡◌, ◌++◌, drop, length}
 use Rattle.rev_audit.specs.Told.{written_in}
 use Rattle.rev_audit.proofs.told.written_in.Given as goal

@@ -1,3 +1,4 @@
+-- Answers of fun_body: a declaration that is no fun has no body.
 use Rattle.rev_evaluator.proofs.Meanings.{no_body}
 use Rattle.rev_evaluator.proofs.funs.fun_body.Goals as goal
 

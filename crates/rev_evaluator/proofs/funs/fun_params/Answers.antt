@@ -1,3 +1,4 @@
+-- Answers of fun_params: a declaration that is no fun has no parameters.
 use Rattle.rev_evaluator.proofs.Meanings.{no_params}
 use Rattle.rev_evaluator.proofs.funs.fun_params.Goals as goal
 

@@ -1,3 +1,4 @@
+-- Answers of begin_application: the first argument comes first, and a fun without arguments is called at once.
 use Rattle.std.proofs.Common.{◌∙◌, None, ap, sym, arith}
 use Rattle.rev_syntax.specs.Trees as t
 use Rattle.rev_syntax.specs.View.{expressions, placed_name}
@@ -14,7 +15,9 @@ returns-in-Some-clause-meaning c es n l ps vs =
     let p = wait.Argument c.args.name 0 c.in-Some.rest in
     by_turn es n l ps vs _ (part_turn p c.in-Some.arg) _ c.part.ensures
     (awaited es n l ps p c.in-Some.arg vs _ (apply-begun es n l c.args.name c.in-Some.arg c.in-Some.rest vs)
-    ∙ (λ i. ended es n l ps (without-none vs i) (expression_form_within es n l (t.apply (placed_name c.args.name.now) (expressions (sym c.in-Some.ensures.cases.0 i))))))
+    ∙ (λ i. ended es n l ps (without-none vs i)
+    (expression_form_within es n l
+    (t.apply (placed_name c.args.name.now) (expressions (sym c.in-Some.ensures.cases.0 i))))))
 
 pub returns-in-Some-clause-smaller : goal.returns-in-Some-clause-smaller
 returns-in-Some-clause-smaller c =
@@ -24,7 +27,8 @@ returns-in-Some-clause-smaller c =
 
 pub returns-in-None-clause-meaning : goal.returns-in-None-clause-meaning
 returns-in-None-clause-meaning c es n l ps vs =
-    by_turn es n l ps vs _ (call_turn (record { name = c.args.name; before = 0; value = None; rest = c.args.args })) _ c.call.ensures
+    by_turn es n l ps vs _ (call_turn (record { name = c.args.name; before = 0; value = None; rest = c.args.args })) _
+    c.call.ensures
     (apply-none es n l ps vs c.args.name c.args.args)
 
 pub returns-in-None-clause-smaller : goal.returns-in-None-clause-smaller

@@ -1,3 +1,4 @@
+-- Answers of chosen: the truth of the test decides on the expression that comes next, in the code and by definition.
 use Rattle.std.proofs.Common.{◌∙◌, true, false, ap, sym, arith}
 use Rattle.rev_syntax.specs.Small.{expression_count}
 use Rattle.rev_syntax.specs.View.{expression}
@@ -10,8 +11,12 @@ use Rattle.rev_evaluator.proofs.work.chosen.Goals as goal
 pub returns-clause-meaning : goal.returns-clause-meaning
 returns-clause-meaning c es n l ps vs =
     elim c.if-truth.branch [
-      | then-truth b ↦ give-pick es n l ps vs c.args.yes c.args.no c.if-truth.result (seen c.args.test) true (sym c.truth.ensures ∙ b.if-truth.true) b.result-is
-      | else-truth b ↦ give-pick es n l ps vs c.args.yes c.args.no c.if-truth.result (seen c.args.test) false (sym c.truth.ensures ∙ b.if-truth.false) b.result-is
+      | then-truth b ↦
+          give-pick es n l ps vs c.args.yes c.args.no c.if-truth.result (seen c.args.test) true
+          (sym c.truth.ensures ∙ b.if-truth.true) b.result-is
+      | else-truth b ↦
+          give-pick es n l ps vs c.args.yes c.args.no c.if-truth.result (seen c.args.test) false
+          (sym c.truth.ensures ∙ b.if-truth.false) b.result-is
     ]
 
 pub returns-clause-smaller : goal.returns-clause-smaller

@@ -1,3 +1,4 @@
+-- Answers of give_argument: while there is room the value is kept and an argument comes, and else the fun is called.
 use Rattle.std.proofs.Common.{◌∙◌, Some, ◌++◌, ◌∷◌, [], suc, ap, sym, arith, add-one}
 use Rattle.rev_syntax.specs.View.{expressions}
 use Rattle.rev_syntax.specs.Small.{expressions_count}
@@ -13,9 +14,13 @@ pub returns-in-Some-clause-meaning : goal.returns-in-Some-clause-meaning
 returns-in-Some-clause-meaning c es n l ps vs =
     let x = seen c.args.x in
     let k = c.args.before in
-    ap (λ m. comes_to es n l (wait.Argument c.args.name m c.in-Some.rest ∷ ps) (vs ++ x ∷ []) (next.Part c.in-Some.arg)) (add-one k)
-    ∙ awaited es n l ps (wait.Argument c.args.name (suc k) c.in-Some.rest) c.in-Some.arg (vs ++ x ∷ []) _ (argument-next es n l c.args.name k x c.in-Some.arg c.in-Some.rest vs)
-    ∙ (λ i. ended es n l ps (without-push k vs x i) (application es n l c.args.name.now.text.items (lasts k vs ++ x ∷ []) (expressions (sym c.in-Some.ensures.cases.0 i))))
+    ap (λ m. comes_to es n l (wait.Argument c.args.name m c.in-Some.rest ∷ ps) (vs ++ x ∷ []) (next.Part c.in-Some.arg))
+    (add-one k)
+    ∙ awaited es n l ps (wait.Argument c.args.name (suc k) c.in-Some.rest) c.in-Some.arg (vs ++ x ∷ []) _
+    (argument-next es n l c.args.name k x c.in-Some.arg c.in-Some.rest vs)
+    ∙ (λ i. ended es n l ps (without-push k vs x i)
+    (application es n l c.args.name.now.text.items (lasts k vs ++ x ∷ [])
+    (expressions (sym c.in-Some.ensures.cases.0 i))))
 
 pub returns-in-Some-clause-smaller : goal.returns-in-Some-clause-smaller
 returns-in-Some-clause-smaller c =
@@ -24,7 +29,9 @@ returns-in-Some-clause-smaller c =
 
 pub returns-in_default-clause-meaning : goal.returns-in_default-clause-meaning
 returns-in_default-clause-meaning c es n l ps vs =
-    by_turn es n l ps vs _ (call_turn (record { name = c.args.name; before = c.args.before; value = Some c.args.x; rest = c.args.args })) _ c.call.ensures
+    by_turn es n l ps vs _
+    (call_turn (record { name = c.args.name; before = c.args.before; value = Some c.args.x; rest = c.args.args })) _
+    c.call.ensures
     (argument-kept es n l ps vs c.args.name c.args.before c.args.x c.args.args)
 
 pub returns-in_default-clause-smaller : goal.returns-in_default-clause-smaller

@@ -1,3 +1,4 @@
+-- Answers of part_cost: each form of node costs what its form of expression does.
 use Rattle.std.proofs.Common.{◌∙◌, ap, sym}
 use Rattle.rev_syntax.specs.View.{expression_form}
 use Rattle.rev_evaluator.specs.Work.{part_cost}

@@ -1,3 +1,4 @@
+-- Loops of expr: the links or arguments so far, with those that the tokens left give, are all that there are.
 use Rattle.std.proofs.Common.{◌≡◌, [], map, ℕ, ◌+◌, ◌-◌, ◌*◌}
 use Rattle.rev_expressions.specs.declared.expression.Rank.{Rank}
 use Rattle.rev_expressions.specs.declared.expression.Rank.TheVariants as r
@@ -66,9 +67,12 @@ decreases-operand l = 40 * l.levels + looseness l.rank + 5
 abbrev pub invariant-links-loop-turn : goal.invariant-links-loop-turn
 invariant-links-loop-turn l =
     more_links l.source.bytes.now l.levels l.rank l._turn-end [] l.initial.cursor.rest.now
-    ≡ more_links l.source.bytes.now l.levels l.rank (l._turn-end - l._turn) (map view.link l.found.items) l.cursor.rest.now
+    ≡ more_links l.source.bytes.now l.levels l.rank (l._turn-end - l._turn) (map view.link l.found.items)
+    l.cursor.rest.now
 
 abbrev pub invariant-more_arguments-loop-turn : goal.invariant-more_arguments-loop-turn
 invariant-more_arguments-loop-turn l =
-    more_listed l.source.bytes.now l.levels (spec.expr l.source.bytes.now) l._turn-end (map view.expression l.initial.args.items) l.initial.cursor.rest.now
-    ≡ more_listed l.source.bytes.now l.levels (spec.expr l.source.bytes.now) (l._turn-end - l._turn) (map view.expression l.args.items) l.cursor.rest.now
+    more_listed l.source.bytes.now l.levels (spec.expr l.source.bytes.now) l._turn-end
+    (map view.expression l.initial.args.items) l.initial.cursor.rest.now
+    ≡ more_listed l.source.bytes.now l.levels (spec.expr l.source.bytes.now) (l._turn-end - l._turn)
+    (map view.expression l.args.items) l.cursor.rest.now

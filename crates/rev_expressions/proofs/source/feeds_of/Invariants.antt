@@ -1,3 +1,4 @@
+-- Loops of feeds_of: the places so far are those of the line feeds among the bytes so far.
 use Rattle.std.proofs.Common.{◌≡◌, take}
 use Rattle.rev_expressions.specs.Source.{feeds_from}
 use Rattle.rev_expressions.proofs.source.feeds_of.Given as goal

@@ -1,3 +1,4 @@
+-- Loops of read_text: the text is what the source gave, with at most one byte past the limit.
 use Rattle.std.proofs.Common.{length, ◌-◌, ◌+◌, ◌≤◌}
 use Rattle.rev_io.specs.Stream.{Gave}
 use Rattle.rev_io.proofs.transfer.read_text.Given as goal

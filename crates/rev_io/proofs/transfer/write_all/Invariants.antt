@@ -1,3 +1,4 @@
+-- Loops of write_all: the sink took the bytes up to this place and no others.
 use Rattle.std.proofs.Common.{length, ◌-◌, ◌≤◌, take}
 use Rattle.rev_io.specs.Stream.{Took}
 use Rattle.rev_io.proofs.transfer.write_all.Given as goal

@@ -1,3 +1,4 @@
+-- Loops of append_behind_commas: the text is that at first with the numbers so far, each behind a comma.
 use Rattle.std.proofs.Common.{◌≡◌, ◌++◌, take}
 use Rattle.std.specs.List.{flat_map}
 use Rattle.rev_messages.specs.Modes.{behind_comma}

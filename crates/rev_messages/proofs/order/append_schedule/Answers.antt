@@ -1,3 +1,4 @@
+-- Answers of append_schedule: the text of a schedule is its first number and then each other number behind a comma.
 use Rattle.std.proofs.lemmas.Grind.{common_steps}
 use Rattle.std.proofs.Common.{arith}
 use Rattle.rev_messages.proofs.Commas.{schedule_text-split}

@@ -1,3 +1,4 @@
+-- Answers of decimal_laws: two lemmas give both directions of reading, and a third that what is written is read.
 use Rattle.rev_num.proofs.Decimals.{decimal_in-is, is-decimal_in, decimal_in-signed_decimal}
 use Rattle.rev_num.proofs.laws.decimal_laws.Goals as goal
 

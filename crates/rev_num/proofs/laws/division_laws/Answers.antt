@@ -1,3 +1,4 @@
+-- Answers of division_laws: two lemmas, that the quotient truncates, and that it fails for nothing else.
 use Rattle.rev_num.proofs.Division.{fails_only_there, truncates}
 use Rattle.rev_num.proofs.laws.division_laws.Goals as goal
 

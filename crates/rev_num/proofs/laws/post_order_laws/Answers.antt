@@ -1,3 +1,4 @@
+-- Answers of post_order_laws: the tests are exact both ways, and the order and two rules on children are lemmas.
 use Rattle.std.proofs.Common.{◌≡◌, subst, true}
 use Rattle.rev_num.specs.Path.{same}
 use Rattle.rev_num.proofs.PostOrder.{before-comes, child_before, comes-before, earlier_child_before, same-eq, same_refl, strict_total_order}

@@ -1,3 +1,4 @@
+-- Loops of comes_before: one list comes before the other exactly where what is left of it comes before what is left.
 use Rattle.std.proofs.Common.{◌≡◌, drop}
 use Rattle.rev_num.specs.Path.{before}
 use Rattle.rev_num.proofs.path.comes_before.Given as goal

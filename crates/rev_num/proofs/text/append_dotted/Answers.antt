@@ -1,3 +1,4 @@
+-- Answers of append_dotted: the text of a path is its first number and then each other number behind a dot.
 use Rattle.std.proofs.lemmas.Grind.{common_steps}
 use Rattle.std.proofs.Common.{arith}
 use Rattle.rev_num.proofs.Dots.{path_text-split}

@@ -1,3 +1,4 @@
+-- Answers of read_decimal: bytes that are no text, or begin with a plus, are no decimal, and else the parser tells.
 use Rattle.std.proofs.Common.{◌∙◌, ap, ◌≡◌, ◌≢◌, get_or, arith}
 use Rattle.std.proofs.lemmas.Grind.{common_steps}
 use Rattle.rev_num.specs.Decimal.{decimal_in}
@@ -14,7 +15,8 @@ pub returns-clause-value : goal.returns-clause-value
 returns-clause-value c =
     let same : c.in_ok-text.text.now ≡ c.args.bytes.now = grind (arith, common_steps) in
     let plus : get_or c.in_ok-text.text.now 0 0 ≢ 43 = grind (arith, common_steps, plus_first c.args.bytes.now) in
-    c.ok-2.ensures.value ∙ decimal_in-parses c.in_ok-text.text.now c.parse.result plus c.parse.ensures.value.0 ∙ ap decimal_in same
+    c.ok-2.ensures.value ∙ decimal_in-parses c.in_ok-text.text.now c.parse.result plus c.parse.ensures.value.0
+    ∙ ap decimal_in same
 
 pub returns-clause-spelled : goal.returns-clause-spelled
 returns-clause-spelled c = is_spelled _ _ (returns-clause-value c)

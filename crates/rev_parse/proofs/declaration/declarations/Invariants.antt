@@ -1,3 +1,4 @@
+-- Loops of declarations: the declarations so far, with those of the tokens left, are all, and no number is negative.
 use Rattle.std.proofs.Common.{◌≡◌, ◌-◌, [], map}
 use Rattle.rev_expressions.specs.Declarations as spec
 use Rattle.rev_expressions.specs.Lists.{more_of}
@@ -10,5 +11,6 @@ invariant-loop-turn l = record {
   natural : AreNatural l.cursor.rest.now;
   same :
       more_of l.source.bytes.now l.levels (spec.declaration l.source.bytes.now) l._turn-end [] l.initial.cursor.rest.now
-      ≡ more_of l.source.bytes.now l.levels (spec.declaration l.source.bytes.now) (l._turn-end - l._turn) (map view.declaration l.found.items) l.cursor.rest.now;
+      ≡ more_of l.source.bytes.now l.levels (spec.declaration l.source.bytes.now) (l._turn-end - l._turn)
+      (map view.declaration l.found.items) l.cursor.rest.now;
 }

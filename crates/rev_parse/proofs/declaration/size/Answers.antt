@@ -1,3 +1,4 @@
+-- Answers of size: behind an open bracket a level is taken, and the cells or their refusal are the size's.
 use Rattle.std.proofs.Common.{◌≡◌, [], true, arith, rules}
 use Rattle.std.proofs.lemmas.Grind.{common_steps}
 use Rattle.token_grammar.specs.Reader.{is_next}

@@ -1,3 +1,4 @@
+-- Answers of some_params: the next token tells by a name whether the list has a first parameter or none.
 use Rattle.std.proofs.Common.{◌≡◌, true, false, arith, rules}
 use Rattle.std.proofs.lemmas.Grind.{common_steps}
 use Rattle.token_grammar.specs.Reader.{is_next}

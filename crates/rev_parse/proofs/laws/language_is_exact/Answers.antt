@@ -1,3 +1,4 @@
+-- Answers of language_is_exact: the theorem on grammars that the next token decides, taken at this grammar.
 use Rattle.rev_parse.proofs.Decides.{choices}
 use Rattle.rev_parse.specs.declared.language.Language.{Language}
 use Rattle.rev_parse.proofs.laws.language_is_exact.Goals as goal

@@ -1,3 +1,4 @@
+-- Loops of stmt: the statements or tests so far, with those that the tokens left give, are all of them.
 use Rattle.std.proofs.Common.{◌≡◌, [], map, ◌+◌, ◌-◌, ◌*◌}
 use Rattle.rev_expressions.specs.Lists.{more_of}
 use Rattle.rev_expressions.specs.Statements as st
@@ -36,10 +37,13 @@ decreases-body l = 20 * l.levels + 8
 abbrev pub invariant-statements-loop-turn : goal.invariant-statements-loop-turn
 invariant-statements-loop-turn l =
     more_of l.source.bytes.now l.levels (st.statement l.source.bytes.now) l._turn-end [] l.initial.cursor.rest.now
-    ≡ more_of l.source.bytes.now l.levels (st.statement l.source.bytes.now) (l._turn-end - l._turn) (map view.stmt l.found.items) l.cursor.rest.now
+    ≡ more_of l.source.bytes.now l.levels (st.statement l.source.bytes.now) (l._turn-end - l._turn)
+    (map view.stmt l.found.items) l.cursor.rest.now
 
 -- what is still to be read behind the tests so far
 abbrev pub invariant-else_parts-loop-turn : goal.invariant-else_parts-loop-turn
 invariant-else_parts-loop-turn l =
-    more_parts l.source.bytes.now l.levels l._turn-end (map st.Test (map view.arm l.initial.arms.items)) l.initial.cursor.rest.now
-    ≡ more_parts l.source.bytes.now l.levels (l._turn-end - l._turn) (map st.Test (map view.arm l.arms.items)) l.cursor.rest.now
+    more_parts l.source.bytes.now l.levels l._turn-end (map st.Test (map view.arm l.initial.arms.items))
+    l.initial.cursor.rest.now
+    ≡ more_parts l.source.bytes.now l.levels (l._turn-end - l._turn) (map st.Test (map view.arm l.arms.items))
+    l.cursor.rest.now

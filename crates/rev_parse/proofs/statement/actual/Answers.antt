@@ -1,3 +1,4 @@
+-- Answers of actual: without an open parenthesis there is no list, and behind one are arguments, a level deeper.
 use Rattle.std.proofs.Common.{◌≡◌, ◌∙◌, true, false, arith, rules}
 use Rattle.std.proofs.lemmas.Grind.{common_steps}
 use Rattle.token_grammar.specs.Reader.{is_next}
@@ -16,5 +17,7 @@ returns-then-not-is_at c =
 pub returns : goal.returns
 returns c =
     let e : is_next spec.alphabet (class.fixed s.OpenParen) c.args.cursor.now.rest.now ≡ true = search rules in
-    let h = rule.actual_yes c.args.source.now.bytes.now c.args.levels c.args.cursor.now.rest.now e ∙ rule.arguments_only c.args.source.now.bytes.now c.args.levels c.in_ok-inner.inner c.args.cursor.now.rest.now c.in_ok-inner.ensures in
+    let h = rule.actual_yes c.args.source.now.bytes.now c.args.levels c.args.cursor.now.rest.now e
+    ∙ rule.arguments_only c.args.source.now.bytes.now c.args.levels c.in_ok-inner.inner c.args.cursor.now.rest.now
+    c.in_ok-inner.ensures in
     grind (arith, common_steps, h)

@@ -1,3 +1,4 @@
+-- Answers of items: the next token tells whether the list has a first item or none.
 use Rattle.std.proofs.Common.{◌≡◌, true, false, arith, rules}
 use Rattle.std.proofs.lemmas.Grind.{common_steps}
 use Rattle.rev_parse.specs.Parts.{item_begins}

@@ -1,3 +1,4 @@
+-- Answers of return_form: the next token tells whether a value is returned, and each refusal is that of the form.
 use Rattle.std.proofs.Common.{◌≡◌, true, false, arith, rules}
 use Rattle.std.proofs.lemmas.Grind.{common_steps}
 use Rattle.rev_expressions.specs.Parse.{expr_begins}

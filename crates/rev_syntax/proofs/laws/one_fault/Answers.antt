@@ -1,3 +1,4 @@
+-- Answers of one_fault: two lemmas, that no text has two first faults, and that none has both tokens and a fault.
 use Rattle.rev_syntax.proofs.Unique.{one-fault, no-fault}
 use Rattle.rev_syntax.proofs.laws.one_fault.Goals as goal
 

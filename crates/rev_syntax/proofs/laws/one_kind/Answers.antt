@@ -1,3 +1,4 @@
+-- Answers of one_kind: a token is a piece, and the bytes of a piece determine its kind.
 use Rattle.std.proofs.Common.{◌≡◌}
 use Rattle.rev_syntax.specs.declared.token.TokenKind.{TokenKind}
 use Rattle.rev_syntax.specs.declared.token.PieceKind.{PieceKind}

@@ -1,3 +1,4 @@
+-- Loops of tokens: the text up to this place is cut into the tokens so far.
 use Rattle.std.proofs.Common.{length, ◌-◌, drop}
 use Rattle.rev_syntax.specs.Tokens.{CutTo}
 use Rattle.rev_syntax.proofs.lex.tokens.Given as goal

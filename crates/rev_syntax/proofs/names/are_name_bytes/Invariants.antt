@@ -1,3 +1,4 @@
+-- Loops of are_name_bytes: whether all bytes may stand in a name is whether those left may.
 use Rattle.std.proofs.Common.{◌≡◌, drop}
 use Rattle.std.specs.List.{list_all}
 use Rattle.rev_syntax.specs.Bytes.{is_name_byte}

@@ -1,3 +1,4 @@
+-- Answers of next_piece: what the scan finds is exactly the longest piece that the text begins with.
 use Rattle.rev_syntax.proofs.Exact.{exact-scan}
 use Rattle.rev_syntax.proofs.scan.next_piece.Goals as goal
 

@@ -1,3 +1,4 @@
+-- Answers of word: the length is the count of name bytes in front, and the kind that of the word they spell.
 use Rattle.std.proofs.Common.{refl}
 use Rattle.rev_syntax.proofs.scan.word.Goals as goal
 

@@ -1,3 +1,4 @@
+-- Answers of dis: a file that is at fault leaves with its first fault, and checked code is listed.
 use Rattle.code_verifier.specs.declared.verified.Verified.{Verified}
 use Rattle.rev_report.specs.Report.{output}
 use Rattle.rev_top.specs.Answer.{Lists, SaysAs}

@@ -1,3 +1,4 @@
+-- Answers of audit: where the bytes cannot be split they are refused, and else their two parts are audited.
 use Rattle.std.proofs.Common.{◌≡◌, ◌∙◌, ◌-◌, ℕ, List, take, drop, length, sym, ap, subst}
 use Rattle.std.proofs.lemmas.List.{length-drop}
 use Rattle.std.proofs.Math.Seq.{take-length}
@@ -27,5 +28,6 @@ returns c =
     goes_on (Splits bytes) (AuditsParts c.args.words.now) output
     (record { text = take at bytes; trace = drop at bytes })
     c.audit_parts.result c.in_ok-at.ensures.splits
-    (subst (λ (t : List ℕ). Meets output c.audit_parts.result (AuditsParts c.args.words.now (record { text = take at bytes; trace = t })))
+    (subst (λ (t : List ℕ).
+    Meets output c.audit_parts.result (AuditsParts c.args.words.now (record { text = take at bytes; trace = t })))
     (from_there at bytes) c.audit_parts.ensures)

@@ -1,3 +1,4 @@
+-- Answers of audit_bytes: bytes that are no trace leave with their fault, and a trace that was read is judged.
 use Rattle.rev_syntax.specs.View.{program as whole}
 use Rattle.trace_diagram.specs.declared.diagram.Trace.{Trace}
 use Rattle.rev_report.specs.Report.{output}
@@ -9,7 +10,8 @@ use Rattle.rev_top.proofs.audits.audit_bytes.Goals as goal
 pub returns-in_err-trace : goal.returns-in_err-trace
 returns-in_err-trace c =
     leaves (ReadsTrace c.args.bytes.now)
-    (Judges (setting c.args.words.now (whole c.args.typed.now.expanded.program)) c.args.words.now.fuel) (λ (t : Trace). t) output
+    (Judges (setting c.args.words.now (whole c.args.typed.now.expanded.program)) c.args.words.now.fuel)
+    (λ (t : Trace). t) output
     _ c.in_err-trace.field-0.0 c.from_residual.ensures.1 c.in_err-trace.ensures.reads
 
 pub returns : goal.returns

@@ -1,3 +1,4 @@
+-- Answers of checked_code: bytes that are no file leave with their fault, and the code of a file is verified.
 use Rattle.rev_code.specs.declared.code.Code.{Code}
 use Rattle.code_verifier.specs.declared.verified.Verified.{Verified}
 use Rattle.rev_top.specs.Codes.{ChecksCode, KeepsCodeRules, ReadsFile}

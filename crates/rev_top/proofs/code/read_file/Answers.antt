@@ -1,3 +1,4 @@
+-- Answers of read_file: by the laws on files the code read is the file's, and a fault means that it is none.
 use Rattle.rev_code.specs.declared.code.Code.{Code}
 use Rattle.rev_top.proofs.Codes.{is_read, no_file}
 use Rattle.rev_top.proofs.code.read_file.Goals as goal

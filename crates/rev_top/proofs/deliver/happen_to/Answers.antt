@@ -1,3 +1,4 @@
+-- Answers of happen_to: the report that was made is the one that is delivered, and so the call's answer is delivered.
 use Rattle.rev_top.proofs.Rans.{happened}
 use Rattle.rev_top.proofs.deliver.happen_to.Goals as goal
 

@@ -1,3 +1,4 @@
+-- Answers of write_file: the code of an accepted program has counts that fit in a file.
 use Rattle.std.proofs.Common.{◌∙◌, sym, subst}
 use Rattle.rev_syntax.specs.View.{program as whole}
 use Rattle.code_file.specs.Counts.{Counted}
@@ -8,4 +9,5 @@ pub write_code-requires : goal.write_code-requires
 write_code-requires c =
     let t = c.args.typed.now in
     subst Counted (sym (c.code.ensures.code ∙ c.in_ok-code.ensures))
-    (code_counted (whole t.expanded.program) (record { small = t.expanded.small; funs = t.expanded.keeps_rules; rules = t.well_typed }))
+    (code_counted (whole t.expanded.program)
+    (record { small = t.expanded.small; funs = t.expanded.keeps_rules; rules = t.well_typed }))

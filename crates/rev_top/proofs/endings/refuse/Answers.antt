@@ -1,3 +1,4 @@
+-- Answers of refuse: the report of the refusal is delivered, or without memory for it the message for that.
 use Rattle.std.proofs.Common.{refl}
 use Rattle.rev_report.specs.Report.{output}
 use Rattle.rev_top.proofs.Ending.{refusal_delivered, refusal_lost}
@@ -10,4 +11,5 @@ returns-in-Ok g c =
 
 pub returns-in-Err : goal.returns-in-Err
 returns-in-Err g c =
-    refusal_lost c.args.stop _ _ _ _ _ c.out_of_memory.ensures.status (record { untouched = refl; message = c.out_of_memory.ensures.some })
+    refusal_lost c.args.stop _ _ _ _ _ c.out_of_memory.ensures.status
+    (record { untouched = refl; message = c.out_of_memory.ensures.some })

@@ -1,3 +1,4 @@
+-- Answers of load_law: two lemmas, that the text of load is accepted, and that its answer has the status of a run.
 use Rattle.rev_top.proofs.TextLaws.{load_accepted, load_ends}
 use Rattle.rev_top.proofs.law.load_law.Goals as goal
 

@@ -1,3 +1,4 @@
+-- Answers of load: the made text is checked, where a fault would leave first, and its program is run.
 use Rattle.rev_syntax.specs.View.{program as whole}
 use Rattle.rev_types.specs.declared.typed.Typed.{Typed}
 use Rattle.rev_words.specs.Load.{load_text}
@@ -9,10 +10,12 @@ use Rattle.rev_top.proofs.runs.load.Goals as goal
 
 pub returns-in_err-typed : goal.returns-in_err-typed
 returns-in_err-typed g c =
-    leaves (Checks (load_text c.args.words.now.seed c.args.words.now.size)) (RunsBy c.args.words.now (of_load c.args.words.now)) (λ (t : Typed). whole t.expanded.program) told
+    leaves (Checks (load_text c.args.words.now.seed c.args.words.now.size))
+    (RunsBy c.args.words.now (of_load c.args.words.now)) (λ (t : Typed). whole t.expanded.program) told
     _ c.in_err-typed.field-0.0 c.from_residual.ensures.1 c.in_err-typed.ensures
 
 pub returns : goal.returns
 returns g c =
-    goes_on (Checks (load_text c.args.words.now.seed c.args.words.now.size)) (RunsBy c.args.words.now (of_load c.args.words.now)) told
+    goes_on (Checks (load_text c.args.words.now.seed c.args.words.now.size))
+    (RunsBy c.args.words.now (of_load c.args.words.now)) told
     (whole c.in_ok-typed.typed.expanded.program) c.load_program.result c.in_ok-typed.ensures c.load_program.ensures

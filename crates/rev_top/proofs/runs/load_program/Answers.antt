@@ -1,3 +1,4 @@
+-- Answers of load_program: the summary is made of seed, size and the outcome of this run by threads.
 use Rattle.std.proofs.Common.{◌∙◌, ap}
 use Rattle.rev_syntax.specs.View.{program as whole}
 use Rattle.rev_report.specs.Report.{output}
@@ -8,5 +9,7 @@ use Rattle.rev_top.proofs.runs.load_program.Goals as goal
 
 pub returns : goal.returns
 returns g c =
-    made_of c.args.words.now (of_load c.args.words.now) (whole c.args.typed.now.expanded.program) c.in_ok-ran.ran (output c.in_ok-report.report)
-    c.in_ok-ran.ensures.run c.in_ok-ran.ensures.outcome (c.in_ok-report.ensures ∙ ap (summary c.args.words.now.seed c.args.words.now.size) c.outcome.ensures)
+    made_of c.args.words.now (of_load c.args.words.now) (whole c.args.typed.now.expanded.program) c.in_ok-ran.ran
+    (output c.in_ok-report.report)
+    c.in_ok-ran.ensures.run c.in_ok-ran.ensures.outcome
+    (c.in_ok-report.ensures ∙ ap (summary c.args.words.now.seed c.args.words.now.size) c.outcome.ensures)

@@ -1,3 +1,4 @@
+-- Answers of order: a text that is at fault leaves with its first fault, and a checked program is run for its order.
 use Rattle.rev_syntax.specs.View.{program as whole}
 use Rattle.rev_types.specs.declared.typed.Typed.{Typed}
 use Rattle.rev_top.specs.Making.{RunsBy, told}

@@ -1,3 +1,4 @@
+-- Answers of run: a text that is at fault leaves with its first fault, and a checked program is run.
 use Rattle.rev_syntax.specs.View.{program as whole}
 use Rattle.rev_types.specs.declared.typed.Typed.{Typed}
 use Rattle.rev_top.specs.Making.{RunsBy, told}
@@ -8,7 +9,8 @@ use Rattle.rev_top.proofs.runs.run.Goals as goal
 
 pub returns-in_err-typed : goal.returns-in_err-typed
 returns-in_err-typed g c =
-    leaves (Checks c.args.text.now) (RunsBy c.args.words.now (of_run c.args.words.now)) (λ (t : Typed). whole t.expanded.program) told
+    leaves (Checks c.args.text.now) (RunsBy c.args.words.now (of_run c.args.words.now))
+    (λ (t : Typed). whole t.expanded.program) told
     _ c.in_err-typed.field-0.0 c.from_residual.ensures.1 c.in_err-typed.ensures
 
 pub returns : goal.returns

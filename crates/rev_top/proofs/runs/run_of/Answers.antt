@@ -1,6 +1,15 @@
-use Rattle.std.proofs.Common.{◌∙◌}
-use Rattle.rev_top.proofs.CodeRuns.{ran_by, ran_of}
+-- Answers of run_of: the plan chooses kernels for the program's own merges, and the run of its code has its outcome.
+use Rattle.std.proofs.Common.{◌∙◌, ap, Vec, Global, ℕ}
+use Rattle.std.specs.Prelude.{Option}
+use Rattle.rev_top.proofs.CodeRuns.{plan_for, ran_by, ran_of}
 use Rattle.rev_top.proofs.runs.run_of.Goals as goal
+
+pub run_threads-requires-clause-plan : goal.run_threads-requires-clause-plan
+run_threads-requires-clause-plan g c κs within =
+    let plan = c.new-plan.ensures in
+    plan_for _ _ c.in_ok-code.code.code _ _ _ _ c.in_ok-code.ensures
+    (ap (λ (v : Vec (Option ℕ) Global). v.items) plan.choices) plan.kernels
+    c.in_ok-choices.ensures.plan
 
 pub returns-clause-run : goal.returns-clause-run
 returns-clause-run g c =

@@ -1,3 +1,4 @@
+-- Answers of affine_text: a text that is at fault leaves with its first fault, and else the rule is tried.
 use Rattle.rev_syntax.specs.View.{program as whole}
 use Rattle.rev_types.specs.declared.typed.Typed.{Typed}
 use Rattle.rev_top.specs.Affine.{KeepsAffine}
@@ -7,7 +8,8 @@ use Rattle.rev_top.proofs.streams.affine_text.Goals as goal
 
 pub returns-in_err-typed : goal.returns-in_err-typed
 returns-in_err-typed c =
-    leaves (Checks c.args.text.now) (KeepsAffine c.args.text.now) (λ (t : Typed). whole t.expanded.program) (λ (t : Typed). whole t.expanded.program)
+    leaves (Checks c.args.text.now) (KeepsAffine c.args.text.now) (λ (t : Typed). whole t.expanded.program)
+    (λ (t : Typed). whole t.expanded.program)
     _ c.in_err-typed.field-0.0 c.from_residual.ensures.1 c.in_err-typed.ensures
 
 pub returns : goal.returns

@@ -1,3 +1,4 @@
+-- Answers of checked_tree: a fault of the funs leaves first, and then the program is checked by the typing rules.
 use Rattle.rev_syntax.specs.View.{program as whole}
 use Rattle.merge_decl.specs.declared.expand.Expanded.{Expanded}
 use Rattle.rev_types.specs.declared.typed.Typed.{Typed}
@@ -14,4 +15,5 @@ returns-in_err-expanded c =
 pub returns : goal.returns
 returns c =
     goes_on (KeepsFuns c.args.text.now (whole c.args.program)) (KeepsTypes c.args.text.now)
-    (λ (t : Typed). whole t.expanded.program) (whole c.in_ok-expanded.expanded.program) c.typed_of.result c.in_ok-expanded.ensures c.typed_of.ensures
+    (λ (t : Typed). whole t.expanded.program) (whole c.in_ok-expanded.expanded.program) c.typed_of.result
+    c.in_ok-expanded.ensures c.typed_of.ensures

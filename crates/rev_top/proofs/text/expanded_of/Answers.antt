@@ -1,3 +1,4 @@
+-- Answers of expanded_of: the program stays the same and keeps the rules on funs, or the fault is its first break.
 use Rattle.rev_syntax.specs.View.{program as whole}
 use Rattle.merge_decl.specs.declared.expand.Expanded.{Expanded}
 use Rattle.static_rules.proofs.FunFaults.{funs_kept}
@@ -9,4 +10,5 @@ returns-in-Ok c = (c.in-Ok.ensures.same, (funs_kept (whole c.args.program)).0 c.
 
 pub returns-in-Err : goal.returns-in-Err
 returns-in-Err c =
-    no_funs c.args.text.now (λ (e : Expanded). whole e.program) (whole c.args.program) c.in-Err.fault c.of_funs.result c.of_funs.ensures c.in-Err.ensures.first
+    no_funs c.args.text.now (λ (e : Expanded). whole e.program) (whole c.args.program) c.in-Err.fault c.of_funs.result
+    c.of_funs.ensures c.in-Err.ensures.first

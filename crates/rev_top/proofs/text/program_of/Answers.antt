@@ -1,3 +1,4 @@
+-- Answers of program_of: the tree is that of the tokens, small as the text is, or the fault is their first.
 use Rattle.std.proofs.Common.{refl}
 use Rattle.rev_syntax.specs.View.{program as whole}
 use Rattle.rev_parse.specs.Verdicts.{tree}
@@ -9,7 +10,8 @@ returns-in-Ok-clause-meets c = (tree (whole c.in-Ok.program), c.in-Ok.ensures.0,
 
 pub returns-in-Err-clause-meets : goal.returns-in-Err-clause-meets
 returns-in-Err-clause-meets c =
-    no_tree c.args.text.now whole c.args.tokens.now c.in-Err.fault c.syntactic.result c.syntactic.ensures c.in-Err.ensures
+    no_tree c.args.text.now whole c.args.tokens.now c.in-Err.fault c.syntactic.result c.syntactic.ensures
+    c.in-Err.ensures
 
 pub returns-in-Ok-clause-small : goal.returns-in-Ok-clause-small
 returns-in-Ok-clause-small c = c.in-Ok.ensures.1 c.requires.whole c.requires.limit

@@ -1,3 +1,4 @@
+-- Answers of trace: a text that is at fault leaves with its first fault, and a checked program is traced.
 use Rattle.rev_syntax.specs.View.{program as whole}
 use Rattle.rev_types.specs.declared.typed.Typed.{Typed}
 use Rattle.rev_report.specs.Report.{output}

@@ -1,3 +1,4 @@
+-- Answers of traced: one run of the program's code gives both the outcome and the trace of the program.
 use Rattle.std.proofs.Common.{◌∙◌}
 use Rattle.rev_top.proofs.CodeRuns.{traced, traced_by}
 use Rattle.rev_top.proofs.traces.traced.Goals as goal

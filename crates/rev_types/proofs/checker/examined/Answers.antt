@@ -1,3 +1,4 @@
+-- Answers of examined: the fault that the walk found is the first of all, and where it found none there is none.
 use Rattle.std.proofs.Common.{◌∙◌, sym}
 use Rattle.rev_syntax.specs.View.{program as whole}
 use Rattle.merge_decl.proofs.Leasts.{first_is, none_is}

@@ -1,3 +1,4 @@
+-- Answers of walked: declarations and main are walked under the tables of names, so the first fault is the program's.
 use Rattle.std.proofs.Common.{ap, map, refl, true, false}
 use Rattle.rev_syntax.specs.View.{declaration, program as whole}
 use Rattle.rev_kinds.specs.declared.names.Checker.{Checker}

@@ -1,3 +1,4 @@
+-- Loops of fun_params: the fault and the locals so far, taken through the parameters left, are those of all.
 use Rattle.std.proofs.Common.{◌≡◌, drop, map, None}
 use Rattle.rev_syntax.specs.View.{parameter}
 use Rattle.rev_report.specs.declared.limit.Limit.TheVariants as limits
@@ -8,6 +9,8 @@ use Rattle.rev_types.proofs.decls.fun_params.Given as goal
 
 abbrev pub invariant-loop-param : goal.invariant-loop-param
 invariant-loop-param l = record {
-  found : rule.fun_params l.locals l.left l.found (map parameter (drop l.param-index l.params)) ≡ rule.fun_params l.initial.locals (first_past limits.Parameters) None (map parameter l.params);
-  locals : scopes.with_params l.locals (map parameter (drop l.param-index l.params)) ≡ scopes.with_params l.initial.locals (map parameter l.params);
+  found : rule.fun_params l.locals l.left l.found (map parameter (drop l.param-index l.params))
+      ≡ rule.fun_params l.initial.locals (first_past limits.Parameters) None (map parameter l.params);
+  locals : scopes.with_params l.locals (map parameter (drop l.param-index l.params))
+      ≡ scopes.with_params l.initial.locals (map parameter l.params);
 }

@@ -1,3 +1,4 @@
+-- Answers of program_laws: five lemmas, on typing, acceptance, the limits by themselves, and where variables lie.
 use Rattle.rev_types.proofs.Accepting.{well_typed, accepts}
 use Rattle.rev_types.proofs.DeclsFaults.{limits_alone}
 use Rattle.rev_types.proofs.Layouts.{laid_out}
@@ -5,4 +6,10 @@ use Rattle.rev_types.proofs.OwnLimits.{own_limits}
 use Rattle.rev_types.proofs.laws.program_laws.Goals as goal
 
 pub returns : goal.returns
-returns c = record { typed = well_typed; accepts = accepts; limits_alone = limits_alone; own_limits = own_limits; laid_out = laid_out }
+returns c = record {
+  typed = well_typed;
+  accepts = accepts;
+  limits_alone = limits_alone;
+  own_limits = own_limits;
+  laid_out = laid_out;
+}

@@ -1,3 +1,4 @@
+-- Loops of items: the fault so far, with those of the items left, is that of all items.
 use Rattle.std.proofs.Common.{◌≡◌, drop, map, None}
 use Rattle.rev_syntax.specs.View.{print_item}
 use Rattle.rev_report.specs.declared.limit.Limit.TheVariants as limits

@@ -1,3 +1,4 @@
+-- Loops of put_front: the front has the arguments so far, and behind them the words are those at first.
 use Rattle.std.proofs.Common.{◌≡◌, ◌≤◌, ◌++◌, length, take, drop}
 use Rattle.rev_vm.proofs.frame.put_front.Given as goal
 

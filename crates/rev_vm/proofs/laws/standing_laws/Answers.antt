@@ -1,3 +1,4 @@
+-- Answers of standing_laws: four lemmas, that a runner, a joiner, an end and a claim stand for one state or end each.
 use Rattle.rev_vm.proofs.Values.{one_claim, one_end, one_joining, one_state}
 use Rattle.rev_vm.proofs.laws.standing_laws.Goals as goal
 

@@ -1,3 +1,4 @@
+-- Answers of at_join: the revision comes to its join in the box as outside, is ready, and has noted the number.
 use Rattle.std.proofs.Common.{sym}
 use Rattle.version_map.specs.Deltas.{at}
 use Rattle.version_map.specs.Overlay.{under}
@@ -6,11 +7,18 @@ use Rattle.rev_vm.proofs.Legs.{ready_noted}
 use Rattle.rev_vm.proofs.leg.at_join.Goals as goal
 
 pub invariant_of-result : goal.invariant_of-result
-invariant_of-result g c = record { ready = ready_noted c.args.on c.deref_mut.result.now.run c.come_to_join.new.revision.run (same_ready (sym c.deref_mut.ensures.value) c.requires) c.in-Ok.ensures.noted; ascending = c.in-Ok.ensures.order }
+invariant_of-result g c = record {
+  ready = ready_noted c.args.on c.deref_mut.result.now.run c.come_to_join.new.revision.run
+      (same_ready (sym c.deref_mut.ensures.value) c.requires) c.in-Ok.ensures.noted;
+  ascending = c.in-Ok.ensures.order;
+}
 
 pub returns-in-Ok-clause-noted : goal.returns-in-Ok-clause-noted
-returns-in-Ok-clause-noted g c = same_noted c.deref_mut.ensures.value c.args.on c.come_to_join.new.revision.run c.in-Ok.ensures.noted
+returns-in-Ok-clause-noted g c =
+    same_noted c.deref_mut.ensures.value c.args.on c.come_to_join.new.revision.run c.in-Ok.ensures.noted
 
 pub returns-in-Ok-clause-kept : goal.returns-in-Ok-clause-kept
 returns-in-Ok-clause-kept g c =
-    same_kept c.deref_mut.ensures.value (under c.come_to_join.new.revision.memory.delta (g.P.Snapshot.base c.come_to_join.new.revision.memory.snapshot)) (at c.come_to_join.new.revision.memory.first.roots) c.come_to_join.ensures.kept
+    same_kept c.deref_mut.ensures.value
+    (under c.come_to_join.new.revision.memory.delta (g.P.Snapshot.base c.come_to_join.new.revision.memory.snapshot))
+    (at c.come_to_join.new.revision.memory.first.roots) c.come_to_join.ensures.kept

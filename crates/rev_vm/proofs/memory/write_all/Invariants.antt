@@ -1,3 +1,4 @@
+-- Loops of write_all: for all locations for which the memory stood, it stands for those that are written so far.
 use Rattle.std.proofs.Common.{◌≡◌}
 use Rattle.version_map.specs.declared.snapshot.Collapsed.{Collapsed}
 use Rattle.version_map.specs.Deltas.{at}
@@ -13,5 +14,6 @@ invariant-loop-at g l = record {
       (under l.memory.delta (g.P.Snapshot.base l.memory.snapshot)) (at l.memory.first.roots);
   size : g.P.Snapshot.size l.memory.snapshot ≡ g.P.Snapshot.size l.initial.memory.snapshot;
   group : g.P.Snapshot.group l.memory.snapshot ≡ g.P.Snapshot.group l.initial.memory.snapshot;
-  answered : (c : Collapsed) → g.P.Snapshot.answered l.initial.memory.snapshot c → g.P.Snapshot.answered l.memory.snapshot c;
+  answered : (c : Collapsed) → g.P.Snapshot.answered l.initial.memory.snapshot c
+      → g.P.Snapshot.answered l.memory.snapshot c;
 }

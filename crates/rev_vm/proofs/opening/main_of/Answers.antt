@@ -1,3 +1,4 @@
+-- Answers of main_of: accepted code has a main block, which is the last and the only one.
 use Rattle.std.proofs.Common.{◌∙◌, ◌-◌, List, length, sym, ap}
 use Rattle.std.specs.Prelude.{slice_get}
 use Rattle.rev_code.specs.declared.code.CodeBlock.{CodeBlock}

@@ -1,3 +1,4 @@
+-- Answers of start_main: the last block is the one called as main, without arguments and over the words at the start.
 use Rattle.std.proofs.Common.{◌≡◌, ◌∙◌, ℕ, [], Some, true, sym, ap, subst}
 use Rattle.std.proofs.lemmas.Result.{IfOk-weaker}
 use Rattle.std.specs.Prelude.{slice_get, IfOk}
@@ -17,26 +18,39 @@ main_of-main-requires g c = c.code.ensures.faultless
 
 pub start-requires-clause-called : goal.start-requires-clause-called
 start-requires-clause-called g c =
-    let q : (b : CodeBlock) × (slice_get c.args.setting.now.code.blocks c.main_of-main.result ≡ Some b) × (is_main b.class ≡ true) =
-    subst (λ (z : Code). (b : CodeBlock) × (slice_get z.blocks c.main_of-main.result ≡ Some b) × (is_main b.class ≡ true)) c.code.ensures.code c.main_of-main.ensures.is in
+    let q : (b : CodeBlock) × (slice_get c.args.setting.now.code.blocks c.main_of-main.result ≡ Some b)
+    × (is_main b.class ≡ true) =
+    subst
+    (λ (z : Code). (b : CodeBlock) × (slice_get z.blocks c.main_of-main.result ≡ Some b) × (is_main b.class ≡ true))
+    c.code.ensures.code c.main_of-main.ensures.is in
     (q.0, [], main_called (run_under c.args.setting.now) c.args.setting.now.faultless c.main_of-main.result q.0 q.1 q.2)
 
 pub returns-clause-state : goal.returns-clause-state
 returns-clause-state g c = λ n m.
-    let e = c.main_of-main.ensures.one n m.body (ap (λ (z : Code). slice_get z.blocks n) c.code.ensures.code ∙ m.is) m.class in
+    let e = c.main_of-main.ensures.one n m.body (ap (λ (z : Code). slice_get z.blocks n) c.code.ensures.code ∙ m.is)
+    m.class in
     let there = ap (slice_get c.args.setting.now.code.blocks) (sym e) ∙ m.is in
-    let base = starts_based (run_under c.args.setting.now) c.args.setting.now.faultless (g.P.Snapshot.base c.args.snapshot) c.requires.base in
-    subst (λ k. IfOk c.start.result (λ r. IsAt (run_under c.args.setting.now) r.revision.value.run r.revision.value.memory.delta
+    let base =
+    starts_based (run_under c.args.setting.now) c.args.setting.now.faultless (g.P.Snapshot.base c.args.snapshot)
+    c.requires.base in
+    subst (λ k.
+    IfOk c.start.result (λ r. IsAt (run_under c.args.setting.now) r.revision.value.run r.revision.value.memory.delta
     (g.P.Snapshot.base r.revision.value.memory.snapshot) r.revision.value.memory.first.roots
     (events.start k m.body [] (start_locations c.args.setting.now.code.vars) c.args.fuel))) (sym e)
     (c.start.ensures.state m.body [] (start_locations c.args.setting.now.code.vars)
-    (main_called (run_under c.args.setting.now) c.args.setting.now.faultless c.main_of-main.result m.body there m.class) base)
+    (main_called (run_under c.args.setting.now) c.args.setting.now.faultless c.main_of-main.result m.body there m.class)
+    base)
 
 pub returns-clause-stands : goal.returns-clause-stands
 returns-clause-stands g c =
-    let q : (b : CodeBlock) × (slice_get c.args.setting.now.code.blocks c.main_of-main.result ≡ Some b) × (is_main b.class ≡ true) =
-    subst (λ (z : Code). (b : CodeBlock) × (slice_get z.blocks c.main_of-main.result ≡ Some b) × (is_main b.class ≡ true)) c.code.ensures.code c.main_of-main.ensures.is in
-    let base = starts_based (run_under c.args.setting.now) c.args.setting.now.faultless (g.P.Snapshot.base c.args.snapshot) c.requires.base in
+    let q : (b : CodeBlock) × (slice_get c.args.setting.now.code.blocks c.main_of-main.result ≡ Some b)
+    × (is_main b.class ≡ true) =
+    subst
+    (λ (z : Code). (b : CodeBlock) × (slice_get z.blocks c.main_of-main.result ≡ Some b) × (is_main b.class ≡ true))
+    c.code.ensures.code c.main_of-main.ensures.is in
+    let base =
+    starts_based (run_under c.args.setting.now) c.args.setting.now.faultless (g.P.Snapshot.base c.args.snapshot)
+    c.requires.base in
     IfOk-weaker c.start.result
     (λ r. IsAt (run_under c.args.setting.now) r.revision.value.run r.revision.value.memory.delta
     (g.P.Snapshot.base r.revision.value.memory.snapshot) r.revision.value.memory.first.roots

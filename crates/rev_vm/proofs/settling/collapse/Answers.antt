@@ -1,3 +1,4 @@
+-- Answers of collapse: the last answer of collapsing all is Kept or Base, and what is seen stays the same.
 use Rattle.rev_vm.proofs.settling.collapse.Goals as goal
 
 pub collapse_all-answer-requires : goal.collapse_all-answer-requires

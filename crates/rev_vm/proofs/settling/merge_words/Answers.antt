@@ -1,3 +1,4 @@
+-- Answers of merge_words: reading keeps what memory shows, so the words seen are composed, by the same merges.
 use Rattle.std.proofs.Common.{All, ◌<◌, List, sym, refl, subst}
 use Rattle.std.proofs.lemmas.Result.{IfOk-from_err}
 use Rattle.version_map.specs.declared.end.Written.{Written}

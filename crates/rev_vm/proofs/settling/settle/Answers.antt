@@ -1,3 +1,4 @@
+-- Answers of settle: collapse and reading keep what is stood for, and composing gives the join's state or trap.
 use Rattle.std.proofs.Common.{◌∙◌, ap, map, sym, subst, arith}
 use Rattle.rev_num.specs.declared.outcome.Cause.TheVariants as cause
 use Rattle.version_map.specs.declared.end.Written.{Written}
@@ -35,48 +36,95 @@ take_over-requires-clause-within g c = λ k d less.
 
 pub take_over-requires-clause-many : goal.take_over-requires-clause-many
 take_over-requires-clause-many g c =
-    values_many (g.M.MergeBy.merges c.args.merges.now) (λ (w : Written). under c.collapse.new.into (g.P.Snapshot.base c.collapse.new.snapshot) w.location) c.args.claimed.end.written c.in-Ok-Words.values.items (subst (IsMergedTo (composed (g.M.MergeBy.merges c.args.merges.now) (map (λ (w : Written). under c.collapse.new.into (g.P.Snapshot.base c.collapse.new.snapshot) w.location) c.args.claimed.end.written) (entries c.args.claimed.end.written))) c.in-Ok-Words.field-0-is c.in-Ok-Words.ensures.merged)
+    values_many (g.M.MergeBy.merges c.args.merges.now)
+    (λ (w : Written). under c.collapse.new.into (g.P.Snapshot.base c.collapse.new.snapshot) w.location)
+    c.args.claimed.end.written c.in-Ok-Words.values.items
+    (subst (IsMergedTo (composed (g.M.MergeBy.merges c.args.merges.now)
+    (map (λ (w : Written). under c.collapse.new.into (g.P.Snapshot.base c.collapse.new.snapshot) w.location)
+    c.args.claimed.end.written)
+    (entries c.args.claimed.end.written)))
+    c.in-Ok-Words.field-0-is c.in-Ok-Words.ensures.merged)
 
 pub returns-in-Ok-Fault-clause-settled : goal.returns-in-Ok-Fault-clause-settled
 returns-in-Ok-Fault-clause-settled g c = λ g' s j h0 are.
-    let h = same_claimed (sym c.deref_mut-inside.ensures.value) g' c.args.claimed.at.written c.args.claimed.at.is_try c.args.claimed.at.on c.args.claimed.end s j h0 in
-    settled_trap g' c.deref_mut-inside.result.now.run c.deref_mut-inside.result.now.memory.delta (g.P.Snapshot.base c.deref_mut-inside.result.now.memory.snapshot) c.deref_mut-inside.result.now.memory.first.roots
-    c.args.claimed.at.written c.args.claimed.at.is_try c.args.claimed.at.on c.args.claimed.end s j h (g.M.MergeBy.merges c.args.merges.now) are
-    (g.P.Snapshot.size c.deref_mut-inside.result.now.memory.snapshot) (sym c.deref_mut-inside.result.now.memory.written ∙ h.joiner.stands.size)
+    let h = same_claimed (sym c.deref_mut-inside.ensures.value) g' c.args.claimed.at.written c.args.claimed.at.is_try
+    c.args.claimed.at.on c.args.claimed.end s j h0 in
+    settled_trap g' c.deref_mut-inside.result.now.run c.deref_mut-inside.result.now.memory.delta
+    (g.P.Snapshot.base c.deref_mut-inside.result.now.memory.snapshot) c.deref_mut-inside.result.now.memory.first.roots
+    c.args.claimed.at.written c.args.claimed.at.is_try c.args.claimed.at.on c.args.claimed.end s j h
+    (g.M.MergeBy.merges c.args.merges.now) are
+    (g.P.Snapshot.size c.deref_mut-inside.result.now.memory.snapshot)
+    (sym c.deref_mut-inside.result.now.memory.written ∙ h.joiner.stands.size)
     (under c.collapse.new.into (g.P.Snapshot.base c.collapse.new.snapshot)) c.collapse.ensures.base
-    c.in-Ok-Fault.trap (subst (IsMergedTo (composed (g.M.MergeBy.merges c.args.merges.now) (map (λ (w : Written). under c.collapse.new.into (g.P.Snapshot.base c.collapse.new.snapshot) w.location) c.args.claimed.end.written) (entries c.args.claimed.end.written))) c.in-Ok-Fault.field-0-is c.in-Ok-Fault.ensures.merged) c.stop.result.end c.stop.ensures.written c.stop.ensures.text c.stop.ensures.fuel (c.stop.ensures.finish ∙ c.fault_at-finish.ensures ∙ same_line c.deref.ensures (cause.Merge c.in-Ok-Fault.trap.location c.in-Ok-Fault.trap.fault))
+    c.in-Ok-Fault.trap (subst
+    (IsMergedTo (composed (g.M.MergeBy.merges c.args.merges.now)
+    (map (λ (w : Written). under c.collapse.new.into (g.P.Snapshot.base c.collapse.new.snapshot) w.location)
+    c.args.claimed.end.written)
+    (entries c.args.claimed.end.written)))
+    c.in-Ok-Fault.field-0-is c.in-Ok-Fault.ensures.merged)
+    c.stop.result.end c.stop.ensures.written c.stop.ensures.text c.stop.ensures.fuel
+    (c.stop.ensures.finish ∙ c.fault_at-finish.ensures
+    ∙ same_line c.deref.ensures (cause.Merge c.in-Ok-Fault.trap.location c.in-Ok-Fault.trap.fault))
 
 pub returns-in-Ok-clause-settled : goal.returns-in-Ok-clause-settled
 returns-in-Ok-clause-settled g c = λ g' s j h0 are.
-    let h = same_claimed (sym c.deref_mut-inside.ensures.value) g' c.args.claimed.at.written c.args.claimed.at.is_try c.args.claimed.at.on c.args.claimed.end s j h0 in
-    let r = settled_run g' c.deref_mut-inside.result.now.run c.deref_mut-inside.result.now.memory.delta (g.P.Snapshot.base c.deref_mut-inside.result.now.memory.snapshot) c.deref_mut-inside.result.now.memory.first.roots
-    c.args.claimed.at.written c.args.claimed.at.is_try c.args.claimed.at.on c.args.claimed.end s j h (g.M.MergeBy.merges c.args.merges.now) are
-    (g.P.Snapshot.size c.deref_mut-inside.result.now.memory.snapshot) (sym c.deref_mut-inside.result.now.memory.written ∙ h.joiner.stands.size)
+    let h = same_claimed (sym c.deref_mut-inside.ensures.value) g' c.args.claimed.at.written c.args.claimed.at.is_try
+    c.args.claimed.at.on c.args.claimed.end s j h0 in
+    let r = settled_run g' c.deref_mut-inside.result.now.run c.deref_mut-inside.result.now.memory.delta
+    (g.P.Snapshot.base c.deref_mut-inside.result.now.memory.snapshot) c.deref_mut-inside.result.now.memory.first.roots
+    c.args.claimed.at.written c.args.claimed.at.is_try c.args.claimed.at.on c.args.claimed.end s j h
+    (g.M.MergeBy.merges c.args.merges.now) are
+    (g.P.Snapshot.size c.deref_mut-inside.result.now.memory.snapshot)
+    (sym c.deref_mut-inside.result.now.memory.written ∙ h.joiner.stands.size)
     (under c.collapse.new.into (g.P.Snapshot.base c.collapse.new.snapshot)) c.collapse.ensures.base
-    c.in-Ok-Words.values.items (subst (IsMergedTo (composed (g.M.MergeBy.merges c.args.merges.now) (map (λ (w : Written). under c.collapse.new.into (g.P.Snapshot.base c.collapse.new.snapshot) w.location) c.args.claimed.end.written) (entries c.args.claimed.end.written))) c.in-Ok-Words.field-0-is c.in-Ok-Words.ensures.merged)
-    (under c.merge_words.new.memory.delta (g.P.Snapshot.base c.merge_words.new.memory.snapshot)) (under c.in-Ok.runner.revision.value.memory.delta (g.P.Snapshot.base c.in-Ok.runner.revision.value.memory.snapshot))
+    c.in-Ok-Words.values.items
+    (subst (IsMergedTo (composed (g.M.MergeBy.merges c.args.merges.now)
+    (map (λ (w : Written). under c.collapse.new.into (g.P.Snapshot.base c.collapse.new.snapshot) w.location)
+    c.args.claimed.end.written)
+    (entries c.args.claimed.end.written)))
+    c.in-Ok-Words.field-0-is c.in-Ok-Words.ensures.merged)
+    (under c.merge_words.new.memory.delta (g.P.Snapshot.base c.merge_words.new.memory.snapshot))
+    (under c.in-Ok.runner.revision.value.memory.delta (g.P.Snapshot.base c.in-Ok.runner.revision.value.memory.snapshot))
     (at c.merge_words.new.memory.first.roots) (at c.in-Ok.runner.revision.value.memory.first.roots)
-    (subst (λ z. Kept z (under c.collapse.new.into (g.P.Snapshot.base c.collapse.new.snapshot)) (under c.merge_words.new.memory.delta (g.P.Snapshot.base c.merge_words.new.memory.snapshot)) (at c.deref_mut-inside.result.now.memory.first.roots) (at c.merge_words.new.memory.first.roots)) c.collapse.ensures.size c.merge_words.ensures.kept)
-    (subst (λ z. HasWritten z c.args.claimed.end.written c.in-Ok-Words.values.items (under c.merge_words.new.memory.delta (g.P.Snapshot.base c.merge_words.new.memory.snapshot)) (at c.merge_words.new.memory.first.roots) (under c.in-Ok.runner.revision.value.memory.delta (g.P.Snapshot.base c.in-Ok.runner.revision.value.memory.snapshot)) (at c.in-Ok.runner.revision.value.memory.first.roots)) (c.merge_words.ensures.size ∙ c.collapse.ensures.size) c.in-Ok.ensures.wrote)
-    c.in-Ok.runner.revision.value.run c.in-Ok.ensures.taken (same_ready (sym c.deref_mut-inside.ensures.value) c.args.claimed.at.ready) in (
+    (subst (λ z.
+    Kept z (under c.collapse.new.into (g.P.Snapshot.base c.collapse.new.snapshot))
+    (under c.merge_words.new.memory.delta (g.P.Snapshot.base c.merge_words.new.memory.snapshot))
+    (at c.deref_mut-inside.result.now.memory.first.roots) (at c.merge_words.new.memory.first.roots))
+    c.collapse.ensures.size c.merge_words.ensures.kept)
+    (subst (λ z.
+    HasWritten z c.args.claimed.end.written c.in-Ok-Words.values.items
+    (under c.merge_words.new.memory.delta (g.P.Snapshot.base c.merge_words.new.memory.snapshot))
+    (at c.merge_words.new.memory.first.roots)
+    (under c.in-Ok.runner.revision.value.memory.delta (g.P.Snapshot.base c.in-Ok.runner.revision.value.memory.snapshot))
+    (at c.in-Ok.runner.revision.value.memory.first.roots))
+    (c.merge_words.ensures.size ∙ c.collapse.ensures.size) c.in-Ok.ensures.wrote)
+    c.in-Ok.runner.revision.value.run c.in-Ok.ensures.taken
+    (same_ready (sym c.deref_mut-inside.ensures.value) c.args.claimed.at.ready) in (
       r.next,
       r.is_next,
       record {
         verified = h.joiner.stands.verified;
         stands = r.stand;
-        size = c.in-Ok.runner.revision.value.memory.written ∙ c.in-Ok.ensures.size ∙ c.merge_words.ensures.size ∙ c.collapse.ensures.size ∙ sym c.deref_mut-inside.result.now.memory.written ∙ h.joiner.stands.size;
+        size = c.in-Ok.runner.revision.value.memory.written ∙ c.in-Ok.ensures.size ∙ c.merge_words.ensures.size
+            ∙ c.collapse.ensures.size ∙ sym c.deref_mut-inside.result.now.memory.written ∙ h.joiner.stands.size;
       },
     )
 
 pub returns-in-Err-clause-broken_collapsed : goal.returns-in-Err-clause-broken_collapsed
 returns-in-Err-clause-broken_collapsed g c =
-    let h = c.collapse.ensures.collapsed in
-    (h.0, h.1, subst (λ s. g.P.Snapshot.answered s h.0) (sym c.break_off.ensures) (c.merge_words.ensures.answered h.0 h.2))
+    let h = c.collapse.ensures.collapsed in (
+      h.0,
+      h.1,
+      subst (λ s. g.P.Snapshot.answered s h.0) (sym c.break_off.ensures) (c.merge_words.ensures.answered h.0 h.2),
+    )
 
 pub returns-in-Ok-Fault-clause-collapsed : goal.returns-in-Ok-Fault-clause-collapsed
 returns-in-Ok-Fault-clause-collapsed g c =
-    let h = c.collapse.ensures.collapsed in
-    (h.0, h.1, subst (λ s. g.P.Snapshot.answered s h.0) (sym c.stop.ensures.snapshot) (c.merge_words.ensures.answered h.0 h.2))
+    let h = c.collapse.ensures.collapsed in (
+      h.0,
+      h.1,
+      subst (λ s. g.P.Snapshot.answered s h.0) (sym c.stop.ensures.snapshot) (c.merge_words.ensures.answered h.0 h.2),
+    )
 
 pub returns-in-Ok-clause-collapsed : goal.returns-in-Ok-clause-collapsed
 returns-in-Ok-clause-collapsed g c =

@@ -1,3 +1,4 @@
+-- Answers of take_over: the words are written, the run goes past its join, and gets the end's fuel and text.
 use Rattle.std.proofs.Common.{◌∙◌, ◌++◌, ◌<◌, All, List, length, refl, sym, ap, subst}
 use Rattle.version_map.specs.declared.end.Written.{Written}
 use Rattle.version_map.specs.Deltas.{at}
@@ -24,8 +25,14 @@ returns-in-Ok-clause-wrote g c =
     let seen = under c.write_all.new.memory.delta (g.P.Snapshot.base c.write_all.new.memory.snapshot) in
     let root = at c.write_all.new.memory.first.roots in
     same_wrote c.deref_mut-inside.ensures.value c.args.end.written c.args.values.items seen root
-    (subst (λ xs. HasWritten (g.P.Snapshot.size v.memory.snapshot) xs c.args.values.items (under v.memory.delta (g.P.Snapshot.base v.memory.snapshot)) (at v.memory.first.roots) seen root) c.as_slice.ensures
-    (subst (λ xs. HasWritten (g.P.Snapshot.size v.memory.snapshot) c.as_slice.result.now xs (under v.memory.delta (g.P.Snapshot.base v.memory.snapshot)) (at v.memory.first.roots) seen root) c.as_slice-2.ensures.value c.write_all.ensures.wrote))
+    (subst (λ xs.
+    HasWritten (g.P.Snapshot.size v.memory.snapshot) xs c.args.values.items
+    (under v.memory.delta (g.P.Snapshot.base v.memory.snapshot)) (at v.memory.first.roots) seen root)
+    c.as_slice.ensures
+    (subst (λ xs.
+    HasWritten (g.P.Snapshot.size v.memory.snapshot) c.as_slice.result.now xs
+    (under v.memory.delta (g.P.Snapshot.base v.memory.snapshot)) (at v.memory.first.roots) seen root)
+    c.as_slice-2.ensures.value c.write_all.ensures.wrote))
 
 pub returns-in-Ok-clause-size : goal.returns-in-Ok-clause-size
 returns-in-Ok-clause-size g c = c.write_all.ensures.size

@@ -1,7 +1,5 @@
-use Rattle.std.proofs.Common.{◌∙◌, ap}
+-- Answers of begin_with: the block's room holds its first frame, and memory for all locations has no write.
 use Rattle.code_soundness.proofs.Accepting.{no_fault_accepted}
-use Rattle.rev_code.specs.declared.code.Code.{Code}
-use Rattle.block_run.specs.Area.{count}
 use Rattle.rev_vm.proofs.starting.begin_with.Goals as goal
 
 pub first_frame-requires-clause-room : goal.first_frame-requires-clause-room

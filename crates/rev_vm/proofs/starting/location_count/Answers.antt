@@ -1,3 +1,4 @@
+-- Answers of location_count: accepted code has few locations, so no sum overflows, and the whole sum is their count.
 use Rattle.std.proofs.Common.{ap, arith}
 use Rattle.std.proofs.Math.ListN.{drop_of_length-le}
 use Rattle.block_run.specs.Area.{count}

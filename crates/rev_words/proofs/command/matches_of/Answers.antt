@@ -1,3 +1,4 @@
+-- Answers of matches_of: the command is of the simple form for which the parser's answers are defined.
 use Rattle.std.proofs.Common.{rules, ap, false, map, ◌≡◌, ◌∙◌, List, [], ◌∷◌, sym, refl, inl, inr}
 use Rattle.std.specs.Prelude.{Err}
 use Rattle.clap.specs.Words.{HasKind, Kinds, kind_of}
@@ -25,15 +26,18 @@ returns-in-Ok c =
     let is = c.in_ok-command.ensures in
     let none = c.in-Ok.ensures.kinds (ap is_simple_and_free is ∙ free) in (
       ap (λ (a : App). is_empty (fault_of a (map string_bytes c.args.words.now))) (sym is) ∙ ap is_empty none,
-      (c.in-Ok.ensures.matches (ap is_simple is ∙ simple)).0 ∙ ap (λ (a : App). matches_of a (map string_bytes c.args.words.now)) is,
+      (c.in-Ok.ensures.matches (ap is_simple is ∙ simple)).0
+          ∙ ap (λ (a : App). matches_of a (map string_bytes c.args.words.now)) is,
     )
 
 pub returns-in-Err : goal.returns-in-Err
 returns-in-Err c =
     let is = c.in_ok-command.ensures in
     let kinds = c.in-Err.ensures.kinds (ap is_simple_and_free is ∙ free) in
-    let usage : c.fault_of.result ≡ Usage → is_empty (fault_of spec.command (map string_bytes c.args.words.now)) ≡ false = λ u.
-    ap (λ (a : App). is_empty (fault_of a (map string_bytes c.args.words.now))) (sym is) ∙ refused _ c.in-Err.error kinds (c.fault_of.ensures.0 u) in
+    let usage : c.fault_of.result ≡ Usage
+    → is_empty (fault_of spec.command (map string_bytes c.args.words.now)) ≡ false = λ u.
+    ap (λ (a : App). is_empty (fault_of a (map string_bytes c.args.words.now))) (sym is)
+    ∙ refused _ c.in-Err.error kinds (c.fault_of.ensures.0 u) in
     finds c.fault_of.result _ usage
   where
     finds : (f : WordsFault) (words : List Text) → (f ≡ Usage → is_taken words ≡ false) → Finds (Err f) words

@@ -1,3 +1,4 @@
+-- Answers of text_of: the first value that the parser has for the name is the first of the rows of that name.
 use Rattle.std.proofs.Common.{◌∙◌}
 use Rattle.clap.specs.Words.{found_of}
 use Rattle.clap.proofs.WalkLemmas.{first_value-rows}

@@ -1,3 +1,4 @@
+-- Answers of texts_of: the values that the parser has for the name are those of all rows of that name.
 use Rattle.std.proofs.Common.{◌∙◌}
 use Rattle.clap.specs.Words.{found_of}
 use Rattle.clap.proofs.WalkLemmas.{raw_values-rows}

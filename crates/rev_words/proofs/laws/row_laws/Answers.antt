@@ -1,3 +1,4 @@
+-- Answers of row_laws: each row, with the command unfolded, is read or refused by computation.
 use Rattle.std.proofs.Common.{refl}
 use Rattle.clap.proofs.OnLiterals.{clap_on_literals}
 use Rattle.rev_words.specs.Command.{command}
@@ -25,6 +26,10 @@ returns-clause-read c = record {
   greatest_entry = refl;
   order = refl;
   stream = refl;
+  repeat = refl;
+  repeat_by_default = refl;
+  repeat_of_nothing = refl;
+  negative_before = refl;
 }
 
 pub returns-clause-usage : goal.returns-clause-usage
@@ -46,5 +51,10 @@ returns-clause-usage c = record {
   empty_entry = refl;
   signed_entry = refl;
   large_entry = refl;
+  empty_before = refl;
+  plus_before = refl;
+  minus_before = refl;
+  large_before = refl;
+  blank_before = refl;
   two_schedules = refl;
 }

@@ -1,3 +1,4 @@
+-- Loops of append_statements: the text has the lines of the statements so far, after three draws for each.
 use Rattle.std.proofs.Common.{◌≡◌, ◌*◌, ◌++◌, map}
 use Rattle.std.specs.String.{string_bytes}
 use Rattle.rev_words.specs.Load.{lines, state, statement_text, statements_from}

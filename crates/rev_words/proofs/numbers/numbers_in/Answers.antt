@@ -1,3 +1,4 @@
+-- Answers of numbers_in: a text that spells a number puts it behind the others, in front of those of the texts left.
 use Rattle.std.proofs.Common.{◌≡◌, ◌∙◌, Bor, ap, sym, rules, ◌+◌, [], ◌∷◌, ◌++◌, get_or, map, drop}
 use Rattle.std.specs.Prelude.{Some}
 use Rattle.clap.specs.Words.{Text}

@@ -1,5 +1,6 @@
+-- Answers of run_code: each hand has this run, this fuel and this group, so the threads make a run of the code.
 use Rattle.std.proofs.Common.{rules, ◌<◌, ◌^◌, slice_index_or, sym, ◌∙◌, subst, arith}
-use Rattle.code_hub.specs.Laws.{IsStart}
+use Rattle.run_revision.specs.Laws.{IsStart}
 use Rattle.rev_vm.specs.Starts.{run_under}
 use Rattle.run_revision.proofs.CodeRuns.{of_code}
 use Rattle.rev_workers.proofs.code_run.run_code.Goals as goal
@@ -9,7 +10,8 @@ run-requires-clause-begins g c κs within k d h =
     let e = c.requires.hands k d h in
     let fuel = e.1 in
     let small : c.args.fuel < 2 ^ 64 = search rules in (
-      subst (λ z. IsStart z (slice_index_or c.args.hands.items k d).fuel c.in-Ok.first.state) (sym e.0) (subst (λ z. IsStart (run_under c.args.setting.now) z c.in-Ok.first.state) (sym e.1) c.in-Ok.ensures.start),
+      subst (λ z. IsStart z (slice_index_or c.args.hands.items k d).fuel c.in-Ok.first.state) (sym e.0)
+          (subst (λ z. IsStart (run_under c.args.setting.now) z c.in-Ok.first.state) (sym e.1) c.in-Ok.ensures.start),
       omega (arith, fuel, small),
     )
 
@@ -19,7 +21,8 @@ run-requires-clause-group g c κs within k d h = (c.requires.hands k d h).2 ∙ 
 pub returns-in-Ok-run-clause-schedule : goal.returns-in-Ok-run-clause-schedule
 returns-in-Ok-run-clause-schedule g c =
     let r = c.in-Ok-run.ensures.run in
-    of_code (run_under c.args.setting.now) c.args.fuel c.in-Ok.first.state c.in-Ok.ensures.start _ _ _ _ _ r.kept r.taken r.closed
+    of_code (run_under c.args.setting.now) c.args.fuel c.in-Ok.first.state c.in-Ok.ensures.start _ _ _ _ _ r.kept
+    r.taken r.closed
 
 pub returns-in-Ok-run-clause-hands : goal.returns-in-Ok-run-clause-hands
 returns-in-Ok-run-clause-hands g c k d h = c.in-Ok-run.ensures.hands k d h ∙ c.in-Ok.ensures.group

@@ -1,3 +1,4 @@
+-- Answers of join_end: the end that is told makes the state with which the joiner settles as the calculus joins.
 use Rattle.std.proofs.Common.{ap, length, ◌∙◌}
 use Rattle.revision_machine.proofs.Splits.{one_ok}
 use Rattle.revision_calculus.specs.Join.{join}
@@ -14,5 +15,6 @@ returns c =
     let l = c.args.local.now in
     let e = c.args.end.now in
     one_ok c.settle.result
-    (λ h. joins_told s r q l e c.settle.new.self (h ∙ ap (join s r l q) (c.in_ok-ended.ensures ∙ ap (λ ms. told_state (length ms) e) c.locations.ensures)))
+    (λ h. joins_told s r q l e c.settle.new.self
+    (h ∙ ap (join s r l q) (c.in_ok-ended.ensures ∙ ap (λ ms. told_state (length ms) e) c.locations.ensures)))
     c.settle.ensures

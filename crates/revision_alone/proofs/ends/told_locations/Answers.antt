@@ -1,3 +1,4 @@
+-- Answers of told_locations: the location of this number goes behind the others, and later writes tell the rest.
 use Rattle.std.proofs.Common.{◌+◌, ◌-◌, ◌++◌, ◌∷◌, [], sym, ap, ◌∙◌, arith, append_assoc}
 use Rattle.revision_alone.specs.Alone.{behind, told_from}
 use Rattle.revision_alone.proofs.Told.{told_more}

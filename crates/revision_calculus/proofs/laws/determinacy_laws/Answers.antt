@@ -1,3 +1,4 @@
+-- Answers of determinacy_laws: the calculus counts forks as a machine has to, and each clause is then a lemma.
 use Rattle.revision_machine.proofs.Ends.{diamond_law, unique_end, twice_in_all, twice_final}
 use Rattle.revision_calculus.specs.Calculus.{calculus, main}
 use Rattle.revision_calculus.proofs.Meets.{counts}

@@ -1,3 +1,4 @@
+-- Answers of handle_laws: main holds no handle and each step keeps to known ones, and the rest are lemmas.
 use Rattle.revision_machine.proofs.Standing.{standing_law}
 use Rattle.revision_machine.proofs.Ends.{reached_forked}
 use Rattle.revision_machine.proofs.Blocked.{handle_law, no_blocked_end}
@@ -11,5 +12,6 @@ returns c = record {
   forkers = λ s fuel. reached_forked (calculus s) (main s fuel) (counts s);
   handles = λ s fuel. handle_law (calculus s) (main s fuel) Holds (counts s) (handles s) (main_holds_none s fuel);
   standing = λ s fuel. standing_law (calculus s) (main s fuel);
-  no_blocked_end = λ s fuel. no_blocked_end (calculus s) (main s fuel) Holds (counts s) (handles s) (main_holds_none s fuel);
+  no_blocked_end =
+      λ s fuel. no_blocked_end (calculus s) (main s fuel) Holds (counts s) (handles s) (main_holds_none s fuel);
 }

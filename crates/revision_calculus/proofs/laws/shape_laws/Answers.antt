@@ -1,3 +1,4 @@
+-- Answers of shape_laws: main begins in its shape and each step keeps it, and the place of a fault is a lemma.
 use Rattle.revision_machine.proofs.Kept.{kept_law}
 use Rattle.revision_calculus.specs.Calculus.{calculus, main}
 use Rattle.revision_calculus.specs.Kept.{IsShaped}

@@ -1,3 +1,4 @@
+-- Answers of second_joins: one run of each program, and two given orders of one, are computed, and join twice.
 use Rattle.std.specs.Prelude.{false}
 use Rattle.std.specs.Fmt.{digits}
 use Rattle.std.proofs.Common.{refl}

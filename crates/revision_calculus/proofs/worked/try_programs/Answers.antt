@@ -1,3 +1,4 @@
+-- Answers of try_programs: one run of each program with a tryjoin is computed, and all complete runs report the same.
 use Rattle.std.specs.Prelude.{false, true}
 use Rattle.std.specs.Fmt.{digits}
 use Rattle.std.proofs.Common.{refl}
@@ -11,7 +12,11 @@ pub returns : goal.returns
 unfolding digits merge_value_of
 returns c = record {
   tries = reports (usual x.tries) usual_fuel false (run_latest 100 (usual x.tries) usual_fuel) _ refl;
-  tries_what_faults = reports (usual x.tries_what_faults) usual_fuel true (run_latest 100 (usual x.tries_what_faults) usual_fuel) _ refl;
+  tries_what_faults =
+      reports (usual x.tries_what_faults) usual_fuel true (run_latest 100 (usual x.tries_what_faults) usual_fuel) _
+      refl;
   tries_none = reports (usual x.tries_none) usual_fuel false (run_latest 100 (usual x.tries_none) usual_fuel) _ refl;
-  tries_into_what_was_written = reports (usual x.tries_into_what_was_written) usual_fuel true (run_latest 100 (usual x.tries_into_what_was_written) usual_fuel) _ refl;
+  tries_into_what_was_written =
+      reports (usual x.tries_into_what_was_written) usual_fuel true
+      (run_latest 100 (usual x.tries_into_what_was_written) usual_fuel) _ refl;
 }

@@ -1,3 +1,4 @@
+-- Loops of compose: the changes so far, put into the locations, with what the rest composes to, are what all does.
 use Rattle.std.proofs.Common.{◌≡◌, length, take, drop}
 use Rattle.rev_syntax.specs.View.{program as whole}
 use Rattle.revision_calculus.specs.Join as join

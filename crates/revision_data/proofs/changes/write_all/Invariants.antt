@@ -1,3 +1,4 @@
+-- Loops of write_all: putting the changes left gives what putting all of them into the locations at first gives.
 use Rattle.std.proofs.Common.{◌≡◌, vec_len}
 use Rattle.revision_data.specs.Changes.{put}
 use Rattle.revision_data.proofs.changes.write_all.Given as goal

@@ -1,3 +1,4 @@
+-- Loops of copy_locations: the copies so far are the first of the locations.
 use Rattle.std.proofs.Common.{◌≡◌, take}
 use Rattle.revision_data.proofs.location.copy_locations.Given as goal
 

@@ -1,3 +1,4 @@
+-- Loops of append_pieces: the bytes are those at first with those of the pieces so far.
 use Rattle.std.proofs.Common.{◌≡◌, ◌++◌, take}
 use Rattle.revision_data.specs.Pieces.{all_bytes}
 use Rattle.revision_data.proofs.text.append_pieces.Given as goal

@@ -1,3 +1,4 @@
+-- Loops of share_pieces: the pieces are those at first with the others so far.
 use Rattle.std.proofs.Common.{◌≡◌, ◌++◌, take}
 use Rattle.revision_data.proofs.text.share_pieces.Given as goal
 

@@ -1,3 +1,4 @@
+-- Loops of run_each: the places are those of distinct paths, and one has moved or those passed cannot step.
 use Rattle.std.proofs.Common.{◌≤◌, length}
 use Rattle.revision_machine.specs.Machine.{Live}
 use Rattle.revision_machine.specs.Laws.{IsDistinct}

@@ -1,3 +1,4 @@
+-- Loops of run_these: steps lead from the list at first to this one, which has the places to be tried.
 use Rattle.std.proofs.Common.{◌+◌, ◌*◌, ◌<◌, ◌≤◌, length, vec_len}
 use Rattle.std.specs.List.{All}
 use Rattle.revision_machine.specs.Machine.{Live}
@@ -20,4 +21,6 @@ invariant-loop-place g l = record {
 }
 
 abbrev pub decreases-loop-place : goal.decreases-loop-place
-decreases-loop-place g l = 2 * left (machine_of (g.L.Language.rules l.language)) (g.L.Language.rules l.language).weight l.list.items + vec_len l.todo
+decreases-loop-place g l =
+    2 * left (machine_of (g.L.Language.rules l.language)) (g.L.Language.rules l.language).weight l.list.items
+    + vec_len l.todo

@@ -1,3 +1,4 @@
+-- Answers of theory: each clause is a lemma on a machine, by the rules that make it lawful.
 use Rattle.revision_machine.proofs.Ends.{reached_forked, diamond_law, unique_end, twice_final, twice_in_all}
 use Rattle.revision_machine.proofs.Standing.{standing_law}
 use Rattle.revision_machine.proofs.Blocked.{handle_law, no_blocked_end}
@@ -13,8 +14,10 @@ returns g c = record {
   twice_final = λ s. twice_final (g.R.LawfulMachine.lawful s).machine;
   forkers = λ s main. let l = g.R.LawfulMachine.lawful s in reached_forked l.machine main l.counts;
   standing = λ s main. standing_law (g.R.LawfulMachine.lawful s).machine main;
-  handles = λ s main none. let l = g.R.LawfulMachine.lawful s in handle_law l.machine main l.holds l.counts l.handles none;
-  unblocked = λ s main none. let l = g.R.LawfulMachine.lawful s in no_blocked_end l.machine main l.holds l.counts l.handles none;
+  handles = λ s main none.
+      let l = g.R.LawfulMachine.lawful s in handle_law l.machine main l.holds l.counts l.handles none;
+  unblocked = λ s main none.
+      let l = g.R.LawfulMachine.lawful s in no_blocked_end l.machine main l.holds l.counts l.handles none;
   bound = λ s main. let l = g.R.LawfulMachine.lawful s in bound_law l.machine main l.weight l.counts l.spends;
   count = λ s main. let l = g.R.LawfulMachine.lawful s in count_law l.machine main l.fuel l.counts l.pays;
   completes = λ s main. let l = g.R.LawfulMachine.lawful s in completion_law l.machine main l.weight l.counts l.spends;

@@ -1,3 +1,4 @@
+-- Loops of places_of: the table has the places of the revisions so far.
 use Rattle.std.proofs.Common.{take}
 use Rattle.revision_machine.specs.PathIndex.{IsIndexed}
 use Rattle.revision_machine.specs.RevisionList.{paths}

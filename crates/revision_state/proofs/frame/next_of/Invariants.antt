@@ -1,3 +1,4 @@
+-- Loops of next_of: what remains of the blocks is what remained at first.
 use Rattle.std.proofs.Common.{◌≡◌, vec_len}
 use Rattle.revision_state.specs.Remaining.{remaining}
 use Rattle.revision_state.proofs.frame.next_of.Given as goal

@@ -1,3 +1,4 @@
+-- Answers of bind_next: the next parameter stands behind as many as there are locals, and past the last is none.
 use Rattle.std.proofs.Common.{◌≡◌, ◌∙◌, ◌++◌, ◌∷◌, [], length, get_or, sym, ap, arith}
 use Rattle.merge_decl.specs.Names.{Name}
 use Rattle.revision_state.proofs.Callees.{next_bound, none_next}
@@ -11,8 +12,10 @@ returns-in_ok-push c =
     let q = c.index-params-next.result in
     let bound = next_bound ps es c.args.value q (omega (arith, c.if-next-params.true)) in
     c.in_ok-push.ensures
-    ∙ ap (λ (w : Name). es ++ (w, c.args.value) ∷ []) (c.as_slice-name.ensures.value ∙ ap (λ i. (get_or ps i q).name.text.items) n)
+    ∙ ap (λ (w : Name). es ++ (w, c.args.value) ∷ [])
+    (c.as_slice-name.ensures.value ∙ ap (λ i. (get_or ps i q).name.text.items) n)
     ∙ sym bound
 
 pub returns-else-next-params : goal.returns-else-next-params
-returns-else-next-params c = sym (none_next c.args.params.now c.args.locals.now c.args.value (omega (arith, c.len-next.ensures)))
+returns-else-next-params c =
+    sym (none_next c.args.params.now c.args.locals.now c.args.value (omega (arith, c.len-next.ensures)))

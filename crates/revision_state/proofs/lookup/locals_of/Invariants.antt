@@ -1,3 +1,4 @@
+-- Loops of locals_of: the locals are those that the values taken so far give.
 use Rattle.std.proofs.Common.{◌≡◌, map}
 use Rattle.rev_syntax.specs.View.{parameter}
 use Rattle.merge_decl.specs.Definitions.{names_of}

@@ -1,3 +1,4 @@
+-- Loops of copy_noted: the copies so far stand for the first of the list.
 use Rattle.std.proofs.Common.{◌≡◌, take, map}
 use Rattle.revision_state.specs.Phases.{noted}
 use Rattle.revision_state.proofs.phase.copy_noted.Given as goal

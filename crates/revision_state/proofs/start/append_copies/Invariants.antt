@@ -1,3 +1,4 @@
+-- Loops of append_copies: the locations are those at first with the fresh copies so far.
 use Rattle.std.proofs.Common.{◌≡◌, ◌++◌, replicate}
 use Rattle.revision_calculus.specs.State.{fresh}
 use Rattle.revision_state.proofs.start.append_copies.Given as goal

@@ -1,3 +1,4 @@
+-- Answers of start_locations: the rows of a typed program are those of its variables, and so are their locations.
 use Rattle.std.proofs.Common.{ap, ◌∙◌}
 use Rattle.std.proofs.lemmas.Result.{IfOk-weaker}
 use Rattle.rev_syntax.specs.View.{program as whole}
@@ -10,5 +11,7 @@ pub returns : goal.returns
 returns c =
     let p = whole c.args.typed.now.expanded.program in
     IfOk-weaker c.start_rows.result _ _
-    (λ ms e. e ∙ ap (λ rows. fresh (starts_in p.declarations rows)) (c.as_slice.ensures ∙ c.args.typed.now.shared_listed) ∙ ap fresh (starts_by_row p))
+    (λ ms e. e
+    ∙ ap (λ rows. fresh (starts_in p.declarations rows)) (c.as_slice.ensures ∙ c.args.typed.now.shared_listed)
+    ∙ ap fresh (starts_by_row p))
     c.start_rows.ensures

@@ -1,3 +1,4 @@
+-- Loops of append_copies: the list is that at first with the copies so far of the merge.
 use Rattle.std.proofs.Common.{◌≡◌, ◌++◌, replicate}
 use Rattle.revision_state.proofs.tables.append_copies.Given as goal
 

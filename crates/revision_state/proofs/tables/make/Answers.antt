@@ -1,3 +1,4 @@
+-- Answers of make: the three tables are as they are asked to be, and the merge of a location is one that is declared.
 use Rattle.std.proofs.Common.{ap, sym, ◌∙◌, length, slice_get, arith}
 use Rattle.std.proofs.lemmas.List.{length-map}
 use Rattle.rev_syntax.specs.View.{program as whole}

@@ -1,3 +1,4 @@
+-- Answers of merge_list: the rows of a typed program are those of its variables, so their merges are the program's.
 use Rattle.std.proofs.Common.{ap, ◌∙◌}
 use Rattle.std.proofs.lemmas.Result.{IfOk-weaker}
 use Rattle.rev_syntax.specs.View.{program as whole}

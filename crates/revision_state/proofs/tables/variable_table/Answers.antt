@@ -1,3 +1,4 @@
+-- Answers of variable_table: the rows are those of the program's variables, and the table has the first of each name.
 use Rattle.std.proofs.Common.{[], ap, ◌∙◌}
 use Rattle.std.proofs.lemmas.Result.{IfOk-weaker}
 use Rattle.rev_syntax.specs.View.{program as whole}
@@ -10,5 +11,8 @@ pub returns : goal.returns
 returns c =
     let p = whole c.args.typed.now.expanded.program in
     IfOk-weaker c.enter_variables.result _ _
-    (λ t e name. ap (find name) (e ∙ ap (entered (shared_at p.declarations) []) (c.as_slice.ensures ∙ c.args.typed.now.shared_listed)) ∙ variables_entered p name)
+    (λ t e name.
+    ap (find name)
+    (e ∙ ap (entered (shared_at p.declarations) []) (c.as_slice.ensures ∙ c.args.typed.now.shared_listed))
+    ∙ variables_entered p name)
     c.enter_variables.ensures

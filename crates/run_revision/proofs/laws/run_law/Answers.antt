@@ -1,3 +1,4 @@
+-- Answers of run_law: its one clause, that what a hub leaves is a run of the code, is a lemma.
 use Rattle.run_revision.proofs.CodeRuns.{of_code}
 use Rattle.run_revision.proofs.laws.run_law.Goals as goal
 

@@ -1,3 +1,4 @@
+-- Answers of step_laws: in each reached core all references are counted, and from that each clause is a lemma.
 use Rattle.seg_core.proofs.Frees.{frees_at_last}
 use Rattle.seg_core.proofs.Bases.{bases_keep}
 use Rattle.seg_core.proofs.Reaches.{reached_counted}

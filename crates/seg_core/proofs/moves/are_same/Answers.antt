@@ -1,3 +1,4 @@
+-- Answers of are_same: lists of unequally many copies are not equal.
 use Rattle.std.proofs.Common.{suc}
 use Rattle.seg_core.proofs.Refers.{copies_apart}
 use Rattle.seg_core.proofs.moves.are_same.Goals as goal

@@ -1,3 +1,4 @@
+-- Answers of apply: whether the step is made or refused, all references stay counted and no segment is lost.
 use Rattle.std.proofs.Common.{arith}
 use Rattle.seg_core.specs.Shape.{step_of}
 use Rattle.seg_core.specs.Cells.{core_of}

@@ -1,3 +1,4 @@
+-- Answers of free_segments: one free segment more, with the same locations, goes behind those before.
 use Rattle.std.proofs.Common.{◌≡◌, List, map, refl, ap, ◌∙◌, subst, rules, ⊎_elim}
 use mathlib.Core.Option.{some}
 use lib.ListN.{get_elem?}

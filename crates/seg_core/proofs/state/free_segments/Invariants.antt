@@ -1,3 +1,4 @@
+-- Loops of free_segments: there are as many free segments as turns, all with the same locations.
 use Rattle.std.proofs.Common.{◌≡◌, ℕ, map, replicate, vec_len}
 use mathlib.Core.Option.{some}
 use lib.ListN.{get_elem?}

@@ -1,3 +1,4 @@
+-- Answers of no_references: after all turns there are 65,536 holders that refer to nothing.
 use Rattle.std.proofs.Common.{◌≡◌, ℕ, List, [], replicate, ap, ◌∙◌, arith}
 use Rattle.seg_core.proofs.state.no_references.Goals as goal
 

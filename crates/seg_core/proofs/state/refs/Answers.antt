@@ -1,3 +1,4 @@
+-- Answers of refs: all references are counted, so a live segment has its count of them and any other none.
 use Rattle.std.proofs.Common.{suc, sym, subst, arith}
 use Rattle.seg_core.specs.declared.segment.Stage.{Stage}
 use Rattle.seg_core.specs.Core.{At}

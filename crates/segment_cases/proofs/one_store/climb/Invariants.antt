@@ -1,3 +1,4 @@
+-- Loops of climb: each fork and its release leave hold, delta and what was gathered a part of the store.
 use Rattle.segment_cases.specs.Parts.{IsPart}
 use Rattle.segment_cases.proofs.one_store.climb.Given as goal
 

@@ -1,3 +1,4 @@
+-- Loops of rounds: each round leaves hold, delta and what was gathered a part of the store.
 use Rattle.segment_cases.specs.Parts.{IsPart}
 use Rattle.segment_cases.proofs.one_store.rounds.Given as goal
 

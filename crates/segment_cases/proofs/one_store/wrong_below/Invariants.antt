@@ -1,3 +1,4 @@
+-- Loops of wrong_below: each read leaves hold, delta and what was gathered a part of the store.
 use Rattle.segment_cases.specs.Parts.{IsPart}
 use Rattle.segment_cases.proofs.one_store.wrong_below.Given as goal
 

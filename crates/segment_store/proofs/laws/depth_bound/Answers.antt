@@ -1,3 +1,4 @@
+-- Answers of depth_bound: in a reached state each seat's view is a chain, and a chain has no more than all segments.
 use Rattle.segment_store.proofs.Depths.{chain_within}
 use Rattle.segment_store.proofs.laws.depth_bound.Goals as goal
 

@@ -1,3 +1,4 @@
+-- Answers of held_law: one lemma on reached states gives for a live segment the seat in whose chain it is.
 use Rattle.segment_store.proofs.Reached.{reached}
 use Rattle.segment_store.proofs.laws.held_law.Goals as goal
 

@@ -1,3 +1,4 @@
+-- Loops of zeros: there are as many zeros as turns.
 use Rattle.std.proofs.Common.{◌≡◌, replicate}
 use Rattle.segment_store.proofs.store.zeros.Given as goal
 

@@ -1,3 +1,4 @@
+-- Answers of parser_is_exact: one lemma gives the verdict on all tokens for each grammar that the next token decides.
 use Rattle.token_grammar.proofs.Whole.{verdict}
 use Rattle.token_grammar.proofs.laws.parser_is_exact.Goals as goal
 

@@ -1,3 +1,4 @@
+-- Loops of copy_changes: the copies so far are the first of the writes.
 use Rattle.std.proofs.Common.{◌≡◌, take}
 use Rattle.trace_diagram.proofs.copies.copy_changes.Given as goal
 

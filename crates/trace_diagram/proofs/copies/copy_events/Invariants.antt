@@ -1,3 +1,4 @@
+-- Loops of copy_events: the copies so far are the first of the events.
 use Rattle.std.proofs.Common.{◌≡◌, take}
 use Rattle.trace_diagram.proofs.copies.copy_events.Given as goal
 

@@ -1,3 +1,4 @@
+-- Answers of fault_laws: two lemmas, that no trace text has a first fault, and that no bytes have two.
 use Rattle.trace_diagram.proofs.Faults.{fault_is_no_text, one_fault}
 use Rattle.trace_diagram.proofs.laws.fault_laws.Goals as goal
 

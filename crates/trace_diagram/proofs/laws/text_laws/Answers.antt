@@ -1,3 +1,4 @@
+-- Answers of text_laws: two texts of a trace are both the one that its lines make, and what a part tells is a lemma.
 use Rattle.std.proofs.Common.{◌∙◌, sym}
 use Rattle.trace_diagram.proofs.OneText.{parts_are_told}
 use Rattle.trace_diagram.proofs.laws.text_laws.Goals as goal

@@ -1,3 +1,4 @@
+-- Loops of are_printable: whether all bytes are printable is whether those left are.
 use Rattle.std.proofs.Common.{◌≡◌, drop}
 use Rattle.std.specs.List.{list_all}
 use Rattle.trace_diagram.specs.Lines.{is_printable}

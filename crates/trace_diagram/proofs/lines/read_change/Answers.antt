@@ -1,3 +1,4 @@
+-- Answers of read_change: a write's text is cut where its parts end, so a part not read means that it is none.
 use Rattle.std.proofs.Common.{◌∙◌, sym, subst}
 use Rattle.std.specs.Prelude.{codes}
 use Rattle.trace_diagram.specs.Places.{IsPlace}
@@ -10,7 +11,8 @@ returns-in_default-cut c = no_place_end _ _ c.in-Some.ensures c.in_default-cut.e
 
 pub returns-in_default-cut-2 : goal.returns-in_default-cut-2
 returns-in_default-cut-2 c = λ x fit is.
-    no_value_end x _ (place_parts _ _ _ _ c.in-Some.ensures c.in-Some-cut.ensures x fit is).values_are c.in_default-cut-2.ensures
+    no_value_end x _ (place_parts _ _ _ _ c.in-Some.ensures c.in-Some-cut.ensures x fit is).values_are
+    c.in_default-cut-2.ensures
 
 pub returns-in_default-behind : goal.returns-in_default-behind
 returns-in_default-behind c = λ x fit is.
@@ -33,4 +35,5 @@ returns-in_default-3 c = λ x fit is.
     let parts = place_parts _ _ _ _ c.in-Some.ensures c.in-Some-cut.ensures x fit is in
     let none = rw c.in_default-3.is at c.in_ok-root.ensures in
     none x.root fit.root
-    (append_cancel (codes "root ") _ _ ((value_parts x _ _ _ fit parts.values_are c.in-Some-cut-2.ensures).root_is ∙ c.in-Some-behind.ensures))
+    (append_cancel (codes "root ") _ _
+    ((value_parts x _ _ _ fit parts.values_are c.in-Some-cut-2.ensures).root_is ∙ c.in-Some-behind.ensures))

@@ -1,3 +1,4 @@
+-- Answers of read_event: without a path and a line behind its word the line is neither a fork nor a join.
 use Rattle.trace_diagram.proofs.LineForms.{no_fork, no_join}
 use Rattle.trace_diagram.proofs.lines.read_event.Goals as goal
 

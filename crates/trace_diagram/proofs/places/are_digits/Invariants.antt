@@ -1,3 +1,4 @@
+-- Loops of are_digits: whether all bytes are digits is whether those left are.
 use Rattle.std.proofs.Common.{◌≡◌, drop}
 use Rattle.std.specs.List.{list_all}
 use Rattle.rev_syntax.specs.Bytes.{is_digit}

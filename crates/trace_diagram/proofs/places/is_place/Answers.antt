@@ -1,3 +1,4 @@
+-- Answers of is_place: with a bracket the bytes have to be an array and its cell, and without one a name.
 use Rattle.trace_diagram.proofs.PlaceForms.{no_bracket, with_bracket}
 use Rattle.trace_diagram.proofs.places.is_place.Goals as goal
 

@@ -1,3 +1,4 @@
+-- Loops of append_changes: the text is that at first with the lines of the writes so far.
 use Rattle.std.proofs.Common.{◌≡◌, ◌++◌, map, take}
 use Rattle.std.specs.List.{flat_map}
 use Rattle.trace_diagram.specs.Lines.{change_text}

@@ -1,3 +1,4 @@
+-- Loops of append_events: the text is that at first with the lines of the events so far.
 use Rattle.std.proofs.Common.{◌≡◌, ◌++◌, map, take}
 use Rattle.std.specs.List.{flat_map}
 use Rattle.trace_diagram.specs.Lines.{event_text}

@@ -1,3 +1,4 @@
+-- Answers of append_text: what is cut off at the line feed is the first of the lines that are left.
 use Rattle.std.proofs.Common.{arith}
 use Rattle.std.proofs.lemmas.Grind.{common_steps}
 use Rattle.trace_diagram.proofs.TextLines.{lines_cut}

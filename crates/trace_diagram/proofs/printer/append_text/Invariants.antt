@@ -1,3 +1,4 @@
+-- Loops of append_text: the lines so far, with those of the rest, are those of the whole text.
 use Rattle.std.proofs.Common.{◌≡◌, ◌++◌, length, map}
 use Rattle.std.specs.List.{flat_map}
 use Rattle.trace_diagram.specs.Lines.{quoted}

@@ -1,3 +1,4 @@
+-- Loops of print_trace: the text is the first line and the lines of the parts so far.
 use Rattle.std.proofs.Common.{◌≡◌, ◌++◌, take}
 use Rattle.std.specs.List.{flat_map}
 use Rattle.trace_diagram.specs.Traces.{ended, first_line, part_lines}

@@ -1,3 +1,4 @@
+-- Loops of read_parts: what was read of the bytes is the draft, and the rest stands behind it.
 use Rattle.std.proofs.Common.{length}
 use Rattle.trace_diagram.specs.Drafts.{HasRead, partial_of}
 use Rattle.trace_diagram.proofs.reader.read_parts.Given as goal

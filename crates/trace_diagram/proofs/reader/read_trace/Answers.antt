@@ -1,3 +1,4 @@
+-- Answers of read_trace: the first line and head begin the draft, or the first fault is where one is wrong.
 use Rattle.std.proofs.Common.{◌∙◌, sym, ap, subst}
 use Rattle.trace_diagram.specs.Drafts.{HasRead}
 use Rattle.trace_diagram.proofs.Partials.{begun}

@@ -1,3 +1,4 @@
+-- Answers of behind: the bytes with the prefix stripped are those that stand behind it.
 use Rattle.trace_diagram.proofs.Spelling.{stripped}
 use Rattle.trace_diagram.proofs.spelled.behind.Goals as goal
 

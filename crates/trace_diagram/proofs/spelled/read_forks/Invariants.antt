@@ -1,3 +1,4 @@
+-- Loops of read_forks: the numbers so far and the rest spell the bytes, and all that spell them begin so.
 use Rattle.std.proofs.Common.{◌≡◌, length}
 use Rattle.trace_diagram.specs.Lines.{FitsPath}
 use Rattle.trace_diagram.proofs.Forks.{AllBegin, dotted}

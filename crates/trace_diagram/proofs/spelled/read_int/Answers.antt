@@ -1,3 +1,4 @@
+-- Answers of read_int: a number that the bytes spell is the one read from them, and its own spelling decides.
 use Rattle.std.proofs.Common.{◌≡◌, ◌∙◌, sym, ap, rules}
 use Rattle.std.specs.Int.{w64}
 use Rattle.std.proofs.Common.{FitsSigned}
@@ -18,4 +19,5 @@ returns-else-are c = λ n fits is.
     let e = c.in-Some.ensures.value in
     let same : n ≡ c.in-Some.int = cc in
     let range : FitsSigned w64 c.in-Some.int = search rules in
-    c.if-are.ensures (c.as_bytes.ensures.value ∙ c.format.ensures.text ∙ ap signed_decimal (to_z-of_z w64 c.in-Some.int range) ∙ ap signed_decimal (sym same) ∙ is)
+    c.if-are.ensures (c.as_bytes.ensures.value ∙ c.format.ensures.text
+    ∙ ap signed_decimal (to_z-of_z w64 c.in-Some.int range) ∙ ap signed_decimal (sym same) ∙ is)

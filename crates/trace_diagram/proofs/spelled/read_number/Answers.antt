@@ -1,3 +1,4 @@
+-- Answers of read_number: a number that the bytes spell is the one parsed from them, and its own spelling decides.
 use Rattle.std.proofs.Common.{◌≡◌, ◌∙◌, sym, ap}
 use Rattle.std.specs.Fmt.{decimal}
 use Rattle.trace_diagram.proofs.Spelling.{decimal_is_text, parsed}

@@ -1,3 +1,4 @@
+-- Answers of read_small: a spelling is that of one number, so where that has more than 32 bits no other is spelled.
 use Rattle.std.proofs.Common.{◌∙◌, sym, arith}
 use Rattle.std.proofs.lemmas.Fmt.{decimal_injective}
 use Rattle.trace_diagram.proofs.spelled.read_small.Goals as goal

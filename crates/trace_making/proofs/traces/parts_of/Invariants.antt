@@ -1,3 +1,4 @@
+-- Loops of parts_of: the parts so far and those of the revisions left are all parts, in whatever order.
 use Rattle.std.proofs.Common.{◌++◌, length}
 use Rattle.std.specs.List.Sorted.{IsPermutation}
 use Rattle.trace_making.specs.Made.{parts_by}

@@ -1,3 +1,4 @@
+-- Loops of eight_roots: eight words, of which those so far are the roots of the written locations from this place on.
 use Rattle.std.proofs.Common.{◌≡◌, length, take, drop, map}
 use Rattle.version_map.proofs.eights.eight_roots.Given as goal
 

@@ -1,3 +1,4 @@
+-- Loops of eight_values: eight words, of which those so far are the values of the locations from this place on.
 use Rattle.std.proofs.Common.{◌≡◌, length, take, drop, map}
 use Rattle.version_map.proofs.eights.eight_values.Given as goal
 

@@ -1,3 +1,4 @@
+-- Loops of eight_words: eight words, of which those so far are the words from this place on.
 use Rattle.std.proofs.Common.{◌≡◌, length, take, drop}
 use Rattle.version_map.proofs.eights.eight_words.Given as goal
 

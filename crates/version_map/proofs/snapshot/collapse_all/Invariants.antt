@@ -1,3 +1,4 @@
+-- Loops of collapse_all: what is seen stays the same, and while the depth does too nothing was taken in.
 use Rattle.std.proofs.Common.{◌≡◌, ◌≤◌}
 use Rattle.version_map.specs.Deltas.{locations}
 use Rattle.version_map.specs.Overlay.{under, Agree}

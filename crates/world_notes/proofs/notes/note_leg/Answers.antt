@@ -1,18 +1,27 @@
+-- Answers of note_leg: the leg's answer means that the number has a note, and says what is to be noted of it.
 use Rattle.std.proofs.Common.{refl}
 use Rattle.world_notes.proofs.Below.{below_forked, below_joined, below_ended, below_trapped}
 use Rattle.world_notes.proofs.notes.note_leg.Goals as goal
 
 pub note_fork-requires : goal.note_fork-requires
-note_fork-requires c = let q = c.requires in below_forked q.0 q.1 c.args.number _ c.args.world.now (rw c.in-Forked.is at q.2) c.args.notes.now.items q.3
+note_fork-requires c =
+    let q = c.requires in
+    below_forked q.0 q.1 c.args.number _ c.args.world.now (rw c.in-Forked.is at q.2) c.args.notes.now.items q.3
 
 pub add_meeting-requires : goal.add_meeting-requires
-add_meeting-requires c = let q = c.requires in below_joined q.0 q.1 c.args.number _ c.args.world.now (rw c.in-Joined.is at q.2) c.args.notes.now.items q.3
+add_meeting-requires c =
+    let q = c.requires in
+    below_joined q.0 q.1 c.args.number _ c.args.world.now (rw c.in-Joined.is at q.2) c.args.notes.now.items q.3
 
 pub note_end-requires : goal.note_end-requires
-note_end-requires c = let q = c.requires in below_ended q.0 q.1 c.args.number c.args.world.now (rw c.in-Ended.is at q.2) c.args.notes.now.items q.3
+note_end-requires c =
+    let q = c.requires in
+    below_ended q.0 q.1 c.args.number c.args.world.now (rw c.in-Ended.is at q.2) c.args.notes.now.items q.3
 
 pub note_end-requires-in-Trapped : goal.note_end-requires-in-Trapped
-note_end-requires-in-Trapped c = let q = c.requires in below_trapped q.0 q.1 c.args.number c.args.world.now (rw c.in-Trapped.is at q.2) c.args.notes.now.items q.3
+note_end-requires-in-Trapped c =
+    let q = c.requires in
+    below_trapped q.0 q.1 c.args.number c.args.world.now (rw c.in-Trapped.is at q.2) c.args.notes.now.items q.3
 
 pub returns-in_ok-note_fork-in-Forked : goal.returns-in_ok-note_fork-in-Forked
 returns-in_ok-note_fork-in-Forked c = rw c.in-Forked.is c.in_ok-note_fork-in-Forked.ensures

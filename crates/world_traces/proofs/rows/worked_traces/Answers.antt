@@ -1,3 +1,4 @@
+-- Answers of worked_traces: each row is computed, and the paths of its worlds differ, so the trace is theirs.
 use Rattle.std.proofs.Common.{◌≡◌, ◌∙◌, inl, inr, Bool, true, ◌&&◌, List, [], ◌∷◌, refl, sym, ap}
 use Rattle.std.proofs.lemmas.Bool.{and_parts, true≢false}
 use Rattle.std.specs.Fmt.{digits}

@@ -1,3 +1,4 @@
+-- Loops of Memory::written: the list has what was written below the location, and what the memory shows is as before.
 use Rattle.std.proofs.Common.{◌≡◌, ◌≤◌, ◌-◌}
 use Rattle.version_map.specs.Deltas.{at}
 use Rattle.version_map.specs.Overlay.{under}
@@ -7,9 +8,12 @@ use Rattle.block_run.proofs.memory.Memory.written.Given as goal
 abbrev pub invariant-loop-location : goal.invariant-loop-location
 invariant-loop-location g l = record {
   within : l.location ≤ l.count;
-  written : l.written.items ≡ written_below (under l.initial.self.delta (g.P.Snapshot.base l.initial.self.snapshot)) (at l.initial.self.first.roots) l.location;
+  written : l.written.items
+      ≡ written_below (under l.initial.self.delta (g.P.Snapshot.base l.initial.self.snapshot))
+      (at l.initial.self.first.roots) l.location;
   kept : Kept (g.P.Snapshot.size l.initial.self.snapshot)
-      (under l.initial.self.delta (g.P.Snapshot.base l.initial.self.snapshot)) (under l.self.delta (g.P.Snapshot.base l.self.snapshot))
+      (under l.initial.self.delta (g.P.Snapshot.base l.initial.self.snapshot))
+      (under l.self.delta (g.P.Snapshot.base l.self.snapshot))
       (at l.initial.self.first.roots) (at l.self.first.roots);
   size : g.P.Snapshot.size l.self.snapshot ≡ g.P.Snapshot.size l.initial.self.snapshot;
   group : g.P.Snapshot.group l.self.snapshot ≡ g.P.Snapshot.group l.initial.self.snapshot;

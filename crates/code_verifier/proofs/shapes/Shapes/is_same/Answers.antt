@@ -1,3 +1,4 @@
+-- Answers of Shapes::is_same: no two nodes have one shape, so two shapes are equal where their numbers are.
 use Rattle.std.proofs.Common.{◌∙◌, ap}
 use Rattle.code_rules.specs.Shapes.{same_shape}
 use Rattle.code_verifier.specs.Kept.{shape_at}

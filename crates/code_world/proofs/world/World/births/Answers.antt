@@ -1,3 +1,4 @@
+-- Answers of World::births: a live world's table keeps where each revision comes from, and Twice has no entries.
 use Rattle.std.proofs.Common.{List, sym, subst}
 use Rattle.code_world.specs.declared.table.Birth.{Birth}
 use Rattle.code_world.specs.Endings.{Names}

@@ -1,3 +1,4 @@
+-- Loops of NameTable::truncate: the index stands for the entries, and the first that are kept are those at first.
 use Rattle.std.proofs.Common.{◌≡◌, take, length}
 use Rattle.merge_decl.specs.Table.{IsIndexed, rows}
 use Rattle.merge_decl.proofs.table.NameTable.truncate.Given as goal

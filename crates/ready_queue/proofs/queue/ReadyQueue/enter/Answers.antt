@@ -1,3 +1,4 @@
+-- Answers of ReadyQueue::enter: the heap keeps all that were ready, and the lists of waiters are not touched.
 use Rattle.ready_queue.proofs.queue.ReadyQueue.enter.Goals as goal
 
 pub returns-clause-kept : goal.returns-clause-kept

@@ -1,3 +1,4 @@
+-- Answers of ReadyQueue::grow: one more list at the end leaves each list of waiters at its place.
 use Rattle.std.proofs.Common.{◌∙◌, ap}
 use Rattle.std.specs.Prelude.{slice_get}
 use Rattle.ready_queue.proofs.Queues.{front}
@@ -8,7 +9,8 @@ returns-clause-kept c = record {
   ready = λ n h. h;
   waits = λ on n h. record {
     waiters = h.waiters;
-    there = ap (λ xs. slice_get xs on) c.in_ok-push.ensures.items ∙ front c.args.self.now.waiters.items _ on h.waiters h.there;
+    there = ap (λ xs. slice_get xs on) c.in_ok-push.ensures.items
+        ∙ front c.args.self.now.waiters.items _ on h.waiters h.there;
     among = h.among;
   };
 }

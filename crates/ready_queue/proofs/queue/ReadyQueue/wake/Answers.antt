@@ -1,3 +1,4 @@
+-- Answers of ReadyQueue::wake: who waited is in the list that is taken out, and each number of that is made ready.
 use Rattle.std.proofs.Common.{◌≡◌, ◌∙◌, true, sym, subst}
 use Rattle.ready_queue.specs.Heap.{has}
 use Rattle.ready_queue.proofs.Queues.{set_other, found}
@@ -5,7 +6,8 @@ use Rattle.ready_queue.proofs.queue.ReadyQueue.wake.Goals as goal
 
 pub returns-clause-woken : goal.returns-clause-woken
 returns-clause-woken c = λ n h.
-    let same = found c.args.self.now.waiters.items c.args.on h.waiters c.index_mut.result.now c.index_mut.ensures.value h.there in
+    let same =
+    found c.args.self.now.waiters.items c.args.on h.waiters c.index_mut.result.now c.index_mut.ensures.value h.there in
     c.in_ok-add_all.ensures.here n (subst (λ xs. has xs n ≡ true) (sym c.as_slice.ensures.value)
     (subst (λ w. has w.numbers.items n ≡ true) (sym (c.replace-woken.ensures.value ∙ same)) h.among))
 

@@ -1,3 +1,4 @@
+-- Answers of Starts::keep_all: the child that is popped is kept, and what the starts held they still hold.
 use Rattle.std.proofs.Common.{inl, [], ◌∷◌, refl, subst, sym, ◌≡◌, arith, length}
 use Rattle.merge_decl.specs.Least.{Among}
 use Rattle.merge_decl.proofs.Firsts.{left_among, right_among}
@@ -20,7 +21,8 @@ keep-requires c =
     record {
       order = c.requires.order;
       kept = c.loop-child.invariant.kept;
-      begins = c.loop-child.invariant.begin child (subst (λ l. Among l child) (sym c.in-Some.ensures.items) (right_among left (child ∷ []) child (inl refl)));
+      begins = c.loop-child.invariant.begin child
+          (subst (λ l. Among l child) (sym c.in-Some.ensures.items) (right_among left (child ∷ []) child (inl refl)));
     }
 
 pub loop-child-preserved : goal.loop-child-preserved
@@ -35,8 +37,12 @@ loop-child-preserved c =
     record {
       kept = c.keep.ensures.kept;
       grows = grows_both _ a b _ u v c.loop-child.invariant.grows c.keep.ensures.grows;
-      begin = λ x i. c.loop-child.invariant.begin x (subst (λ l. Among l x) (sym c.in-Some.ensures.items) (left_among left (child ∷ []) x i));
-      hold = λ x i. hold_more (given t.setting) t.fuel t.parts.now c.loop-child.children.items left child x a b u v c.in-Some.ensures.items c.keep.ensures.grows c.keep.ensures.holds (c.loop-child.invariant.hold x i);
+      begin = λ x i.
+          c.loop-child.invariant.begin x
+          (subst (λ l. Among l x) (sym c.in-Some.ensures.items) (left_among left (child ∷ []) x i));
+      hold = λ x i.
+          hold_more (given t.setting) t.fuel t.parts.now c.loop-child.children.items left child x a b u v
+          c.in-Some.ensures.items c.keep.ensures.grows c.keep.ensures.holds (c.loop-child.invariant.hold x i);
     }
 
 pub returns : goal.returns
@@ -48,5 +54,7 @@ returns c =
     record {
       kept = c.loop-child.invariant.kept;
       grows = c.loop-child.invariant.grows;
-      hold = λ x i. hold_all (given t.setting) t.fuel t.parts.now c.loop-child.children.items x c.loop-child.self.starts.items c.loop-child.self.unstated gone (c.loop-child.invariant.hold x i);
+      hold = λ x i.
+          hold_all (given t.setting) t.fuel t.parts.now c.loop-child.children.items x c.loop-child.self.starts.items
+          c.loop-child.self.unstated gone (c.loop-child.invariant.hold x i);
     }

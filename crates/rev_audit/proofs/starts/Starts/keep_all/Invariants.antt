@@ -1,3 +1,4 @@
+-- Loops of Starts::keep_all: each child is still to be kept or is held, each begins there, and the starts only grow.
 use Rattle.std.proofs.Common.{◌⊎◌, length}
 use Rattle.merge_decl.specs.Least.{Among}
 use Rattle.revision_state.specs.Views.{given}
@@ -9,8 +10,12 @@ abbrev pub invariant-loop-child : goal.invariant-loop-child
 invariant-loop-child l = record {
   kept : IsStarts (given l.stated.setting) l.stated.fuel l.stated.parts.now l.self.starts.items l.self.unstated;
   grows : Grows l.initial.self.starts.items l.self.starts.items l.initial.self.unstated l.self.unstated;
-  begin : (x : _) → Among l.children.items x → BeginsAt (given l.stated.setting) l.stated.fuel l.stated.parts.now x.path x.local;
-  hold : (x : _) → Among l.initial.children.items x → Among l.children.items x ⊎ Holds (given l.stated.setting) l.stated.fuel l.stated.parts.now (length l.stated.parts.now) l.self.starts.items l.self.unstated x;
+  begin : (x : _) → Among l.children.items x
+      → BeginsAt (given l.stated.setting) l.stated.fuel l.stated.parts.now x.path x.local;
+  hold : (x : _) → Among l.initial.children.items x
+      → Among l.children.items x
+      ⊎ Holds (given l.stated.setting) l.stated.fuel l.stated.parts.now (length l.stated.parts.now) l.self.starts.items
+      l.self.unstated x;
 }
 
 abbrev pub decreases-loop-child : goal.decreases-loop-child

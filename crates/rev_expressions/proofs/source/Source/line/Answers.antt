@@ -1,3 +1,4 @@
+-- Answers of Source::line: the feeds before the place are counted by a search in halves, and they are few.
 use Rattle.std.proofs.Common.{◌<◌, ltb, subst, sym, ap, ◌∙◌, length, arith, rules}
 use Rattle.std.specs.Prelude.{◌^◌, ◌-◌}
 use Rattle.std.specs.List.Sorted.{IsNonDecreasingBy, IsPartitionedBy}
@@ -22,6 +23,11 @@ overflow_add-result c = omega (arith, few c)
 pub returns : goal.returns
 returns c =
     let is = c.deref.ensures.value ∙ c.args.self.now.fed in
-    let parted : IsPartitionedBy (λ f. ltb f c.args.at) c.deref.result.now = IsPartitionedBy-ltb (λ f. f) c.deref.result.now c.args.at (subst (IsNonDecreasingBy (λ f. f)) (sym is) (feeds_sorted c.args.self.now.bytes.now)) in
-    let point = IsPartitionPoint-from_clause (λ f. ltb f c.args.at) _ _ c.partition_point-before.ensures.partitioned parted (λ a r q k. search rules) in
-    line_by_table c.args.at c.args.self.now.bytes.now c.deref.result.now c.partition_point-before.result is c.partition_point-before.ensures.bound point
+    let parted : IsPartitionedBy (λ f. ltb f c.args.at) c.deref.result.now =
+    IsPartitionedBy-ltb (λ f. f) c.deref.result.now c.args.at
+    (subst (IsNonDecreasingBy (λ f. f)) (sym is) (feeds_sorted c.args.self.now.bytes.now)) in
+    let point =
+    IsPartitionPoint-from_clause (λ f. ltb f c.args.at) _ _ c.partition_point-before.ensures.partitioned parted
+    (λ a r q k. search rules) in
+    line_by_table c.args.at c.args.self.now.bytes.now c.deref.result.now c.partition_point-before.result is
+    c.partition_point-before.ensures.bound point

@@ -1,3 +1,4 @@
+-- Loops of Checker::expression: the first fault so far, with those of the arguments or links left, is that of all.
 use Rattle.std.proofs.Common.{◌≡◌, drop, map, None}
 use Rattle.rev_syntax.specs.View.{expressions, links, parameter}
 use Rattle.rev_kinds.specs.Walk as rule

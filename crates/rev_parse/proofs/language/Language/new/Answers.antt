@@ -1,3 +1,4 @@
+-- Answers of Language::new: the choices of the grammar are decided over this text as over any text.
 use Rattle.rev_parse.proofs.Decides.{choices}
 use Rattle.rev_parse.proofs.language.Language.new.Goals as goal
 

@@ -1,3 +1,4 @@
+-- Answers of Parent::told: the waiting parent has its handle on top, and the number written there names the child.
 use Rattle.std.proofs.Common.{sym}
 use Rattle.rev_code.specs.Events as events
 use Rattle.rev_vm.proofs.Boxes.{same_at, same_waiting}

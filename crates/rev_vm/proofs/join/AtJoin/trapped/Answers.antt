@@ -1,3 +1,4 @@
+-- Answers of AtJoin::trapped: it stops with the joiner's writes, text and fuel, and with the trap's cause and line.
 use Rattle.std.proofs.Common.{◌∙◌, Some, sym, ap, subst}
 use Rattle.code_soundness.specs.Typed.{location_kinds}
 use Rattle.code_machine.specs.Local.{trapped, written_from}
@@ -7,9 +8,16 @@ use Rattle.rev_vm.proofs.join.AtJoin.trapped.Goals as goal
 
 pub returns-clause-end : goal.returns-clause-end
 returns-clause-end t c = λ g s u h k. record {
-  written = subst (AreWritten (location_kinds g.code.vars) (written_from 0 s.locations)) (sym c.stop.ensures.written) h.written;
+  written = subst (AreWritten (location_kinds g.code.vars) (written_from 0 s.locations)) (sym c.stop.ensures.written)
+      h.written;
   text = c.stop.ensures.text ∙ sym h.stands.stands.text;
   fuel = c.stop.ensures.fuel ∙ h.stands.stands.here.run.fuel;
-  phase = subst (IsPhase (trapped (record { cause = u.cause; line = u.line; origin = Some (origin_of c.args.self.on u.origin) }))) (sym c.stop.ensures.finish)
-      (record { cause = k.cause; line = k.line; origin = ap Some (c.first_of-first.ensures ∙ ap (origin_of c.args.self.on) k.origin) });
+  phase = subst
+      (IsPhase (trapped (record { cause = u.cause; line = u.line; origin = Some (origin_of c.args.self.on u.origin) })))
+      (sym c.stop.ensures.finish)
+      (record {
+        cause = k.cause;
+        line = k.line;
+        origin = ap Some (c.first_of-first.ensures ∙ ap (origin_of c.args.self.on) k.origin);
+      });
 }

@@ -1,3 +1,4 @@
+-- Answers of Runner::fuel: the runner stands for the state, so its register has the fuel that is left in the state.
 use Rattle.std.proofs.Common.{sym}
 use Rattle.rev_vm.proofs.Boxes.{same_at}
 use Rattle.rev_vm.proofs.runner.Runner.fuel.Goals as goal

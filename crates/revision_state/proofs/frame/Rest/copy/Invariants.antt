@@ -1,3 +1,4 @@
+-- Loops of Rest::copy: the blocks that are copied so far are the first of the blocks.
 use Rattle.std.proofs.Common.{◌≡◌, take}
 use Rattle.revision_state.proofs.frame.Rest.copy.Given as goal
 

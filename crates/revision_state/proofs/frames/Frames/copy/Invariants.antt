@@ -1,3 +1,4 @@
+-- Loops of Frames::copy: the copies so far are the first of the frames.
 use Rattle.std.proofs.Common.{◌≡◌, take}
 use Rattle.revision_state.proofs.frames.Frames.copy.Given as goal
 

@@ -1,3 +1,4 @@
+-- Loops of Locals::copy: the copies so far are the first of the locals.
 use Rattle.std.proofs.Common.{◌≡◌, take}
 use Rattle.revision_state.proofs.locals.Locals.copy.Given as goal
 

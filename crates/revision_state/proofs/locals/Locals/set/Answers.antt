@@ -1,3 +1,4 @@
+-- Answers of Locals::set: a name with a place has its local changed, and one without is added at the end.
 use Rattle.std.proofs.Common.{◌∙◌, sym, ap, set, position}
 use Rattle.merge_decl.specs.Names.{same}
 use Rattle.revision_calculus.specs.Evaluation.{with_local}

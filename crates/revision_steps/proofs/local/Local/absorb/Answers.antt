@@ -1,3 +1,4 @@
+-- Answers of Local::absorb: a typed program has as many merges as locations, which are fewer than 2^32.
 use Rattle.std.proofs.Common.{ap, sym, ◌∙◌, length, arith}
 use Rattle.rev_syntax.specs.View.{program as whole}
 use Rattle.revision_state.proofs.Merges.{merge_count}

@@ -1,8 +1,9 @@
+-- Answers of CodeRevisions::dropped: a joiner that dropped a trap stands for one state alone, that of the hub's join.
 use Rattle.std.proofs.Common.{◌≡◌, true, false, sym, ap, ◌∙◌}
 use Rattle.rev_code.specs.Events.{past_join}
 use Rattle.code_machine.specs.Local.{at_work}
-use Rattle.code_hub.specs.CodeState.{state_of}
-use Rattle.code_hub.specs.Values.{joined}
+use Rattle.run_revision.specs.CodeState.{state_of}
+use Rattle.run_revision.specs.CodeValues.{joined}
 use Rattle.rev_vm.specs.Starts.{run_under}
 use Rattle.rev_vm.specs.Values.{joiner_state}
 use Rattle.rev_vm.proofs.Values.{one_state}
@@ -21,6 +22,9 @@ returns-clause-state g c e trap =
     let s = joiner_state own c.at.inside.at in
     let r = c.dropped.result.revision.value in
     let try : c.at.inside.at.is_try ≡ true = ap (λ a. a.try) c.at.view_is ∙ c.requires in
-    let one = one_state own r.run r.memory.delta (g.P.Snapshot.base r.memory.snapshot) r.memory.first.roots (past_join s true false c.at.inside.at.on) (c.dropped.ensures.state own s c.at.invariant) in
+    let one =
+    one_state own r.run r.memory.delta (g.P.Snapshot.base r.memory.snapshot) r.memory.first.roots
+    (past_join s true false c.at.inside.at.on) (c.dropped.ensures.state own s c.at.invariant) in
     ap (λ z. state_of own (at_work z)) (sym one)
-    ∙ (sym (ap (state_of own) (dropped_is own s c.at.inside.at.is_try c.at.inside.at.on e.left e.left.phase try trap)) ∙ ap (λ a. joined a e) c.at.view_is)
+    ∙ (sym (ap (state_of own) (dropped_is own s c.at.inside.at.is_try c.at.inside.at.on e.left e.left.phase try trap))
+    ∙ ap (λ a. joined a e) c.at.view_is)

@@ -1,7 +1,8 @@
+-- Answers of CodeRevisions::told: the parent that was told stands for one state, in which its child has the number.
 use Rattle.std.proofs.Common.{◌≡◌, sym, ap, ◌∙◌}
 use Rattle.rev_code.specs.Events as events
 use Rattle.code_machine.specs.Local.{at_work}
-use Rattle.code_hub.specs.CodeState.{state_of}
+use Rattle.run_revision.specs.CodeState.{state_of}
 use Rattle.rev_vm.specs.Starts.{run_under}
 use Rattle.rev_vm.specs.States.{state_at}
 use Rattle.rev_vm.specs.Values.{runner_state}
@@ -22,7 +23,13 @@ returns-clause-state g c =
     let w = c.parent.invariant in
     let r = c.told.result.revision.value in
     let p = c.parent.inside.parent.revision.value in
-    let after : events.parent own.share w.0 w.1 c.args.number ≡ runner_state own c.told.result = one_state own r.run r.memory.delta (g.P.Snapshot.base r.memory.snapshot) r.memory.first.roots (events.parent own.share w.0 w.1 c.args.number) (c.told.ensures.state own w.0 w.1 w.2) in
-    let before : events.parent own.share w.0 w.1 0 ≡ state_at own p.run p.memory.delta (g.P.Snapshot.base p.memory.snapshot) p.memory.first.roots = one_state own p.run p.memory.delta (g.P.Snapshot.base p.memory.snapshot) p.memory.first.roots (events.parent own.share w.0 w.1 0) w.2 in
-    ap (λ z. state_of own (at_work z)) (sym after ∙ (sym (renamed_parent own.share w.0 w.1 c.args.number) ∙ ap (λ z. renamed z c.args.number) before))
+    let after : events.parent own.share w.0 w.1 c.args.number ≡ runner_state own c.told.result =
+    one_state own r.run r.memory.delta (g.P.Snapshot.base r.memory.snapshot) r.memory.first.roots
+    (events.parent own.share w.0 w.1 c.args.number) (c.told.ensures.state own w.0 w.1 w.2) in
+    let before : events.parent own.share w.0 w.1 0
+    ≡ state_at own p.run p.memory.delta (g.P.Snapshot.base p.memory.snapshot) p.memory.first.roots =
+    one_state own p.run p.memory.delta (g.P.Snapshot.base p.memory.snapshot) p.memory.first.roots
+    (events.parent own.share w.0 w.1 0) w.2 in
+    ap (λ z. state_of own (at_work z))
+    (sym after ∙ (sym (renamed_parent own.share w.0 w.1 c.args.number) ∙ ap (λ z. renamed z c.args.number) before))
     ∙ ap (λ z. told_as z c.args.number) c.parent.view_is

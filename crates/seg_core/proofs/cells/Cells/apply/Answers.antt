@@ -1,3 +1,4 @@
+-- Answers of Cells::apply: each step has its own move, and where that refuses no core comes of the step.
 use Rattle.std.proofs.Common.{sym, subst}
 use Rattle.seg_core.specs.declared.step.SegStep.{SegStep}
 use Rattle.seg_core.specs.Core.{Core}

@@ -1,3 +1,4 @@
+-- Answers of Cells::begin: the segment keeps its locations, and in the core the holder builds it without words.
 use Rattle.std.proofs.Common.{◌≡◌, ◌∙◌, subst, arith, ⊎_elim}
 use Rattle.atomic_table.proofs.Lists.{at_set}
 use Rattle.version_map.specs.Deltas as deltas

@@ -1,3 +1,4 @@
+-- Answers of Cells::builds: a segment that the holder builds is found, and past the last one there is none.
 use Rattle.std.proofs.Common.{◌≡◌, ◌≢◌, ℕ, suc, sym, ap, ◌∙◌, subst, arith}
 use mathlib.Core.Option as m
 use mathlib.Core.Logic.{dite}

@@ -1,3 +1,4 @@
+-- Loops of Cells::builds: no segment so far is built by the holder.
 use Rattle.std.proofs.Common.{◌≡◌, ℕ, ◌<◌}
 use mathlib.Core.Option.{some}
 use lib.ListN.{get_elem?}

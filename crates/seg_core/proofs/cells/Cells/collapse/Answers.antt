@@ -1,3 +1,4 @@
+-- Answers of Cells::collapse: a holder that refers to the segment is one of the state's, so its list may change.
 use Rattle.std.proofs.Common.{arith}
 use Rattle.seg_core.specs.Shape.{list_of}
 use Rattle.seg_core.proofs.Maps.{map_inside}

@@ -1,3 +1,4 @@
+-- Answers of Cells::free: the segment is live, so the core has it in the stage from which it turns.
 use Rattle.seg_core.specs.declared.segment.Stage.TheVariants as stage
 use Rattle.seg_core.proofs.cells.Cells.free.Goals as goal
 

@@ -1,3 +1,4 @@
+-- Answers of Cells::hand_on: both holders have references in the state, so they are holders that may refer.
 use Rattle.std.proofs.Common.{arith}
 use Rattle.seg_core.specs.Shape.{list_of}
 use Rattle.seg_core.proofs.Maps.{map_inside}

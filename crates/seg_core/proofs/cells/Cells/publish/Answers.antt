@@ -1,3 +1,4 @@
+-- Answers of Cells::publish: the builder refers to its parent alone, and the segment gets its two references.
 use Rattle.std.proofs.Common.{suc, [], ◌∷◌, ap, ◌∙◌, arith}
 use Rattle.seg_core.specs.declared.segment.Stage.TheVariants as stage
 use Rattle.seg_core.specs.Core.{Core}

@@ -1,3 +1,4 @@
+-- Answers of Cells::refer: one holder's list of references changes, and nothing else of the core.
 use Rattle.seg_core.proofs.Maps.{lists_to}
 use Rattle.seg_core.proofs.cells.Cells.refer.Goals as goal
 

@@ -1,3 +1,4 @@
+-- Answers of Cells::references: a number past the last holder has no list, and any other has that of its references.
 use Rattle.std.proofs.Common.{subst, arith}
 use Rattle.seg_core.specs.Core.{Has}
 use Rattle.seg_core.specs.Cells.{core_of}

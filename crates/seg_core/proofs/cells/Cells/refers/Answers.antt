@@ -1,3 +1,4 @@
+-- Answers of Cells::refers: no, one or two references are copies of the segment where number and segment agree.
 use Rattle.std.proofs.Common.{ℕ, suc, [], map, eqb, sym, ap, subst}
 use Rattle.seg_core.specs.declared.segment.References.{References}
 use Rattle.seg_core.specs.Core.{Has}

@@ -1,3 +1,4 @@
+-- Answers of Cells::share: a live count is that of all references, which are few, so it can take one more.
 use Rattle.std.proofs.Common.{suc, [], ◌∷◌, ap, ◌∙◌, arith}
 use Rattle.seg_core.specs.declared.segment.Stage.TheVariants as stage
 use Rattle.seg_core.specs.Core.{Core, live}

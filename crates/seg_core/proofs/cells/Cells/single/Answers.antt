@@ -1,3 +1,4 @@
+-- Answers of Cells::single: no or one reference is a list of the parent alone, for which two references are too many.
 use Rattle.std.proofs.Common.{◌≡◌, ℕ, List, [], length, Option, None, Some, sym, ap, ◌∙◌, subst}
 use Rattle.std.proofs.Common.{arith}
 use mathlib.Core.Option as m

@@ -1,3 +1,4 @@
+-- Answers of Cells::stage: a number past the last segment has none, and any other stands as its stage says.
 use Rattle.std.proofs.Common.{suc, subst, arith}
 use Rattle.seg_core.specs.declared.segment.Stage.{Stage}
 use Rattle.seg_core.specs.Core.{At}

@@ -1,3 +1,4 @@
+-- Answers of Cells::turn: the segment keeps its locations, and its words too where it was not free.
 use Rattle.std.proofs.Common.{◌≡◌, sym, ap, ◌∙◌, subst, arith, ⊎_elim}
 use Rattle.atomic_table.proofs.Lists.{at_set}
 use Rattle.version_map.specs.Deltas as deltas

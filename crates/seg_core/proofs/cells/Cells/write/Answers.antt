@@ -1,3 +1,4 @@
+-- Answers of Cells::write: the segment has the location and keeps how many it has, and the core has the word.
 use Rattle.std.proofs.Common.{◌≡◌, ℕ, ◌<◌, sym, ◌∙◌, subst, arith, ⊎_elim}
 use Rattle.atomic_table.proofs.Lists.{at_set}
 use Rattle.version_map.specs.Deltas as deltas

@@ -1,3 +1,4 @@
+-- Answers of Segment::is_built_by: a segment that is being built is built by the holder that its stage names.
 use Rattle.std.proofs.Common.{ℕ, Option, ap, ◌∙◌}
 use Rattle.seg_core.specs.declared.segment.Stage.{Stage}
 use Rattle.seg_core.specs.Core.{building}

@@ -1,3 +1,4 @@
+-- Answers of Segment::write: the word is at its location, and every other location has what it had.
 use Rattle.std.proofs.Common.{◌≡◌, ◌∙◌, ℕ, cond, Some, ap, sym, eq-eqb, ne_eqb}
 use mathlib.Core.Logic.{dite}
 use native.Mathlib.Decide.{ℕ_discrete}

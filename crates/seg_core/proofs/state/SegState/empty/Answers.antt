@@ -1,3 +1,4 @@
+-- Answers of SegState::empty: free segments without references make the empty core, in which all is counted.
 use Rattle.std.proofs.Common.{ℕ, suc, length, sym, subst}
 use Rattle.seg_core.specs.Core.{Counted}
 use Rattle.seg_core.specs.Shape.{core_in}

@@ -1,3 +1,4 @@
+-- Answers of Held::collapse: the store's answer, whichever of the three it is, is what the hold then tells.
 use Rattle.std.proofs.Common.{ap, ◌∙◌}
 use Rattle.segment_store.specs.declared.store.Hold.{Hold}
 use Rattle.segment_store.proofs.Tells.{told_after}

@@ -1,3 +1,4 @@
+-- Answers of Held::read: a read leaves all by which the hold tells of a collapse.
 use Rattle.segment_store.proofs.Tells.{still_told}
 use Rattle.segment_store.proofs.held.HeldSnapshot.read.Goals as goal
 

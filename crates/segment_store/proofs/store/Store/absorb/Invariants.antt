@@ -1,3 +1,4 @@
+-- Loops of Store::absorb: the rows so far have taken in the segment's words, and the others are as at first.
 use Rattle.std.proofs.Common.{◌≡◌, ℕ, ◌*◌, ◌<◌, ◌≤◌}
 use Rattle.version_map.specs.Deltas.{at, locations}
 use Rattle.segment_store.specs.Same.{IsSameSeat}

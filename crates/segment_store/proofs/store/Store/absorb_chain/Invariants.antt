@@ -1,3 +1,4 @@
+-- Loops of Store::absorb_chain: over the segments left the delta shows what it showed over the whole chain.
 use Rattle.std.proofs.Common.{◌≡◌}
 use Rattle.version_map.specs.Deltas.{locations}
 use Rattle.segment_store.specs.Same.{IsSameSeat}

@@ -1,3 +1,4 @@
+-- Answers of Store::absorb_row: a location more of the row is taken in, and a row without a bit takes nothing in.
 use Rattle.std.proofs.Common.{arith, ◌≡◌, ◌≢◌, ◌<◌, ◌≤◌, ℕ, ◌+◌, ◌*◌, ◌/◌, min, sym, ◌∙◌}
 use Rattle.std.proofs.Common.{subst, refl, Option}
 use Rattle.atomic_table.specs.Table.{Me}
@@ -42,9 +43,15 @@ pub loop-l-preserved : goal.loop-l-preserved
 loop-l-preserved c = let i = c.loop-l.invariant in let d = c.args.into.now in
     let s = c.args.self.now in let same = c.taken.ensures.same in
     let first = 64 * c.args.row in
-    let taken : ℕ → Option ℕ → Option ℕ → Type 0 = λ k o p. IsTaken s.words s.stride s.masks c.args.segment k c.word-bits.new.seat.me.0.chain o p in
-    let took = subst (λ (m : Me (Unit {0}) View). IsTaken s.words s.stride s.masks c.args.segment c.loop-l.l m.0.chain (at c.loop-l.into c.loop-l.l) c.taken.result) i.0.2
-    (subst (λ (o : Option ℕ). IsTaken s.words s.stride s.masks c.args.segment c.loop-l.l c.loop-l.seat.me.0.chain o c.taken.result) c.get.ensures c.taken.ensures.value) in
+    let taken : ℕ → Option ℕ → Option ℕ → Type 0 =
+    λ k o p. IsTaken s.words s.stride s.masks c.args.segment k c.word-bits.new.seat.me.0.chain o p in
+    let took =
+    subst (λ (m : Me (Unit {0}) View).
+    IsTaken s.words s.stride s.masks c.args.segment c.loop-l.l m.0.chain (at c.loop-l.into c.loop-l.l) c.taken.result)
+    i.0.2
+    (subst (λ (o : Option ℕ).
+    IsTaken s.words s.stride s.masks c.args.segment c.loop-l.l c.loop-l.seat.me.0.chain o c.taken.result)
+    c.get.ensures c.taken.ensures.value) in
     let row = elim c.match-taken.branch as (λ _. Row first taken d (c.loop-l.l + 1) c.match-taken.into) [
       | in-Some w ↦ subst (Row first taken d (c.loop-l.l + 1)) (sym w.into-is)
           (row_more first taken d c.loop-l.l c.loop-l.into w.set.new.self c.taken.result (i.1, i.2, i.3, i.4, i.5) took
@@ -74,7 +81,8 @@ returns-clause-before c = c.loop-l.invariant.4
 pub taken-requires-clause-bits : goal.taken-requires-clause-bits
 taken-requires-clause-bits c = let same = c.loop-l.invariant.0.2 ∙ c.word-bits.ensures.same.2 in
     let low = c.loop-l.auto.l in
-    let high : c.loop-l.l < 64 * c.args.row + 64 = (let e = c.min-end.ensures in let t = c.loop-l-test.true in omega arith) in
+    let high : c.loop-l.l < 64 * c.args.row + 64 =
+    (let e = c.min-end.ensures in let t = c.loop-l-test.true in omega arith) in
     let row : c.loop-l.l / 64 ≡ c.args.row = omega (arith, low, high) in
     λ e w has is. c.word-bits.ensures.word e w
     (subst (λ (m : Me (Unit {0}) View). Has e m.0.chain) same has)

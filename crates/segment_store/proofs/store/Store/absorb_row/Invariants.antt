@@ -1,3 +1,4 @@
+-- Loops of Store::absorb_row: the locations of the row so far are taken in, and all others are as at first.
 use Rattle.std.proofs.Common.{◌≡◌, ℕ, ◌*◌, ◌<◌, ◌≤◌}
 use Rattle.version_map.specs.Deltas.{at, locations}
 use Rattle.segment_store.specs.Same.{IsSameSeat}

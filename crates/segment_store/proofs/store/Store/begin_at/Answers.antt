@@ -1,3 +1,4 @@
+-- Answers of Store::begin_at: a number below that of the segments, and 1, times the stride is where a segment begins.
 use Rattle.std.proofs.Common.{arith}
 use Rattle.segment_store.proofs.Looks.{begin_fits}
 use Rattle.segment_store.proofs.store.Store.begin_at.Goals as goal

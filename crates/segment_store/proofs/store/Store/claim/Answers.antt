@@ -1,3 +1,4 @@
+-- Answers of Store::claim: the exchange on a free count is a claim that the rule allows where nothing is built.
 use Rattle.std.proofs.Common.{arith, ℕ, sym, subst}
 use Rattle.segment_store.specs.Store.{IsSegment}
 use Rattle.segment_store.proofs.Lifts.{claim}

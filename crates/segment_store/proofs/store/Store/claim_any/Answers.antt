@@ -1,3 +1,4 @@
+-- Answers of Store::claim_any: without segments there is none, and else all are behind the beginning or before it.
 use Rattle.std.proofs.Common.{arith, refl, []}
 use Rattle.segment_store.proofs.Looks.{found_all, log_then, log_then_claims, none_in}
 use Rattle.segment_store.proofs.store.Store.claim_any.Goals as goal

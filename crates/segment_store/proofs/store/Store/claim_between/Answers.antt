@@ -1,3 +1,4 @@
+-- Answers of Store::claim_between: a count that was found goes into the seat's log, and then comes the next segment.
 use Rattle.std.proofs.Common.{arith, ◌∷◌, ◌∙◌, ap, refl, List, []}
 use Rattle.std.proofs.Math.Nat.{add-mod_right}
 use Rattle.segment_store.specs.Entry.{Look}

@@ -1,3 +1,4 @@
+-- Loops of Store::claim_between: the seat's log alone has grown, and each segment so far was found with a count.
 use Rattle.std.proofs.Common.{◌≡◌, ℕ, ◌+◌, ◌-◌, ◌%◌, ◌<◌, ◌≤◌, List, ◌++◌}
 use Rattle.segment_store.specs.Entry.{Look}
 use Rattle.segment_store.specs.Store.{IsSegment}

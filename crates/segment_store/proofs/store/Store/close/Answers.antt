@@ -1,3 +1,4 @@
+-- Answers of Store::close: the last words are those of a state that meets the rule, so the counts are exact.
 use Rattle.std.proofs.Common.{arith, ◌≡◌, ◌%◌, ℕ, List, get_or, ap, sym, ◌∙◌}
 use Rattle.std.specs.Mem.Slots.{slots_items}
 use Rattle.seg_core.specs.Core.{total}

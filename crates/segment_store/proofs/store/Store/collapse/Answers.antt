@@ -1,3 +1,4 @@
+-- Answers of Store::collapse: where the first segment is popped the hold rests on its parent, with the same base.
 use Rattle.std.proofs.Common.{arith, rules, refl, ap, ◌∙◌, []}
 use Rattle.segment_store.specs.Own.{root_in}
 use Rattle.segment_store.proofs.Pops.{empty}

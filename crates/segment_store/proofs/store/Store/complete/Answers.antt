@@ -1,3 +1,4 @@
+-- Answers of Store::complete: a location without a value gets that of the words, and one that has a value keeps it.
 use Rattle.std.proofs.Common.{arith, ◌≡◌, ◌≢◌, ◌<◌, ◌≤◌, ℕ, ◌+◌, List, slice_index, sym, ap, ◌∙◌}
 use Rattle.std.proofs.Common.{subst, None, Some, Option, IfSome, vec_len}
 use Rattle.std.proofs.lemmas.List.{get_or_read}
@@ -80,5 +81,8 @@ pub returns-after-loop-l-clause-values : goal.returns-after-loop-l-clause-values
 returns-after-loop-l-clause-values c =
     let many = subst (λ (o : Option (Vec ℕ Global)). IfSome o (λ ws. vec_len ws ≡ vec_len c.args.self.now.initial))
     c.in-Some.is c.requires.1 in
-    subst (λ (o : Option (Vec ℕ Global)). IsComplete o c.args.delta.now c.loop-l.delta) (sym c.in-Some.is)
-    (tt, λ l lt. c.loop-l.invariant.1 l (all_in l _ _ _ _ _ lt many c.requires.0 c.locations-l-end.ensures c.loop-l-test.false))
+    subst (λ (o : Option (Vec ℕ Global)). IsComplete o c.args.delta.now c.loop-l.delta) (sym c.in-Some.is) (
+      tt,
+      λ l lt. c.loop-l.invariant.1 l
+          (all_in l _ _ _ _ _ lt many c.requires.0 c.locations-l-end.ensures c.loop-l-test.false),
+    )

@@ -1,3 +1,4 @@
+-- Loops of Store::complete: the locations so far have their value or that of the words, the others are as at first.
 use Rattle.std.proofs.Common.{◌≡◌, ℕ, ◌<◌, ◌≤◌, slice_index, Some}
 use Rattle.version_map.specs.Deltas.{at, locations}
 use Rattle.version_map.specs.Overlay.{word_or}

@@ -1,11 +1,10 @@
+-- Answers of Store::copy: the chain's base is copied, and the words under the delta are those that are seen.
 use Rattle.atomic_table.specs.Table.{Me}
 use Rattle.segment_store.specs.declared.board.View.{View}
 use Rattle.std.proofs.Common.{◌<◌, ℕ, List, slice_index, sym, ap, ◌∙◌, subst}
 use Rattle.version_map.specs.Deltas.{at}
 use Rattle.version_map.specs.Overlay.{word_or}
-use Rattle.segment_store.specs.Entry.{Entry}
 use Rattle.segment_store.specs.Base.{value}
-use Rattle.segment_store.proofs.Walk.{chain_of}
 use Rattle.segment_store.proofs.Forks.{store_root}
 use Rattle.segment_store.proofs.store.Store.copy.Goals as goal
 

@@ -1,3 +1,4 @@
+-- Answers of Store::count: the load of the count of the chain's first segment is a look that the rule allows.
 use Rattle.std.proofs.Common.{arith}
 use Rattle.segment_store.proofs.Lifts.{see}
 use Rattle.segment_store.proofs.store.Store.count.Goals as goal

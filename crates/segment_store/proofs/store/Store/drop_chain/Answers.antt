@@ -1,3 +1,4 @@
+-- Answers of Store::drop_chain: the hold rests on a sound chain, which may be released for the initial words.
 use Rattle.std.proofs.Common.{ℕ, ap, ◌∙◌, subst}
 use Rattle.segment_store.specs.Base.{Sound}
 use Rattle.segment_store.proofs.Walk.{sound}

@@ -1,3 +1,4 @@
+-- Answers of Store::fill: a word that is put adds its row or value to what is laid, and no value adds none.
 use Rattle.std.proofs.Common.{◌+◌, List, subst, sym, ◌∙◌}
 use Rattle.atomic_table.specs.declared.shared.Seat.{Seat}
 use Rattle.segment_store.specs.Entry.{Put}

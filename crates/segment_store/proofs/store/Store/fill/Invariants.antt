@@ -1,3 +1,4 @@
+-- Loops of Store::fill: the seat has put the parent, then the rows and then the values so far, and no more.
 use Rattle.std.proofs.Common.{◌-◌, ◌≤◌}
 use Rattle.segment_store.specs.Same.{Becomes}
 use Rattle.segment_store.specs.Base.{filled}

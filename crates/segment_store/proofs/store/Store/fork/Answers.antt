@@ -1,3 +1,4 @@
+-- Answers of Store::fork: after a share, a push or a copy, child and hold show the delta over the hold's base.
 use Rattle.std.proofs.Common.{arith, ◌<◌, ◌++◌, ℕ, List, sym, ap, ◌∙◌, subst, refl}
 use Rattle.std.proofs.lemmas.Result.{IfOk-weaker}
 use Rattle.atomic_table.specs.Table.{Me}
@@ -16,11 +17,13 @@ returns-in-Some-clause-parent c = λ l lt.
     same_under c.args.self.now c.args.delta.now c.args.hold.now c.fork_share.new.hold l c.fork_share.ensures.own.1
 
 pub returns-in-Some-clause-child : goal.returns-in-Some-clause-child
-returns-in-Some-clause-child c = let e = c.in-Some.ensures.child in let s = c.args.self.now in let h = c.args.hold.now in (
-  e.0,
-  λ l lt. same_base s h c.in-Some.child l (e.1, e.2 ∙ sym e.3)
-      ∙ sym (none_under s c.args.delta.now h l (c.if-is_empty.ensures l (subst (λ (n : ℕ). l < n) (sym c.requires.own.1) lt))),
-)
+returns-in-Some-clause-child c =
+    let e = c.in-Some.ensures.child in let s = c.args.self.now in let h = c.args.hold.now in (
+      e.0,
+      λ l lt. same_base s h c.in-Some.child l (e.1, e.2 ∙ sym e.3)
+          ∙ sym (none_under s c.args.delta.now h l
+          (c.if-is_empty.ensures l (subst (λ (n : ℕ). l < n) (sym c.requires.own.1) lt))),
+    )
 
 pub returns-then-hold-ge-LONGEST-clause-child : goal.returns-then-hold-ge-LONGEST-clause-child
 returns-then-hold-ge-LONGEST-clause-child c = let s = c.args.self.now in let h = c.args.hold.now in

@@ -1,3 +1,4 @@
+-- Answers of Store::fork_long: the whole chain goes into the copied delta, which is then pushed over no chain.
 use Rattle.std.proofs.Common.{◌≡◌, ◌<◌, ℕ, List, slice_index, vec_len, sym, ap, ◌∙◌, subst}
 use Rattle.version_map.specs.Deltas.{at}
 use Rattle.version_map.specs.Overlay.{under, word_or}

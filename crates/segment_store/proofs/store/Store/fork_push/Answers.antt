@@ -1,3 +1,4 @@
+-- Answers of Store::fork_push: both holds rest on the pushed segment, which shows the delta over the base before.
 use Rattle.std.proofs.Common.{arith, [], None, refl, sym, ap, ◌∙◌, List, ℕ, subst}
 use Rattle.segment_store.specs.Entry.{Entry}
 use Rattle.segment_store.specs.Base.{value}

@@ -1,3 +1,4 @@
+-- Answers of Store::hand_on: to split off one of the two references of a seat is a step that the rule allows.
 use Rattle.std.proofs.Common.{arith}
 use Rattle.segment_store.proofs.Lifts.{hand_on}
 use Rattle.segment_store.proofs.store.Store.hand_on.Goals as goal

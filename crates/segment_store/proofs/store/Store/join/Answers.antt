@@ -1,3 +1,4 @@
+-- Answers of Store::join: to join a seat that is empty is a step that the rule allows to a seat that counts holds.
 use Rattle.std.proofs.Common.{arith}
 use Rattle.segment_store.proofs.Lifts.{gather}
 use Rattle.segment_store.proofs.store.Store.join.Goals as goal

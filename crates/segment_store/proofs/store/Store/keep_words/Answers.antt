@@ -1,3 +1,4 @@
+-- Answers of Store::keep_words: the hold rests on a sound chain, which may be released for words of its own.
 use Rattle.std.proofs.Common.{ℕ, ap, ◌∙◌, subst}
 use Rattle.segment_store.specs.Base.{Sound}
 use Rattle.segment_store.proofs.Walk.{sound}

@@ -1,3 +1,4 @@
+-- Answers of Store::open: with few words for each segment all sizes fit, and the first words meet the rule.
 use Rattle.std.proofs.Common.{rules, arith, ℕ, ◌+◌, ◌*◌, ◌/◌, ◌<◌, None, refl, sym, ap, ◌∙◌, subst}
 use Rattle.std.proofs.Math.Nat.{mul-mod_left}
 use Rattle.atomic_table.specs.Table.{Me}

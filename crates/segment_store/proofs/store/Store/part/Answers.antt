@@ -1,3 +1,4 @@
+-- Answers of Store::part: to split off a seat with one counted hold is a step that the rule allows.
 use Rattle.std.proofs.Common.{arith}
 use Rattle.segment_store.proofs.Lifts.{part}
 use Rattle.segment_store.proofs.store.Store.part.Goals as goal

@@ -1,3 +1,4 @@
+-- Answers of Store::pop: a count of 1 is the seat's own, so the segment is taken in and then given up.
 use Rattle.std.proofs.Common.{rules, arith, ◌≡◌, ℕ, List, sym, ap, ◌∙◌, subst}
 use Rattle.atomic_table.specs.Table.{Me}
 use Rattle.segment_store.specs.declared.board.View.{View}

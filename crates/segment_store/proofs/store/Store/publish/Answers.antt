@@ -1,3 +1,4 @@
+-- Answers of Store::publish: to store a count of 2 in the segment that the seat has laid is a step the rule allows.
 use Rattle.std.proofs.Common.{arith, ℕ, sym, subst}
 use Rattle.segment_store.specs.Store.{first_of}
 use Rattle.segment_store.specs.Base.{IsLaid}

@@ -1,3 +1,4 @@
+-- Answers of Store::push: claim, fill, publish, tally and hand-on change the view in a row to that of a fork.
 use Rattle.std.proofs.Common.{arith, ◌≡◌, ℕ, List, sym, ap, ◌∙◌, subst}
 use Rattle.atomic_table.specs.Table.{Me}
 use Rattle.segment_store.specs.declared.board.View.{View}

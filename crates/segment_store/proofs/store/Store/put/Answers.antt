@@ -1,3 +1,4 @@
+-- Answers of Store::put: to store a word inside of the segment that the seat builds is a step that the rule allows.
 use Rattle.std.proofs.Common.{arith}
 use Rattle.segment_store.proofs.Lifts.{put}
 use Rattle.segment_store.proofs.store.Store.put.Goals as goal

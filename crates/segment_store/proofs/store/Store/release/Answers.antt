@@ -1,3 +1,4 @@
+-- Answers of Store::release: the hold rests on a sound chain, all of which may be released.
 use Rattle.std.proofs.Common.{ℕ, ap, ◌∙◌, subst}
 use Rattle.segment_store.specs.Base.{Sound}
 use Rattle.segment_store.proofs.Walk.{sound}

@@ -1,3 +1,4 @@
+-- Answers of Store::release_all: a segment that loses its last reference falls, and then its parent is the first.
 use Rattle.std.proofs.Common.{arith, sym, ap, ◌∙◌, refl}
 use Rattle.atomic_table.specs.Table.{Me}
 use Rattle.segment_store.specs.declared.board.View.{View}

@@ -1,3 +1,4 @@
+-- Loops of Store::release_all: what is left of the chain is sound and the seat's, and all else is as at first.
 use Rattle.segment_store.proofs.Walk.{Falling}
 use Rattle.segment_store.proofs.store.Store.release_all.Given as goal
 

@@ -1,3 +1,4 @@
+-- Answers of Store::release_one: to take 1 from the count of the seat's first segment is a step the rule allows.
 use Rattle.std.proofs.Common.{arith}
 use Rattle.segment_store.proofs.Lifts.{release}
 use Rattle.segment_store.proofs.store.Store.release_one.Goals as goal

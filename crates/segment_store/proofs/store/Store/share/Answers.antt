@@ -1,3 +1,4 @@
+-- Answers of Store::share: to add 1 to the count of the chain's first segment is a step that the rule allows.
 use Rattle.std.proofs.Common.{arith}
 use Rattle.segment_store.proofs.Lifts.{share}
 use Rattle.segment_store.proofs.store.Store.share.Goals as goal

@@ -1,3 +1,4 @@
+-- Answers of Store::share_first: the chain's first segment lies within the words, so its count may be raised.
 use Rattle.std.proofs.Common.{arith}
 use Rattle.segment_store.proofs.Pops.{top}
 use Rattle.segment_store.proofs.store.Store.share_first.Goals as goal

@@ -1,3 +1,4 @@
+-- Answers of Store::shut: the words at the close are those of a state that meets the rule and has the seat's view.
 use Rattle.std.proofs.Common.{◌≡◌, ℕ, subst, ap}
 use mathlib.Core.Option.{some}
 use lib.ListN.{get_elem?}

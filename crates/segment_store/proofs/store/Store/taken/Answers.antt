@@ -1,3 +1,4 @@
+-- Answers of Store::taken: the bit of the location tells whether the segment has a word for it, which is then read.
 use Rattle.std.proofs.Common.{arith, ℕ, ◌%◌, Option, sym, ap, refl, ◌∙◌}
 use Rattle.std.proofs.lemmas.Nat.Bits.{shr_and_one}
 use Rattle.segment_store.specs.Base.{absorbed}

@@ -1,3 +1,4 @@
+-- Answers of Store::tally: to add 1 to the word that counts the holds is a step that the rule allows.
 use Rattle.std.proofs.Common.{arith}
 use Rattle.segment_store.proofs.Lifts.{tallies}
 use Rattle.segment_store.proofs.store.Store.tally.Goals as goal

@@ -1,3 +1,4 @@
+-- Answers of Store::walk: a set bit means that the segment has the value, and else what is below has it.
 use Rattle.std.proofs.Common.{arith, rules, ◌+◌, ◌-◌, ◌%◌, sym, refl, ◌∙◌}
 use Rattle.std.proofs.lemmas.Nat.Bits.{shr_and_one}
 use Rattle.std.proofs.lemmas.List.{get_or_read_under}

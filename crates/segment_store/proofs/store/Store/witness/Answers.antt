@@ -1,3 +1,4 @@
+-- Answers of Store::witness: to split off a seat that only names the table is a step that the rule allows.
 use Rattle.std.proofs.Common.{arith}
 use Rattle.segment_store.proofs.Lifts.{witness}
 use Rattle.segment_store.proofs.store.Store.witness.Goals as goal

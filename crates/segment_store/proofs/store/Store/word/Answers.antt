@@ -1,3 +1,4 @@
+-- Answers of Store::word: to load a word is a look that the rule allows to each seat.
 use Rattle.std.proofs.Common.{arith}
 use Rattle.segment_store.proofs.Lifts.{looks}
 use Rattle.segment_store.proofs.store.Store.word.Goals as goal

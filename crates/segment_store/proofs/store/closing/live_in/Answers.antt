@@ -1,3 +1,4 @@
+-- Answers of live_in: each segment adds at most 1, so the sum has no overflow.
 use Rattle.std.proofs.Common.{arith, eqb}
 use Rattle.std.specs.Mem.Slots.{slots_items}
 use Rattle.segment_store.proofs.Closes.{counts_next, live_at_most, one_at_most}

@@ -1,3 +1,4 @@
+-- Loops of live_in: the segments so far that have a count are counted.
 use Rattle.std.proofs.Common.{◌≡◌, ◌≤◌, ◌-◌}
 use Rattle.std.specs.Mem.Slots.{slots_items}
 use Rattle.segment_store.specs.Live.{live_segments}

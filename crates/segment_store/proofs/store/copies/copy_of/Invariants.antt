@@ -1,3 +1,4 @@
+-- Loops of copy_of: the copy has the values of the locations so far, and none behind them.
 use Rattle.std.proofs.Common.{◌≡◌, ℕ, ◌<◌, ◌≤◌, None}
 use Rattle.version_map.specs.Deltas.{at, locations}
 use Rattle.segment_store.proofs.store.copies.copy_of.Given as goal

@@ -1,3 +1,4 @@
+-- Answers of words_under: the delta's value at a location is the word, and without one it is the word beneath.
 use Rattle.std.proofs.Common.{arith, ◌≡◌, ◌<◌, ℕ, ◌+◌, ◌++◌, List, [], ◌∷◌, length, slice_index}
 use Rattle.std.proofs.Common.{sym, ap, ◌∙◌, subst, None, Some}
 use Rattle.std.proofs.Math.Seq.{get_or-append_seam}

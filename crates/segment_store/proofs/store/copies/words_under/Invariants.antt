@@ -1,3 +1,4 @@
+-- Loops of words_under: the words so far are those that the delta shows over the words beneath.
 use Rattle.std.proofs.Common.{◌≡◌, vec_len, slice_index}
 use Rattle.version_map.specs.Overlay.{under, Agree}
 use Rattle.segment_store.proofs.store.copies.words_under.Given as goal

@@ -1,5 +1,6 @@
+-- Answers of TurnHub::commit: to enter a number is a step that the rule allows with the turn and its pass.
 use Rattle.std.proofs.Common.{rules}
-use Rattle.turn_rule.proofs.Keeps.{commit}
+use Rattle.hub_core.proofs.Keeps.{commit}
 use Rattle.turn_hub.proofs.hub.TurnHub.commit.Goals as goal
 
 pub compare_exchange-requires : goal.compare_exchange-requires

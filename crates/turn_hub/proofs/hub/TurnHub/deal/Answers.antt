@@ -1,6 +1,7 @@
+-- Answers of TurnHub::deal: the seat that is split off is new, and the one that deals has a part fewer.
 use Rattle.std.proofs.Common.{rules, length, sym, ap, ◌∙◌, subst}
-use Rattle.hub_table.proofs.Lists.{many_more}
-use Rattle.turn_rule.specs.Seats.{AreOf, AreNew}
+use Rattle.hub_core.proofs.Lists.{many_more}
+use Rattle.hub_core.specs.Seats.{AreOf, AreNew}
 use Rattle.turn_hub.proofs.Rows.{are_more, new_more, map_items}
 use Rattle.turn_hub.proofs.hub.TurnHub.deal.Goals as goal
 
@@ -24,7 +25,13 @@ loop-preserved g c =
       search rules,
       search rules,
       subst (AreOf c.args.self.now.turn.shared.table_id) (sym places) (are_more _ _ _ i.6 (new.0 ∙ i.0)),
-      subst (AreNew c.args.place.me.0.start c.args.place.me.0.group) (sym places) (new_more _ _ _ _ i.7 (ap (λ m. m.0.start) its ∙ i.8, ap (λ m. m.0.group) its ∙ i.9, ap (λ m. m.0.passes) its, ap (λ m. m.0.saw) its, ap (λ m. m.0.halt) its)),
+      subst (AreNew c.args.place.me.0.start c.args.place.me.0.group) (sym places) (new_more _ _ _ _ i.7 (
+        ap (λ m. m.0.start) its ∙ i.8,
+        ap (λ m. m.0.group) its ∙ i.9,
+        ap (λ m. m.0.passes) its,
+        ap (λ m. m.0.saw) its,
+        ap (λ m. m.0.halt) its,
+      )),
       ap (λ m. m.0.start) me ∙ i.8,
       ap (λ m. m.0.group) me ∙ i.9,
       ap (λ m. m.0.passes) me ∙ i.10,
@@ -42,4 +49,5 @@ pub returns-clause-fresh : goal.returns-clause-fresh
 returns-clause-fresh g c =
     let i = c.loop.invariant in
     let places = map_items _ _ _ c.append-2.ensures.items (λ s. s.place) in
-    subst (AreNew c.args.place.me.0.start c.args.place.me.0.group) (sym places) (new_more _ _ _ _ i.7 (i.8, i.9, i.10, i.11, i.12))
+    subst (AreNew c.args.place.me.0.start c.args.place.me.0.group) (sym places)
+    (new_more _ _ _ _ i.7 (i.8, i.9, i.10, i.11, i.12))

@@ -1,5 +1,6 @@
+-- Answers of TurnHub::draw: to draw a number that is not out is a step that the rule allows with the turn.
 use Rattle.std.proofs.Common.{rules}
-use Rattle.turn_rule.proofs.Keeps.{draw}
+use Rattle.hub_core.proofs.Keeps.{draw}
 use Rattle.turn_hub.proofs.hub.TurnHub.draw.Goals as goal
 
 pub compare_exchange-requires : goal.compare_exchange-requires

@@ -1,5 +1,6 @@
+-- Answers of TurnHub::gather: to take one idle seat into another is a step that the rule allows.
 use Rattle.std.proofs.Common.{rules}
-use Rattle.turn_rule.proofs.Keeps.{gather}
+use Rattle.hub_core.proofs.Keeps.{gather}
 use Rattle.turn_hub.proofs.hub.TurnHub.gather.Goals as goal
 
 pub join_seat-requires : goal.join_seat-requires

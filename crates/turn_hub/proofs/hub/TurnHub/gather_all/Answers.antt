@@ -1,16 +1,18 @@
+-- Answers of TurnHub::gather_all: the seat that is taken in adds its parts, passes and turns, and what it saw.
 use Rattle.std.proofs.Common.{rules, ◌≡◌, [], ◌∷◌, ◌++◌, length, map, option_to_list, sym, ap, ◌∙◌, subst, arith}
-use Rattle.hub_table.proofs.Lists.{many_more}
-use Rattle.turn_rule.specs.Passes.{named, AreStartsOf}
-use Rattle.turn_rule.specs.Views.{either_saw, either_halt}
-use Rattle.turn_rule.specs.Seats.{AreOf, AreBehind}
-use Rattle.turn_rule.proofs.Passes.{starts_parts}
+use Rattle.hub_core.proofs.Lists.{many_more}
+use Rattle.hub_core.specs.Passes.{named, AreStartsOf}
+use Rattle.hub_core.specs.Views.{either_saw, either_halt}
+use Rattle.hub_core.specs.Seats.{AreOf, AreBehind}
+use Rattle.hub_core.proofs.Passes.{starts_parts}
 use Rattle.turn_hub.specs.Closing.{saw_of, halt_known, held_by}
 use Rattle.turn_hub.proofs.Rows.{are_front, saw_last, saw_first, halt_last, halt_next, held_more, named_both, behind_more, no_more_seats, map_items}
 use Rattle.turn_hub.proofs.hub.TurnHub.gather_all.Goals as goal
 
 pub loop-init : goal.loop-init
 loop-init g c =
-    let items : c.args.seats.items ≡ c.pop.new.self.items ++ c.unwrap-first.result ∷ [] = c.pop.ensures.items ∙ ap (λ o. c.pop.new.self.items ++ option_to_list o) c.unwrap-first.ensures in
+    let items : c.args.seats.items ≡ c.pop.new.self.items ++ c.unwrap-first.result ∷ [] =
+    c.pop.ensures.items ∙ ap (λ o. c.pop.new.self.items ++ option_to_list o) c.unwrap-first.ensures in
     let places = map_items _ _ _ items (λ s. s.place) in
     let f = are_front _ _ _ (subst (AreOf c.args.self.now.turn.shared.table_id) places c.requires.own) in
     let one = c.unwrap-first.result.idle in
@@ -23,16 +25,24 @@ loop-init g c =
       omega arith,
       search rules,
       f.0,
-      (λ h. saw_first (map (λ s. s.place) c.pop.new.self.items) c.unwrap-first.result.place (ap saw_of (sym places) ∙ h)),
-      sym (halt_last (map (λ s. s.place) c.pop.new.self.items) c.unwrap-first.result.place) ∙ ap halt_known (sym places),
-      (λ log one all. subst (AreBehind log) (sym places) (behind_more log (map (λ s. s.place) c.pop.new.self.items) c.unwrap-first.result.place all one)),
-      (λ n. let a = held_more n (map (λ s. s.place) c.pop.new.self.items) c.unwrap-first.result.place in let b = ap (held_by n) places in omega arith),
+      (λ h. saw_first (map (λ s. s.place) c.pop.new.self.items) c.unwrap-first.result.place
+          (ap saw_of (sym places) ∙ h)),
+      sym (halt_last (map (λ s. s.place) c.pop.new.self.items) c.unwrap-first.result.place)
+          ∙ ap halt_known (sym places),
+      (λ log one all.
+          subst (AreBehind log) (sym places)
+          (behind_more log (map (λ s. s.place) c.pop.new.self.items) c.unwrap-first.result.place all one)),
+      (λ n.
+          let a = held_more n (map (λ s. s.place) c.pop.new.self.items) c.unwrap-first.result.place in
+          let b = ap (held_by n) places in
+          omega arith),
     )
 
 pub gather-requires : goal.gather-requires
 gather-requires g c =
     let i = c.loop.invariant in
-    let items : c.loop.rest.items ≡ c.pop-in-loop.new.self.items ++ c.unwrap-seat.result ∷ [] = c.pop-in-loop.ensures.items ∙ ap (λ o. c.pop-in-loop.new.self.items ++ option_to_list o) c.unwrap-seat.ensures in
+    let items : c.loop.rest.items ≡ c.pop-in-loop.new.self.items ++ c.unwrap-seat.result ∷ [] =
+    c.pop-in-loop.ensures.items ∙ ap (λ o. c.pop-in-loop.new.self.items ++ option_to_list o) c.unwrap-seat.ensures in
     let places = map_items _ _ _ items (λ s. s.place) in
     let f = are_front _ _ _ (subst (AreOf c.args.self.now.turn.shared.table_id) places i.6) in
     let one = c.unwrap-seat.result.idle in
@@ -42,7 +52,8 @@ gather-requires g c =
 pub loop-preserved : goal.loop-preserved
 loop-preserved g c =
     let i = c.loop.invariant in
-    let items : c.loop.rest.items ≡ c.pop-in-loop.new.self.items ++ c.unwrap-seat.result ∷ [] = c.pop-in-loop.ensures.items ∙ ap (λ o. c.pop-in-loop.new.self.items ++ option_to_list o) c.unwrap-seat.ensures in
+    let items : c.loop.rest.items ≡ c.pop-in-loop.new.self.items ++ c.unwrap-seat.result ∷ [] =
+    c.pop-in-loop.ensures.items ∙ ap (λ o. c.pop-in-loop.new.self.items ++ option_to_list o) c.unwrap-seat.ensures in
     let places = map_items _ _ _ items (λ s. s.place) in
     let f = are_front _ _ _ (subst (AreOf c.args.self.now.turn.shared.table_id) places i.6) in
     let one = c.unwrap-seat.result.idle in
@@ -59,14 +70,29 @@ loop-preserved g c =
       omega arith,
       omega arith,
       f.0,
-      (λ h. ap (λ m. either_saw m.0.saw (saw_of (map (λ s. s.place) c.pop-in-loop.new.self.items))) me ∙ saw_last c.loop.all.me.0.saw (map (λ s. s.place) c.pop-in-loop.new.self.items) c.unwrap-seat.result.place (ap (λ l. either_saw c.loop.all.me.0.saw (saw_of l)) (sym places) ∙ i.7 h)),
-      ap (λ m. either_halt m.0.halt (halt_known (map (λ s. s.place) c.pop-in-loop.new.self.items))) me ∙ (halt_next c.loop.all.me.0.halt (map (λ s. s.place) c.pop-in-loop.new.self.items) c.unwrap-seat.result.place ∙ (ap (λ l. either_halt c.loop.all.me.0.halt (halt_known l)) (sym places) ∙ i.8)),
-      (λ log both all. let p = starts_parts log c.loop.all.me.0.turns c.unwrap-seat.result.place.me.0.turns (subst (AreStartsOf log) (ap (λ m. m.0.turns) me) both) in
-          i.9 log p.0 (subst (AreBehind log) (sym places) (behind_more log (map (λ s. s.place) c.pop-in-loop.new.self.items) c.unwrap-seat.result.place all p.1))),
-      (λ n. let a = held_more n (map (λ s. s.place) c.pop-in-loop.new.self.items) c.unwrap-seat.result.place in let b = ap (held_by n) places in let p = ap (λ m. named n m.0.passes) me in let q = named_both n c.loop.all.me.0.passes c.unwrap-seat.result.place.me.0.passes in let r = i.10 n in omega arith),
+      (λ h. ap (λ m. either_saw m.0.saw (saw_of (map (λ s. s.place) c.pop-in-loop.new.self.items))) me
+          ∙ saw_last c.loop.all.me.0.saw (map (λ s. s.place) c.pop-in-loop.new.self.items) c.unwrap-seat.result.place
+          (ap (λ l. either_saw c.loop.all.me.0.saw (saw_of l)) (sym places) ∙ i.7 h)),
+      ap (λ m. either_halt m.0.halt (halt_known (map (λ s. s.place) c.pop-in-loop.new.self.items))) me
+          ∙ (halt_next c.loop.all.me.0.halt (map (λ s. s.place) c.pop-in-loop.new.self.items) c.unwrap-seat.result.place
+          ∙ (ap (λ l. either_halt c.loop.all.me.0.halt (halt_known l)) (sym places) ∙ i.8)),
+      (λ log both all.
+          let p = starts_parts log c.loop.all.me.0.turns c.unwrap-seat.result.place.me.0.turns
+          (subst (AreStartsOf log) (ap (λ m. m.0.turns) me) both) in
+          i.9 log p.0 (subst (AreBehind log) (sym places)
+          (behind_more log (map (λ s. s.place) c.pop-in-loop.new.self.items) c.unwrap-seat.result.place all p.1))),
+      (λ n.
+          let a = held_more n (map (λ s. s.place) c.pop-in-loop.new.self.items) c.unwrap-seat.result.place in
+          let b = ap (held_by n) places in
+          let p = ap (λ m. named n m.0.passes) me in
+          let q = named_both n c.loop.all.me.0.passes c.unwrap-seat.result.place.me.0.passes in
+          let r = i.10 n in
+          omega arith),
     )
 
 pub returns-clause-behind : goal.returns-clause-behind
 returns-clause-behind g c =
     let none : length c.loop.rest.items ≡ 0 = search rules in
-    λ log one. c.loop.invariant.9 log one (subst (λ l. AreBehind log (map (λ s. s.place) l)) (sym (no_more_seats c.loop.rest.items none)) tt)
+    λ log one.
+    c.loop.invariant.9 log one
+    (subst (λ l. AreBehind log (map (λ s. s.place) l)) (sym (no_more_seats c.loop.rest.items none)) tt)

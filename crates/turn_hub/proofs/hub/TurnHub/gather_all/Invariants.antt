@@ -1,7 +1,8 @@
+-- Loops of TurnHub::gather_all: what was taken in so far and what the seats left have is together what all have.
 use Rattle.std.proofs.Common.{◌≡◌, ◌+◌, ◌<◌, ℕ, List, [], length, map}
-use Rattle.turn_rule.specs.Passes.{named, AreStartsOf}
-use Rattle.turn_rule.specs.Views.{either_saw, either_halt}
-use Rattle.turn_rule.specs.Seats.{AreOf, AreBehind}
+use Rattle.hub_core.specs.Passes.{named, AreStartsOf}
+use Rattle.hub_core.specs.Views.{either_saw, either_halt}
+use Rattle.hub_core.specs.Seats.{AreOf, AreBehind}
 use Rattle.turn_hub.specs.Closing.{saw_of, halt_known, held_by}
 use Rattle.turn_hub.proofs.hub.TurnHub.gather_all.Given as goal
 
@@ -10,7 +11,12 @@ invariant-loop g l =
     (l.all.table_id ≡ l.self.turn.shared.table_id) × (l.all.me.0.has ≡ 0) × (l.all.me.1 ≡ []) × (0 < l.all.me.0.parts)
     × (l.all.me.0.parts + length l.rest.items ≡ length l.fn.seats.items) × (length l.rest.items + l.counter ≡ l.count)
     × AreOf l.self.turn.shared.table_id (map (λ s. s.place) l.rest.items)
-    × (saw_of (map (λ s. s.place) l.fn.seats.items) ≡ 1 → either_saw l.all.me.0.saw (saw_of (map (λ s. s.place) l.rest.items)) ≡ 1)
-    × (either_halt l.all.me.0.halt (halt_known (map (λ s. s.place) l.rest.items)) ≡ halt_known (map (λ s. s.place) l.fn.seats.items))
-    × ((log : List ℕ) → AreStartsOf log l.all.me.0.turns → AreBehind log (map (λ s. s.place) l.rest.items) → AreBehind log (map (λ s. s.place) l.fn.seats.items))
-    × ((n : ℕ) → named n l.all.me.0.passes + held_by n (map (λ s. s.place) l.rest.items) ≡ held_by n (map (λ s. s.place) l.fn.seats.items))
+    × (saw_of (map (λ s. s.place) l.fn.seats.items) ≡ 1
+    → either_saw l.all.me.0.saw (saw_of (map (λ s. s.place) l.rest.items)) ≡ 1)
+    × (either_halt l.all.me.0.halt (halt_known (map (λ s. s.place) l.rest.items))
+    ≡ halt_known (map (λ s. s.place) l.fn.seats.items))
+    × ((log : List ℕ) → AreStartsOf log l.all.me.0.turns → AreBehind log (map (λ s. s.place) l.rest.items)
+    → AreBehind log (map (λ s. s.place) l.fn.seats.items))
+    × ((n : ℕ)
+    → named n l.all.me.0.passes + held_by n (map (λ s. s.place) l.rest.items)
+    ≡ held_by n (map (λ s. s.place) l.fn.seats.items))

@@ -1,5 +1,6 @@
+-- Answers of TurnHub::hand_in: to hand a number in is a step that the rule allows with the turn and its pass.
 use Rattle.std.proofs.Common.{rules}
-use Rattle.turn_rule.proofs.Keeps.{hand_in}
+use Rattle.hub_core.proofs.Keeps.{hand_in}
 use Rattle.turn_hub.proofs.hub.TurnHub.hand_in.Goals as goal
 
 pub compare_exchange-requires : goal.compare_exchange-requires

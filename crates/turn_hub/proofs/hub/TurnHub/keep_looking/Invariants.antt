@@ -1,3 +1,4 @@
+-- Loops of TurnHub::keep_looking: the looks so far have changed nothing in the place of the seat.
 use Rattle.std.proofs.Common.{◌≡◌}
 use Rattle.turn_hub.proofs.hub.TurnHub.keep_looking.Given as goal
 

@@ -1,5 +1,6 @@
+-- Answers of TurnHub::take_turn: to take the turn is a step that the rule allows to an idle seat.
 use Rattle.std.proofs.Common.{rules}
-use Rattle.turn_rule.proofs.Keeps.{take}
+use Rattle.hub_core.proofs.Keeps.{take}
 use Rattle.turn_hub.proofs.hub.TurnHub.take_turn.Goals as goal
 
 pub compare_exchange-requires : goal.compare_exchange-requires

@@ -1,5 +1,6 @@
+-- Answers of TurnHub::tell: to split off a witness is a step that the rule allows to an idle seat.
 use Rattle.std.proofs.Common.{rules}
-use Rattle.turn_rule.proofs.Keeps.{tell}
+use Rattle.hub_core.proofs.Keeps.{tell}
 use Rattle.turn_hub.proofs.hub.TurnHub.tell.Goals as goal
 
 pub split_seat-requires : goal.split_seat-requires

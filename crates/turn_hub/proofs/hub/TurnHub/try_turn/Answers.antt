@@ -1,5 +1,6 @@
+-- Answers of TurnHub::try_turn: a look that misses changes nothing, so later looks take the turn as the first would.
 use Rattle.std.proofs.Common.{subst}
-use Rattle.turn_rule.specs.Rule.{Took}
+use Rattle.hub_core.specs.Rule.{Took}
 use Rattle.turn_hub.proofs.hub.TurnHub.try_turn.Goals as goal
 
 pub returns-clause-took : goal.returns-clause-took

@@ -1,3 +1,4 @@
+-- Loops of TurnHub::wait_turn: the tries so far have changed nothing in the place of the seat.
 use Rattle.std.proofs.Common.{◌≡◌}
 use Rattle.turn_hub.proofs.hub.TurnHub.wait_turn.Given as goal
 

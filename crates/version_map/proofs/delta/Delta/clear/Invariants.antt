@@ -1,3 +1,4 @@
+-- Loops of Delta::clear: the mask's cells so far are 0, and there are as many locations as at first.
 use Rattle.std.proofs.Common.{◌≡◌, ℕ, ◌<◌, ◌≤◌, slice_index}
 use Rattle.version_map.specs.Deltas.{locations}
 use Rattle.version_map.proofs.delta.Delta.clear.Given as goal

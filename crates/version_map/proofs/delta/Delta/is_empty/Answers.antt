@@ -1,3 +1,4 @@
+-- Answers of Delta::is_empty: a row that is not 0 has the bit of some location, which then has a value.
 use Rattle.std.proofs.Common.{arith, ℕ, ◌∙◌, get_or}
 use Rattle.version_map.specs.Deltas.{locations, mask_of}
 use Rattle.version_map.proofs.Bits.{row_is_zero, no_bits}

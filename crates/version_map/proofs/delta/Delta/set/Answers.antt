@@ -1,3 +1,4 @@
+-- Answers of Delta::set: the location's bit and word are set, and the bits and words of all other locations stay.
 use Rattle.std.proofs.Common.{arith, rules, ◌+◌, ◌-◌, ◌%◌, ◌/◌, ◌∙◌, ap, sym, drop}
 use Rattle.std.proofs.Common.{get_or-set_same}
 use Rattle.std.specs.Int.{bit_at, w64}

@@ -1,3 +1,4 @@
+-- Loops of MergeBy::merge_eight: the words so far are known, and the row of the others stands behind them.
 use Rattle.std.proofs.Common.{◌≡◌, length, take}
 use Rattle.version_map.specs.Eights.{merged_row}
 use Rattle.version_map.proofs.RowSteps.{behind, row_from}

@@ -1,3 +1,4 @@
+-- Loops of Whole::fork: the words so far are those that the delta shows over the snapshot's, and both are kept.
 use Rattle.std.proofs.Common.{◌≡◌, vec_len, slice_index}
 use Rattle.version_map.specs.Overlay.{under, Agree}
 use Rattle.version_map.proofs.whole.WholeSnapshot.fork.Given as goal

@@ -1,3 +1,4 @@
+-- Answers of Shut::count: the first word counts the holds, so what is out is that less the holds that were gathered.
 use Rattle.std.proofs.Common.{arith, ◌≡◌, get_or}
 use Rattle.std.specs.Mem.Slots.{slots_items}
 use Rattle.segment_store.proofs.Closes.{found_is}

@@ -1,5 +1,0 @@
-use Rattle.std.proofs.Common.{◌∙◌, sym}
-use Rattle.block_merges.proofs.merges.BlockMerges.new.Goals as goal
-
-pub returns-clause-merges : goal.returns-clause-merges
-returns-clause-merges c = λ g e. c.in_ok-merges.ensures.merges g (e ∙ sym c.code.ensures.code)

@@ -1,9 +1,0 @@
-use Rattle.std.proofs.Common.{◌≡◌, ◌<◌, ◌≤◌, ℕ, Some}
-use Rattle.std.specs.Prelude.{slice_get}
-use Rattle.block_merges.proofs.room.most_room.Given as goal
-
-abbrev pub invariant-loop-n : goal.invariant-loop-n
-invariant-loop-n l = record {
-  three : 3 ≤ l.most;
-  each : (n room : ℕ) → n < l.n → slice_get l.rooms n ≡ Some room → room ≤ l.most;
-}

@@ -1,4 +1,0 @@
-pub mod Basics
-pub mod Meeting
-pub mod Accepted
-pub mod Costs

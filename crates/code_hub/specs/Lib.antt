@@ -1,3 +1,0 @@
-pub mod CodeState
-pub mod Values
-pub mod Laws

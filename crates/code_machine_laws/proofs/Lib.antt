@@ -1,0 +1,4 @@
+pub mod Mains
+pub mod Outcomes
+pub mod Keeping
+pub mod Reaching

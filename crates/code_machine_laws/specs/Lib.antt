@@ -1,0 +1,6 @@
+pub mod Outcomes
+pub mod Instance
+pub mod Run
+pub mod Legs
+pub mod Reached
+pub mod Laws

@@ -1,0 +1,17 @@
+//! Each verified code has one outcome; whose a trap is; and what holds of each world of code that a
+//! legal schedule reaches.
+//!
+//! Each law is an empty function.
+#![tactic(auto)]
+
+mod code_outcome;
+mod laws;
+mod run;
+mod theory;
+mod traps;
+
+pub use code_outcome::code_outcome_law;
+pub use laws::reached_laws;
+pub use run::VerifiedRun;
+pub use theory::starts;
+pub use traps::trap_laws;

@@ -1,2 +1,0 @@
-pub mod Mains
-pub mod Outcomes

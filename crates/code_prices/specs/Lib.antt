@@ -1,3 +1,0 @@
-pub mod Prices
-pub mod Uses
-pub mod Once

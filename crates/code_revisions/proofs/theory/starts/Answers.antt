@@ -1,9 +1,0 @@
-use Rattle.code_machine.proofs.Numbering.{first_none, first_numbered}
-use Rattle.code_revisions.specs.Run.{run_of}
-use Rattle.code_revisions.proofs.theory.starts.Goals as goal
-
-pub returns : goal.returns
-returns c v n m fuel = record {
-  none = first_none (run_of v) n m.body fuel;
-  related = λ t i. first_numbered (run_of v) n m.body fuel t;
-}

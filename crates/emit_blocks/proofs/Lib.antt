@@ -1,4 +1,0 @@
-pub mod Arms
-pub mod Forms
-pub mod Landing
-pub mod Loops

@@ -1,0 +1,8 @@
+pub mod Forms
+pub mod Tasks
+pub mod Trees
+pub mod Items
+pub mod Arms
+pub mod BlockForms
+pub mod Landing
+pub mod Loops

@@ -1,0 +1,4 @@
+pub mod Naming
+pub mod Work
+pub mod Written
+pub mod Bodies

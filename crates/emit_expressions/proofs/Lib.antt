@@ -1,3 +1,0 @@
-pub mod Forms
-pub mod Tasks
-pub mod Trees

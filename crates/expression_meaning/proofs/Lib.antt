@@ -1,0 +1,12 @@
+pub mod Applying
+pub mod Typed
+pub mod Typing
+pub mod Words
+pub mod Runs
+pub mod Uses
+pub mod Params
+pub mod Blocks
+pub mod Funs
+pub mod Locals
+pub mod Parts
+pub mod BlockPlaces

@@ -1,3 +1,0 @@
-pub mod Applying
-pub mod Agrees
-pub mod Blocks

@@ -1,6 +1,0 @@
-pub mod Parts
-pub mod Lengths
-pub mod WordKinds
-pub mod Places
-pub mod Expressions
-pub mod Depths

@@ -1,0 +1,15 @@
+pub mod Parts
+pub mod Lengths
+pub mod WordKinds
+pub mod Places
+pub mod Expressions
+pub mod Depths
+pub mod Scopes
+pub mod StatementLengths
+pub mod Pieces
+pub mod Bodies
+pub mod Names
+pub mod Counts
+pub mod Lines
+pub mod Variables
+pub mod Small

@@ -1,0 +1,9 @@
+pub mod Items
+pub mod Expressions
+pub mod Means
+pub mod Kept
+pub mod Laws
+pub mod Statements
+pub mod Bodies
+pub mod StatementLaws
+pub mod TableLaws

@@ -1,4 +1,0 @@
-pub mod Scopes
-pub mod StatementLengths
-pub mod Pieces
-pub mod Bodies

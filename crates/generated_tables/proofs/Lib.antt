@@ -1,5 +1,0 @@
-pub mod Names
-pub mod Counts
-pub mod Lines
-pub mod Variables
-pub mod Small

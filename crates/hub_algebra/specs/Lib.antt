@@ -1,5 +1,0 @@
-pub mod Replay
-pub mod Forkers
-pub mod Hub
-pub mod HubMachine
-pub mod Laws

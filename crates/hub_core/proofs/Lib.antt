@@ -1,0 +1,12 @@
+pub mod Replay
+pub mod Hub
+pub mod Forkers
+pub mod Lists
+pub mod Ways
+pub mod Slots
+pub mod Queues
+pub mod Passes
+pub mod Outs
+pub mod Keeps
+pub mod Turns
+pub mod Begins

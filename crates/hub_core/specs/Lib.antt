@@ -1,0 +1,15 @@
+pub mod Replay
+pub mod Forkers
+pub mod Hub
+pub mod HubMachine
+pub mod Laws
+pub mod Counts
+pub mod Chains
+pub mod Found
+pub mod Queued
+pub mod Left
+pub mod Halts
+pub mod Passes
+pub mod Views
+pub mod Rule
+pub mod Seats

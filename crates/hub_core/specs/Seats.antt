@@ -1,0 +1,107 @@
+-- What a seat has: the passes of revisions, whose states are those of the hub's replay.
+--   IsIdle, IsResting                   it has not the turn, or no more
+--   AreOf, AreNew                       seats of one hub, and as its opening makes them
+--   HadTurn v w                         the seat had one turn between the two, and left that schedule
+--   AreBehind log ss                    the schedule begins with each that one of the seats left
+--   HasState v k l                      it has the pass of the revision k, whose state is l
+--   HasFork, HasJoin, HasEnd, HasTrap   what is handed in is the event of that revision's leg
+--   KeepsOthers, KeepsAll               the other passes, or all, are as they were, and so is a halt that it knew of
+--   LacksPass                           it has no pass of a revision
+use Rattle.std.specs.Prelude.{◌≡◌, ◌≢◌, ℕ, ◌<◌, List, [], ◌∷◌, ◌++◌, Option, Some}
+use Rattle.atomic_table.specs.Seated.{TableId}
+use Rattle.atomic_table.specs.Table.{Me}
+use Rattle.atomic_table.specs.declared.shared.Seat.{Seat}
+use Rattle.hub_core.specs.Replay.{state_after}
+use Rattle.hub_core.specs.Hub.{Forks, Joins, EndsLeg, WasTrapped}
+use Rattle.hub_core.specs.HubMachine.{HubMachine, numbered, values}
+use Rattle.hub_core.specs.declared.state.HubState.TheVariants.{All}
+use Rattle.hub_core.specs.declared.view.View.{View}
+use Rattle.hub_core.specs.Passes.{IsPass, AreStartsOf}
+
+module _ {S L : Type 0} where
+  abbrev pub IsIdle : Me S (View L) → Type 0
+  IsIdle me = (me.0.has ≡ 0) × (me.1 ≡ []) × (0 < me.0.parts)
+
+  -- it had the turn and has it no more
+  abbrev pub IsResting : Me S (View L) → Me S (View L) → Type 0
+  IsResting me me' =
+      (me'.0.has ≡ 0) × (me'.1 ≡ []) × (me'.0.parts ≡ me.0.parts)
+      × (me'.0.turns ≡ me'.0.log ∷ me.0.turns)
+
+module _ {S L : Type 0} where
+  -- seats of this hub
+  abbrev pub AreOf : TableId → List (Seat S (View L)) → Type 0
+  AreOf id [] = Unit {0}
+  AreOf id (s ∷ ss) = (s.table_id ≡ id) × AreOf id ss
+
+  -- the schedule begins with each that one of these left at the end of a turn
+  abbrev pub AreBehind : List ℕ → List (Seat S (View L)) → Type 0
+  AreBehind log [] = Unit {0}
+  AreBehind log (s ∷ ss) = AreStartsOf log s.me.0.turns × AreBehind log ss
+
+  -- as `open` makes them: of this start and group, with no pass
+  abbrev pub AreNew : Option L → List ℕ → List (Seat S (View L)) → Type 0
+  AreNew start group [] = Unit {0}
+  AreNew start group (s ∷ ss) =
+      (s.me.0.start ≡ start) × (s.me.0.group ≡ group) × (s.me.0.passes ≡ []) × (s.me.0.saw ≡ 0)
+      × (s.me.0.halt ≡ All) × AreNew start group ss
+
+module _ {L : Type 0} where
+  -- what no call changes
+  abbrev pub IsSameSeat : View L → View L → Type 0
+  IsSameSeat v w = (w.start ≡ v.start) × (w.group ≡ v.group) × (w.parts ≡ v.parts)
+
+  -- it had one turn more, at whose end the schedule was that of its view
+  abbrev pub HadTurn : View L → View L → Type 0
+  HadTurn v w = w.turns ≡ w.log ∷ v.turns
+
+  -- a halt that it knew of is the one that it knows of
+  abbrev pub KeepsHalt : View L → View L → Type 0
+  KeepsHalt v w = v.halt ≢ All → w.halt ≡ v.halt
+
+  abbrev pub KeepsOthers : View L → View L → ℕ → Type 0
+  KeepsOthers v w k =
+      IsSameSeat v w
+      × ((j : ℕ) (at : List ℕ) → j ≢ k → IsPass v.passes j at → IsPass w.passes j at)
+      × ((j : ℕ) (at : List ℕ) → j ≢ k → IsPass w.passes j at → IsPass v.passes j at)
+      × KeepsHalt v w
+
+  abbrev pub KeepsAll : View L → View L → Type 0
+  KeepsAll v w = IsSameSeat v w × (w.passes ≡ v.passes) × KeepsHalt v w
+
+  abbrev pub LacksPass : View L → ℕ → Type 0
+  LacksPass v k = (at : List ℕ) → IsPass v.passes k at → ⊥
+
+  -- in its last turn the seat added this entry to the schedule, or none
+  abbrev pub AddsEntry : View L → ℕ → Type 0
+  AddsEntry w k = w.log ≡ w.found ++ k ∷ []
+
+  abbrev pub AddsNone : View L → Type 0
+  AddsNone w = w.log ≡ w.found
+
+module _ {L R A E : Type 0} (d : HubMachine L R A E) (ends : E → L → Type 0) where
+  -- of a pass of the revision k: what holds of the start and of the schedule at its last turn
+  abbrev pub HasPass : View L → ℕ → (L → List ℕ → Type 0) → Type 0
+  HasPass v k P =
+      (start : L) × (at : List ℕ) × (v.start ≡ Some start) × IsPass v.passes k at × P start at
+
+  abbrev pub HasState : View L → ℕ → L → Type 0
+  HasState v k l = HasPass v k (λ start at. state_after (numbered d) start at k ≡ Some l)
+
+  abbrev pub HasFork : View L → ℕ → R → Type 0
+  HasFork v k c = HasPass v k (λ start at. Forks (numbered d) (values d ends) start at k c)
+
+  abbrev pub HasJoin : View L → ℕ → A → Type 0
+  HasJoin v k a = HasPass v k (λ start at. Joins (numbered d) (values d ends) start at k a)
+
+  abbrev pub HasEnd : View L → ℕ → E → Type 0
+  HasEnd v k e = HasPass v k (λ start at. EndsLeg (numbered d) (values d ends) start at k e)
+
+  -- its join trapped it, and this is the end of its state
+  abbrev pub HasTrap : View L → ℕ → E → Type 0
+  HasTrap v k e = HasPass v k (λ start at. WasTrapped (numbered d) (values d ends) start at k e)
+
+  -- after the entry of the forker k, the child has that state under this number
+  abbrev pub ForkedAs : View L → ℕ → ℕ → R → Type 0
+  ForkedAs v k n c =
+      HasPass v k (λ start at. state_after (numbered d) start at n ≡ Some (d.runs c))

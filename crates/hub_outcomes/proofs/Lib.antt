@@ -1,5 +1,0 @@
-pub mod Bearing
-pub mod Naming
-pub mod Firsts
-pub mod Mains
-pub mod Owning

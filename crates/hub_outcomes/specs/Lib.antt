@@ -1,4 +1,0 @@
-pub mod Births
-pub mod Ends
-pub mod Runs
-pub mod Laws

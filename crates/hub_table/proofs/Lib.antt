@@ -1,4 +1,0 @@
-pub mod Lists
-pub mod Ways
-pub mod Slots
-pub mod Queues

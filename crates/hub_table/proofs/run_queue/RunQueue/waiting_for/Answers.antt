@@ -1,6 +1,0 @@
-use Rattle.std.proofs.Common.{sym}
-use Rattle.hub_table.proofs.Ways.{chain_read}
-use Rattle.hub_table.proofs.run_queue.RunQueue.waiting_for.Goals as goal
-
-pub returns : goal.returns
-returns c = sym (chain_read c.args.self.now.waiters.items c.args.number _ c.requires c.index.ensures)

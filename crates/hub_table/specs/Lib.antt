@@ -1,6 +1,0 @@
-pub mod Counts
-pub mod Chains
-pub mod Found
-pub mod Queued
-pub mod Left
-pub mod Halts

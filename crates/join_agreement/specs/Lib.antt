@@ -1,3 +1,0 @@
-pub mod Related
-pub mod Laws
-pub mod Merges

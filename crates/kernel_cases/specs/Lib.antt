@@ -1,0 +1,2 @@
+pub mod Versioned
+pub mod Written

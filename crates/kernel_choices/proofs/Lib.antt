@@ -1,0 +1,5 @@
+pub mod Serving
+pub mod Applied
+pub mod Rows
+pub mod Beyond
+pub mod Rounds

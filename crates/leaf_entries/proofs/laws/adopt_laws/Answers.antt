@@ -1,0 +1,6 @@
+-- The laws on ends that are adopted.
+use Rattle.leaf_entries.proofs.Adopting.{adopts_so, known_fits}
+use Rattle.leaf_entries.proofs.laws.adopt_laws.Goals as goal
+
+pub returns : goal.returns
+returns c = record { fits = known_fits; ends = adopts_so }

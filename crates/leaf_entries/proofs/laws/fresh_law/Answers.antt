@@ -1,0 +1,6 @@
+-- The law on fresh revisions.
+use Rattle.leaf_entries.proofs.Beginning.{fresh_begins}
+use Rattle.leaf_entries.proofs.laws.fresh_law.Goals as goal
+
+pub returns : goal.returns
+returns c = fresh_begins

@@ -1,0 +1,6 @@
+-- The law on leaf revisions.
+use Rattle.leaf_entries.proofs.Telling.{leaf_is_told}
+use Rattle.leaf_entries.proofs.laws.leaf_law.Goals as goal
+
+pub returns : goal.returns
+returns c = leaf_is_told

@@ -1,0 +1,15 @@
+-- `has_kept`: one value after another.
+use Rattle.std.proofs.Common.{◌≡◌, ◌<◌, ℕ, List, Some}
+use Rattle.std.specs.Prelude.{slice_get}
+use Rattle.rev_num.specs.Path.{Path}
+use Rattle.code_world.specs.Endings.{Names}
+use Rattle.code_runs.specs.Births.{path_in}
+use Rattle.leaf_entries.specs.declared.entry.Kept.{Kept}
+use Rattle.leaf_entries.specs.Words.{IsHere}
+use Rattle.leaf_entries.proofs.valid.has_kept.Given as goal
+
+-- those before are there
+abbrev pub invariant-loop-one : goal.invariant-loop-one
+invariant-loop-one l =
+    (paths : List Path) → Names l.births paths
+    → (i : ℕ) (x : Kept) → i < l.one-index → slice_get l.read i ≡ Some x → IsHere (path_in paths) l.variables l.base x

@@ -1,0 +1,11 @@
+-- What proves `counting_laws`.
+use Rattle.memo_runs.proofs.Keeping.{counted_at_start, counted_without, counted_with, counted_at_end}
+use Rattle.memo_runs.proofs.recordings.counting_laws.Goals as goal
+
+pub returns : goal.returns
+returns c = record {
+  start = counted_at_start;
+  without = counted_without;
+  with_one = counted_with;
+  end = counted_at_end;
+}

@@ -1,0 +1,6 @@
+-- What proves `leaf_laws`.
+use Rattle.memo_runs.proofs.Leaves.{leaves_found, adopted_is_leaf}
+use Rattle.memo_runs.proofs.recordings.leaf_laws.Goals as goal
+
+pub returns : goal.returns
+returns c = record { found = leaves_found; adopted = adopted_is_leaf }

@@ -1,0 +1,11 @@
+-- What proves `recording_laws`.
+use Rattle.memo_runs.proofs.Keeping.{recorded_at_start, recorded_without, recorded_with, recorded_at_end}
+use Rattle.memo_runs.proofs.recordings.recording_laws.Goals as goal
+
+pub returns : goal.returns
+returns c = record {
+  start = recorded_at_start;
+  without = recorded_without;
+  with_one = recorded_with;
+  end = recorded_at_end;
+}

@@ -1,0 +1,3 @@
+pub mod SoFar
+pub mod Laws
+pub mod MemoLaws

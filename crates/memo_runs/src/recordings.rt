@@ -1,0 +1,31 @@
+//! What is kept, leg by leg, of a run that is recorded, and of one that is repeated by entries of
+//! another. Each law is an empty function.
+
+ghost use Rattle.memo_runs.specs.Laws.{AdoptedIsLeaf, LeavesAreFound};
+ghost use Rattle.memo_runs.specs.Laws.{CountedAtTheEnd, CountedAtTheStart, CountedWith};
+ghost use Rattle.memo_runs.specs.Laws.{CountedWithout, RecordedAtTheEnd, RecordedAtTheStart};
+ghost use Rattle.memo_runs.specs.Laws.{RecordedWith, RecordedWithout};
+
+/// A revision that has listed nothing behind its leg is a leaf; and so is one whose end is taken
+/// over from an entry.
+pub fn leaf_laws()
+    ensures found { LeavesAreFound }
+    ensures adopted { AdoptedIsLeaf }
+{}
+
+/// Nothing is recorded before the first leg; a leg that is not a leaf's adds nothing, and a leaf's
+/// one entry, which is a new one; and at the end the entries are the memo of the run.
+pub fn recording_laws()
+    ensures start { RecordedAtTheStart }
+    ensures without { RecordedWithout }
+    ensures with_one { RecordedWith }
+    ensures end { RecordedAtTheEnd }
+{}
+
+/// So it is with the revisions that have a valid entry: at the end they are those that are reused.
+pub fn counting_laws()
+    ensures start { CountedAtTheStart }
+    ensures without { CountedWithout }
+    ensures with_one { CountedWith }
+    ensures end { CountedAtTheEnd }
+{}

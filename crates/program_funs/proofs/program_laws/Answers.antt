@@ -1,8 +1,0 @@
-use Rattle.program_funs.proofs.Funs.{program_funs, program_merges}
-use Rattle.program_funs.proofs.program_laws.Goals as goal
-
-pub returns : goal.returns
-returns c = record {
-  funs = λ p well inputs share name f h. program_funs p well inputs share name f h;
-  merges = λ p well k d h x y z. program_merges p well k d h x y z;
-}

@@ -1,0 +1,14 @@
+pub mod RuleComposing
+pub mod Merging
+pub mod Composing
+pub mod Takes
+pub mod Joins
+pub mod EachHandle
+pub mod Legs
+pub mod Through
+pub mod Simulating
+pub mod Agreeing
+pub mod Weaker
+pub mod Ends
+pub mod Schedules
+pub mod Outcomes

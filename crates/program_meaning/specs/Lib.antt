@@ -1,0 +1,9 @@
+pub mod Composes
+pub mod Related
+pub mod JoinLaws
+pub mod Merges
+pub mod Legs
+pub mod Relation
+pub mod Agreement
+pub mod Laws
+pub mod OutcomeLaws

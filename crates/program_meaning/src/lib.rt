@@ -1,0 +1,15 @@
+//! The code of a program joins as the calculus does, each legal schedule of it agrees with a run of
+//! the calculus, and its outcome is the program's.
+//!
+//! Each law is an empty function.
+#![tactic(auto)]
+
+mod at_joins;
+mod completion;
+mod rule;
+mod simulation;
+
+pub use at_joins::{join_law, merge_law};
+pub use completion::{completion_laws, outcome_law};
+pub use rule::join_rule;
+pub use simulation::{leg_law, schedule_laws, simulation_laws};

@@ -1,4 +1,0 @@
-pub mod Legs
-pub mod Relation
-pub mod Agreement
-pub mod Laws

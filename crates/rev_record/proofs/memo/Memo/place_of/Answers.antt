@@ -1,0 +1,9 @@
+-- What proves `Memo::place_of`.
+use Rattle.std.proofs.Common.{sym, subst}
+use Rattle.revision_machine.specs.PathIndex.{IsPlace}
+use Rattle.rev_record.specs.Entries.{paths}
+use Rattle.rev_record.proofs.memo.Memo.place_of.Goals as goal
+
+pub returns : goal.returns
+returns c = subst (IsPlace c.args.path.now (paths c.args.self.now.entries.items)) (sym c.look_up.ensures)
+    (c.args.self.now.indexed c.args.path.now)

@@ -1,0 +1,4 @@
+pub mod Laws
+pub mod Verdicts
+pub mod Forms
+pub mod Written

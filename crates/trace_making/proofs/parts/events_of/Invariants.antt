@@ -1,7 +1,0 @@
-use Rattle.std.proofs.Common.{◌≡◌, take, map}
-use Rattle.revision_state.specs.Phases.{noted}
-use Rattle.audit_rules.specs.Parts.{event_of}
-use Rattle.trace_making.proofs.parts.events_of.Given as goal
-
-abbrev pub invariant-loop-noted : goal.invariant-loop-noted
-invariant-loop-noted l = l.events.items ≡ map event_of (map noted (take l.noted-index l.list))

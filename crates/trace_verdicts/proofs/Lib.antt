@@ -1,3 +1,0 @@
-pub mod OneTrace
-pub mod Carried
-pub mod OneVerdict

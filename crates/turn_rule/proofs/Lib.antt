@@ -1,5 +1,0 @@
-pub mod Passes
-pub mod Outs
-pub mod Keeps
-pub mod Turns
-pub mod Begins

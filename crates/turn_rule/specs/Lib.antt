@@ -1,4 +1,0 @@
-pub mod Passes
-pub mod Views
-pub mod Rule
-pub mod Seats

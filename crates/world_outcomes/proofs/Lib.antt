@@ -1,6 +1,0 @@
-pub mod Naming
-pub mod Overlays
-pub mod Starting
-pub mod Shows
-pub mod Ending
-pub mod Left

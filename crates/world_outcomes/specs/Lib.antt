@@ -1,3 +1,0 @@
-pub mod Births
-pub mod Words
-pub mod Ends

@@ -1,0 +1,6 @@
+-- What proves where the legs of a `Streamer` stop for want of memory.
+use Rattle.world_streams.proofs.Legs.{stops_whole}
+use Rattle.world_streams.proofs.streamer.StreamerLegs.out_of_memory.Goals as goal
+
+pub returns : goal.returns
+returns g c = λ s w v h is begun kept. stops_whole g.O.Sink.stream s begun w v c.args.self.now.out kept is
