@@ -145,10 +145,10 @@ refusal_made words old new e h f is o same =
 -- ---- what happened
 
 pub happened :
-    (words : Option Words) (source source' out out' err err' : Stream) (ran : Option Ran) (status : ℕ) (o : Output)
+    {words : Option Words} {source source' out out' err err' : Stream} {ran : Option Ran} {status : ℕ} {o : Output}
     → IsMade words source source' ran o → Delivered o out out' err err' status
     → Happened words source source' out out' err err' ran status
-happened words source source' out out' err err' ran status o m d =
+happened {out} {out'} {err} {err'} {status} m d =
     answered m.0 m.1 m.2 (subst (λ (x : Output). Delivered x out out' err err' status) m.3 d)
 
 -- ---- statuses
@@ -383,8 +383,10 @@ module _ (source source' out out' err err' : Stream) (ran : Option Ran) (status 
   behind_of words (answered (Ok x) h l d) w is threads held told more =
       is_there w source source' ran x (subst (λ (y : Option Words). Leaves y source source' ran (Ok x)) is l) threads
 
-pub ran_says : RanLaw
-ran_says words source source' out out' err err' ran status e = record {
+-- of one call
+pub says_of : {words : Option Words} {source source' out out' err err' : Stream} {ran : Option Ran} {status : ℕ}
+    → Happened words source source' out out' err err' ran status → RanSays words source out out' err err' ran status
+says_of {words} {source} {source'} {out} {out'} {err} {err'} {ran} {status} e = record {
   present = present_of source source' out out' err err' ran status words e;
   reported = reported_of source source' out out' err err' ran status words e;
   refused = refused_of source source' out out' err err' ran status words e;
@@ -393,3 +395,6 @@ ran_says words source source' out out' err err' ran status e = record {
   run = run_of source source' out out' err err' ran status words e;
   behind_bytes = behind_of source source' out out' err err' ran status words e;
 }
+
+pub ran_says : RanLaw
+ran_says words source source' out out' err err' ran status e = says_of e

@@ -316,11 +316,11 @@ is_done p f e h = by p (subst (IsPhase p) e h)
 
 -- ---- a TryJoin of a revision that has trapped
 
-pub dropped_at : (g : CodeRun) (run run' : Run) (delta : Delta) (base : ℕ → ℕ) (first : Delta) (written : List Written)
-    (try : Bool) (on : ℕ) (c : State ℕ)
+pub dropped_at : (g : CodeRun) {run run' : Run} {delta : Delta} {base : ℕ → ℕ} {first : Delta} {written : List Written}
+    {try : Bool} {on : ℕ} (c : State ℕ)
     → IsAtJoin g run delta base first written try on c → IsReady run → try ≡ true → IsTold 0 run run'
     → IsAt g run' delta base first (past_join c true false on)
-dropped_at g run run' delta base first written try on c h ready is k =
+dropped_at g {run} {run'} {delta} {base} {first} {written} {try} {on} c h ready is k =
     let s = h.stands.stands in
     let a : IsAfter run' run' c.fuel c.text = record {
       block = refl;

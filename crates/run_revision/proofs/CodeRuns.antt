@@ -5,16 +5,18 @@ use Rattle.revision_machine.proofs.Paths.{some_inj}
 use Rattle.revision_machine.proofs.Numbers.{none_some}
 use Rattle.hub_core.specs.Replay.{replay}
 use Rattle.hub_core.proofs.Replay.{replay_is}
+use Rattle.hub_core.specs.declared.kept.Kept.{Kept}
 use Rattle.hub_core.specs.declared.state.HubState.{HubState}
 use Rattle.hub_core.specs.declared.state.HubState.TheVariants.{All, Twice, NoMemory}
-use Rattle.turn_hub.specs.Closing.{Legal}
+use Rattle.turn_hub.specs.Closing.{Legal, ClosedHub}
 use Rattle.code_machine.specs.Local.{CodeRun, Local}
 use Rattle.code_machine.specs.Machines.{numbered, start_in}
 use Rattle.run_revision.specs.CodeState.{CodeState, state_of, states, shown_all, shown_some}
-use Rattle.run_revision.specs.CodeValues.{is_end, code_hub}
+use Rattle.run_revision.specs.CodeValues.{RunnerValue, JoinerValue, LeftValue, is_end, code_hub}
+use Rattle.run_revision.specs.Laws.{IsStart}
 use Rattle.run_revision.proofs.Shown.{replays}
 use Rattle.run_revision.proofs.Meeting.{over_is}
-use Rattle.run_revision.specs.CodeRuns.{IsLegalOf, RunsAreOfCode}
+use Rattle.run_revision.specs.CodeRuns.{IsLegalOf, IsOfCode, RunsAreOfCode}
 
 module _ (g : CodeRun) where
   -- the world of code that this one shows
@@ -64,8 +66,12 @@ module _ (g : CodeRun) where
     legal Twice u e over = leads_both e.4
     legal NoMemory u e over = let l = leads u e in (l.world, l.replays)
 
-pub of_code : RunsAreOfCode
-of_code g fuel start begun group state ns forkers ended kept taken closed = record {
+-- what one hub leaves
+pub of_closed : (g : CodeRun) (fuel : ℕ) {start : CodeState} → IsStart g fuel start
+    → {group : List ℕ} {state : HubState} {ns forkers : List ℕ} {ended : List (Option LeftValue)}
+    → {kept : List (Kept RunnerValue JoinerValue)} {taken : ℕ → ℕ}
+    → ClosedHub code_hub is_end start group state ns forkers ended kept taken → IsOfCode g fuel state ns
+of_closed g fuel begun {state = state} {ns = ns} closed = record {
   verified = begun.verified;
   block = begun.block;
   main = begun.main;
@@ -73,3 +79,6 @@ of_code g fuel start begun group state ns forkers ended kept taken closed = reco
       (subst (λ s. Legal code_hub is_end s state ns closed.world) begun.is closed.legal)
       (λ e. subst (λ s. IsOver states s (Listing closed.world)) begun.is (closed.complete e).0);
 }
+
+pub of_code : RunsAreOfCode
+of_code g fuel start begun group state ns forkers ended kept taken closed = of_closed g fuel begun closed

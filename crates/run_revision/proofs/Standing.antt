@@ -18,9 +18,6 @@ module _ (g : CodeRun) (run : Run) (delta : Delta) (base : ℕ → ℕ) (first :
   abbrev pub own_state : State ℕ
   own_state = state_at g run delta base first
 
-  pub at_own : (c : State ℕ) → IsAt g run delta base first c → IsAt g run delta base first own_state
-  at_own c h = subst (IsAt g run delta base first) (one_state g run delta base first c h) h
-
   pub own_args : (n : ℕ) (c : State ℕ) (args : List (Word ℕ)) → IsAtFork g run delta base first n c args
       → args ≡ arguments_at g own_state
   own_args n c args h =
@@ -32,10 +29,17 @@ module _ (g : CodeRun) (run : Run) (delta : Delta) (base : ℕ → ℕ) (first :
       subst (λ z. IsAtFork g run delta base first n own_state z) (own_args n c args h)
       (subst (λ z. IsAtFork g run delta base first n z args) (one_state g run delta base first c h.stands) h)
 
-  pub join_own : (ws : List Written) (try : Bool) (on : ℕ) (c : State ℕ) → IsAtJoin g run delta base first ws try on c
-      → IsAtJoin g run delta base first ws try on (before_join g run delta base first)
-  join_own ws try on c h =
-      subst (λ z. IsAtJoin g run delta base first ws try on z) (one_joining g run delta base first ws try on c h) h
+pub at_own : {g : CodeRun} {run : Run} {delta : Delta} {base : ℕ → ℕ} {first : Delta} {c : State ℕ}
+    → IsAt g run delta base first c → IsAt g run delta base first (own_state g run delta base first)
+at_own {g} {run} {delta} {base} {first} {c} h =
+    subst (IsAt g run delta base first) (one_state g run delta base first c h) h
+
+pub join_own : {g : CodeRun} {run : Run} {delta : Delta} {base : ℕ → ℕ} {first : Delta} {ws : List Written}
+    {try : Bool} {on : ℕ} {c : State ℕ}
+    → IsAtJoin g run delta base first ws try on c
+    → IsAtJoin g run delta base first ws try on (before_join g run delta base first)
+join_own {g} {run} {delta} {base} {first} {ws} {try} {on} {c} h =
+    subst (λ z. IsAtJoin g run delta base first ws try on z) (one_joining g run delta base first ws try on c h) h
 
 pub end_own : (g : CodeRun) (j : End ℕ) (v : EndValue) → IsEnd g j v → IsEnd g (end_for g v) v
 end_own g j v h = subst (λ z. IsEnd g z v) (one_end g j v h) h

@@ -37,11 +37,11 @@ none_some {A} w o p q = subst is_none (sym p ∙ q) tt where
   is_none (Some x) = ⊥
 
 module _ (segment parent masks : ℕ) (d : Delta) where
-  pub filling_value : (l w : ℕ) (made : List Put) → Filling segment parent masks d masks l made
+  pub filling_value : {l : ℕ} (w : ℕ) {made : List Put} → Filling segment parent masks d masks l made
       → at d l ≡ Some w
       → Filling segment parent masks d masks (l + 1)
       (record { at = segment + (2 + masks + l); word = w } ∷ made)
-  filling_value l w made f is_some = record {
+  filling_value {l} w {made} f is_some = record {
     parent_is = look_else made (segment + (2 + masks + l)) (segment + 1) w (λ q. omega arith)
         ∙ f.parent_is;
     mask_is = λ j lt. look_else made (segment + (2 + masks + l)) (segment + (2 + j)) w
@@ -62,9 +62,9 @@ module _ (segment parent masks : ℕ) (d : Delta) where
       or_zero None = 0
       or_zero (Some x) = x
 
-  pub filling_skips : (l : ℕ) (made : List Put) → Filling segment parent masks d masks l made
+  pub filling_skips : {l : ℕ} {made : List Put} → Filling segment parent masks d masks l made
       → at d l ≡ None → Filling segment parent masks d masks (l + 1) made
-  filling_skips l made f is_none = record {
+  filling_skips {l} f is_none = record {
     parent_is = f.parent_is;
     mask_is = f.mask_is;
     value_is = λ j x lt e. dite (ℕ_discrete j l)

@@ -143,7 +143,7 @@ loop-last-preserved g c =
           (few_locations _ _ _ _ v.size c.requires.size a.here.many) e.int a.same e.does e.stays;
       block = e.stays.block ∙ v.block;
       base = e.stays.base ∙ v.base;
-      below = below_still _ _ _ _ _ v.base e.stays.below v.below;
+      below = below_still _ _ _ v.base e.stays.below v.below;
       size = e.size ∙ v.size;
       group = e.group ∙ v.group;
     }
@@ -185,7 +185,7 @@ returns-in_default g c =
           e.stays (not_goes c.act_noting.result c.in_default.not-Goes));
       block = ap (λ (r : Registers). r.block) was;
       base = ap (λ (r : Registers). r.base) was;
-      below = below_still _ _ _ _ _ v.base e.stays.below v.below;
+      below = below_still _ _ _ v.base e.stays.below v.below;
       size = e.size ∙ v.size;
       group = e.group ∙ v.group;
     }

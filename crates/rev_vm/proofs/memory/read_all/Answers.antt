@@ -16,7 +16,7 @@ loop-at-preserved g c =
       words = c.in_ok-push.ensures.items ∙ (λ i. before i ++ value i ∷ [])
           ∙ map_more (λ w. under c.args.memory.now.delta (g.P.Snapshot.base c.args.memory.now.snapshot) w.location)
           c.args.written.now c.loop-at.at no_entry c.loop-at-test.true;
-      kept = kept_on _ _ _ _ _ _ _ _ inv.size inv.kept c.read.ensures.kept;
+      kept = kept_on inv.size inv.kept c.read.ensures.kept;
       size = c.read.ensures.size ∙ inv.size;
       group = c.read.ensures.group ∙ inv.group;
       answered = λ a h. c.read.ensures.answered a (inv.answered a h);

@@ -2,7 +2,7 @@
 use Rattle.std.proofs.Common.{rules, ◌<◌, ◌^◌, slice_index_or, sym, ◌∙◌, subst, arith}
 use Rattle.run_revision.specs.Laws.{IsStart}
 use Rattle.rev_vm.specs.Starts.{run_under}
-use Rattle.run_revision.proofs.CodeRuns.{of_code}
+use Rattle.run_revision.proofs.CodeRuns.{of_closed}
 use Rattle.rev_workers.proofs.code_run.run_code.Goals as goal
 
 pub run-requires-clause-begins : goal.run-requires-clause-begins
@@ -21,8 +21,7 @@ run-requires-clause-group g c κs within k d h = (c.requires.hands k d h).2 ∙ 
 pub returns-in-Ok-run-clause-schedule : goal.returns-in-Ok-run-clause-schedule
 returns-in-Ok-run-clause-schedule g c =
     let r = c.in-Ok-run.ensures.run in
-    of_code (run_under c.args.setting.now) c.args.fuel c.in-Ok.first.state c.in-Ok.ensures.start _ _ _ _ _ r.kept
-    r.taken r.closed
+    of_closed (run_under c.args.setting.now) c.args.fuel c.in-Ok.ensures.start r.closed
 
 pub returns-in-Ok-run-clause-hands : goal.returns-in-Ok-run-clause-hands
 returns-in-Ok-run-clause-hands g c k d h = c.in-Ok-run.ensures.hands k d h ∙ c.in-Ok.ensures.group

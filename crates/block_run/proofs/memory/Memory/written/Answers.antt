@@ -32,7 +32,7 @@ same_there l w w' r r' e f = λ j. written_there l (e j) (f j)
 
 pub returns-in_err-push_found-clause-kept : goal.returns-in_err-push_found-clause-kept
 returns-in_err-push_found-clause-kept g c =
-    kept_on _ _ _ _ _ _ _ _ c.loop-location.invariant.size c.loop-location.invariant.kept
+    kept_on c.loop-location.invariant.size c.loop-location.invariant.kept
     c.written_at-found.ensures.kept
 
 pub loop-location-preserved : goal.loop-location-preserved
@@ -51,7 +51,7 @@ loop-location-preserved g c =
       written = c.in_ok-push_found.ensures ∙ (λ j. before j ++ there j)
           ∙ one_more (under c.args.self.now.delta (g.P.Snapshot.base c.args.self.now.snapshot))
           (at c.args.self.now.first.roots) l;
-      kept = kept_on _ _ _ _ _ _ _ _ inv.size inv.kept c.written_at-found.ensures.kept;
+      kept = kept_on inv.size inv.kept c.written_at-found.ensures.kept;
       size = c.written_at-found.ensures.size ∙ inv.size;
       group = c.written_at-found.ensures.group ∙ inv.group;
     }

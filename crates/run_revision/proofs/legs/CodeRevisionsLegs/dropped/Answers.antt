@@ -14,7 +14,7 @@ use Rattle.run_revision.proofs.legs.CodeRevisionsLegs.dropped.Goals as goal
 pub invariant_of-result : goal.invariant_of-result
 invariant_of-result g c =
     let own = run_under c.at.inside.setting.now in
-    at_own own _ _ _ _ _ (c.dropped.ensures.state own (joiner_state own c.at.inside.at) c.at.invariant)
+    at_own (c.dropped.ensures.state own (joiner_state own c.at.inside.at) c.at.invariant)
 
 pub returns-clause-state : goal.returns-clause-state
 returns-clause-state g c e trap =

@@ -22,7 +22,7 @@ invariant_of-result-in-Ok-Join g c =
     let e = rw c.in-Ok-Join.field-0-is at
     (c.in-Ok-Join.ensures.event (runner_state (run_under c.runner.inside.setting.now) c.runner.inside.runner)
     c.runner.invariant) in
-    join_own (run_under c.runner.inside.setting.now) _ _ _ _ _ _ _ e.0 e.2
+    join_own e.2
 
 pub leave-requires-clause-end : goal.leave-requires-clause-end
 leave-requires-clause-end g c =

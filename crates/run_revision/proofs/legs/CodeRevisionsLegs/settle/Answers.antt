@@ -152,7 +152,7 @@ invariant_of-result g c =
     let merges : AreMergesOf own (g.M.MergeBy.merges c.hand.inside.merges) =
     subst (λ z. AreMergesOf z (g.M.MergeBy.merges c.hand.inside.merges)) (sym same) c.hand.invariant.1 in
     let r = rw c.in-Ok-Run.field-0-is at (c.in-Ok-Run.ensures.settled own s j given merges) in
-    at_own own _ _ _ _ _ r.2
+    at_own r.2
 
 pub invariant_of-hand : goal.invariant_of-hand
 invariant_of-hand g c = (

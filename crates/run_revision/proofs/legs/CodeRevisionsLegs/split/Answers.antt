@@ -22,7 +22,7 @@ invariant_of-result-in-Ok g c =
     let own = run_under c.at.inside.setting.now in
     let s = fork_state own c.at.inside.at in
     let e = c.in-Ok.ensures.child s (arguments_at own s) c.at.invariant in
-    at_own own _ _ _ _ _ e.2
+    at_own e.2
 
 pub returns-in-Ok-clause-parent : goal.returns-in-Ok-clause-parent
 returns-in-Ok-clause-parent g c n =

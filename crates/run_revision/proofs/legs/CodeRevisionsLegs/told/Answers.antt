@@ -15,7 +15,7 @@ pub invariant_of-result : goal.invariant_of-result
 invariant_of-result g c =
     let own = run_under c.parent.inside.setting.now in
     let w = c.parent.invariant in
-    at_own own _ _ _ _ _ (c.told.ensures.state own w.0 w.1 w.2)
+    at_own (c.told.ensures.state own w.0 w.1 w.2)
 
 pub returns-clause-state : goal.returns-clause-state
 returns-clause-state g c =

@@ -13,7 +13,7 @@ use Rattle.run_revision.proofs.runner.CodeRunner.start.Goals as goal
 
 pub invariant_of-result : goal.invariant_of-result
 invariant_of-result g c =
-    let s = c.in-Ok.ensures.stands in at_own (run_under c.args.setting.now) _ _ _ _ s.0 s.1
+    let s = c.in-Ok.ensures.stands in at_own s.1
 
 pub returns-in-Ok-clause-start : goal.returns-in-Ok-clause-start
 returns-in-Ok-clause-start g c =

@@ -35,9 +35,9 @@ row_more first taken old n now new o i took size here others = (
       (λ ne. subst (taken k (at old k)) (sym (others k ne)) (i.4 k lo (omega arith))),
 )
 
-in_row : (l end len top n m now : ℕ) → l < top → l < m → m ≡ n → len ≡ n → end ≡ min len top
+in_row : (l : ℕ) {end len : ℕ} (top : ℕ) {n m : ℕ} (now : ℕ) → l < top → l < m → m ≡ n → len ≡ n → end ≡ min len top
     → end ≤ now → l < now
-in_row l end len top n m now a b p q r e = omega arith
+in_row l top now a b p q r e = omega arith
 
 pub loop-l-preserved : goal.loop-l-preserved
 loop-l-preserved c = let i = c.loop-l.invariant in let d = c.args.into.now in
@@ -72,7 +72,7 @@ pub returns-clause-values : goal.returns-clause-values
 returns-clause-values c = let s = c.args.self.now in λ l lo hi lt.
     subst (λ (m : Me (Unit {0}) View). IsTaken s.words s.stride s.masks c.args.segment l m.0.chain
     (at c.args.into.now l) (at c.loop-l.into l)) c.word-bits.ensures.same.2
-    (c.loop-l.invariant.5 l lo (in_row l _ _ _ _ _ _ hi lt c.requires.own.1 c.len.ensures
+    (c.loop-l.invariant.5 l lo (in_row l _ _ hi lt c.requires.own.1 c.len.ensures
     c.min-end.ensures c.loop-l-test.false))
 
 pub returns-clause-before : goal.returns-clause-before

@@ -7,11 +7,11 @@ use Rattle.segment_store.proofs.store.Store.collapse.Goals as goal
 
 pub returns-then-hold-eq0-clause-bottom : goal.returns-then-hold-eq0-clause-bottom
 returns-then-hold-eq0-clause-bottom c =
-    λ _. (empty _ _ _ _ _ _ c.args.hold.now.rests (search rules), refl, refl)
+    λ _. (empty c.args.hold.now.rests (search rules), refl, refl)
 
 pub invariant_of-hold : goal.invariant_of-hold
 invariant_of-hold c = let o = c.requires.own.0 in record {
-  rests = rests_as _ _ _ _ _ _ _ _ _ (c.in-Ok.ensures.took []).rests
+  rests = rests_as (c.in-Ok.ensures.took []).rests
       (ap (λ t. t.words) (c.in-Ok.ensures.same.0 ∙ o.0) ∙ c.args.self.now.sized.0) o.1 o.2;
   no_slots = c.in-Ok.ensures.same.1 ∙ c.args.hold.now.no_slots;
   own_words = λ ws e. absurd (c.if-hold-eq0.false (c.args.hold.now.own_words ws e).1);

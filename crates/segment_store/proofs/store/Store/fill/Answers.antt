@@ -22,10 +22,10 @@ loop-l-preserved c = let i = c.loop-l.invariant in
             m.0,
             subst (λ (ps : List Put). Filling c.args.segment c.args.parent c.args.self.now.masks
                 c.args.delta.now c.args.self.now.masks (c.loop-l.l + 1) ps) m.1
-                (filling_value _ _ _ _ _ w.in-Some.word _ i.1 (sym c.get.ensures ∙ w.in-Some.is)),
+                (filling_value _ _ _ _ w.in-Some.word i.1 (sym c.get.ensures ∙ w.in-Some.is)),
           ))
       | in-None w ↦ subst f (sym w.seat-is) (
         i.0,
-        filling_skips _ _ _ _ _ _ i.1 (sym c.get.ensures ∙ w.in-None.is),
+        filling_skips _ _ _ _ i.1 (sym c.get.ensures ∙ w.in-None.is),
       )
     ]

@@ -137,5 +137,5 @@ pub fork_long-requires-clause-some : goal.fork_long-requires-clause-some
 fork_long-requires-clause-some c = let k = c.if-is_empty.hold in
     let long = c.if-hold-ge-LONGEST.true in (
       omega arith,
-      own_none _ _ _ _ _ k.seat.me.0 k.own k.rests k.own_words (λ e. omega arith),
+      own_none k.seat.me.0 k.own k.rests k.own_words (λ e. omega arith),
     )

@@ -12,5 +12,5 @@ store-requires c = let s = c.args.self.now.sized in let q = c.requires.inside in
       put c.args.self.now.table.shared.key.words c.args.self.now.table.shared.key.stride
           c.args.self.now.table.shared.key.masks (let s = c.args.self.now.sized in
           let w = c.args.self.now.wide in let s2 = s.2 in let w0 = w.0 in
-          omega arith) _ _ _ _ _ (omega arith) (omega arith) (omega arith) (omega arith),
+          omega arith) _ _ _ c.args.i c.args.x (omega arith) (omega arith) (omega arith) (omega arith),
     )

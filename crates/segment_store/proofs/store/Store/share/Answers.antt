@@ -11,6 +11,7 @@ compare_exchange-requires c = (
   share c.args.self.now.table.shared.key.words c.args.self.now.table.shared.key.stride
       c.args.self.now.table.shared.key.masks (let s = c.args.self.now.sized in
       let w = c.args.self.now.wide in let s2 = s.2 in let w0 = w.0 in
-      omega arith) _ _ _ _ _ c.requires.head.0 c.requires.head.1 c.requires.head.2 c.requires.few.0
+      omega arith) _ _ _ c.args.segment c.args.old c.requires.head.0 c.requires.head.1 c.requires.head.2
+      c.requires.few.0
       c.requires.few.1,
 )
