@@ -2,7 +2,7 @@
 --   last_or_before   an entry of a list with one more is that one, or stands in the list
 --   below            of the first n locations, each is less than n
 --   ascends          and they ascend
-use Rattle.std.proofs.Common.{◌≡◌, ◌⊎◌, inl, inr, ℕ, zero, suc, ◌+◌, ◌<◌, List, [], ◌∷◌, ◌++◌, length, Option, Some, None, refl, sym, ap, subst, arith, append-nil}
+use Rattle.std.proofs.Common.{◌≡◌, ◌⊎◌, inl, inr, ℕ, zero, suc, ◌<◌, List, [], ◌∷◌, ◌++◌, length, Option, Some, None, refl, sym, ap, subst, arith, append-nil}
 use Rattle.std.specs.Prelude.{slice_get}
 use Rattle.code_soundness.proofs.Lists.{none_some, some_eq, some_within}
 use Rattle.version_map.specs.declared.end.Written.{Written}

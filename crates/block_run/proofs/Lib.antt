@@ -6,3 +6,4 @@ pub mod Onward
 pub mod Turning
 pub mod Tables
 pub mod Ascending
+pub mod Rooms

@@ -1,13 +1,14 @@
 //! What a revision reads and writes.
 
-ghost use Rattle.std.specs.Prelude.{◌≡◌, ◌<◌, ◌++◌, IfOk, Option, option_to_list};
+ghost use Rattle.std.specs.Prelude.{◌≡◌, ◌<◌, ◌≤◌, ◌+◌, ◌++◌, IfOk, Option, option_to_list};
+ghost use Rattle.std.specs.Prelude.{length, vec_capacity, vec_len};
 ghost use Rattle.version_map.specs.declared.snapshot.Collapsed.{Collapsed};
 ghost use Rattle.version_map.specs.declared.snapshot.How.TheVariants as how;
 ghost use Rattle.version_map.specs.Ascending.{IsAscending};
 ghost use Rattle.version_map.specs.Deltas.{at, locations, IsEmpty};
 ghost use Rattle.version_map.specs.Overlay.{under, Agree};
 ghost use Rattle.block_run.specs.Remembering.{written_below, written_there, Kept};
-ghost use Rattle.block_run.specs.Remembering.{Remembered, Wrote};
+ghost use Rattle.block_run.specs.Remembering.{HasRoom, Remembered, Wrote, written_count};
 
 use std::alloc::{AllocError, Global};
 use version_map::{Delta, First, How, Snapshot, Written};
@@ -83,15 +84,13 @@ impl<P: Snapshot> Memory<P> {
         self.delta.set(location, word);
     }
 
-    /// The memory of a child: it sees what its forker sees, and has written nothing. How the child
-    /// has its words is the snapshot's answer.
-    pub fn fork(&mut self, alloc: Global) -> Result<(Memory<P>, How), AllocError>
-        ensures child { IfOk result (λ r. Agree (P.size self.old.snapshot)
-            (under r.0.delta (P.base r.0.snapshot))
+    /// The snapshot of a child, whose words are those that its forker sees. How the child has them
+    /// is the snapshot's answer.
+    pub fn fork(&mut self, alloc: Global) -> Result<(P, How), AllocError>
+        ensures child { IfOk result (λ r. Agree (P.size self.old.snapshot) (P.base r.0)
             (under self.old.delta (P.base self.old.snapshot))) }
-        ensures unwritten { IfOk result (λ r. IsEmpty r.0.first.roots) }
-        ensures child_size { IfOk result (λ r. P.size r.0.snapshot ≡ P.size self.old.snapshot) }
-        ensures child_group { IfOk result (λ r. P.group r.0.snapshot ≡ P.group self.old.snapshot) }
+        ensures child_size { IfOk result (λ r. P.size r.0 ≡ P.size self.old.snapshot) }
+        ensures child_group { IfOk result (λ r. P.group r.0 ≡ P.group self.old.snapshot) }
         ensures how { IfOk result (λ r. P.hows r.1) }
         ensures shared { IfOk result (λ r. r.1 ≡ how.Shared → IsEmpty self.new.delta) }
         ensures copied { IfOk result (λ r. r.1 ≡ how.Copied → self.new.delta ≡ self.old.delta) }
@@ -102,18 +101,7 @@ impl<P: Snapshot> Memory<P> {
         ensures size { P.size self.new.snapshot ≡ P.size self.old.snapshot }
         ensures group { P.group self.new.snapshot ≡ P.group self.old.snapshot }
     {
-        let count = self.delta.locations();
-        let delta = Delta::new(alloc, count)?;
-        let first = First::new(alloc, count)?;
-        let (snapshot, how) = self.snapshot.fork(alloc, &mut self.delta)?;
-        Ok((
-            Memory {
-                delta,
-                first,
-                snapshot,
-            },
-            how,
-        ))
+        self.snapshot.fork(alloc, &mut self.delta)
     }
 
     /// What was written at a location, if anything.
@@ -128,6 +116,8 @@ impl<P: Snapshot> Memory<P> {
             (at self.old.first.roots) (at self.new.first.roots) }
         ensures size { P.size self.new.snapshot ≡ P.size self.old.snapshot }
         ensures group { P.group self.new.snapshot ≡ P.group self.old.snapshot }
+        ensures answered { (c : Collapsed) → P.answered self.old.snapshot c
+            → P.answered self.new.snapshot c }
     {
         match self.first.get(location) {
             None => None,
@@ -142,9 +132,68 @@ impl<P: Snapshot> Memory<P> {
         }
     }
 
+    /// No fewer than the locations that were written: 64 for each row of 64 of which one was.
+    fn room(&self) -> usize
+        ensures { written_count (at self.now.first.roots) (P.size self.now.snapshot) ≤ result }
+    {
+        let count = self.delta.locations();
+        let mut room: u32 = 0;
+        let mut location: u32 = 0;
+        while location < count {
+            let row = u32::min(64, count - location);
+            if !self.first.starts_empty_row(location) {
+                room += row;
+            }
+            location += row;
+        }
+        room as usize
+    }
+
+    /// An empty list with room for the locations that were written, so that `list_written` takes no
+    /// memory. It looks at rows of 64 locations, and has room for a whole row where one of the row
+    /// was written.
+    pub fn room_for_written(&self, alloc: Global) -> Result<Vec<Written>, AllocError>
+        ensures { IfOk result (λ r. HasRoom r (at self.now.first.roots)
+            (P.size self.now.snapshot)) }
+    {
+        Vec::with_capacity(alloc, self.room())
+    }
+
     /// The locations that were written, in ascending order, each with its word and the word that
-    /// was there when the revision was forked. It passes 64 locations at once where none of them
-    /// was.
+    /// was there when the revision was forked. The list that is given is empty and has room for
+    /// them, and is the one that comes back. It passes 64 locations at once where none of them was
+    /// written.
+    pub fn list_written(&mut self, room: Vec<Written>) -> Vec<Written>
+        requires { HasRoom room (at self.old.first.roots) (P.size self.old.snapshot) }
+        ensures written { result.items ≡ written_below
+            (under self.old.delta (P.base self.old.snapshot))
+            (at self.old.first.roots) (P.size self.old.snapshot) }
+        ensures order { IsAscending result.items }
+        ensures kept { Kept (P.size self.old.snapshot)
+            (under self.old.delta (P.base self.old.snapshot))
+            (under self.new.delta (P.base self.new.snapshot))
+            (at self.old.first.roots) (at self.new.first.roots) }
+        ensures size { P.size self.new.snapshot ≡ P.size self.old.snapshot }
+        ensures group { P.group self.new.snapshot ≡ P.group self.old.snapshot }
+        ensures answered { (c : Collapsed) → P.answered self.old.snapshot c
+            → P.answered self.new.snapshot c }
+    {
+        let mut written = room;
+        let count = self.delta.locations();
+        let mut location = 0;
+        while location < count {
+            if self.first.starts_empty_row(location) {
+                location += u32::min(64, count - location);
+            } else {
+                let found = self.written_at(location);
+                push_found(&mut written, found);
+                location += 1;
+            }
+        }
+        written
+    }
+
+    /// What `list_written` gives, in a list of its own.
     pub fn written(&mut self, alloc: Global) -> Result<Vec<Written>, AllocError>
         ensures written { IfOk result (λ ws. ws.items ≡ written_below
             (under self.old.delta (P.base self.old.snapshot))
@@ -156,31 +205,22 @@ impl<P: Snapshot> Memory<P> {
             (at self.old.first.roots) (at self.new.first.roots) }
         ensures size { P.size self.new.snapshot ≡ P.size self.old.snapshot }
         ensures group { P.group self.new.snapshot ≡ P.group self.old.snapshot }
+        ensures answered { (c : Collapsed) → P.answered self.old.snapshot c
+            → P.answered self.new.snapshot c }
     {
-        let mut written = Vec::new(alloc);
-        let count = self.delta.locations();
-        let mut location = 0;
-        while location < count {
-            if self.first.starts_empty_row(location) {
-                location += u32::min(64, count - location);
-            } else {
-                let found = self.written_at(location);
-                push_found(&mut written, found)?;
-                location += 1;
-            }
-        }
-        Ok(written)
+        let room = self.room_for_written(alloc)?;
+        Ok(self.list_written(room))
     }
 }
 
-fn push_found(written: &mut Vec<Written>, found: Option<Written>) -> Result<(), AllocError>
-    ensures { IfOk result (λ _. written.new.items ≡ written.old.items ++ option_to_list found) }
+/// Lists what was written at one more location, if anything, for which there is room.
+fn push_found(written: &mut Vec<Written>, found: Option<Written>)
+    requires { vec_len written.old + length (option_to_list found) ≤ vec_capacity written.old }
+    ensures items { written.new.items ≡ written.old.items ++ option_to_list found }
+    ensures room { vec_capacity written.new ≡ vec_capacity written.old }
 {
     match found {
-        None => Ok(()),
-        Some(w) => {
-            written.push(w)?;
-            Ok(())
-        },
+        None => {},
+        Some(w) => written.push_reserved(w),
     }
 }

@@ -1,6 +1,7 @@
 -- What a loop that records has to keep, so that what it kept at the end is the memo; and one that counts.
 --   HasFound      each revision of this state that has listed no fork and no join has an entry
---   HasCounted    the revisions of this state that have listed none and have a valid entry are these
+--   IsRecorded    each of these entries is one of its revision, each of those has one, and no path has two
+--   IsCounted     these paths are those of its revisions that have listed none and have a valid entry
 use Rattle.std.specs.Prelude.{◌≡◌, ◌⊎◌, ℕ, List, [], length, Some}
 use Rattle.rev_num.specs.Path.{Path}
 use Rattle.revision_machine.specs.Machine.{Entry, Live, Revisions, start, Complete}

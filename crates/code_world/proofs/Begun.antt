@@ -5,11 +5,10 @@ use Rattle.std.specs.Prelude.{◌==◌, slice_get, slice_index}
 use Rattle.rev_num.proofs.Options.{none_some, some_eq}
 use Rattle.rev_code.specs.Words.{Word}
 use Rattle.rev_code.specs.State.{State}
-use Rattle.code_soundness.specs.Typed.{location_kinds}
 use Rattle.plain_words.specs.Agreement.{IsWord, AreWords}
+use Rattle.block_run.specs.Area.{count}
 use Rattle.block_run.specs.Standing.{IsSeen}
 use Rattle.version_map.specs.declared.delta.Delta.{Delta}
-use Rattle.version_map.specs.declared.whole.Whole.{Whole}
 use Rattle.version_map.specs.Deltas.{locations}
 use Rattle.version_map.specs.Overlay.{under, Agree}
 use Rattle.revision_machine.specs.Numbered.{Entries, World, Both, Listing, at_number}
@@ -17,7 +16,8 @@ use Rattle.code_machine.specs.Local.{CodeRun, IsVerified, Local, at_work}
 use Rattle.code_memos.specs.Leaf.{Fresh, IsFresh, unwritten}
 use Rattle.code_memos.proofs.Numbers.{unlisted_by_number}
 use Rattle.code_machine_laws.specs.Reached.{IsReached}
-use Rattle.rev_vm.proofs.Firsts.{kinds_many, same_many}
+use Rattle.rev_vm.specs.Values.{runner_delta, runner_snapshot}
+use Rattle.rev_vm.proofs.Born.{delta_size, over, runner_many, runner_seen, runner_size}
 use Rattle.code_world.specs.declared.freshness.FreshStart.{FreshStart}
 use Rattle.code_world.specs.declared.slot.Slot.{Slot}
 use Rattle.code_world.specs.declared.slot.Slot.TheVariants as slot
@@ -69,45 +69,46 @@ seen_word x w (Some r) h = none_some h.1
 
 module _ (g : CodeRun) (r : WholeRunner) (c : State ℕ) (runs : Runs g r c) (f : Fresh ℕ)
     (fresh : IsFresh g.code f c) where
-  abbrev memory_locations : ℕ
-  memory_locations = locations r.revision.value.memory.delta
-
-  many : length f.snapshot ≡ memory_locations
+  many : length f.snapshot ≡ count g.code.vars
   many =
       sym (unwritten_length f.snapshot) ∙ ap length (sym (ap (λ (z : State ℕ). z.locations) fresh.state))
-      ∙ same_many (location_kinds g.code.vars) c.locations runs.stands.here.good.locations ∙ kinds_many g.code.vars
-      ∙ sym runs.size
+      ∙ runner_many g r c runs
 
-  seen_here : (ws : List ℕ) → length ws ≡ memory_locations
-      → Agree memory_locations (slice_index ws)
-      (under r.revision.value.memory.delta (words r.revision.value.memory.snapshot))
+  -- as many words as locations, which are those that it sees
+  seen_here : (ws : List ℕ) → length ws ≡ count g.code.vars
+      → Agree (count g.code.vars) (slice_index ws) (over (runner_delta r) (words (runner_snapshot r)))
       → AreWords f.snapshot ws
   seen_here ws long agree =
+      let seen = runner_seen g r c runs in
       words_by_place f.snapshot ws (long ∙ sym many) (λ l x there.
-      let small : l < memory_locations =
+      let small : l < count g.code.vars =
       (let a = in_length f.snapshot l x there in let b = many in omega (arith, a, b)) in
       let located : slice_get c.locations l ≡ Some (record { snapshot = x; written = None }) =
       ap (λ (z : State ℕ). slice_get z.locations l) fresh.state ∙ unwritten_at f.snapshot l x there in
-      subst (IsWord x) (sym (agree l small)) (seen_word x _ _ (runs.stands.here.locations l _ located)))
+      subst (IsWord x) (sym (agree l small)) (seen_word x _ _ (seen.1 l _ located)))
 
-  -- of what lies over its snapshot, and of the snapshot's words
-  pub seen_base : (ws : List ℕ) (delta : Delta) (whole : Whole) (base : List ℕ) → delta ≡ r.revision.value.memory.delta
-      → whole ≡ r.revision.value.memory.snapshot → base ≡ whole.words.items
-      → length ws ≡ locations delta → Agree (locations delta) (slice_index ws) (under delta (slice_index base))
+  -- with what lies over its snapshot, or where nothing does
+  pub seen_over : (ws : List ℕ) (d : Delta) (base : List ℕ) → Some d ≡ runner_delta r
+      → base ≡ (runner_snapshot r).words.items → length ws ≡ locations d
+      → Agree (locations d) (slice_index ws) (under d (slice_index base)) → AreWords f.snapshot ws
+  seen_over ws d base e b long agree =
+      let size = delta_size r d e ∙ runner_size g r c runs in
+      seen_here ws (long ∙ size)
+      (subst (λ o. Agree (count g.code.vars) (slice_index ws) (over o (words (runner_snapshot r)))) e
+      (subst (λ z. Agree (count g.code.vars) (slice_index ws) (under d (slice_index z))) b
+      (subst (λ k. Agree k (slice_index ws) (under d (slice_index base))) size agree)))
+
+  pub seen_alone : (ws : List ℕ) → None ≡ runner_delta r → ws ≡ (runner_snapshot r).words.items
       → AreWords f.snapshot ws
-  seen_base ws delta whole base d w b long agree =
-      seen_here ws (long ∙ ap locations d)
-      (subst (λ z. Agree (locations z) (slice_index ws) (under z (words r.revision.value.memory.snapshot))) d
-      (subst (λ z. Agree (locations delta) (slice_index ws) (under delta (words z))) w
-      (subst (λ z. Agree (locations delta) (slice_index ws) (under delta (slice_index z))) b agree)))
+  seen_alone ws e b =
+      seen_here ws (ap length b ∙ sym (runner_snapshot r).words.ok.0 ∙ runner_size g r c runs)
+      (subst (λ o. Agree (count g.code.vars) (slice_index ws) (over o (words (runner_snapshot r)))) e
+      (λ l i. ap (λ z. slice_index z l) b))
 
 -- a snapshot has a word for each location of its memory
-pub base_of : (r : WholeRunner) (delta : Delta) (whole : Whole) (base : List ℕ) → delta ≡ r.revision.value.memory.delta
-    → whole ≡ r.revision.value.memory.snapshot → base ≡ whole.words.items → locations delta ≡ length base
-base_of r delta whole base d w b =
-    let m = r.revision.value.memory.written in
-    ap locations d ∙ m ∙ r.revision.value.memory.snapshot.words.ok.0 ∙ ap (λ (z : Whole). length z.words.items) (sym w)
-    ∙ ap length (sym b)
+pub base_of : (r : WholeRunner) (d : Delta) (base : List ℕ) → Some d ≡ runner_delta r
+    → base ≡ (runner_snapshot r).words.items → locations d ≡ length base
+base_of r d base e b = delta_size r d e ∙ (runner_snapshot r).words.ok.0 ∙ sym (ap length b)
 
 -- ---- revisions of a table
 

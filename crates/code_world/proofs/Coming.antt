@@ -65,7 +65,7 @@ is_trapped j v g e u f = by j.phase (subst (IsPhase j.phase) f e.phase)
 abbrev pub IsClaimedBy : CodeRun → WholeJoin → EndValue → State ℕ → End ℕ → Type 0
 IsClaimedBy g a v c j =
     IsClaimed g a.revision.value.run a.revision.value.memory.delta (words a.revision.value.memory.snapshot)
-    a.revision.value.memory.first.roots a.written a.is_try a.on v c j
+    a.revision.value.memory.first.roots a.is_try a.on v c j
 
 pub is_claimed : (g : CodeRun) (a a' : WholeJoin) (v v' : EndValue) (c : State ℕ) (j : End ℕ) → a' ≡ a → v' ≡ v
     → IsMeeting g a v c j → v.finish ≡ finish.Done → IsClaimedBy g a' v' c j

@@ -4,6 +4,8 @@ use Rattle.rev_code.specs.State.{State}
 use Rattle.revision_machine.specs.Numbered.{Entries, World, at_number}
 use Rattle.revision_machine.proofs.Lists.{at_there}
 use Rattle.code_machine.specs.Local.{CodeRun, Local}
+use Rattle.rev_vm.specs.Values.{runner_text}
+use Rattle.rev_vm.proofs.Born.{runner_text_is}
 use Rattle.code_world.specs.declared.slot.Slot.{Slot}
 use Rattle.code_world.specs.declared.slot.Slot.TheVariants as slot
 use Rattle.code_world.specs.declared.table.Table.{Table}
@@ -16,8 +18,8 @@ use Rattle.code_world.specs.Tables.{AreSlots, IsWorld}
 use Rattle.code_world.proofs.Finding.{running_at, standing_at}
 use Rattle.code_world.proofs.Worlds.{world_live}
 
-pub runs_text : (g : CodeRun) (r : WholeRunner) (c : State ℕ) → Runs g r c → c.text ≡ r.revision.value.run.text.items
-runs_text g r c runs = runs.stands.text
+pub runs_text : (g : CodeRun) (r : WholeRunner) (c : State ℕ) → Runs g r c → c.text ≡ runner_text r
+runs_text g r c runs = runner_text_is g r c runs
 
 pub stands_text : (g : CodeRun) (a : WholeJoin) (c : State ℕ) → StandsAtJoin g a c
     → c.text ≡ a.revision.value.run.text.items

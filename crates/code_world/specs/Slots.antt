@@ -17,7 +17,8 @@ use Rattle.code_machine.specs.Leg.{leg}
 use Rattle.rev_vm.specs.declared.fork.AtFork.{AtFork}
 use Rattle.rev_vm.specs.declared.join.AtJoin.{AtJoin}
 use Rattle.rev_vm.specs.declared.runner.Runner.{Runner}
-use Rattle.rev_vm.specs.Meaning.{IsAt, IsAtFork, IsAtJoin, IsEnd}
+use Rattle.rev_vm.specs.Meaning.{IsAtFork, IsAtJoin, IsEnd}
+use Rattle.rev_vm.specs.Values.{StandsFor}
 use Rattle.code_world.specs.declared.slot.Slot.{Slot}
 use Rattle.code_world.specs.declared.slot.Slot.TheVariants as slot
 
@@ -35,10 +36,7 @@ abbrev pub words : Whole → ℕ → ℕ
 words w = slice_index w.words.items
 
 abbrev pub Runs : CodeRun → WholeRunner → State ℕ → Type 0
-Runs g r c =
-    IsAt g r.revision.value.run r.revision.value.memory.delta
-    (words r.revision.value.memory.snapshot)
-    r.revision.value.memory.first.roots c
+Runs g r c = StandsFor g r c
 
 abbrev pub StandsAtFork : CodeRun → WholeFork → State ℕ → List (Word ℕ) → Type 0
 StandsAtFork g a c args =
@@ -50,7 +48,7 @@ abbrev pub StandsAtJoin : CodeRun → WholeJoin → State ℕ → Type 0
 StandsAtJoin g a c =
     IsAtJoin g a.revision.value.run a.revision.value.memory.delta
     (words a.revision.value.memory.snapshot)
-    a.revision.value.memory.first.roots a.written a.is_try a.on c
+    a.revision.value.memory.first.roots a.is_try a.on c
 
 -- one that stands at its join is behind the instructions of its leg, which begins in the local state
 abbrev pub IsSlot : CodeRun → Slot → Local ℕ → Type 0

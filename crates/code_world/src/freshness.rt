@@ -2,7 +2,8 @@
 
 ghost use Rattle.std.specs.Prelude.{◌≡◌, ℕ, IfOk, length, option_copied, slice_index};
 ghost use Rattle.rev_code.specs.State.{State};
-ghost use Rattle.code_machine.specs.Local.{Local};
+ghost use Rattle.plain_words.specs.Agreement.{AreWords};
+ghost use Rattle.code_machine.specs.Local.{CodeRun, Local};
 ghost use Rattle.code_memos.specs.Leaf.{Fresh as DefinedFresh, IsFresh};
 ghost use Rattle.code_machine_laws.specs.Reached.{IsReached};
 ghost use Rattle.revision_machine.specs.Numbered.{Entries, World as DefinedWorld, at_number};
@@ -50,6 +51,24 @@ fn words_seen(alloc: Global, delta: &Delta, base: &[u64]) -> Result<Vec<u64>, Al
     Ok(words)
 }
 
+/// The words that a fresh revision sees: those of its snapshot, where nothing lies over it.
+fn words_of(alloc: Global, runner: &Runner<Whole>) -> Result<Vec<u64>, AllocError>
+    ensures { (g : CodeRun) (c : State ℕ) (f : DefinedFresh ℕ) → Runs g runner.now c
+        → IsFresh g.code f c → IfOk result (λ ws. AreWords f.snapshot ws.items) }
+{
+    let words = runner.snapshot().words();
+    match runner.delta() {
+        Some(delta) => {
+            let seen = words_seen(alloc, delta, words)?;
+            Ok(seen)
+        },
+        None => {
+            let seen = Vec::from_slice(alloc, words)?;
+            Ok(seen)
+        },
+    }
+}
+
 /// With what a revision began that stands before its first instruction.
 fn begun(
     alloc: Global,
@@ -63,9 +82,7 @@ fn begun(
 {
     let given = runner.args(setting);
     let args = Vec::from_slice(alloc, given)?;
-    let delta = runner.delta();
-    let snapshot = runner.snapshot();
-    let base = words_seen(alloc, delta, snapshot.words())?;
+    let base = words_of(alloc, runner)?;
     let block = runner.block();
     let fuel = runner.fuel();
     Ok(FreshStart {

@@ -18,6 +18,7 @@ mod view;
 
 pub use kept::Kept;
 pub use laws::{HubWorld, hub_laws, replay_laws};
+pub use queueing::marked;
 pub use revision::Revision;
 pub use revisions::{Parted, Revisions};
 pub use run_queue::{Chain, RunQueue};

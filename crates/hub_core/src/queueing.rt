@@ -11,6 +11,17 @@ use crate::run_queue::{Chain, RunQueue};
 use crate::vectors::append;
 use std::alloc::Global;
 
+// A number plus 1 has at most so many bits.
+const MARK_BITS: u32 = 33;
+
+// The bits above these tell of so many numbers at most.
+const MOST_MARKED: u64 = (1 << 31) - 1;
+
+/// How many numbers a counted mark tells to be ready.
+pub fn marked(counted: u64) -> u64 {
+    counted >> MARK_BITS
+}
+
 // So many lists, of which there is at most one too few.
 fn cover(waiters: &mut Vec<Option<Chain>>, many: usize)
     requires few { many ≤ length waiters.old.items + 1 }
@@ -48,6 +59,7 @@ impl RunQueue {
             waiters: Vec::new(alloc),
             ready: None,
             unfinished: 0,
+            many: 0,
         }
     }
 
@@ -78,6 +90,7 @@ impl RunQueue {
         let chain = before(&mut self.links, number, self.ready);
         self.ready = Some(chain);
         self.unfinished += 1;
+        self.many = self.many.saturating_add(1);
     }
 
     /// The first number that is ready, which is then ready no more.
@@ -88,6 +101,7 @@ impl RunQueue {
     {
         let chain = self.ready?;
         self.ready = after_first(self.links.as_slice(), chain);
+        self.many = self.many.saturating_sub(1);
         Some(chain.first)
     }
 
@@ -99,6 +113,16 @@ impl RunQueue {
             None => 0,
             Some(chain) => chain.first as u64 + 1,
         }
+    }
+
+    /// A hint: 0 where no number is ready, and else the mark and, in the bits above it, how many are
+    /// ready, up to `MOST_MARKED`. No clause speaks of it.
+    pub fn counted_mark(&self) -> u64 {
+        let mark = self.mark();
+        if mark == 0 {
+            return 0;
+        }
+        mark | self.many.min(MOST_MARKED) << MARK_BITS
     }
 
     /// A list of what waits for this number, also where there is no such number yet. `false` is
@@ -141,6 +165,7 @@ impl RunQueue {
             let chain = joined(&mut self.links, woken, self.ready);
             self.ready = Some(chain);
             self.waiters[number as usize] = None;
+            self.many = self.many.saturating_add(1);
         }
     }
 

@@ -17,4 +17,7 @@ pub struct RunQueue {
     pub ready: Option<Chain>,
     /// How many have not ended.
     pub unfinished: usize,
+    /// How many are ready, where of several that waited for one end only one is counted. It is for
+    /// a hint (`counted_mark`): no clause speaks of it.
+    pub many: u64,
 }

@@ -1,6 +1,7 @@
 //! What threads sleep on that have nothing to do.
 
 use crate::legs::Legs;
+use hub_core::marked;
 use std::sync::Wait;
 use std::sync::atomic::{AtomicBool, AtomicU64, Ordering};
 use std::time::Duration;
@@ -26,12 +27,15 @@ use turn_hub::TurnHub;
 ///   either sleeps by then, so that the wake reaches one, or finds another count of rings. So
 ///   there is no scout that nobody is.
 /// - A scout that stays one naps for some milliseconds at most, and then looks again. It leaves a
-///   revision that is ready to the threads that run only while they make others ready all the time.
-///   Once they do not, it takes from the hub after its next nap or the one after that.
+///   revision that is ready to the threads that run only while they make others ready all the time,
+///   and while fewer than two for each thread are ready. Once that is not so, it takes from the hub
+///   after its next nap or the one after that.
 /// - Two threads can be the scout where one returned from its sleep for no reason. The first that
 ///   finds something then says that there is none, and somebody is woken too early.
 #[derive(Drop)]
 pub struct Bell {
+    // How many threads work at the hub.
+    workers: u64,
     rings: AtomicU64,
     sleepers: AtomicU64,
     scouted: AtomicBool,
@@ -39,9 +43,16 @@ pub struct Bell {
     over: AtomicU64,
 }
 
+/// The hub's mark, as it was when the turn was last given back.
+pub(crate) fn ready_mark<L: Legs>(hub: &TurnHub<L>) -> u64 {
+    hub.signs.mark.load(Ordering::SeqCst)
+}
+
 impl Bell {
-    pub fn new() -> Bell {
+    /// Nobody sleeps yet of so many threads.
+    pub fn new(workers: usize) -> Bell {
         Bell {
+            workers: workers as u64,
             rings: AtomicU64::new(0),
             sleepers: AtomicU64::new(0),
             scouted: AtomicBool::new(false),
@@ -85,6 +96,11 @@ impl Bell {
         }
     }
 
+    /// Whether a hub's mark tells that two revisions are ready for each thread.
+    pub fn has_two_each(&self, mark: u64) -> bool {
+        marked(mark) / 2 >= self.workers
+    }
+
     /// The caller is the scout no more.
     pub fn stop_scouting(&self) {
         self.scouted.store(false, Ordering::SeqCst);
@@ -107,7 +123,7 @@ impl Bell {
     /// return for no reason.
     pub fn sleep<L: Legs, W: Wait>(&self, rt: &W, hub: &TurnHub<L>, heard: u64) {
         self.sleepers.fetch_add(1, Ordering::SeqCst);
-        if hub.ready_mark() == 0 {
+        if ready_mark(hub) == 0 {
             self.rings.park(rt, (heard & 0xffff_ffff) as u32);
         }
         self.sleepers.fetch_sub(1, Ordering::SeqCst);

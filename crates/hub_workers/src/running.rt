@@ -125,7 +125,7 @@ where
     let mut seats = seats;
     let mut hands = hands;
     let mut workers = workers;
-    let bell = Bell::new();
+    let bell = Bell::new(hands.len());
     pair_up(&hub, &mut seats, &mut hands, &mut workers);
     run_workers(rt, &hub, &bell, gate, workers.as_mut_slice());
     part(&hub, workers, &mut seats, &mut hands);

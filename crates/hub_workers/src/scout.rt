@@ -1,6 +1,6 @@
 //! How a thread looks for work that has found nothing.
 
-use crate::bell::Bell;
+use crate::bell::{Bell, ready_mark};
 use crate::legs::Legs;
 use std::sync::Wait;
 use turn_hub::TurnHub;
@@ -21,7 +21,8 @@ const EACH_RING: u64 = 3;
 // What a look tells a scout.
 #[derive(Drop)]
 enum Look {
-    /// Something is ready to which the threads that run do not come soon, or all is over.
+    /// Something is ready to which the threads that run do not come soon, or so much that there is
+    /// enough for all, or all is over.
     Take,
     /// Revisions come and go within microseconds.
     Again,
@@ -45,19 +46,22 @@ pub struct Scout {
 
 /// A thread has taken what was ready. Another may take the next.
 pub fn pass_on<L: Legs>(hub: &TurnHub<L>, bell: &Bell) {
-    if hub.ready_mark() != 0 {
+    if ready_mark(hub) != 0 {
         bell.ring();
     }
 }
 
-// A look after a nap of so many microseconds.
+// A look after a nap of so many microseconds. A thread that forks within less than `EACH_RING` and
+// joins nothing changes the mark all the time, and leaves more and more ready. So two revisions for
+// each thread at both looks are enough to take from.
 fn judge<L: Legs>(hub: &TurnHub<L>, bell: &Bell, before: &Before, nap: u64) -> Look {
     if bell.is_over() {
         return Look::Take;
     }
     let is_busy = bell.heard().wrapping_sub(before.heard) > nap.saturating_add(LATE) / EACH_RING;
-    let mark = hub.ready_mark();
-    if mark != 0 && (mark == before.mark || !is_busy) {
+    let mark = ready_mark(hub);
+    let is_enough = bell.has_two_each(before.mark) && bell.has_two_each(mark);
+    if mark != 0 && (mark == before.mark || is_enough || !is_busy) {
         return Look::Take;
     }
     if is_busy { Look::Again } else { Look::Park }
@@ -76,7 +80,7 @@ impl Scout {
     fn watch<L: Legs, W: Wait>(&mut self, rt: &W, hub: &TurnHub<L>, bell: &Bell) -> Look {
         for _ in rt.forever() {
             let before = Before {
-                mark: hub.ready_mark(),
+                mark: ready_mark(hub),
                 heard: bell.heard(),
             };
             bell.nap(rt, self.nap);

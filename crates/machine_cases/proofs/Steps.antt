@@ -19,8 +19,8 @@ use Rattle.rev_vm.specs.declared.leg.Event.TheVariants as event
 use Rattle.rev_vm.specs.declared.settling.Settled.{Settled}
 use Rattle.rev_vm.specs.declared.settling.Settled.TheVariants as settled
 use Rattle.rev_vm.specs.Legs.{trap_of}
-use Rattle.rev_vm.specs.Meaning.{IsAt, IsAtFork, IsAtJoin, IsEnd}
-use Rattle.rev_vm.specs.Values.{HasClaimed, StandsAtFork, StandsAtJoin}
+use Rattle.rev_vm.specs.Meaning.{IsAtFork, IsAtJoin, IsEnd}
+use Rattle.rev_vm.specs.Values.{HasClaimed, StandsAtFork, StandsAtJoin, StandsFor}
 use Rattle.machine_cases.specs.Driving.{IsSettled}
 
 module _ {P S : Type 0} {m : Ghosts P S} (g : CodeRun) where
@@ -32,7 +32,7 @@ module _ {P S : Type 0} {m : Ghosts P S} (g : CodeRun) where
           a.revision.value.memory.first.roots a.block d args
       | event.Join a ↦ (d : State ℕ) × (leg g c ≡ joins d a.is_try a.on)
           × IsAtJoin g a.revision.value.run a.revision.value.memory.delta (m.base a.revision.value.memory.snapshot)
-          a.revision.value.memory.first.roots a.written a.is_try a.on d
+          a.revision.value.memory.first.roots a.is_try a.on d
       | event.End s ↦
           (d : State ℕ) × (w : Option (Word ℕ)) × (leg g c ≡ ends d w) × IsEnd g (end_of (has_ended d done)) s.end
       | event.Trap s ↦
@@ -73,8 +73,7 @@ module _ {P S : Type 0} {m : Ghosts P S} (g : CodeRun) where
     abbrev Settles : Settled P S m → Type 0
     Settles s = elim s [
       | settled.Run r ↦ (c' : State ℕ) × (join_in g c try on j j.phase ≡ at_work c')
-          × IsAt g r.revision.value.run r.revision.value.memory.delta (m.base r.revision.value.memory.snapshot)
-          r.revision.value.memory.first.roots c'
+          × StandsFor g r c'
       | settled.Trap t ↦ IsEnd g (end_of (join_in g c try on j j.phase)) t.end
     ]
 

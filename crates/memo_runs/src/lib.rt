@@ -1,5 +1,5 @@
-//! What is kept, leg by leg, of a run that is recorded or repeated; each run has one memo, and one
-//! number of leaf revisions with a valid entry.
+//! What is kept, leg by leg, of a run that is recorded or repeated; each run of verified code has a
+//! memo, and one number of leaf revisions with a valid entry.
 //!
 //! Each law is an empty function.
 #![tactic(auto)]

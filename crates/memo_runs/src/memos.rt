@@ -1,5 +1,5 @@
-//! Each run of code has a memo, and of whatever entries so many of its leaf revisions have a valid
-//! one.
+//! Each run of verified code, with at most 4,000,000,000 units of fuel, has a memo, and of whatever
+//! entries so many of its leaf revisions have a valid one.
 
 ghost use Rattle.memo_runs.specs.MemoLaws.{EachHasMemo, EachIsReused, OneReused};
 

@@ -28,18 +28,20 @@ impl<'k> KernelPlan<'k> {
     }
 
     /// The kernel that was chosen for this location.
+    #[inline(always)]
     pub fn at(&self, location: u32) -> Option<&Kernel>
         ensures { option_map (λ k. definition k.def) (option_copied result)
             ≡ chosen_at self.now.choices.items
             (map (λ k. definition k.def) self.now.kernels.now) location }
     {
         match self.choice(location) {
-            Some(n) => self.kernels.get(n as usize),
+            Some(n) => Some(kernel_at(self.kernels, n as usize)),
             None => None,
         }
     }
 
     /// What was chosen for this location.
+    #[inline(always)]
     fn choice(&self, location: u32) -> Option<u32>
         ensures { result ≡ choice_at self.now.choices.items location }
     {

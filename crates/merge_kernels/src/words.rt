@@ -19,6 +19,7 @@ fn word_of_answer(answer: Result<i64, NumFault>) -> Result<u64, NumFault>
 }
 
 /// The merge of three words by the definition of a kernel. It takes no memory of its own.
+#[inline(always)]
 pub fn by_kernel(kernel: &Kernel, main: u64, join: u64, root: u64) -> Result<u64, NumFault>
     ensures { result ≡ merged (definition kernel.now.def) main join root }
 {

@@ -1,5 +1,6 @@
 pub mod Adding
 pub mod Agreeing
 pub mod Rounds
+pub mod Stopping
 pub mod Positions
 pub mod Marks

@@ -12,7 +12,7 @@ ghost use Rattle.noting_run.specs.Runs.{EndsNoting};
 
 use crate::notes::Noted;
 use crate::reading::act_noting;
-use block_run::{Act, Memory, Registers, Stop, Variable};
+use block_run::{Memory, Registers, Stop, Variable};
 use rev_code::{Code, CodeBlock, Instr};
 use version_map::Snapshot;
 
@@ -75,13 +75,13 @@ pub fn run_block_noting<P: Snapshot>(
     loop {
         let x = fetch(instrs, r.at);
         match act_noting(code, table, inputs, b, memory, words, &mut r, x, noted) {
-            Act::Goes => {},
+            Stop::Goes => {},
             last => {
                 registers.at = r.at;
                 registers.top = r.top;
                 registers.fuel = r.fuel;
                 registers.line = r.line;
-                return last.stop();
+                return last;
             },
         }
     }

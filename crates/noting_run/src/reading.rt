@@ -8,14 +8,50 @@ ghost use Rattle.version_map.specs.Overlay.{under};
 ghost use Rattle.block_run.specs.Area.{count, pushes, run_of, taken, Does, IsOperand, IsPlaced};
 ghost use Rattle.block_run.specs.Area.{IsTable, StaysIn};
 ghost use Rattle.block_run.specs.Remembering.{Kept, Wrote};
-ghost use Rattle.block_run.specs.Stops.{stop_of};
 ghost use Rattle.noting_run.specs.Marks.{HasMarked, plain_marks};
 
 use crate::marking::note;
 use crate::notes::Noted;
-use block_run::{Act, Memory, Registers, Variable, act};
+use block_run::{Memory, Registers, Stop, Variable, act};
 use rev_code::{Code, CodeBlock, Instr};
 use version_map::Snapshot;
+
+/// Does an instruction, and says why a run of instructions stops there, if it does.
+#[inline(always)]
+fn act_or_stop<P: Snapshot>(
+    code: &Code,
+    table: &[Variable],
+    inputs: &[i64],
+    b: &CodeBlock,
+    memory: &mut Memory<P>,
+    words: &mut [u64],
+    r: &mut Registers,
+    x: &Instr,
+) -> Stop
+    requires table { IsTable code.now.vars table.now }
+    requires size { P.size memory.old.snapshot ≡ count code.now.vars }
+    requires operand { IsOperand code.now.vars b.now x.now }
+    requires placed { IsPlaced b.now r.old (length words.old) (taken x.now) }
+    requires room { r.old.top + pushes x.now ≤ length words.old }
+    ensures does { Does (p.plain code.now.vars inputs.now
+        (under memory.old.delta (P.base memory.old.snapshot))
+        (run_of b.now words.old r.old) x.now)
+        (run_of b.now words.old r.old) (run_of b.now words.new r.new) result
+        (Kept (P.size memory.old.snapshot)
+        (under memory.old.delta (P.base memory.old.snapshot))
+        (under memory.new.delta (P.base memory.new.snapshot))
+        (at memory.old.first.roots) (at memory.new.first.roots))
+        (Wrote (P.size memory.old.snapshot)
+        (under memory.old.delta (P.base memory.old.snapshot))
+        (under memory.new.delta (P.base memory.new.snapshot))
+        (at memory.old.first.roots) (at memory.new.first.roots)) }
+    ensures int { PushesInt x.now }
+    ensures stays { StaysIn b.now words.old words.new r.old r.new }
+    ensures size { P.size memory.new.snapshot ≡ P.size memory.old.snapshot }
+    ensures group { P.group memory.new.snapshot ≡ P.group memory.old.snapshot }
+{
+    act(code, table, inputs, b, memory, words, r, x).stop()
+}
 
 /// Notes what an instruction reads, and does it.
 #[inline(always)]
@@ -29,7 +65,7 @@ fn note_and_act<P: Snapshot>(
     r: &mut Registers,
     x: &Instr,
     noted: &mut Noted,
-) -> Act
+) -> Stop
     requires table { IsTable code.now.vars table.now }
     requires size { P.size memory.old.snapshot ≡ count code.now.vars }
     requires operand { IsOperand code.now.vars b.now x.now }
@@ -43,7 +79,7 @@ fn note_and_act<P: Snapshot>(
     ensures does { Does (p.plain code.now.vars inputs.now
         (under memory.old.delta (P.base memory.old.snapshot))
         (run_of b.now words.old r.old) x.now)
-        (run_of b.now words.old r.old) (run_of b.now words.new r.new) (stop_of result)
+        (run_of b.now words.old r.old) (run_of b.now words.new r.new) result
         (Kept (P.size memory.old.snapshot)
         (under memory.old.delta (P.base memory.old.snapshot))
         (under memory.new.delta (P.base memory.new.snapshot))
@@ -58,13 +94,12 @@ fn note_and_act<P: Snapshot>(
     ensures group { P.group memory.new.snapshot ≡ P.group memory.old.snapshot }
 {
     note(code, table, inputs, b, memory, words, r, x, noted);
-    act(code, table, inputs, b, memory, words, r, x)
+    act_or_stop(code, table, inputs, b, memory, words, r, x)
 }
 
-/// Does an instruction, and notes what it reads. `act` stands in a row of its own for each
-/// instruction that reads, and for few others at once, so that the compiler makes one table of jumps
-/// of this match and those in `act`; with all others in one row it makes two.
-#[inline(always)]
+/// Does an instruction, notes what it reads, and says why a run of instructions stops there, if it
+/// does. Each instruction that reads has a row of its own, and no row has more than seven of the
+/// others, so that the compiler makes one table of jumps of this match and of that in `act`.
 pub fn act_noting<P: Snapshot>(
     code: &Code,
     table: &[Variable],
@@ -75,7 +110,7 @@ pub fn act_noting<P: Snapshot>(
     r: &mut Registers,
     x: &Instr,
     noted: &mut Noted,
-) -> Act
+) -> Stop
     requires table { IsTable code.now.vars table.now }
     requires size { P.size memory.old.snapshot ≡ count code.now.vars }
     requires operand { IsOperand code.now.vars b.now x.now }
@@ -89,7 +124,7 @@ pub fn act_noting<P: Snapshot>(
     ensures does { Does (p.plain code.now.vars inputs.now
         (under memory.old.delta (P.base memory.old.snapshot))
         (run_of b.now words.old r.old) x.now)
-        (run_of b.now words.old r.old) (run_of b.now words.new r.new) (stop_of result)
+        (run_of b.now words.old r.old) (run_of b.now words.new r.new) result
         (Kept (P.size memory.old.snapshot)
         (under memory.old.delta (P.base memory.old.snapshot))
         (under memory.new.delta (P.base memory.new.snapshot))
@@ -124,29 +159,28 @@ pub fn act_noting<P: Snapshot>(
         | Instr::PushBool(_)
         | Instr::PushNone
         | Instr::LoadLocal(_)
-        | Instr::StoreLocal(_) => act(code, table, inputs, b, memory, words, r, x),
-        Instr::StoreShared(_) => act(code, table, inputs, b, memory, words, r, x),
-        Instr::StoreCell(_) | Instr::CheckCell(_) => act(
+        | Instr::StoreLocal(_) => act_or_stop(code, table, inputs, b, memory, words, r, x),
+        Instr::StoreShared(_) => act_or_stop(code, table, inputs, b, memory, words, r, x),
+        Instr::StoreCell(_) | Instr::CheckCell(_) => act_or_stop(
             code, table, inputs, b, memory, words, r, x,
         ),
-        Instr::Add | Instr::Sub | Instr::Mul | Instr::Div | Instr::Rem | Instr::Neg => act(
+        Instr::Add | Instr::Sub | Instr::Mul | Instr::Div | Instr::Rem | Instr::Neg => act_or_stop(
             code, table, inputs, b, memory, words, r, x,
         ),
-        Instr::Not | Instr::Eq | Instr::Ne | Instr::Lt | Instr::Le | Instr::Gt | Instr::Ge => act(
+        Instr::Not | Instr::Eq | Instr::Ne | Instr::Lt | Instr::Le | Instr::Gt | Instr::Ge =>
+            act_or_stop(code, table, inputs, b, memory, words, r, x),
+        Instr::Jump(_) | Instr::JumpIfFalse(_) | Instr::JumpIfTrue(_) => act_or_stop(
             code, table, inputs, b, memory, words, r, x,
         ),
-        Instr::Jump(_) | Instr::JumpIfFalse(_) | Instr::JumpIfTrue(_) => act(
-            code, table, inputs, b, memory, words, r, x,
-        ),
-        Instr::Charge(_) => act(code, table, inputs, b, memory, words, r, x),
-        Instr::Assert => act(code, table, inputs, b, memory, words, r, x),
-        Instr::Pop => act(code, table, inputs, b, memory, words, r, x),
+        Instr::Charge(_) => act_or_stop(code, table, inputs, b, memory, words, r, x),
+        Instr::Assert => act_or_stop(code, table, inputs, b, memory, words, r, x),
+        Instr::Pop => act_or_stop(code, table, inputs, b, memory, words, r, x),
         Instr::Apply(_)
         | Instr::Call(_)
         | Instr::Fork(_)
         | Instr::Join
         | Instr::Print(_)
         | Instr::Return
-        | Instr::TryJoin => act(code, table, inputs, b, memory, words, r, x),
+        | Instr::TryJoin => act_or_stop(code, table, inputs, b, memory, words, r, x),
     }
 }

@@ -56,9 +56,10 @@ pub fn load_law()
     ensures ends { LoadEndsAsRuns }
 {}
 
-/// Behind whole lines of a text that is accepted no trace begins, and what `trace` writes of it has
-/// the form of a trace text; so the answer of `audit` to such a text of whole lines and the trace of
-/// its runs is `yes`.
+/// Behind whole lines of a text that is accepted no trace begins. For words that have a reading, and
+/// a text of at most 1,048,576 bytes, what `trace` writes of it has the form of a trace text. So the
+/// answer of `audit` to such a text of whole lines and the trace of its runs is `yes`, where both
+/// together are not too long.
 pub fn trace_law()
     ensures none_begins { NoProgramBeginsATrace }
     ensures form { TraceHasForm }

@@ -62,8 +62,8 @@ use thread_runs::Ran;
 /// gate before each leg, and all of which have ended when it returns; a kernel with the definition
 /// of a location's merge makes its merges there. No clause tells of threads, of the gate or of
 /// kernels. What is written is made from their run, which is handed out in `ran`: behind each
-/// of the statuses 0, 1 and 3; behind 6 and 7 surely where `out` took a byte. In the other modes,
-/// and behind 2, 4 and 5, `ran` is None.
+/// of the statuses 0, 1 and 3; behind 6 and 7 surely where `out` tells its bytes and took one. In
+/// the other modes, and behind 2, 4 and 5, `ran` is None.
 pub fn rev_main<
     R: AllocGlobal + Threads + Wait + Sync,
     S: Source,

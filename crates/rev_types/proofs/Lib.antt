@@ -5,7 +5,6 @@ pub mod DeclsSound
 pub mod DeclsWithin
 pub mod Gather
 pub mod Layouts
-mod LightMerges
 pub mod Named
 pub mod Namings
 pub mod OwnLimits

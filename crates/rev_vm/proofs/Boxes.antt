@@ -1,11 +1,13 @@
 -- What is known of a revision is known of an equal one, as of the one that lies in its box.
 --   same_at, same_some, same_fork, same_join, same_claimed   for which states it stands
 --   same_ready, same_waiting                                 what lies on its stack
---   same_past, same_wrote, same_noted, same_kept             what it has done
+--   same_past, same_wrote, same_noted                        what it has done
+--   same_room                                                room for what it has written
+--   same_joining                                             a joiner with an equal memory
 --   same_line                                                the trap in its line
---   same_boxed                                               where it lies in a box, if memory was not wanting
-use Rattle.std.proofs.Common.{◌≡◌, ℕ, Bool, List, Option, None, sym, ap, subst}
-use Rattle.std.specs.Prelude.{IfOk, Result, Ok, Err}
+use Rattle.std.proofs.Common.{◌≡◌, ℕ, Bool, List, Option, None, ap, subst}
+use Rattle.std.specs.Prelude.{Vec}
+use Rattle.std.specs.declared.alloc.Global.{Global}
 use Rattle.rev_num.specs.declared.outcome.Cause.{Cause}
 use Rattle.rev_code.specs.State.{State}
 use Rattle.rev_code.specs.Words.{Word}
@@ -15,11 +17,11 @@ use Rattle.version_map.specs.declared.end.Written.{Written}
 use Rattle.version_map.specs.declared.snapshot.Snapshot.{Ghosts}
 use Rattle.version_map.specs.Deltas.{at}
 use Rattle.version_map.specs.Overlay.{under}
-use Rattle.block_run.specs.Remembering.{Kept}
+use Rattle.block_run.specs.declared.memory.Memory.{Memory}
+use Rattle.block_run.specs.Remembering.{HasRoom}
 use Rattle.code_machine.specs.Local.{CodeRun, End}
 use Rattle.leg_run.specs.declared.revision.Revision.{Revision}
 use Rattle.leg_run.specs.declared.revision.Run.{Run}
-use Rattle.rev_vm.specs.declared.runner.Runner.{Runner}
 use Rattle.rev_vm.specs.Legs.{IsNoted}
 use Rattle.rev_vm.specs.Meaning.{IsAt, IsAtFork, IsAtJoin, IsClaimed, IsPast, IsReady}
 use Rattle.rev_vm.specs.Starts.{IsWaiting}
@@ -45,21 +47,21 @@ module _ {P S : Type 0} {m : Ghosts P S} {v w : Revision P S m} (same : v ≡ w)
       IsAtFork g r.run r.memory.delta (m.base r.memory.snapshot) r.memory.first.roots block c args)
       same
 
-  pub same_join : (g : CodeRun) (writes : List Written) (try : Bool) (on : ℕ) (c : State ℕ)
-      → IsAtJoin g v.run v.memory.delta (m.base v.memory.snapshot) v.memory.first.roots writes try on c
-      → IsAtJoin g w.run w.memory.delta (m.base w.memory.snapshot) w.memory.first.roots writes try on c
-  same_join g writes try on c =
+  pub same_join : (g : CodeRun) (try : Bool) (on : ℕ) (c : State ℕ)
+      → IsAtJoin g v.run v.memory.delta (m.base v.memory.snapshot) v.memory.first.roots try on c
+      → IsAtJoin g w.run w.memory.delta (m.base w.memory.snapshot) w.memory.first.roots try on c
+  same_join g try on c =
       subst (λ (r : Revision P S m).
-      IsAtJoin g r.run r.memory.delta (m.base r.memory.snapshot) r.memory.first.roots writes try on c)
+      IsAtJoin g r.run r.memory.delta (m.base r.memory.snapshot) r.memory.first.roots try on c)
       same
 
   pub same_claimed :
-      (g : CodeRun) (writes : List Written) (try : Bool) (on : ℕ) (e : EndValue) (c : State ℕ) (j : End ℕ)
-      → IsClaimed g v.run v.memory.delta (m.base v.memory.snapshot) v.memory.first.roots writes try on e c j
-      → IsClaimed g w.run w.memory.delta (m.base w.memory.snapshot) w.memory.first.roots writes try on e c j
-  same_claimed g writes try on e c j =
+      (g : CodeRun) (try : Bool) (on : ℕ) (e : EndValue) (c : State ℕ) (j : End ℕ)
+      → IsClaimed g v.run v.memory.delta (m.base v.memory.snapshot) v.memory.first.roots try on e c j
+      → IsClaimed g w.run w.memory.delta (m.base w.memory.snapshot) w.memory.first.roots try on e c j
+  same_claimed g try on e c j =
       subst (λ (r : Revision P S m).
-      IsClaimed g r.run r.memory.delta (m.base r.memory.snapshot) r.memory.first.roots writes try on e c j)
+      IsClaimed g r.run r.memory.delta (m.base r.memory.snapshot) r.memory.first.roots try on e c j)
       same
 
   pub same_ready : IsReady v.run → IsReady w.run
@@ -85,16 +87,10 @@ module _ {P S : Type 0} {m : Ghosts P S} {v w : Revision P S m} (same : v ≡ w)
   pub same_noted : (on : ℕ) (r : Run) → IsNoted on v.run r → IsNoted on w.run r
   same_noted on r = subst (λ (x : Revision P S m). IsNoted on x.run r) same
 
-  pub same_kept : (seen : ℕ → ℕ) (root : ℕ → Option ℕ)
-      → Kept (m.size v.memory.snapshot) (under v.memory.delta (m.base v.memory.snapshot)) seen (at v.memory.first.roots)
-      root
-      → Kept (m.size w.memory.snapshot) (under w.memory.delta (m.base w.memory.snapshot)) seen (at w.memory.first.roots)
-      root
-  same_kept seen root =
-      subst (λ (r : Revision P S m).
-      Kept (m.size r.memory.snapshot) (under r.memory.delta (m.base r.memory.snapshot)) seen (at r.memory.first.roots)
-      root)
-      same
+  pub same_room : (list : Vec Written Global) → HasRoom list (at v.memory.first.roots) (m.size v.memory.snapshot)
+      → HasRoom list (at w.memory.first.roots) (m.size w.memory.snapshot)
+  same_room list =
+      subst (λ (r : Revision P S m). HasRoom list (at r.memory.first.roots) (m.size r.memory.snapshot)) same
 
   pub same_line : (e : Cause)
       → finish.Trapped (record { cause = e; line = v.run.registers.line; origin = None })
@@ -103,8 +99,9 @@ module _ {P S : Type 0} {m : Ghosts P S} {v w : Revision P S m} (same : v ≡ w)
       ap (λ (r : Revision P S m). finish.Trapped (record { cause = e; line = r.run.registers.line; origin = None }))
       same
 
-module _ {P S : Type 0} {m : Ghosts P S} where
-  pub same_boxed : (x : Result (Runner P S m) P) (v : Revision P S m) (B : Revision P S m → Type 0)
-      → IfOk x (λ r. r.revision.value ≡ v) → B v → IfOk x (λ r. B r.revision.value)
-  same_boxed (Ok r) v B e h = subst B (sym e) h
-  same_boxed (Err s) v B e h = e
+module _ {P S : Type 0} {m : Ghosts P S} {v w : Memory P S m} (same : v ≡ w) where
+  pub same_joining : (g : CodeRun) (run : Run) (try : Bool) (on : ℕ) (c : State ℕ)
+      → IsAtJoin g run v.delta (m.base v.snapshot) v.first.roots try on c
+      → IsAtJoin g run w.delta (m.base w.snapshot) w.first.roots try on c
+  same_joining g run try on c =
+      subst (λ (x : Memory P S m). IsAtJoin g run x.delta (m.base x.snapshot) x.first.roots try on c) same

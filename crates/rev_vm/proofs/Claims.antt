@@ -1,6 +1,6 @@
 -- What a joiner that was given an end keeps.
 --   end_within, claimed_within   the locations that the joinee wrote are those of the joiner's memory
-use Rattle.std.proofs.Common.{◌≡◌, ℕ, ◌<◌, Bool, List, length, get_or, arith}
+use Rattle.std.proofs.Common.{◌≡◌, ℕ, ◌<◌, Bool, length, get_or, arith}
 use Rattle.std.proofs.Math.Logic.{∥∥₁_elim}
 use Rattle.std.specs.Coded.{le_prop}
 use Rattle.rev_code.specs.State.{State}
@@ -17,11 +17,11 @@ use Rattle.rev_vm.specs.Meaning.{IsClaimed}
 use Rattle.rev_vm.proofs.Firsts.{kinds_many}
 use Rattle.rev_vm.proofs.Joins.{within_all}
 
-pub end_within : (g : CodeRun) (run : Run) (delta : Delta) (base : ℕ → ℕ) (first : Delta) (writes : List Written)
+pub end_within : (g : CodeRun) (run : Run) (delta : Delta) (base : ℕ → ℕ) (first : Delta)
     (try : Bool) (on : ℕ) (v : EndValue) (c : State ℕ) (j : End ℕ)
-    → IsClaimed g run delta base first writes try on v c j → (size : ℕ) → locations delta ≡ size
+    → IsClaimed g run delta base first try on v c j → (size : ℕ) → locations delta ≡ size
     → (i : ℕ) (d : Written) → i < length v.written → (get_or v.written i d).location < size
-end_within g run delta base first writes try on v c j h size sized i d less =
+end_within g run delta base first try on v c j h size sized i d less =
     let w = within_all (location_kinds g.code.vars) j.written v.written h.joinee.written i d less in
     let m = kinds_many g.code.vars in
     let b = h.joiner.stands.size in omega (arith, w, m, b, sized)
@@ -33,5 +33,5 @@ module _ {P S : Type 0} {m : Ghosts P S} where
       ∥∥₁_elim k.of le_prop (λ q.
       end_within q.0 k.at.revision.value.run k.at.revision.value.memory.delta
       (m.base k.at.revision.value.memory.snapshot) k.at.revision.value.memory.first.roots
-      k.at.written k.at.is_try k.at.on k.end q.1 q.2 q.3 (m.size k.at.revision.value.memory.snapshot)
+      k.at.is_try k.at.on k.end q.1 q.2 q.3 (m.size k.at.revision.value.memory.snapshot)
       k.at.revision.value.memory.written i d less)

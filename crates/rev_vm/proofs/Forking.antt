@@ -25,19 +25,17 @@ use Rattle.block_run.proofs.Stacks.{stack_push}
 use Rattle.fun_run.proofs.Running.{block_short, stack_dropped}
 use Rattle.fun_run.proofs.Slices.{stack_slice, words_drop, words_reverse, words_take}
 use Rattle.version_map.specs.declared.delta.Delta.{Delta}
-use Rattle.version_map.specs.Deltas.{at, locations, IsEmpty}
+use Rattle.version_map.specs.Deltas.{at, locations}
 use Rattle.version_map.specs.Overlay as overlay
 use Rattle.version_map.specs.Overlay.{Agree}
 use Rattle.code_machine.specs.Local.{CodeRun, under}
 use Rattle.leg_run.specs.declared.revision.Meeting.{Meeting}
 use Rattle.leg_run.specs.declared.revision.Meeting.TheVariants as meeting
 use Rattle.leg_run.specs.declared.revision.Run.{Run}
-use Rattle.leg_run.specs.declared.setting.CodeSetting.{CodeSetting}
-use Rattle.fun_run.specs.Rooms.{IsRoom}
 use Rattle.leg_run.specs.Standing.{listed_as, Stands}
 use Rattle.rev_vm.specs.Meaning.{IsAt, IsAtFork}
-use Rattle.rev_vm.specs.Starts.{IsBorn, IsFirst, IsForker, top_words}
-use Rattle.rev_vm.proofs.Firsts.{first_stands, view_seen, view_many}
+use Rattle.rev_vm.specs.Starts.{IsAtStart, IsForker}
+use Rattle.rev_vm.proofs.Firsts.{view_seen, view_many}
 use Rattle.rev_vm.proofs.Frames.{IsAbove, one_set, OnStack, stays}
 use Rattle.rev_vm.proofs.Meets.{IsForking, Meets, meets}
 
@@ -78,17 +76,6 @@ range_top xs p t h = let e : t - (t - p) ≡ p = omega (arith, h) in ap (λ m. t
 
 abbrev pub top_of : ℕ → Run → List ℕ
 top_of n r = take n (drop (r.registers.top - n) r.words.items)
-
-pub born : (s : CodeSetting) (n : ℕ) (b : CodeBlock) (forker r : Run) (room : ℕ) → IsRoom s.code n b room
-    → (args : List ℕ) → args ≡ top_of (length (params b)) forker → (fuel : ℕ)
-    → fuel ≡ events.part s.share forker.registers.fuel
-    → IsFirst b n args room fuel r → IsBorn s n b forker r
-born s n b forker r room enough args a fuel f h = record {
-  room = room;
-  enough = enough;
-  first = subst (λ xs. IsFirst b n xs room (events.part s.share forker.registers.fuel) r) a
-      (subst (λ m. IsFirst b n args room m r) f h);
-}
 
 module _ (g : CodeRun) (run : Run) (delta : Delta) (base : ℕ → ℕ) (first : Delta) (n : ℕ) (c : State ℕ)
     (args : List (Word ℕ)) (h : IsAtFork g run delta base first n c args) where
@@ -261,23 +248,39 @@ module _ (g : CodeRun) (run : Run) (delta : Delta) (base : ℕ → ℕ) (first :
         stays g run run' _ seen _ root c (events.parent g.share c args 0) h.stands.stands (on_forker run' k) there
         h.stands.stands.here.many
 
-    pub child_stands : (run' : Run) (room : ℕ) → IsRoom g.code n b room
-        → IsFirst b n (take (length (params b)) (drop (run.registers.top - length (params b)) run.words.items)) room
-        (events.part g.share run.registers.fuel) run'
-        → (seen : ℕ → ℕ) (root : ℕ → Option ℕ) → AreSeen (events.view c.locations) seen root
-        → Stands g.code g.inputs g.share run' seen root (events.child g.share c n b args)
-    child_stands run' room roomy f seen root there =
+    -- over a snapshot that has the words that the forker sees
+    pub child_born : (words : List ℕ) → words ≡ top_of (length (params b)) run
+        → (fuel : ℕ) → fuel ≡ events.part g.share run.registers.fuel
+        → (size : ℕ) → size ≡ count g.code.vars → (base' : ℕ → ℕ) → Agree size base' (overlay.under delta base)
+        → (size' : ℕ) → size' ≡ size → IsAtStart g n words base' size' fuel (events.child g.share c n b args)
+    child_born words top fuel part size sized base' agree size' same =
         let s = h.stands.stands in
-        let good =
+        let good : IsRevision g.code (notes_of g.code) (events.child g.share c n b args) =
         subst (λ y. IsRevision g.code (notes_of g.code) (events.child g.share c n y args)) same_safe safe.2 in
-        let f' = subst (λ m.
-        IsFirst b n (take (length (params b)) (drop (run.registers.top - length (params b)) run.words.items)) room
-        (events.part g.share m) run')
-        s.here.run.fuel f in
-        first_stands g n b is args (events.view c.locations) (events.part g.share c.fuel) good run'
-        (take (length (params b)) (drop (run.registers.top - length (params b)) run.words.items)) room roomy stand_args
-        f' seen root there
-        (let m = s.here.many in let e = view_many c.locations in omega (arith, m, e))
+        let seen = overlay.under delta base in
+        let few : length (events.view c.locations) ≤ size =
+        (let m = s.here.many in let e = view_many c.locations in omega (arith, m, e, sized)) in
+        let given = sym (part ∙ ap (events.part g.share) s.here.run.fuel) in
+        record {
+          verified = h.stands.verified;
+          body = b;
+          args = args;
+          locations = events.view c.locations;
+          called = record {
+            is = is;
+            program = safe.0.program;
+            kinds = safe.0.kinds ∙ ap params same_safe;
+            stand = subst (AreWords args) (sym top) stand_args;
+          };
+          based = record {
+            kinds = good.locations;
+            seen = kept_seen (events.view c.locations) seen base' (λ l. None) (λ l. None)
+                (view_seen c.locations seen (at first) s.here.locations) size few
+                (record { words = agree; roots = λ l i. refl });
+          };
+          many = same ∙ sized;
+          is = ap (λ m. events.start n b args (events.view c.locations) m) given;
+        }
 
     module _ (size : ℕ) (sized : size ≡ count g.code.vars) (run' : Run) (delta' first' : Delta) (base' : ℕ → ℕ)
         (long : locations delta' ≡ size) where
@@ -294,21 +297,3 @@ module _ (g : CodeRun) (run : Run) (delta : Delta) (base : ℕ → ℕ) (first :
             h.stands.stands.here.locations size many kept);
         size = long ∙ sized;
       }
-
-      pub child_at : (room : ℕ) → IsRoom g.code n b room
-          → IsFirst b n (top_words b run) room (events.part g.share run.registers.fuel) run'
-          → Agree size (overlay.under delta' base') (overlay.under delta base)
-          → locations first' ≡ size → IsEmpty first' → IsAt g run' delta' base' first' (events.child g.share c n b args)
-      child_at room enough f agree short empty =
-          let seen = overlay.under delta base in
-          let viewed = view_seen c.locations seen (at first) h.stands.stands.here.locations in
-          record {
-            verified = h.stands.verified;
-            stands = child_stands run' room enough f (overlay.under delta' base') (at first')
-                (kept_seen (events.view c.locations) seen (overlay.under delta' base') (λ l. None) (at first') viewed
-                size (let m = many in let e = view_many c.locations in omega (arith, m, e)) (record {
-                  words = agree;
-                  roots = λ l i. empty l (omega (arith, i, short));
-                }));
-            size = long ∙ sized;
-          }

@@ -1,4 +1,5 @@
 -- Joiners behind their joins.
+--   joiner_wrote   what the joiner's memory has as written is what the joiner wrote
 --   after_join     the revision stands for the joiner behind its join
 --   mains_joined   a joiner's words stand for its view where the joinee wrote
 --   new_words      new words stand for those of the definition
@@ -22,7 +23,7 @@ use Rattle.plain_words.specs.Agreement.{IsWord, AreWords}
 use Rattle.plain_words.specs.Plain.{flag}
 use Rattle.block_run.specs.declared.registers.Registers.{Registers}
 use Rattle.block_run.specs.Area.{count, low, stack_of}
-use Rattle.block_run.specs.Remembering.{Kept}
+use Rattle.block_run.specs.Remembering.{Kept, written_below}
 use Rattle.block_run.specs.Standing.{AreSeen}
 use Rattle.block_run.proofs.Onward.{kept_seen, words_length, written_length, stack_length, reads_seen}
 use Rattle.block_run.proofs.Stacks.{stack_push, stack_drop_one}
@@ -45,6 +46,8 @@ use Rattle.leg_run.specs.declared.revision.Run.{Run}
 use Rattle.leg_run.specs.Standing.{listed_as, Stands}
 use Rattle.rev_vm.specs.Meaning.{IsAt, IsAtJoin, IsClaimed, IsEnd, IsReady, IsTold, IsPopped, IsPast, IsTakenOver, AreWritten, IsPhase}
 use Rattle.rev_vm.specs.Writes.{AreAtEntries, HasWritten}
+use Rattle.rev_vm.proofs.Firsts.{kinds_many}
+use Rattle.rev_vm.proofs.Leaving.{written_as}
 use Rattle.rev_vm.proofs.Frames.{IsAbove, nothing_new, one_set, OnStack, stays}
 use Rattle.rev_vm.proofs.Fitting.{AreFit, written_kinds}
 use Rattle.rev_vm.proofs.Meets.{Meets, IsJoining, meets}
@@ -96,8 +99,8 @@ pub past_text : (try : Bool) (r r' : Run) → IsPast try r r' → r'.text.items 
 past_text true r r' h = ap (λ v. v.items) h.text
 past_text false r r' h = ap (λ v. v.items) h.text
 
-module _ (g : CodeRun) (run : Run) (delta : Delta) (base : ℕ → ℕ) (first : Delta) (written : List Written) (try : Bool)
-    (on : ℕ) (c : State ℕ) (h : IsAtJoin g run delta base first written try on c) where
+module _ (g : CodeRun) (run : Run) (delta : Delta) (base : ℕ → ℕ) (first : Delta) (try : Bool) (on : ℕ)
+    (c : State ℕ) (h : IsAtJoin g run delta base first try on c) where
   b : CodeBlock
   b = h.stands.stands.body
 
@@ -113,6 +116,14 @@ module _ (g : CodeRun) (run : Run) (delta : Delta) (base : ℕ → ℕ) (first :
         shallow = r.shallow;
         few = r.few;
       }
+
+  pub joiner_wrote : (size : ℕ) → size ≡ count g.code.vars
+      → AreWritten (location_kinds g.code.vars) (written_from 0 c.locations)
+      (written_below (overlay.under delta base) (at first) size)
+  joiner_wrote size sized =
+      let all = kinds_many g.code.vars in
+      written_as (location_kinds g.code.vars) c.locations (overlay.under delta base) (at first) size
+      (omega (arith, sized, all)) revision.locations h.stands.stands.here.locations
 
   joining : IsJoining c c on
   joining = subst (Meets (under g) c) h.joins (meets (under g) c)
@@ -316,11 +327,11 @@ is_done p f e h = by p (subst (IsPhase p) e h)
 
 -- ---- a TryJoin of a revision that has trapped
 
-pub dropped_at : (g : CodeRun) (run run' : Run) (delta : Delta) (base : ℕ → ℕ) (first : Delta) (written : List Written)
-    (try : Bool) (on : ℕ) (c : State ℕ)
-    → IsAtJoin g run delta base first written try on c → IsReady run → try ≡ true → IsTold 0 run run'
+pub dropped_at : (g : CodeRun) (run run' : Run) (delta : Delta) (base : ℕ → ℕ) (first : Delta) (try : Bool)
+    (on : ℕ) (c : State ℕ)
+    → IsAtJoin g run delta base first try on c → IsReady run → try ≡ true → IsTold 0 run run'
     → IsAt g run' delta base first (past_join c true false on)
-dropped_at g run run' delta base first written try on c h ready is k =
+dropped_at g run run' delta base first try on c h ready is k =
     let s = h.stands.stands in
     let a : IsAfter run' run' c.fuel c.text = record {
       block = refl;
@@ -339,8 +350,8 @@ dropped_at g run run' delta base first written try on c h ready is k =
       verified = h.stands.verified;
       stands = subst
           (λ t. Stands g.code g.inputs g.share run' (overlay.under delta base) (at first) (past_join c t false on)) is
-          (after_join g run delta base first written try on c h ready run' run' false c.locations
-          (revision g run delta base first written try on c h).locations c.fuel c.text a
+          (after_join g run delta base first try on c h ready run' run' false c.locations
+          (revision g run delta base first try on c h).locations c.fuel c.text a
           (subst (λ t. Behind t 0 run run') (sym is) k) (overlay.under delta base) (at first) s.here.locations
           s.here.many);
       size = h.stands.size;
@@ -354,16 +365,16 @@ all_length ls [] xs = refl
 all_length ls (e ∷ es) [] = refl
 all_length ls (e ∷ es) (x ∷ xs) = all_length (written_at ls e.location x) es xs ∙ written_length ls e.location x
 
-module _ (g : CodeRun) (run : Run) (delta : Delta) (base : ℕ → ℕ) (first : Delta) (written : List Written) (try : Bool)
-    (on : ℕ) (v : EndValue) (c : State ℕ) (j : End ℕ)
-    (h : IsClaimed g run delta base first written try on v c j) (words : Merges ℕ) (are : AreMergesOf g words)
+module _ (g : CodeRun) (run : Run) (delta : Delta) (base : ℕ → ℕ) (first : Delta) (try : Bool) (on : ℕ)
+    (v : EndValue) (c : State ℕ) (j : End ℕ)
+    (h : IsClaimed g run delta base first try on v c j) (words : Merges ℕ) (are : AreMergesOf g words)
     (size : ℕ) (sized : size ≡ count g.code.vars)
     (seen1 : ℕ → ℕ) (agree : Agree size seen1 (overlay.under delta base)) where
   many : length c.locations ≤ size
   many = let m = h.joiner.stands.stands.here.many in omega (arith, m, sized)
 
   fits : AreLocations (location_kinds g.code.vars) c.locations
-  fits = (revision g run delta base first written try on c h.joiner).locations
+  fits = (revision g run delta base first try on c h.joiner).locations
 
   seen_now : AreSeen c.locations seen1 (at first)
   seen_now = kept_seen c.locations (overlay.under delta base) seen1 (at first) (at first)
@@ -382,14 +393,16 @@ module _ (g : CodeRun) (run : Run) (delta : Delta) (base : ℕ → ℕ) (first :
   phase : j.phase ≡ done
   phase = is_done j.phase v.finish h.done h.joinee.phase
 
-  pub settled_trap : (t : MergeTrap)
+  pub settled_trap : (seen2 : ℕ → ℕ) (root2 : ℕ → Option ℕ) → Kept size seen1 seen2 (at first) root2 → (t : MergeTrap)
       → composed words (map (λ w. seen1 w.location) v.written) (entries v.written) ≡ Err (t.location, t.fault)
-      → (v' : EndValue) → v'.written ≡ written → v'.text ≡ run.text.items
+      → (v' : EndValue) → v'.written ≡ written_below seen2 root2 size → v'.text ≡ run.text.items
       → v'.fuel ≡ run.registers.fuel → v'.finish
       ≡ finish.Trapped (record { cause = cause.Merge t.location t.fault; line = run.registers.line; origin = None })
       → IsEnd g (end_of (join_in g c try on j j.phase)) v'
-  settled_trap t is v' wrote text fuel ends =
+  settled_trap seen2 root2 kept t is v' wrote text fuel ends =
       let s = h.joiner.stands.stands in
+      let all = kinds_many g.code.vars in
+      let seen_then = kept_seen c.locations seen1 seen2 (at first) root2 seen_now size many kept in
       let fault =
       same_fault (composed (merges g) (mains c.locations j.written) j.written)
       (composed words (map (λ w. seen1 w.location) v.written) (entries v.written)) (t.location, t.fault) is alike in
@@ -397,7 +410,8 @@ module _ (g : CodeRun) (run : Run) (delta : Delta) (base : ℕ → ℕ) (first :
       ap (join_in g c try on j) phase ∙ ap (absorb c try on j) fault in
       subst (λ l. IsEnd g (end_of l) v') (sym l) (record {
         written = subst (AreWritten (location_kinds g.code.vars) (written_from 0 c.locations)) (sym wrote)
-            h.joiner.written;
+            (written_as (location_kinds g.code.vars) c.locations seen2 root2 size (omega (arith, sized, all)) fits
+            seen_then);
         text = text ∙ sym s.text;
         fuel = fuel ∙ s.here.run.fuel;
         phase = subst
@@ -450,7 +464,7 @@ module _ (g : CodeRun) (run : Run) (delta : Delta) (base : ℕ → ℕ) (first :
         record {
           next = joiner c try true on ls (c.fuel + j.fuel) (c.text ++ j.text);
           is_next = ap (join_in g c try on j) phase ∙ ap (absorb c try on j) n.is;
-          stand = after_join g run delta base first written try on c h.joiner ready took.between run' true ls typed
+          stand = after_join g run delta base first try on c h.joiner ready took.between run' true ls typed
               (c.fuel + j.fuel) (c.text ++ j.text) a
               (behind_past try run took.between took.past) seen3 root3 there
               (let e = all_length c.locations j.written n.words in let m = s.here.many in omega (arith, e, m));

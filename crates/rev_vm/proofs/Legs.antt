@@ -13,13 +13,11 @@ use Rattle.code_soundness.proofs.Accepting.{no_fault_accepted}
 use Rattle.plain_words.specs.Agreement.{AreWords}
 use Rattle.block_run.specs.declared.registers.Registers.{Registers}
 use Rattle.block_run.specs.Area.{count, low, stack_of}
-use Rattle.block_run.specs.Remembering.{Kept, written_below}
-use Rattle.block_run.proofs.Onward.{kept_seen}
+use Rattle.block_run.specs.Remembering.{written_below}
 use Rattle.fun_run.proofs.Running.{block_short}
 use Rattle.version_map.specs.declared.delta.Delta.{Delta}
 use Rattle.version_map.specs.declared.end.EndValue.{EndValue}
 use Rattle.version_map.specs.declared.end.Finish.TheVariants as finish
-use Rattle.version_map.specs.declared.end.Written.{Written}
 use Rattle.version_map.specs.Deltas.{at, locations}
 use Rattle.version_map.specs.Overlay as overlay
 use Rattle.code_machine.specs.Leg.{leg}
@@ -136,7 +134,7 @@ module _ (g : CodeRun) (run : Run) (delta : Delta) (base : ℕ → ℕ) (first :
             at = omega (arith, a, i, e);
           }
 
-      module _ (run2 : Run) (delta2 : Delta) (base2 : ℕ → ℕ) (first2 : Delta) (noted : IsNoted on run' run2) where
+      module _ (run2 : Run) (noted : IsNoted on run' run2) where
         on_noted : OnStack g here.body run' run2 (state_of g.code run' (overlay.under delta' base') (at first'))
             (note on (state_of g.code run' (overlay.under delta' base') (at first')))
         on_noted =
@@ -186,16 +184,11 @@ module _ (g : CodeRun) (run : Run) (delta : Delta) (base : ℕ → ℕ) (first :
                   omega (arith, i, j, o));
             }
 
-        join_event : (size : ℕ) → size ≡ count g.code.vars → locations delta2 ≡ size
-            → Kept size (overlay.under delta' base') (overlay.under delta2 base2) (at first') (at first2)
-            → (written : List Written) → written ≡ written_below (overlay.under delta' base') (at first') size
-            → (d : State ℕ) × (leg g c ≡ joins d try on) × IsAtJoin g run2 delta2 base2 first2 written try on d
-        join_event size sized long kept written are =
+        join_event : locations delta' ≡ count g.code.vars
+            → (d : State ℕ) × (leg g c ≡ joins d try on) × IsAtJoin g run2 delta' base' first' try on d
+        join_event size =
             let d = state_of g.code run' (overlay.under delta' base') (at first') in
-            let s = here in
-            let m = s.here.many in
-            let kinds = location_kinds g.code.vars in
-            let all = kinds_many g.code.vars in (
+            let s = here in (
               d,
               ap (leg g) start
                   ∙ leg_is g h.verified (state_of g.code run (overlay.under delta base) (at first)) (joins d try on)
@@ -203,32 +196,21 @@ module _ (g : CodeRun) (run : Run) (delta : Delta) (base : ℕ → ℕ) (first :
               record {
                 stands = record {
                   verified = h.verified;
-                  stands = stays g run' run2 (overlay.under delta' base') (overlay.under delta2 base2) (at first')
-                      (at first2) d (note on d) s on_noted
-                      (kept_seen d.locations (overlay.under delta' base') (overlay.under delta2 base2) (at first')
-                      (at first2) s.here.locations size (omega (arith, m, sized)) kept)
-                      s.here.many;
-                  size = long ∙ sized;
+                  stands = stays g run' run2 (overlay.under delta' base') (overlay.under delta' base') (at first')
+                      (at first') d (note on d) s on_noted s.here.locations s.here.many;
+                  size = size;
                 };
                 joins = joins_now;
-                written = subst (AreWritten kinds (written_from 0 d.locations)) (sym are)
-                    (written_as kinds d.locations (overlay.under delta' base') (at first') size
-                    (omega (arith, sized, all)) s.here.good.locations s.here.locations);
               },
             )
 
-        abbrev AtEvent : List Written → Bool → ℕ → Type 0
-        AtEvent written t o =
-            (d : State ℕ) × (leg g c ≡ joins d t o) × IsAtJoin g run2 delta2 base2 first2 written t o d
+        abbrev AtEvent : Bool → ℕ → Type 0
+        AtEvent t o = (d : State ℕ) × (leg g c ≡ joins d t o) × IsAtJoin g run2 delta' base' first' t o d
 
-        pub join_event_as : (try' : Bool) (on' : ℕ) → try' ≡ try → on' ≡ on → (size : ℕ) → size ≡ count g.code.vars
-            → locations delta2 ≡ size
-            → Kept size (overlay.under delta' base') (overlay.under delta2 base2) (at first') (at first2)
-            → (written : List Written) → written ≡ written_below (overlay.under delta' base') (at first') size
-            → (d : State ℕ) × (leg g c ≡ joins d try' on') × IsAtJoin g run2 delta2 base2 first2 written try' on' d
-        join_event_as try' on' t o size sized long kept written are =
-            subst (λ x. AtEvent written x on') (sym t)
-            (subst (λ x. AtEvent written try x) (sym o) (join_event size sized long kept written are))
+        pub join_event_as : (try' : Bool) (on' : ℕ) → try' ≡ try → on' ≡ on → locations delta' ≡ count g.code.vars
+            → (d : State ℕ) × (leg g c ≡ joins d try' on') × IsAtJoin g run2 delta' base' first' try' on' d
+        join_event_as try' on' t o size =
+            subst (λ x. AtEvent x on') (sym t) (subst (λ x. AtEvent try x) (sym o) (join_event size))
 
     -- what a revision leaves that has ended
     left : (d : State ℕ) → Leaves g.code run' (overlay.under delta' base') (at first') d → (size : ℕ)

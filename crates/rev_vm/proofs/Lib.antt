@@ -2,6 +2,7 @@ pub mod Meets
 pub mod Frames
 pub mod Fitting
 pub mod Writing
+pub mod Rows
 pub mod Joins
 pub mod Forks
 pub mod Firsts
@@ -9,6 +10,7 @@ pub mod Forking
 pub mod Leaving
 pub mod Legs
 pub mod Values
+pub mod Born
 pub mod Mains
 pub mod Boxes
 pub mod Reading

@@ -31,7 +31,7 @@ without_last (y ∷ []) x = refl
 without_last (y ∷ z ∷ zs) x = ap (λ ys. y ∷ ys) (without_last (z ∷ zs) x)
 
 pub one_joining : JoinsInOneState
-one_joining g run delta base first writes try on c h =
+one_joining g run delta base first try on c h =
     let e : note on c ≡ state_at g run delta base first = one_state g run delta base first (note on c) h.stands in
     let w : all_but_last (c.listed ++ joined on c.line ∷ []) ≡ c.listed = without_last c.listed (joined on c.line) in
     let a : c ≡ record c { listed = all_but_last (c.listed ++ joined on c.line ∷ []) } =
@@ -82,7 +82,7 @@ one_end g j v h =
     λ i. record { written = a i; text = b i; fuel = c i; phase = d i }
 
 pub one_claim : ClaimsOneState
-one_claim g run delta base first writes try on v c j h =
-    let a = one_joining g run delta base first writes try on c h.joiner in
+one_claim g run delta base first try on v c j h =
+    let a = one_joining g run delta base first try on c h.joiner in
     let b = one_end g j v h.joinee in
     λ i. join_in g (a i) try on (b i) (b i).phase

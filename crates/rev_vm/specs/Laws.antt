@@ -1,9 +1,8 @@
 -- What a value stands for is one: the state or the end that is a function of it.
-use Rattle.std.specs.Prelude.{◌≡◌, ℕ, Bool, List}
+use Rattle.std.specs.Prelude.{◌≡◌, ℕ, Bool}
 use Rattle.rev_code.specs.State.{State}
 use Rattle.version_map.specs.declared.delta.Delta.{Delta}
 use Rattle.version_map.specs.declared.end.EndValue.{EndValue}
-use Rattle.version_map.specs.declared.end.Written.{Written}
 use Rattle.code_machine.specs.Local.{CodeRun, End}
 use Rattle.code_machine.specs.Joining.{join_in}
 use Rattle.leg_run.specs.declared.revision.Run.{Run}
@@ -20,8 +19,8 @@ HasOneState =
 abbrev pub JoinsInOneState : Type 0
 JoinsInOneState =
     (g : CodeRun) (run : Run) (delta : Delta) (base : ℕ → ℕ) (first : Delta)
-    (writes : List Written) (try : Bool) (on : ℕ) (c : State ℕ)
-    → IsAtJoin g run delta base first writes try on c → c ≡ before_join g run delta base first
+    (try : Bool) (on : ℕ) (c : State ℕ)
+    → IsAtJoin g run delta base first try on c → c ≡ before_join g run delta base first
 
 -- what a revision left; so two ends for which one value stands make the same of each joiner
 abbrev pub LeavesOneEnd : Type 0
@@ -31,6 +30,6 @@ LeavesOneEnd = (g : CodeRun) (j : End ℕ) (v : EndValue) → IsEnd g j v → j 
 abbrev pub ClaimsOneState : Type 0
 ClaimsOneState =
     (g : CodeRun) (run : Run) (delta : Delta) (base : ℕ → ℕ) (first : Delta)
-    (writes : List Written) (try : Bool) (on : ℕ) (v : EndValue) (c : State ℕ) (j : End ℕ)
-    → IsClaimed g run delta base first writes try on v c j
+    (try : Bool) (on : ℕ) (v : EndValue) (c : State ℕ) (j : End ℕ)
+    → IsClaimed g run delta base first try on v c j
     → join_in g c try on j j.phase ≡ joined_at g (before_join g run delta base first) try on v

@@ -1,4 +1,5 @@
 pub mod Writes
+pub mod Rows
 pub mod Meaning
 pub mod Revisions
 pub mod NewWords

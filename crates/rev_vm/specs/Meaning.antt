@@ -24,7 +24,7 @@ use Rattle.version_map.specs.Composing.{Entry}
 use Rattle.version_map.specs.Deltas.{at, locations}
 use Rattle.version_map.specs.Overlay as overlay
 use Rattle.block_run.specs.Area.{count}
-use Rattle.code_machine.specs.Local.{CodeRun, IsVerified, under, Trap, Phase, running, done, trapped, End, written_from}
+use Rattle.code_machine.specs.Local.{CodeRun, IsVerified, under, Trap, Phase, running, done, trapped, End}
 use Rattle.code_machine.specs.Joining.{note}
 pub use Rattle.fun_run.specs.Merging.{AreMergesOf}
 use Rattle.fun_run.specs.Merging.{IsOfKind}
@@ -83,17 +83,15 @@ pub record IsReady (run : Run) : Type 0 where
   pub within : run.registers.top ≤ length run.words.items
   pub at : run.registers.at + 1 < 2 ^ 32
 
--- at a join of revision `on`, with what it wrote so far
+-- at a join of revision `on`
 pub record IsAtJoin (g : CodeRun) (run : Run) (delta : Delta) (base : ℕ → ℕ) (first : Delta)
-    (writes : List Written) (try : Bool) (on : ℕ) (c : State ℕ) : Type 0 where
+    (try : Bool) (on : ℕ) (c : State ℕ) : Type 0 where
   pub stands : IsAt g run delta base first (note on c)
   pub joins : step (under g) c ≡ joins c try on
-  pub written : AreWritten (location_kinds g.code.vars) (written_from 0 c.locations) writes
 
 pub record IsClaimed (g : CodeRun) (run : Run) (delta : Delta) (base : ℕ → ℕ) (first : Delta)
-    (written : List Written) (try : Bool) (on : ℕ) (v : EndValue) (c : State ℕ) (j : End ℕ)
-    : Type 0 where
-  pub joiner : IsAtJoin g run delta base first written try on c
+    (try : Bool) (on : ℕ) (v : EndValue) (c : State ℕ) (j : End ℕ) : Type 0 where
+  pub joiner : IsAtJoin g run delta base first try on c
   pub joinee : IsEnd g j v
   pub done : v.finish ≡ finish.Done
 

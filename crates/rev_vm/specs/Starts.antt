@@ -5,19 +5,19 @@
 --   IsNamed       it is told
 --   IsForker      a forker behind its Fork, with the number 0
 --   Begins        a first frame, with room for its block
---   top_words     as many words from the top of the stack as a block has parameters
---   IsBorn        a child's first frame, whose arguments are those words of its forker
 --   IsBase        a snapshot's words, of the kinds of all locations
-use Rattle.std.specs.Prelude.{ℕ, suc, ◌≡◌, ◌≤◌, ◌+◌, ◌-◌, List, [], ◌∷◌, ◌++◌, length, take, replicate, drop, slice_get, slice_set, Some, None}
+--   IsAtStart     a revision before its first leg, which has a block, words of arguments, a snapshot and fuel
+use Rattle.std.specs.Prelude.{ℕ, suc, ◌≡◌, ◌≤◌, ◌+◌, ◌-◌, List, [], ◌∷◌, ◌++◌, length, take, replicate, slice_get, slice_set, Some, None}
 use Rattle.rev_code.specs.declared.code.CodeBlock.{CodeBlock}
 use Rattle.rev_code.specs.Step.{params}
 use Rattle.rev_code.specs.Words.{Word}
-use Rattle.rev_code.specs.State.{Location}
+use Rattle.rev_code.specs.State.{Location, State}
 use Rattle.rev_code.specs.Events as events
 use Rattle.code_soundness.specs.Typed.{AreLocations, location_kinds, IsOfProgram, kinds_of}
 use Rattle.plain_words.specs.Agreement.{AreWords}
+use Rattle.block_run.specs.Area.{count}
 use Rattle.block_run.specs.Standing.{AreSeen}
-use Rattle.code_machine.specs.Local.{CodeRun}
+use Rattle.code_machine.specs.Local.{CodeRun, IsVerified}
 use Rattle.leg_run.specs.declared.revision.Run.{Run}
 use Rattle.leg_run.specs.declared.revision.Meeting.TheVariants as meeting
 use Rattle.leg_run.specs.declared.setting.CodeSetting.{CodeSetting}
@@ -91,12 +91,16 @@ pub record Begins (s : CodeSetting) (n : ℕ) (args : List ℕ) (fuel : ℕ) (r 
   pub enough : IsRoom s.code n body room
   pub first : IsFirst body n args room fuel r
 
--- ---- forks
+-- ---- before the first leg
 
-abbrev pub top_words : CodeBlock → Run → List ℕ
-top_words b r = take (length (params b)) (drop (r.registers.top - length (params b)) r.words.items)
-
-pub record IsBorn (s : CodeSetting) (n : ℕ) (b : CodeBlock) (forker r : Run) : Type 0 where
-  pub room : ℕ
-  pub enough : IsRoom s.code n b room
-  pub first : IsFirst b n (top_words b forker) room (events.part s.share forker.registers.fuel) r
+-- its snapshot has these words, of so many locations
+pub record IsAtStart (g : CodeRun) (n : ℕ) (words : List ℕ) (base : ℕ → ℕ) (size fuel : ℕ)
+    (c : State ℕ) : Type 0 where
+  pub verified : IsVerified g
+  pub body : CodeBlock
+  pub args : List (Word ℕ)
+  pub locations : List (Location ℕ)
+  pub called : IsCalled g n body args words
+  pub based : IsBase g base locations
+  pub many : size ≡ count g.code.vars
+  pub is : c ≡ events.start n body args locations fuel

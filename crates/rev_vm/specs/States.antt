@@ -1,13 +1,16 @@
 -- The states and ends for which values stand, as functions of the values.
 --   state_at      the state of a running revision
+--   start_state   the state of a revision before its first leg
 --   before_join   the state of a joiner, whose list has its join already
 --   end_for       the end of a revision that left this end value
 --   joined_at     what becomes of a joiner of a revision that left this end value
 --   is_by_join    a join made the trap with which a revision ended
-use Rattle.std.specs.Prelude.{ℕ, Bool, false, List, [], ◌∷◌, map, slice_get}
+use Rattle.std.specs.Prelude.{ℕ, Bool, false, List, [], ◌∷◌, map, Option, Some, None, slice_get}
 use Rattle.rev_num.specs.declared.value.ValueKind.{ValueKind}
+use Rattle.rev_code.specs.declared.code.CodeBlock.{CodeBlock}
 use Rattle.rev_code.specs.Words.{Word}
 use Rattle.rev_code.specs.State.{State}
+use Rattle.rev_code.specs.Step.{first_locals, params}
 use Rattle.code_rules.specs.Shapes.{kind_or_int}
 use Rattle.code_soundness.specs.Typed.{location_kinds}
 use Rattle.version_map.specs.declared.delta.Delta.{Delta}
@@ -22,7 +25,7 @@ use Rattle.version_map.specs.Overlay as overlay
 use Rattle.code_machine.specs.Local.{CodeRun, Local, Phase, done, trapped, End}
 use Rattle.code_machine.specs.Joining.{join_in}
 use Rattle.leg_run.specs.declared.revision.Run.{Run}
-use Rattle.leg_run.specs.Standing.{state_of, word_as}
+use Rattle.leg_run.specs.Standing.{locations_from, state_of, word_as, words_as}
 
 -- ---- states
 
@@ -30,6 +33,26 @@ abbrev pub state_at :
     CodeRun → Run → (delta : Delta) → (base : ℕ → ℕ) → (first : Delta) → State ℕ
 state_at g run delta base first =
     state_of g.code run (overlay.under delta base) (at first)
+
+-- the locals of a first frame, whose arguments have these words
+abbrev pub locals_from : Option CodeBlock → List ℕ → List (Word ℕ)
+locals_from None words = []
+locals_from (Some b) words = first_locals b (words_as (params b) words)
+
+abbrev pub start_state : CodeRun → (block : ℕ) → (words : List ℕ) → (base : ℕ → ℕ) → (fuel : ℕ) → State ℕ
+start_state g n words base fuel = record {
+  block = n;
+  at = 0;
+  locals = locals_from (slice_get g.code.blocks n) words;
+  stack = [];
+  below = [];
+  locations = locations_from 0 (location_kinds g.code.vars) base (λ l. None);
+  fuel = fuel;
+  forks = 0;
+  listed = [];
+  text = [];
+  line = 0;
+}
 
 abbrev pub all_but_last : {A : Type 0} → List A → List A
 all_but_last [] = []

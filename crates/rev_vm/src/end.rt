@@ -1,7 +1,11 @@
 //! Revisions that have ended, or for which memory was wanting.
 
 ghost use Rattle.std.specs.Prelude.{◌≡◌, IfErr, IfOk};
+ghost use Rattle.version_map.specs.declared.snapshot.Collapsed.{Collapsed};
 ghost use Rattle.version_map.specs.Ascending.{IsAscending};
+ghost use Rattle.version_map.specs.Deltas.{at};
+ghost use Rattle.version_map.specs.Overlay.{under};
+ghost use Rattle.block_run.specs.Remembering.{HasRoom, written_below};
 
 use block_run::Memory;
 use leg_run::Revision;
@@ -111,6 +115,28 @@ pub(crate) fn stop<P: Snapshot>(
         written,
         finish,
     }
+}
+
+/// The revision as one that has ended, with what it has written, listed where there is room for it.
+pub(crate) fn stop_in_room<P: Snapshot>(
+    mut revision: Box<Revision<P>>,
+    room: Vec<Written>,
+    finish: Finish,
+) -> Stopped<P>
+    requires { HasRoom room (at revision.value.memory.first.roots)
+        (P.size revision.value.memory.snapshot) }
+    ensures written { result.end.written ≡ written_below
+        (under revision.value.memory.delta (P.base revision.value.memory.snapshot))
+        (at revision.value.memory.first.roots) (P.size revision.value.memory.snapshot) }
+    ensures text { result.end.text ≡ revision.value.run.text.items }
+    ensures fuel { result.end.fuel ≡ revision.value.run.registers.fuel }
+    ensures finish { result.end.finish ≡ finish }
+    ensures group { P.group result.snapshot ≡ P.group revision.value.memory.snapshot }
+    ensures answered { (c : Collapsed) → P.answered revision.value.memory.snapshot c
+        → P.answered result.snapshot c }
+{
+    let written = revision.memory.list_written(room);
+    stop(revision, Items::from_vec(written), finish)
 }
 
 /// The revision without all but its snapshot.

@@ -1,6 +1,6 @@
 //! Revisions at a Fork, and forkers behind it.
 
-ghost use Rattle.std.specs.Prelude.{◌≡◌, ◌≤◌, ◌<◌, ◌+◌, ◌-◌, ◌^◌, List, Some, IfOk, IfErr, IfSome};
+ghost use Rattle.std.specs.Prelude.{◌≡◌, ◌≤◌, ◌<◌, ◌+◌, ◌-◌, ◌^◌, List, Some, None, IfOk, IfErr, IfSome};
 ghost use Rattle.std.specs.Prelude.{drop, length, slice_get, take};
 ghost use Rattle.std.specs.Option.{ForSome};
 ghost use Rattle.rev_code.specs.declared.code.CodeBlock.{CodeBlock};
@@ -11,15 +11,14 @@ ghost use Rattle.rev_code.specs.Events as events;
 ghost use Rattle.version_map.specs.declared.snapshot.How.TheVariants as how;
 ghost use Rattle.version_map.specs.Deltas.{IsEmpty};
 ghost use Rattle.code_machine.specs.Local.{CodeRun};
-ghost use Rattle.rev_vm.specs.Revisions.{ForksAs, StandsAs};
-ghost use Rattle.rev_vm.specs.Starts.{IsBorn, IsForker, IsNamed, IsWaiting, run_under};
+ghost use Rattle.rev_vm.specs.Revisions.{BornAs, ForksAs, StandsAs};
+ghost use Rattle.rev_vm.specs.Starts.{IsForker, IsNamed, IsWaiting, run_under};
 
-use crate::end::{Broken, break_off, in_box};
-use crate::frame::first_frame;
-use crate::runner::Runner;
+use crate::beginning::born;
+use crate::end::{Broken, break_off};
+use crate::runner::{Beginning, Runner, Stage};
 use fun_run::params_of;
 use leg_run::{CodeSetting, Meeting, Revision, Run};
-use rev_code::CodeBlock;
 use std::alloc::{AllocError, Global};
 use version_map::{How, Snapshot};
 
@@ -70,7 +69,9 @@ impl<P: Snapshot> Parent<P> {
     {
         let Parent { mut revision } = self;
         name_child(&mut revision.run, number);
-        Runner { revision }
+        Runner {
+            stage: Stage::Begun(revision),
+        }
     }
 
     /// Its snapshot, given back.
@@ -112,26 +113,6 @@ fn words_on_top(run: &Run, count: usize) -> &[u64]
     &run.words.as_slice()[top - count..top]
 }
 
-/// The first frame of a child, whose arguments lie on top of its forker's stack.
-fn child_frame(
-    alloc: Global,
-    setting: &CodeSetting,
-    n: u16,
-    b: &CodeBlock,
-    run: &Run,
-) -> Result<Run, AllocError>
-    requires block { slice_get setting.now.code.blocks n ≡ Some b.now }
-    requires enough { length (params b.now) ≤ run.now.registers.top }
-    requires within { run.now.registers.top ≤ length run.now.words.items }
-    ensures { IfOk result (λ r. IsBorn setting.now n b.now run.now r) }
-{
-    let room = setting.room(n);
-    let part = part_of(setting.share(), run.registers.fuel);
-    let args = words_on_top(run, params_of(b));
-    let child = first_frame(alloc, b, n, room, args, part)?;
-    Ok(child)
-}
-
 /// Goes on behind a Fork of a child that took so many words and this much fuel.
 fn leave_fork(run: &mut Run, taken: usize, part: u64) -> Result<(), AllocError>
     requires taken { taken ≤ run.old.registers.top }
@@ -153,13 +134,13 @@ fn leave_fork(run: &mut Run, taken: usize, part: u64) -> Result<(), AllocError>
     Ok(())
 }
 
-/// The child of a revision at a Fork, which goes on behind it.
+/// What the child of a revision at a Fork begins with. The revision goes on behind its Fork.
 fn fork_off<P: Snapshot>(
     alloc: Global,
     setting: &CodeSetting,
     block: u16,
     revision: &mut Revision<P>,
-) -> Result<(Revision<P>, How), AllocError>
+) -> Result<(Beginning<P>, How), AllocError>
     requires at { (c : State _) × (args : List (Word _))
         × ForksAs (run_under setting.now) revision.old block c args }
     ensures parent { IfOk result (λ _. (c : State _) (args : List (Word _))
@@ -169,7 +150,8 @@ fn fork_off<P: Snapshot>(
     ensures child { IfOk result (λ r. (c : State _) (args : List (Word _))
         → ForksAs (run_under setting.now) revision.old block c args
         → (b : CodeBlock) × (slice_get setting.now.code.blocks block ≡ Some b)
-        × StandsAs (run_under setting.now) r.0 (events.child setting.now.share c block b args)) }
+        × BornAs (run_under setting.now) P.base P.size r.0
+        (events.child setting.now.share c block b args)) }
     ensures waits { IfOk result (λ _. IsWaiting revision.new.run) }
     ensures how { IfOk result (λ r. P.hows r.1) }
     ensures shared { IfOk result (λ r. r.1 ≡ how.Shared → IsEmpty revision.new.memory.delta) }
@@ -177,25 +159,28 @@ fn fork_off<P: Snapshot>(
         → revision.new.memory.delta ≡ revision.old.memory.delta) }
     ensures group { P.group revision.new.memory.snapshot ≡ P.group revision.old.memory.snapshot }
     ensures child_group { IfOk result
-        (λ r. P.group r.0.memory.snapshot ≡ P.group revision.old.memory.snapshot) }
+        (λ r. P.group r.0.snapshot ≡ P.group revision.old.memory.snapshot) }
 {
     let b = setting.block(block);
-    let run = child_frame(alloc, setting, block, b, &revision.run)?;
-    let part = part_of(setting.share(), revision.run.registers.fuel);
-    leave_fork(&mut revision.run, params_of(b), part)?;
-    let child = revision.memory.fork(alloc)?;
+    let count = params_of(b);
+    let args = Vec::from_slice(alloc, words_on_top(&revision.run, count))?;
+    let fuel = part_of(setting.share(), revision.run.registers.fuel);
+    leave_fork(&mut revision.run, count, fuel)?;
+    let (snapshot, how) = revision.memory.fork(alloc)?;
     Ok((
-        Revision {
-            memory: child.0,
-            run,
+        Beginning {
+            snapshot,
+            block,
+            args,
+            fuel,
         },
-        child.1,
+        how,
     ))
 }
 
 impl<P: Snapshot> AtFork<P> {
     ghost use Rattle.rev_vm.specs.Values.{Awaits, StandsAtFork, StandsFor};
-    ghost use Rattle.rev_vm.specs.Values.{fork_group, parent_group, runner_group};
+    ghost use Rattle.rev_vm.specs.Values.{fork_group, parent_group, runner_delta, runner_group};
 
     /// The forker behind its Fork, its child, and how the child has its words, as the snapshot
     /// answered.
@@ -221,6 +206,7 @@ impl<P: Snapshot> AtFork<P> {
             → r.0.revision.value.memory.delta ≡ self.revision.value.memory.delta) }
         ensures group { IfOk result (λ r. parent_group r.0 ≡ fork_group self) }
         ensures child_group { IfOk result (λ r. runner_group r.1 ≡ fork_group self) }
+        ensures tables { IfOk result (λ r. runner_delta r.1 ≡ None) }
         ensures broken { IfErr result
             (λ b. P.group b.forker.snapshot ≡ fork_group self) }
     {
@@ -229,8 +215,8 @@ impl<P: Snapshot> AtFork<P> {
             block,
         } = self;
         match fork_off(alloc, setting, block, &mut *revision) {
-            Ok((child, how)) => match in_box(alloc, child) {
-                Ok(child) => Ok((Parent { revision }, Runner { revision: child }, how)),
+            Ok((child, how)) => match born(alloc, child) {
+                Ok(child) => Ok((Parent { revision }, child, how)),
                 Err(child) => Err(BrokenFork {
                     forker: break_off(revision),
                     child: Some(child),

@@ -1,7 +1,7 @@
 //! Revisions before their first instruction, and with what they began.
 
 ghost use Rattle.std.specs.Prelude.{◌≡◌, ◌≤◌, ◌+◌, ◌==◌, ℕ, Some, length, take, drop};
-ghost use Rattle.std.specs.Prelude.{slice_get};
+ghost use Rattle.std.specs.Prelude.{option_copied, slice_get};
 ghost use Rattle.rev_code.specs.declared.code.CodeBlock.{CodeBlock};
 ghost use Rattle.rev_code.specs.Step.{params};
 ghost use Rattle.rev_code.specs.State.{State};
@@ -9,9 +9,9 @@ ghost use Rattle.plain_words.specs.Agreement.{AreWords};
 ghost use Rattle.code_machine.specs.Local.{CodeRun};
 ghost use Rattle.code_memos.specs.Leaf.{Fresh, IsFresh};
 ghost use Rattle.rev_vm.specs.Starts.{run_under};
-ghost use Rattle.rev_vm.specs.Values.{StandsFor};
+ghost use Rattle.rev_vm.specs.Values.{StandsFor, runner_delta, runner_snapshot};
 
-use crate::runner::Runner;
+use crate::runner::{Runner, Stage};
 use fun_run::params_of;
 use leg_run::{CodeSetting, Run};
 use version_map::{Delta, Snapshot};
@@ -47,14 +47,20 @@ impl<P: Snapshot> Runner<P> {
         ensures { (g : CodeRun) (c : State ℕ) → StandsFor g self.now c
             → result ≡ (length c.listed == 0) }
     {
-        self.revision.run.meetings.as_slice().is_empty()
+        match &self.stage {
+            Stage::Begun(revision) => revision.run.meetings.as_slice().is_empty(),
+            Stage::Born(_) => true,
+        }
     }
 
     /// The block that it runs: at first the one with which it was started.
     pub fn block(&self) -> u16
         ensures { (g : CodeRun) (c : State ℕ) → StandsFor g self.now c → result ≡ c.block }
     {
-        self.revision.run.registers.block
+        match &self.stage {
+            Stage::Begun(revision) => revision.run.registers.block,
+            Stage::Born(beginning) => beginning.block,
+        }
     }
 
     /// The arguments with which it was started, where it stands before its first instruction.
@@ -64,20 +70,29 @@ impl<P: Snapshot> Runner<P> {
         ensures { (c : State ℕ) (f : Fresh ℕ) → StandsFor (run_under setting.now) self.now c
             → IsFresh setting.now.code f c → AreWords f.args result.now }
     {
-        first_args(setting, &self.revision.run)
+        match &self.stage {
+            Stage::Begun(revision) => first_args(setting, &revision.run),
+            Stage::Born(beginning) => beginning.args.as_slice(),
+        }
     }
 
     /// Its snapshot.
     pub fn snapshot(&self) -> &P
-        ensures { result.now ≡ self.now.revision.value.memory.snapshot }
+        ensures { result.now ≡ runner_snapshot self.now }
     {
-        &self.revision.memory.snapshot
+        match &self.stage {
+            Stage::Begun(revision) => &revision.memory.snapshot,
+            Stage::Born(beginning) => &beginning.snapshot,
+        }
     }
 
-    /// What lies over its snapshot.
-    pub fn delta(&self) -> &Delta
-        ensures { result.now ≡ self.now.revision.value.memory.delta }
+    /// What lies over its snapshot, if it has begun its first leg. Before that nothing does.
+    pub fn delta(&self) -> Option<&Delta>
+        ensures { option_copied result ≡ runner_delta self.now }
     {
-        &self.revision.memory.delta
+        match &self.stage {
+            Stage::Begun(revision) => Some(&revision.memory.delta),
+            Stage::Born(_) => None,
+        }
     }
 }

@@ -6,26 +6,28 @@ ghost use Rattle.rev_code.specs.Events.{past_join};
 ghost use Rattle.code_machine.specs.Local.{CodeRun, End, Trap, end_of};
 ghost use Rattle.code_machine.specs.Joining.{inherit, origin_of};
 ghost use Rattle.version_map.specs.declared.end.Finish.TheVariants as finish;
-ghost use Rattle.version_map.specs.Ascending.{IsAscending};
+ghost use Rattle.version_map.specs.Deltas.{at};
+ghost use Rattle.block_run.specs.Remembering.{HasRoom};
 ghost use Rattle.rev_vm.specs.Meaning.{IsEnd, IsReady, IsTold, IsTrap};
 ghost use Rattle.rev_vm.specs.Revisions.{ClaimsAs};
 ghost use Rattle.rev_vm.specs.States.{is_by_join};
 
-use crate::end::{Stopped, break_off, stop};
-use crate::runner::Runner;
+use crate::end::{Stopped, break_off, stop_in_room};
+use crate::runner::{Runner, Stage};
 use leg_run::{Revision, Run};
-use rev_num::Items;
 use version_map::{CodeTrap, EndValue, Finish, Snapshot, Written};
 
-/// A revision at a join. The join stands in its list of forks and joins already, and what it has
-/// written is at hand, so that no call here takes memory.
+/// A revision at a join. The join stands in its list of forks and joins already, and there is room
+/// for a list of what it has written, so that no call here takes memory.
 pub struct AtJoin<P: Snapshot> {
     pub(crate) revision: Box<Revision<P>>,
     pub(crate) is_try: bool,
     pub(crate) on: u32,
-    pub(crate) written: Items<Written>,
+    // The list is made where the revision stops here.
+    pub(crate) room: Vec<Written>,
     ghost ready: { IsReady revision.value.run },
-    ghost ascending: { IsAscending written },
+    ghost enough: { HasRoom room (at revision.value.memory.first.roots)
+        (P.size revision.value.memory.snapshot) },
 }
 
 /// A joiner, and the end of the revision that it joins, which is done. In a run of code in which
@@ -37,7 +39,7 @@ pub struct Claimed<P: Snapshot> {
     ghost fuel: { at.revision.value.run.registers.fuel + end.fuel < 2 ^ 64 },
     ghost done: { end.finish ≡ finish.Done },
     ghost of: { ∥ ((g : CodeRun) × (c : State ℕ) × (j : End ℕ)
-        × ClaimsAs g at.revision.value at.written at.is_try at.on end c j) ∥₁ },
+        × ClaimsAs g at.revision.value at.is_try at.on end c j) ∥₁ },
 }
 
 impl<P: Snapshot> AtJoin<P> {
@@ -110,14 +112,14 @@ impl<P: Snapshot> AtJoin<P> {
             revision,
             is_try,
             on,
-            written,
+            room,
         } = self;
         let passed = CodeTrap {
             cause: trap.cause,
             line: trap.line,
             origin: Some(first),
         };
-        stop(revision, written, Finish::Trapped(passed))
+        stop_in_room(revision, room, Finish::Trapped(passed))
     }
 
     /// The joiner of a revision that has trapped, at a TryJoin: what the revision left is dropped,
@@ -132,10 +134,12 @@ impl<P: Snapshot> AtJoin<P> {
             mut revision,
             is_try,
             on,
-            written,
+            room,
         } = self;
         tell(&mut revision.run, 0);
-        Runner { revision }
+        Runner {
+            stage: Stage::Begun(revision),
+        }
     }
 
     /// Its snapshot, given back.
@@ -146,7 +150,7 @@ impl<P: Snapshot> AtJoin<P> {
             revision,
             is_try,
             on,
-            written,
+            room,
         } = self;
         break_off(revision).give_up()
     }

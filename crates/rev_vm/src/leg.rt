@@ -6,10 +6,9 @@ ghost use Rattle.rev_code.specs.State.{State};
 ghost use Rattle.rev_code.specs.Step.{ends, forks, joins, traps};
 ghost use Rattle.rev_code.specs.Words.{Word};
 ghost use Rattle.version_map.specs.declared.end.Finish.TheVariants as finish;
-ghost use Rattle.version_map.specs.Ascending.{IsAscending};
 ghost use Rattle.version_map.specs.Deltas.{at};
 ghost use Rattle.version_map.specs.Overlay.{under};
-ghost use Rattle.block_run.specs.Remembering.{Kept, written_below};
+ghost use Rattle.block_run.specs.Remembering.{HasRoom, written_below};
 ghost use Rattle.code_machine.specs.Leg.{leg};
 ghost use Rattle.code_machine.specs.Local.{done, end_of, has_ended};
 ghost use Rattle.rev_vm.specs.declared.leg.Event.TheVariants as event;
@@ -20,6 +19,7 @@ ghost use Rattle.rev_vm.specs.States.{is_by_join};
 ghost use Rattle.rev_vm.specs.Values.{StandsAtFork, StandsAtJoin, StandsFor};
 ghost use Rattle.rev_vm.specs.Values.{fork_group, joiner_group, runner_group};
 
+use crate::beginning::begun;
 use crate::end::{Broken, Stopped, break_off, stop};
 use crate::fork::AtFork;
 use crate::join::AtJoin;
@@ -48,27 +48,19 @@ fn note_join(run: &mut Run, on: u64) -> Result<(), AllocError>
     Ok(())
 }
 
-/// Lists a join, and gives what the joiner has written so far.
+/// Lists a join, and gives room for a list of what the joiner has written so far.
 fn come_to_join<P: Snapshot>(
     alloc: Global,
     revision: &mut Revision<P>,
     on: u64,
-) -> Result<Items<Written>, AllocError>
+) -> Result<Vec<Written>, AllocError>
     ensures noted { IfOk result (λ _. IsNoted on revision.old.run revision.new.run) }
-    ensures written { IfOk result (λ ws. ws ≡ written_below
-        (under revision.old.memory.delta (P.base revision.old.memory.snapshot))
-        (at revision.old.memory.first.roots) (P.size revision.old.memory.snapshot)) }
-    ensures order { IfOk result (λ ws. IsAscending ws) }
-    ensures kept { Kept (P.size revision.old.memory.snapshot)
-        (under revision.old.memory.delta (P.base revision.old.memory.snapshot))
-        (under revision.new.memory.delta (P.base revision.new.memory.snapshot))
-        (at revision.old.memory.first.roots) (at revision.new.memory.first.roots) }
-    ensures size { P.size revision.new.memory.snapshot ≡ P.size revision.old.memory.snapshot }
-    ensures group { P.group revision.new.memory.snapshot ≡ P.group revision.old.memory.snapshot }
+    ensures memory { revision.new.memory ≡ revision.old.memory }
+    ensures room { IfOk result (λ r. HasRoom r (at revision.new.memory.first.roots)
+        (P.size revision.new.memory.snapshot)) }
 {
     note_join(&mut revision.run, on)?;
-    let written = revision.memory.written(alloc)?;
-    Ok(Items::from_vec(written))
+    revision.memory.room_for_written(alloc)
 }
 
 /// The revision as one at a join. A joined revision of a number of 2^32 or more, which `told` tells
@@ -83,15 +75,7 @@ pub(crate) fn at_join<P: Snapshot>(
     ensures tries { IfOk result (λ a. a.is_try ≡ is_try) }
     ensures on { IfOk result (λ a. a.on ≡ on) }
     ensures noted { IfOk result (λ a. IsNoted on revision.value.run a.revision.value.run) }
-    ensures written { IfOk result (λ a. a.written ≡ written_below
-        (under revision.value.memory.delta (P.base revision.value.memory.snapshot))
-        (at revision.value.memory.first.roots) (P.size revision.value.memory.snapshot)) }
-    ensures kept { IfOk result (λ a. Kept (P.size revision.value.memory.snapshot)
-        (under revision.value.memory.delta (P.base revision.value.memory.snapshot))
-        (under a.revision.value.memory.delta (P.base a.revision.value.memory.snapshot))
-        (at revision.value.memory.first.roots) (at a.revision.value.memory.first.roots)) }
-    ensures size { IfOk result (λ a. P.size a.revision.value.memory.snapshot
-        ≡ P.size revision.value.memory.snapshot) }
+    ensures memory { IfOk result (λ a. a.revision.value.memory ≡ revision.value.memory) }
     ensures group { IfOk result (λ a. P.group a.revision.value.memory.snapshot
         ≡ P.group revision.value.memory.snapshot) }
     ensures broken { IfErr result (λ b. P.group b.snapshot
@@ -101,11 +85,11 @@ pub(crate) fn at_join<P: Snapshot>(
         return Err(break_off(revision));
     }
     match come_to_join(alloc, &mut *revision, on) {
-        Ok(written) => Ok(AtJoin {
+        Ok(room) => Ok(AtJoin {
             revision,
             is_try,
             on: on as u32,
-            written,
+            room,
         }),
         Err(_) => Err(break_off(revision)),
     }
@@ -144,7 +128,8 @@ pub(crate) fn own_trap(cause: Cause, line: u32) -> Finish
     })
 }
 
-/// Does the instructions of a leg up to its event. No join makes the trap that a leg has by itself.
+/// Does the instructions of a leg up to its event. The first leg of a revision makes its tables of
+/// locations and its first frame. No join makes the trap that a leg has by itself.
 /// The error is want of memory, as which a join of a number of 2^32 or more counts.
 pub fn run_leg<P: Snapshot>(
     alloc: Global,
@@ -182,7 +167,7 @@ pub fn run_leg<P: Snapshot>(
     ensures broken { IfErr result
         (λ b. P.group b.snapshot ≡ runner_group runner) }
 {
-    let Runner { mut revision } = runner;
+    let mut revision = begun(alloc, setting, runner)?;
     match run(setting, &mut *revision) {
         Err(_) => Err(break_off(revision)),
         Ok(LegEnd::Fork(block)) => Ok(Event::Fork(AtFork { revision, block })),

@@ -1,6 +1,7 @@
 //! Revisions that run code, from event to event.
 #![tactic(auto)]
 
+mod beginning;
 mod end;
 mod fork;
 mod frame;

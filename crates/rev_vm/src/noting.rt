@@ -19,6 +19,7 @@ ghost use Rattle.rev_vm.specs.States.{is_by_join};
 ghost use Rattle.rev_vm.specs.Values.{StandsFor, StandsAtFork, StandsAtJoin};
 ghost use Rattle.rev_vm.specs.Values.{fork_group, joiner_group, runner_group};
 
+use crate::beginning::begun;
 use crate::end::{Broken, break_off};
 use crate::fork::AtFork;
 use crate::leg::{Event, at_join, own_trap, stop_at};
@@ -71,7 +72,7 @@ pub fn run_leg_noting<P: Snapshot>(
     ensures broken { IfErr result
         (λ b. P.group b.snapshot ≡ runner_group runner) }
 {
-    let Runner { mut revision } = runner;
+    let mut revision = begun(alloc, setting, runner)?;
     match run_noting(setting, &mut *revision, noted) {
         Err(_) => Err(break_off(revision)),
         Ok(LegEnd::Fork(block)) => Ok(Event::Fork(AtFork { revision, block })),

@@ -12,7 +12,7 @@ ghost use Rattle.block_run.specs.Area.{count};
 ghost use Rattle.code_machine.specs.Machines.{IsMain};
 ghost use Rattle.rev_vm.specs.Opening.{AreShort, StartsWith, words_at_start};
 ghost use Rattle.rev_vm.specs.Starts.{run_under};
-ghost use Rattle.rev_vm.specs.Values.{StandsFor, runner_group};
+ghost use Rattle.rev_vm.specs.Values.{StandsFor, runner_delta, runner_group};
 
 use crate::runner::Runner;
 use leg_run::CodeSetting;
@@ -80,6 +80,7 @@ pub fn start_main<P: Snapshot>(
         (events.start n m.body [] (start_locations setting.now.code.vars) fuel)) }
     ensures stands { IfOk result (λ r. (c : State ℕ) × StandsFor (run_under setting.now) r c) }
     ensures group { IfOk result (λ r. runner_group r ≡ P.group snapshot) }
+    ensures tables { IfOk result (λ r. runner_delta r ≡ None) }
     ensures err { IfErr result (λ s. s ≡ snapshot) }
 {
     let main = main_of(setting.code());

@@ -19,14 +19,15 @@ ghost use Rattle.rev_vm.specs.declared.settling.Settled.TheVariants as settled;
 ghost use Rattle.rev_vm.specs.Meaning.{IsEnd, IsPast, IsPopped};
 ghost use Rattle.rev_vm.specs.Meaning.{IsReady, IsTakenOver};
 ghost use Rattle.rev_vm.specs.States.{is_by_join};
-ghost use Rattle.rev_vm.specs.Values.{HasClaimed, StandsFor, joiner_group, runner_group};
+ghost use Rattle.rev_vm.specs.Values.{HasClaimed, StandsFor};
+ghost use Rattle.rev_vm.specs.Values.{joiner_group, runner_group, runner_snapshot};
 ghost use Rattle.rev_vm.specs.Writes.{HasWritten};
 ghost use Rattle.rev_vm.specs.NewWords.{IsMergedTo};
 
-use crate::end::{Broken, Stopped, break_off, stop};
+use crate::end::{Broken, Stopped, break_off, stop_in_room};
 use crate::join::{AtJoin, Claimed, tell};
 use crate::memory::{read_all, write_all};
-use crate::runner::Runner;
+use crate::runner::{Runner, Stage};
 use block_run::Memory;
 use leg_run::{Revision, Run};
 use rev_num::Cause;
@@ -144,26 +145,26 @@ fn take_over<P: Snapshot>(
     is_try: bool,
     end: EndValue,
     values: Vec<u64>,
-) -> Result<Runner<P>, Broken<P>>
+) -> Result<Box<Revision<P>>, Broken<P>>
     requires ready { IsReady revision.value.run }
     requires fuel { revision.value.run.registers.fuel + end.fuel < 2 ^ 64 }
     requires within { All (λ w. w.location < P.size revision.value.memory.snapshot) end.written }
     requires many { length values.items ≡ length end.written }
     ensures taken { IfOk result
-        (λ r. IsTakenOver is_try end.fuel end.text revision.value.run r.revision.value.run) }
+        (λ r. IsTakenOver is_try end.fuel end.text revision.value.run r.value.run) }
     ensures wrote { IfOk result (λ r. HasWritten (P.size revision.value.memory.snapshot)
         end.written values.items
         (under revision.value.memory.delta (P.base revision.value.memory.snapshot))
         (at revision.value.memory.first.roots)
-        (under r.revision.value.memory.delta (P.base r.revision.value.memory.snapshot))
-        (at r.revision.value.memory.first.roots)) }
-    ensures size { IfOk result (λ r. P.size r.revision.value.memory.snapshot
+        (under r.value.memory.delta (P.base r.value.memory.snapshot))
+        (at r.value.memory.first.roots)) }
+    ensures size { IfOk result (λ r. P.size r.value.memory.snapshot
         ≡ P.size revision.value.memory.snapshot) }
-    ensures group { IfOk result (λ r. runner_group r
+    ensures group { IfOk result (λ r. P.group r.value.memory.snapshot
         ≡ P.group revision.value.memory.snapshot) }
     ensures answered { IfOk result (λ r. (c : Collapsed)
         → P.answered revision.value.memory.snapshot c
-        → P.answered r.revision.value.memory.snapshot c) }
+        → P.answered r.value.memory.snapshot c) }
     ensures broken_answered { IfErr result (λ b. (c : Collapsed)
         → P.answered revision.value.memory.snapshot c → P.answered b.snapshot c) }
     ensures broken { IfErr result (λ b. P.group b.snapshot
@@ -180,7 +181,7 @@ fn take_over<P: Snapshot>(
     go_past(&mut inside.run, is_try);
     inside.run.registers.fuel += fuel;
     match append(&mut inside.run.text, text.into_vec()) {
-        Ok(()) => Ok(Runner { revision }),
+        Ok(()) => Ok(revision),
         Err(_) => Err(break_off(revision)),
     }
 }
@@ -212,7 +213,7 @@ pub fn settle<P: Snapshot, M: MergeBy>(
       | settled.Trap t ↦ P.group t.snapshot ≡ joiner_group claimed.at
     ]) }
     ensures collapsed { IfOk result (λ s. elim s [
-      | settled.Run r ↦ HasCollapsed P.answered r.revision.value.memory.snapshot
+      | settled.Run r ↦ HasCollapsed P.answered (runner_snapshot r)
       | settled.Trap t ↦ HasCollapsed P.answered t.snapshot
     ]) }
     ensures broken_collapsed { IfErr result (λ b. HasCollapsed P.answered b.snapshot) }
@@ -226,7 +227,7 @@ pub fn settle<P: Snapshot, M: MergeBy>(
         mut revision,
         is_try,
         on,
-        written,
+        room,
     } = at;
     let inside = &mut *revision;
     collapse(&mut inside.memory.snapshot, &mut inside.memory.delta);
@@ -234,10 +235,12 @@ pub fn settle<P: Snapshot, M: MergeBy>(
         Err(_) => Err(break_off(revision)),
         Ok(Merged::Fault(trap)) => {
             let finish = fault_at(trap, revision.run.registers.line);
-            Ok(Settled::Trap(stop(revision, written, finish)))
+            Ok(Settled::Trap(stop_in_room(revision, room, finish)))
         },
         Ok(Merged::Words(values)) => match take_over(revision, is_try, end, values) {
-            Ok(runner) => Ok(Settled::Run(runner)),
+            Ok(revision) => Ok(Settled::Run(Runner {
+                stage: Stage::Begun(revision),
+            })),
             Err(broken) => Err(broken),
         },
     }

@@ -6,10 +6,9 @@ use Rattle.rev_code.specs.State as listed
 use Rattle.rev_code.specs.Events as events
 use Rattle.version_map.specs.declared.delta.Delta.{Delta}
 use Rattle.version_map.specs.declared.end.EndValue.{EndValue}
-use Rattle.version_map.specs.declared.end.Written.{Written}
 use Rattle.code_machine.specs.Local.{CodeRun, End}
 use Rattle.leg_run.specs.declared.revision.Run.{Run}
-use Rattle.rev_vm.specs.Meaning.{IsAt, IsAtFork, IsAtJoin, IsEnd}
+use Rattle.rev_vm.specs.Meaning.{IsAtFork, IsAtJoin, IsEnd}
 use Rattle.rev_vm.specs.States.{state_at, before_join, end_for}
 use Rattle.rev_vm.proofs.Values.{one_state, one_joining, one_end}
 use Rattle.run_revision.specs.Forking.{arguments_of, arguments_at, last_named, renamed}
@@ -17,9 +16,6 @@ use Rattle.run_revision.specs.Forking.{arguments_of, arguments_at, last_named, r
 module _ (g : CodeRun) (run : Run) (delta : Delta) (base : ℕ → ℕ) (first : Delta) where
   abbrev pub own_state : State ℕ
   own_state = state_at g run delta base first
-
-  pub at_own : (c : State ℕ) → IsAt g run delta base first c → IsAt g run delta base first own_state
-  at_own c h = subst (IsAt g run delta base first) (one_state g run delta base first c h) h
 
   pub own_args : (n : ℕ) (c : State ℕ) (args : List (Word ℕ)) → IsAtFork g run delta base first n c args
       → args ≡ arguments_at g own_state
@@ -32,10 +28,10 @@ module _ (g : CodeRun) (run : Run) (delta : Delta) (base : ℕ → ℕ) (first :
       subst (λ z. IsAtFork g run delta base first n own_state z) (own_args n c args h)
       (subst (λ z. IsAtFork g run delta base first n z args) (one_state g run delta base first c h.stands) h)
 
-  pub join_own : (ws : List Written) (try : Bool) (on : ℕ) (c : State ℕ) → IsAtJoin g run delta base first ws try on c
-      → IsAtJoin g run delta base first ws try on (before_join g run delta base first)
-  join_own ws try on c h =
-      subst (λ z. IsAtJoin g run delta base first ws try on z) (one_joining g run delta base first ws try on c h) h
+  pub join_own : (try : Bool) (on : ℕ) (c : State ℕ) → IsAtJoin g run delta base first try on c
+      → IsAtJoin g run delta base first try on (before_join g run delta base first)
+  join_own try on c h =
+      subst (λ z. IsAtJoin g run delta base first try on z) (one_joining g run delta base first try on c h) h
 
 pub end_own : (g : CodeRun) (j : End ℕ) (v : EndValue) → IsEnd g j v → IsEnd g (end_for g v) v
 end_own g j v h = subst (λ z. IsEnd g z v) (one_end g j v h) h

@@ -1,5 +1,5 @@
 -- A segment is laid down word by word.
-use Rattle.std.proofs.Common.{◌≡◌, ◌≢◌, ℕ, ◌+◌, ◌<◌, Bool, cond, List, ◌∷◌, slice_index, sym}
+use Rattle.std.proofs.Common.{◌≡◌, ◌≢◌, ℕ, ◌+◌, ◌-◌, ◌*◌, ◌/◌, ◌%◌, ◌<◌, ◌≤◌, Bool, cond, List, ◌∷◌, slice_index, sym}
 use Rattle.std.proofs.Common.{ap, ◌∙◌, subst, arith, eq-eqb, ne_eqb, Option, None, Some}
 use mathlib.Core.Option as m
 use mathlib.Core.Logic.{dite}
@@ -7,12 +7,17 @@ use native.Mathlib.Decide.{ℕ_discrete}
 use Rattle.atomic_table.specs.declared.shared.Seat.{Seat}
 use Rattle.atomic_table.specs.Table.{Me}
 use Rattle.version_map.specs.declared.delta.Delta.{Delta}
+use Rattle.std.specs.Int.{bit_at}
+use Rattle.std.proofs.lemmas.Nat.Bits.{bit_at-zero}
 use Rattle.version_map.specs.Deltas.{at, mask_of}
+use Rattle.version_map.specs.Masks.{bit_in, chosen}
+use Rattle.version_map.proofs.Bits.{chosen_zero}
 use Rattle.segment_store.specs.Entry.{Put}
 use Rattle.segment_store.specs.declared.board.View.{View}
 use Rattle.segment_store.specs.Store.{look, puts}
 use Rattle.segment_store.specs.Same.{Becomes}
 use Rattle.segment_store.specs.Base.{filled}
+use Rattle.segment_store.specs.Filling.{Filling}
 
 pub look_here : (ps : List Put) (i j w : ℕ) → i ≡ j
     → look (record { at = i; word = w } ∷ ps) j ≡ m.some w
@@ -21,14 +26,6 @@ look_here ps i j w e = ap (λ (b : Bool). cond b (m.some w) (look ps j)) (eq-eqb
 pub look_else : (ps : List Put) (i j w : ℕ) → i ≢ j
     → look (record { at = i; word = w } ∷ ps) j ≡ look ps j
 look_else ps i j w ne = ap (λ (b : Bool). cond b (m.some w) (look ps j)) (ne_eqb i j ne)
-
--- the parent, the first k mask words and the values of the first l locations are laid down
-pub record Filling (segment parent masks : ℕ) (d : Delta) (k l : ℕ) (made : List Put) : Type 0 where
-  pub parent_is : look made (segment + 1) ≡ m.some parent
-  pub mask_is : (j : ℕ) → j < k → look made (segment + (2 + j)) ≡ m.some (slice_index (mask_of d) j)
-  pub value_is : (j w : ℕ) → j < l → at d j ≡ Some w
-      → look made (segment + (2 + masks + j)) ≡ m.some w
-  pub none_is : (j : ℕ) → (j < l → at d j ≡ None) → look made (segment + (2 + masks + j)) ≡ m.none
 
 pub none_some : {A : Type 0} (w : A) (o : Option A) → o ≡ None → o ≡ Some w → ⊥
 none_some {A} w o p q = subst is_none (sym p ∙ q) tt where
@@ -72,6 +69,53 @@ module _ (segment parent masks : ℕ) (d : Delta) where
         (λ ne. f.value_is j x (omega arith) e);
     none_is = λ j z. f.none_is j (λ lt. z (omega arith));
   }
+
+  -- as far as n, where no location between has a value
+  pub filling_jump : (l n : ℕ) (made : List Put) → Filling segment parent masks d masks l made
+      → ((j : ℕ) → l ≤ j → j < n → at d j ≡ None) → l ≤ n → Filling segment parent masks d masks n made
+  filling_jump l n made f none le = record {
+    parent_is = f.parent_is;
+    mask_is = f.mask_is;
+    value_is = λ j x lt e. dite (ℕ_discrete (l - j) 0)
+        (λ q. absurd (none_some x (at d j) (none j (omega arith) lt) e))
+        (λ ne. f.value_is j x (omega arith) e);
+    none_is = λ j z. f.none_is j (λ lt. z (omega arith));
+  }
+
+  pub filling_at : (l i w : ℕ) (made : List Put) → i ≡ segment + (2 + masks + l)
+      → Filling segment parent masks d masks l made → at d l ≡ Some w
+      → Filling segment parent masks d masks (l + 1) (record { at = i; word = w } ∷ made)
+  filling_at l i w made is f is_some =
+      subst (λ (z : ℕ). Filling segment parent masks d masks (l + 1) (record { at = z; word = w } ∷ made)) (sym is)
+      (filling_value l w made f is_some)
+
+-- what a row of the mask says of a location of the row
+pub in_a_row : (d : Delta) (row k bits w : ℕ) → k < 64 → bits ≡ slice_index (mask_of d) row
+    → at d (64 * row + k) ≡ chosen (bit_in (mask_of d) (64 * row + k)) w
+    → at d (64 * row + k) ≡ chosen (bit_at bits k) w
+in_a_row d row k bits w lt is here =
+    let at_row : (64 * row + k) / 64 ≡ row = omega arith in
+    let at_bit : (64 * row + k) % 64 ≡ k = omega arith in
+    here
+    ∙ ((λ i. chosen (bit_at (slice_index (mask_of d) (at_row i)) (at_bit i)) w)
+    ∙ ap (λ (z : ℕ). chosen (bit_at z k) w) (sym is))
+
+pub empty_row : (d : Delta) (row l : ℕ) → slice_index (mask_of d) row ≡ 0 → 64 * row ≤ l → l < 64 * row + 64
+    → at d l ≡ None
+empty_row d row l zero lo hi =
+    let same : l / 64 ≡ row = omega (arith, lo, hi) in
+    chosen_zero _ _
+    (ap (λ (z : ℕ). bit_at (slice_index (mask_of d) z) (l % 64)) same
+    ∙ (ap (λ (z : ℕ). bit_at z (l % 64)) zero ∙ bit_at-zero (l % 64)))
+
+pub beyond : (d : Delta) (l : ℕ) → d.count ≤ l → at d l ≡ None
+beyond d l le = chosen_zero _ _ (d.clean l le)
+
+-- a part more
+pub fills_more : (s t u : Seat (Unit {0}) View) → Becomes s t (filled s.me.0 t.me.0.made)
+    → Becomes t u (filled t.me.0 u.me.0.made) → Becomes s u (filled s.me.0 u.me.0.made)
+fills_more s t u a b =
+    (b.0 ∙ a.0, b.1 ∙ a.1, b.2 ∙ ap (λ (x : Me (Unit {0}) View). (filled x.0 u.me.0.made, x.1)) a.2)
 
 -- one more word
 pub puts_more : (s t u : Seat (Unit {0}) View) (i w : ℕ) → Becomes s t (filled s.me.0 t.me.0.made)

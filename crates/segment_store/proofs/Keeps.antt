@@ -21,7 +21,7 @@ use Rattle.segment_store.specs.Store.{refs_in, refs, builds, held, IsSegment, Sh
 use Rattle.segment_store.specs.Store.{Knows, Kept, sees, claims, puts, publishes, shares, pops}
 use Rattle.segment_store.specs.Store.{drops, gave_up, counts, looked, saw, claimed, wrote}
 use Rattle.segment_store.specs.Store.{published, shared, released, tallied}
-use Rattle.segment_store.specs.Store.{notes}
+use Rattle.segment_store.specs.Store.{notes, found}
 use Rattle.seg_core.proofs.Sums.{total_set, total_one, total_two, is_at_same}
 use Rattle.segment_store.proofs.Sums.{refs_is, refs_not, refs_none, chain_has}
 use Rattle.seg_core.proofs.Sums.{is_at_other}
@@ -184,6 +184,19 @@ module _ (words stride : ℕ) (some_words : 0 < stride) where
         subst (λ b. Rule (stepped s c (either b building x) id me.1 (notes v c x) keeps))
             (sym (ne_eqb x 0 miss)) (note_keeps s r c id me.1 v at x),
         ((λ hit. absurd (miss hit)), λ _. refl),
+      ))
+
+  pub find : (slots id : ℕ) (me : M) (c : ℕ)
+      → Allows Rule slots id me c (λ x. x) (found (step slots c 0 0 none) me)
+  find slots id me c s r _ at small = let x : ℕ = get_or s.words c 0 in let v : View = me.0 in
+      dite (ℕ_discrete x 0)
+      (λ free. (v, keeps, tt, unmoved s r c id me.1 v at, ((λ _. refl), λ busy. absurd (busy free))))
+      (λ busy. (
+        notes v c x,
+        keeps,
+        tt,
+        note_keeps s r c id me.1 v at x,
+        ((λ free. absurd (busy free)), λ _. refl),
       ))
 
   -- what a segment that is being built tells

@@ -72,6 +72,18 @@ module _ (words stride masks : ℕ) (some_words : 0 < stride) where
       (view_is m' (st.notes v c x) me.1 (t.2 miss))
       (load_traces words stride masks s r c id v (st.notes v c x) at refl refl refl refl refl)))
 
+  pub find : (slots id : ℕ) (me : M) (c : ℕ)
+      → Allows R slots id me c (λ x. x) (st.found (step slots c 0 0 m.none) me)
+  find slots id me c = lifts words stride masks slots id me c (λ x. x)
+      (st.found (step slots c 0 0 m.none) me) (keeps.find words stride some_words slots id me c)
+      (λ s r at m' t. let x : ℕ = get_or s.words c 0 in let v : View = me.0 in dite (ℕ_discrete x 0)
+      (λ free. subst (λ (z : View). Tr (set s.words c x) (set s.views id z))
+      (sym (ap (λ (z : M). z.0) (t.0 free)))
+      (load_traces words stride masks s r c id v v at refl refl refl refl refl))
+      (λ busy. subst (λ (z : View). Tr (set s.words c x) (set s.views id z))
+      (view_is m' (st.notes v c x) me.1 (t.1 busy))
+      (load_traces words stride masks s r c id v (st.notes v c x) at refl refl refl refl refl)))
+
   pub claim : (slots id : ℕ) (me : M) (c : ℕ) → st.IsSegment words stride c → me.0.build ≡ 0
       → 0 < me.0.holds
       → Allows R slots id me c (λ x. either (eqb x 0) st.building x)

@@ -3,6 +3,7 @@ pub mod Entry
 pub mod First
 pub mod Store
 pub mod Base
+pub mod Filling
 pub mod Same
 pub mod Own
 pub mod Shown

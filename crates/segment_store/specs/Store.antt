@@ -160,6 +160,10 @@ looked st m r m' = (m' ≡ m) × ((e : Entry) (w : ℕ) → Has e m.0.chain → 
 abbrev pub saw : Then
 saw st m r m' = (0 < r) × (r ≡ 1 → m' ≡ (sees m.0, m.1)) × (r ≢ 1 → m' ≡ (notes m.0 st.word r, m.1))
 
+-- any count but 0 is noted
+abbrev pub found : Then
+found st m r m' = (r ≡ 0 → m' ≡ m) × (r ≢ 0 → m' ≡ (notes m.0 st.word r, m.1))
+
 abbrev pub claimed : Then
 claimed st m r m' = (r ≡ 0 → m' ≡ (claims m.0 st.word, m.1))
     × (r ≢ 0 → m' ≡ (notes m.0 st.word r, m.1))

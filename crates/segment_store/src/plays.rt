@@ -1,8 +1,8 @@
 //! What each step tells.
 ghost use Rattle.segment_store.specs.Rule.{Rule};
-ghost use Rattle.segment_store.specs.Store.{idle, looked, saw, claimed, wrote, published, shared};
-ghost use Rattle.segment_store.specs.Store.{released, tallied, hands_left, hands_right, parts_left};
-ghost use Rattle.segment_store.specs.Store.{gathers};
+ghost use Rattle.segment_store.specs.Store.{idle, looked, saw, found, claimed, wrote, published};
+ghost use Rattle.segment_store.specs.Store.{shared, released, tallied, hands_left, hands_right};
+ghost use Rattle.segment_store.specs.Store.{parts_left, gathers};
 
 use crate::board::{Size, View};
 use atomic_table::{Join, Play, Split, TableRule};
@@ -26,6 +26,12 @@ pub struct See;
 
 impl Play<(), View> for See {
     ghost then = { saw };
+}
+
+pub struct Find;
+
+impl Play<(), View> for Find {
+    ghost then = { found };
 }
 
 pub struct Claim;

@@ -1,6 +1,6 @@
 //! The store and its holds.
 ghost use Rattle.std.specs.Prelude.{◌≡◌, ◌≢◌, ℕ, ◌+◌, ◌-◌, ◌*◌, ◌/◌, ◌%◌, ◌<◌, ◌≤◌, ◌^◌, []};
-ghost use Rattle.std.specs.Prelude.{vec_len, replicate, cond, min, ◌==◌, IfOk, IfErr, None, IfNone};
+ghost use Rattle.std.specs.Prelude.{vec_len, cond, min, ◌==◌, IfOk, IfErr, None, IfNone};
 ghost use Rattle.std.specs.Prelude.{IfSome, slice_index};
 ghost use mathlib.Core.Option.{some};
 ghost use lib.ListN.{get_elem?};
@@ -17,6 +17,7 @@ ghost use Rattle.segment_store.specs.Own.{IsOwn};
 
 mod closing;
 mod copies;
+mod rows;
 mod steps;
 mod walks;
 
@@ -91,7 +92,7 @@ impl Closed {
 }
 
 /// What is left of holds that were given back, with their number modulo 2^64. It is never let go of:
-/// `gather` and `close` take it.
+/// `gather`, `shut` and `close` take it.
 pub struct Spent {
     seat: Place,
     holds: u64,
@@ -126,7 +127,7 @@ impl Store {
         let stride = 2 + masks + initial.len();
         let segments = opened(segments, stride);
         let words = (segments + 1) * stride;
-        let mut first = zeros(alloc, words)?;
+        let mut first = vec![in alloc; 0; words]?;
         first[0] = 1;
         let size = Size {
             words: words as u64,
@@ -477,14 +478,4 @@ fn opened(segments: u32, stride: usize) -> usize
     } else {
         most
     }
-}
-
-fn zeros(alloc: Global, n: usize) -> Result<Vec<u64>, AllocError>
-    ensures { IfOk result (λ v. v.items ≡ replicate n 0) }
-{
-    let mut v = Vec::new(alloc);
-    for i in 0..n {
-        v.push(0)?;
-    }
-    Ok(v)
 }

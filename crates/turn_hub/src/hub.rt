@@ -20,13 +20,15 @@ use std::sync::atomic::{AtomicU64, Ordering};
 pub struct Signs {
     // How many threads sleep until the turn is given back, or are about to.
     pub(crate) sleepers: AtomicU64,
-    // The mark of the run queue when the turn was last given back.
-    pub(crate) mark: AtomicU64,
+    /// 0 where no revision was ready when the turn was last given back, and else a mark of that
+    /// which came first and of how many were ready, which `marked` of `hub_core` reads. It is for a
+    /// thread that asks whether to look: `take` alone tells.
+    pub mark: AtomicU64,
 }
 
 impl Signs {
     /// Nobody sleeps, and this is the mark.
-    pub fn new(mark: u64) -> Signs {
+    pub(crate) fn new(mark: u64) -> Signs {
         Signs {
             sleepers: AtomicU64::new(0),
             mark: AtomicU64::new(mark),
@@ -43,7 +45,8 @@ pub struct TurnHub<L: Revision> {
         OneHolder<L>,
         Global,
     >,
-    pub(crate) signs: CachePadded<Signs>,
+    /// What threads look at without the turn. No contract sees what they have.
+    pub signs: CachePadded<Signs>,
     ghost sized: { (turn.shared.table_id.words ≡ 1) × (turn.shared.table_id.slots ≡ 1) },
 }
 
@@ -149,12 +152,6 @@ impl<L: Revision> TurnHub<L> {
         self.turn.shared.exchange(place, 0, None).unwrap()
     }
 
-    /// 0 where no revision was ready when the turn was last given back, and else a mark of that
-    /// which came first. It is for a thread that asks whether to look: `take` alone tells.
-    pub fn ready_mark(&self) -> u64 {
-        self.signs.mark.load(Ordering::SeqCst)
-    }
-
     // Only a seat with the turn calls this, so nothing is written in between.
     fn put_mark(&self, mark: u64) {
         if self.signs.mark.load(Ordering::SeqCst) != mark {
@@ -173,7 +170,7 @@ impl<L: Revision> TurnHub<L> {
         ensures own { place.new.table_id ≡ place.old.table_id }
         ensures rests { place.new.me ≡ (rests place.old.me.0, []) }
     {
-        self.put_mark(turn.revisions.queue.mark());
+        self.put_mark(turn.revisions.queue.counted_mark());
         empty(self.turn.shared.exchange(place, 0, Some(turn)));
         self.give(place);
         if self.signs.sleepers.load(Ordering::SeqCst) > 0 {

@@ -16,5 +16,5 @@ mod taking;
 
 pub use answers::{EndStep, JoinAnswer, JoinStep, Onward, Taken};
 pub use closing::{HubEnd, HubRun, HubSchedule};
-pub use hub::TurnHub;
+pub use hub::{Signs, TurnHub};
 pub use seat::HubSeat;

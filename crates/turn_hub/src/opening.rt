@@ -17,9 +17,6 @@ use hub_core::{Another, HubState, OneHolder, Revision, Revisions, Turn, View, ap
 use std::alloc::Global;
 use std::marker::PhantomData;
 
-// The mark of the run queue of a hub that was opened: revision 0 is ready.
-const FIRST_MARK: u64 = 1;
-
 /// What a run begins with.
 pub struct Opening<L: Revision> {
     first: L::Runner,
@@ -117,6 +114,7 @@ impl<L: Revision> TurnHub<L> {
             return Err(first);
         };
         let revisions = Revisions::one(alloc, first)?;
+        let mark = revisions.queue.counted_mark();
         let turn = Turn {
             schedule: Vec::new(alloc),
             revisions,
@@ -127,7 +125,7 @@ impl<L: Revision> TurnHub<L> {
             Ok((turn, place)) => {
                 let hub = TurnHub {
                     turn,
-                    signs: CachePadded::new(Signs::new(FIRST_MARK)),
+                    signs: CachePadded::new(Signs::new(mark)),
                 };
                 Ok((hub, place))
             },

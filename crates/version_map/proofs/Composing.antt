@@ -4,13 +4,14 @@
 --   before_fault       a later entry faults
 --   composed_here      the composition from an entry on
 --   goes_on, stops     one entry more, which has a new word or faults
+--   puts_more          one entry more is put
 --   is_done            no entry is left
-use Rattle.std.proofs.Common.{◌≡◌, ℕ, ◌+◌, ◌<◌, ◌≤◌, List, [], ◌∷◌, ◌++◌, length, take, drop, set, get_or, Ok, Err, ap, sym, ◌∙◌, refl}
-use Rattle.std.proofs.lemmas.List.{drop_more, drop_all, take_all, take_more_set}
+use Rattle.std.proofs.Common.{◌≡◌, ℕ, ◌+◌, ◌<◌, ◌≤◌, List, [], ◌∷◌, ◌++◌, length, take, drop, set, get_or, Result, Ok, Err, ap, sym, ◌∙◌, refl, arith}
+use Rattle.std.proofs.lemmas.List.{drop_more, drop_all, take_all, take_more_set, append_assoc, length_push}
 use Rattle.rev_num.specs.declared.value.NumFault.{NumFault}
 use Rattle.version_map.specs.declared.end.Written.{Written}
 use Rattle.version_map.specs.Composing.{Merges, Composition, before_later, and_later, composed, entries}
-use Rattle.version_map.specs.Parts.{before}
+use Rattle.version_map.specs.Parts.{before, HasPut}
 
 pub before_one_more : {W : Type 0} (xs : List W) (x : W) (c : Composition W)
     → before xs (before_later x c) ≡ before (xs ++ x ∷ []) c
@@ -35,33 +36,48 @@ composed_here merge mains ws i d z h k =
     ap (λ ms. composed merge ms (entries (drop i ws))) (drop_more mains i d h)
     ∙ ap (λ xs. composed merge (get_or mains i d ∷ drop (i + 1) mains) (entries xs)) (drop_more ws i z k)
 
--- one entry more is composed
-pub goes_on :
-    (merge : Merges ℕ) (mains values : List ℕ) (ws : List Written) (i d v : ℕ) (z : Written) (c : Composition ℕ)
-    → i < length mains → i < length ws → i < length values
-    → Ok v ≡ merge (get_or ws i z).location (get_or mains i d) (get_or ws i z).value (get_or ws i z).root
-    → c ≡ before (take i values) (composed merge (drop i mains) (entries (drop i ws)))
-    → c ≡ before (take (i + 1) (set values i v)) (composed merge (drop (i + 1) mains) (entries (drop (i + 1) ws)))
-goes_on merge mains values ws i d v z c h k m e so =
-    let later : Composition ℕ = composed merge (drop (i + 1) mains) (entries (drop (i + 1) ws)) in
-    so
-    ∙ (ap (before (take i values))
-    (composed_here merge mains ws i d z h k ∙ ap (λ r. and_later (get_or ws i z).location r later) (sym e))
-    ∙ (before_one_more (take i values) v later ∙ ap (λ vs. before vs later) (sym (take_more_set values i v m))))
+-- a part's next entry
+module _ (merge : Merges ℕ) (mains : List ℕ) (ws : List Written) (i d : ℕ) (z : Written) where
+  abbrev outcome : Result ℕ NumFault
+  outcome = merge (get_or ws i z).location (get_or mains i d) (get_or ws i z).value (get_or ws i z).root
 
--- this entry faults
-pub stops : (merge : Merges ℕ) (mains values : List ℕ) (ws : List Written) (i d : ℕ) (f : NumFault) (z : Written)
-    (c : Composition ℕ)
-    → i < length mains → i < length ws
-    → Err f ≡ merge (get_or ws i z).location (get_or mains i d) (get_or ws i z).value (get_or ws i z).root
-    → c ≡ before (take i values) (composed merge (drop i mains) (entries (drop i ws)))
-    → c ≡ Err ((get_or ws i z).location, f)
-stops merge mains values ws i d f z c h k e so =
-    let later : Composition ℕ = composed merge (drop (i + 1) mains) (entries (drop (i + 1) ws)) in
-    so
-    ∙ (ap (before (take i values))
-    (composed_here merge mains ws i d z h k ∙ ap (λ r. and_later (get_or ws i z).location r later) (sym e))
-    ∙ before_fault (take i values) ((get_or ws i z).location, f))
+  abbrev left : ℕ → Composition ℕ
+  left j = composed merge (drop j mains) (entries (drop j ws))
+
+  -- one entry more is composed
+  pub goes_on : (part : List ℕ) (v : ℕ) (c : Composition ℕ) → i < length mains → i < length ws → Ok v ≡ outcome
+      → c ≡ before part (left i) → c ≡ before (part ++ v ∷ []) (left (i + 1))
+  goes_on part v c h k e so =
+      so
+      ∙ (ap (before part)
+      (composed_here merge mains ws i d z h k ∙ ap (λ r. and_later (get_or ws i z).location r (left (i + 1))) (sym e))
+      ∙ before_one_more part v (left (i + 1)))
+
+  -- this entry faults
+  pub stops : (part : List ℕ) (f : NumFault) (c : Composition ℕ) → i < length mains → i < length ws → Err f ≡ outcome
+      → c ≡ before part (left i) → c ≡ Err ((get_or ws i z).location, f)
+  stops part f c h k e so =
+      so
+      ∙ (ap (before part)
+      (composed_here merge mains ws i d z h k ∙ ap (λ r. and_later (get_or ws i z).location r (left (i + 1))) (sym e))
+      ∙ before_fault part ((get_or ws i z).location, f))
+
+-- one entry more is put
+pub puts_more : (merge : Merges ℕ) (mains : List ℕ) (ws : List Written) (at k d v : ℕ) (z : Written) (old now : List ℕ)
+    → at + k < length mains → at + k < length ws → at + k < length now
+    → Ok v ≡ outcome merge mains ws (at + k) d z
+    → HasPut merge mains ws at k old now → HasPut merge mains ws at (k + 1) old (set now (at + k) v)
+puts_more merge mains ws at k d v z old now h i j e (part, (many, is), put) =
+    let same : at + k + 1 ≡ at + (k + 1) = omega arith in (
+      part ++ v ∷ [],
+      (
+        length_push part v ∙ ap (λ n. n + 1) many,
+        goes_on merge mains ws (at + k) d z part v _ h i e is
+            ∙ ap (λ n. before (part ++ v ∷ []) (left merge mains ws (at + k) d z n)) same,
+      ),
+      ap (λ n. take n (set now (at + k) v)) (sym same)
+          ∙ (take_more_set now (at + k) v j ∙ (ap (λ xs. xs ++ v ∷ []) put ∙ append_assoc (take at old) part (v ∷ []))),
+    )
 
 -- no entry is left
 pub is_done : (merge : Merges ℕ) (mains values : List ℕ) (ws : List Written) (i : ℕ) (c : Composition ℕ)

@@ -4,3 +4,4 @@ pub mod Faulting
 pub mod RowSteps
 pub mod RowParts
 pub mod Following
+pub mod WholeRows

@@ -5,7 +5,8 @@
 --   IsEmpty d     it has no value
 --   StartsEmptyRow d l   a row of the mask begins at the location l, and no location of it has a
 --                        value
-use Rattle.std.specs.Prelude.{◌≡◌, ℕ, ◌<◌, ◌/◌, ◌%◌, List, drop, slice_index, Option, None}
+--   HasRow d row  each of the 64 locations of a row of the mask has a value
+use Rattle.std.specs.Prelude.{◌≡◌, ◌≢◌, ℕ, ◌+◌, ◌*◌, ◌<◌, ◌/◌, ◌%◌, List, drop, slice_index, Option, None}
 use Rattle.version_map.specs.Masks.{bit_in, chosen}
 use Rattle.version_map.specs.declared.delta.Delta.{Delta}
 
@@ -23,3 +24,6 @@ IsEmpty d = (l : ℕ) → l < locations d → at d l ≡ None
 
 abbrev pub StartsEmptyRow : Delta → ℕ → Type 0
 StartsEmptyRow d l = (l % 64 ≡ 0) × (slice_index (mask_of d) (l / 64) ≡ 0)
+
+abbrev pub HasRow : Delta → (row : ℕ) → Type 0
+HasRow d row = (k : ℕ) → k < 64 → at d (64 * row + k) ≢ None

@@ -2,8 +2,10 @@
 --   before   a composition behind new words that are known
 --   IsPart   from this place on, these are the new words of the next n entries
 --   HasPut   they were put there, behind the words that stood before that place
-use Rattle.std.specs.Prelude.{◌≡◌, ℕ, ◌+◌, List, [], ◌∷◌, ◌++◌, length, take, drop}
+--   TrapsFrom   from this place on, the first merge that faults is that of this location, and faults so
+use Rattle.std.specs.Prelude.{◌≡◌, ℕ, ◌+◌, List, [], ◌∷◌, ◌++◌, length, take, drop, Err}
 use Rattle.version_map.specs.declared.end.Written.{Written}
+use Rattle.version_map.specs.declared.joining.MergeTrap.{MergeTrap}
 use Rattle.version_map.specs.Composing.{Merges, Composition, before_later, composed, entries}
 
 abbrev pub before : {W : Type 0} → List W → Composition W → Composition W
@@ -19,3 +21,6 @@ IsPart m mains ws at n values =
 abbrev pub HasPut : Merges ℕ → (mains : List ℕ) → List Written → (at n : ℕ) → (old new : List ℕ) → Type 0
 HasPut m mains ws at n old new =
     (part : List ℕ) × IsPart m mains ws at n part × (take (at + n) new ≡ take at old ++ part)
+
+abbrev pub TrapsFrom : Merges ℕ → (mains : List ℕ) → List Written → (at : ℕ) → MergeTrap → Type 0
+TrapsFrom m mains ws at t = composed m (drop at mains) (entries (drop at ws)) ≡ Err (t.location, t.fault)

@@ -1,8 +1,8 @@
 //! A value or none for each location.
-ghost use Rattle.std.specs.Prelude.{◌≡◌, ◌≢◌, ℕ, ◌+◌, ◌<◌, ◌≤◌, ◌^◌};
-ghost use Rattle.std.specs.Prelude.{drop, vec_len, replicate, slice_index};
+ghost use Rattle.std.specs.Prelude.{◌≡◌, ◌≢◌, ℕ, ◌+◌, ◌-◌, ◌*◌, ◌<◌, ◌≤◌, ◌^◌};
+ghost use Rattle.std.specs.Prelude.{drop, length, min, vec_len, replicate, slice_index};
 ghost use Rattle.std.specs.Prelude.{Some, IfOk, MatchBool};
-ghost use Rattle.version_map.specs.Masks.{rows, bit_in};
+ghost use Rattle.version_map.specs.Masks.{rows, bit_in, chosen};
 
 use std::alloc::{AllocError, Global};
 
@@ -19,7 +19,8 @@ pub struct Delta {
 }
 
 impl Delta {
-    ghost use Rattle.version_map.specs.Deltas.{at, locations, mask_of, IsEmpty, StartsEmptyRow};
+    ghost use Rattle.version_map.specs.Deltas.{at, locations, mask_of};
+    ghost use Rattle.version_map.specs.Deltas.{HasRow, IsEmpty, StartsEmptyRow};
 
     /// No value, for `count` locations.
     pub fn new(alloc: Global, count: u32) -> Result<Delta, AllocError>
@@ -63,6 +64,35 @@ impl Delta {
         self.cells[at] = word;
     }
 
+    /// Gives the 64 locations of a row of the mask these words.
+    pub fn set_row(&mut self, row: usize, words: &[u64])
+        requires row { 64 * row + 64 ≤ locations self.old }
+        requires words { length words.now ≡ 64 }
+        ensures size { locations self.new ≡ locations self.old }
+        ensures here { (k : ℕ) → k < 64
+            → at self.new (64 * row + k) ≡ Some (slice_index words.now k) }
+        ensures before { (l : ℕ) → l < 64 * row → at self.new l ≡ at self.old l }
+        ensures after { (l : ℕ) → 64 * row + 64 ≤ l → at self.new l ≡ at self.old l }
+    {
+        let first = 64 * row;
+        let mask = self.count as usize + row;
+        self.cells[mask] = u64::MAX;
+        self.cells[first..first + 64].copy_from_slice(words);
+    }
+
+    /// The words of the locations of a row of the mask, 64 of them but in the last row. Those of
+    /// locations that have no value mean nothing.
+    pub fn row_words(&self, row: usize) -> &[u64]
+        requires { row < rows (locations self.now) }
+        ensures length { length result.now ≡ min 64 (locations self.now - 64 * row) }
+        ensures words { (k : ℕ) → k < length result.now → at self.now (64 * row + k)
+            ≡ chosen (bit_in (mask_of self.now) (64 * row + k)) (slice_index result.now k) }
+    {
+        let first = 64 * row;
+        let end = (self.count as usize).min(first + 64);
+        &self.cells[first..end]
+    }
+
     /// Takes every value away.
     pub fn clear(&mut self)
         ensures size { locations self.new ≡ locations self.old }
@@ -93,6 +123,14 @@ impl Delta {
             (¬ StartsEmptyRow self.now location) }
     {
         location % 64 == 0 && self.mask_row(location as usize / 64) == 0
+    }
+
+    /// Whether each of the 64 locations of a row of the mask has a value.
+    pub fn has_row(&self, row: usize) -> bool
+        requires { 64 * row + 64 ≤ locations self.now }
+        ensures { MatchBool result (HasRow self.now row) (¬ HasRow self.now row) }
+    {
+        self.mask_row(row) == u64::MAX
     }
 
     /// The bits of 64 locations from `64 * row` on, the lowest first, 1 where a location has a

@@ -1,7 +1,7 @@
 //! The words that were there when a revision was forked.
 
-ghost use Rattle.std.specs.Prelude.{◌≡◌, ◌≢◌, ℕ, ◌<◌, Some, IfOk, MatchBool};
-ghost use Rattle.version_map.specs.Deltas.{at, locations, IsEmpty, StartsEmptyRow};
+ghost use Rattle.std.specs.Prelude.{◌≡◌, ◌≢◌, ℕ, ◌+◌, ◌*◌, ◌<◌, ◌≤◌, Some, IfOk, MatchBool};
+ghost use Rattle.version_map.specs.Deltas.{at, locations, HasRow, IsEmpty, StartsEmptyRow};
 
 use crate::delta::Delta;
 use std::alloc::{AllocError, Global};
@@ -39,6 +39,14 @@ impl First {
             (¬ StartsEmptyRow self.now.roots location) }
     {
         self.roots.starts_empty_row(location)
+    }
+
+    /// Whether each of the 64 locations from `64 * row` on has a word.
+    pub fn has_row(&self, row: usize) -> bool
+        requires { 64 * row + 64 ≤ locations self.now.roots }
+        ensures { MatchBool result (HasRow self.now.roots row) (¬ HasRow self.now.roots row) }
+    {
+        self.roots.has_row(row)
     }
 
     /// Gives the location a word.

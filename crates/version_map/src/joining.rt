@@ -1,11 +1,11 @@
 //! What a joiner takes over of a revision that is done.
 
-ghost use Rattle.std.specs.Prelude.{◌≡◌, ◌<◌, ◌≤◌, ◌+◌, ◌^◌, ℕ, Bool, true, false, All, IfSome, length};
+ghost use Rattle.std.specs.Prelude.{◌≡◌, ◌<◌, ◌≤◌, ◌+◌, ◌^◌, ℕ, Bool, true, false, All, IfErr, IfOk, IfSome, length};
 ghost use Rattle.rev_num.specs.declared.value.NumFault.{NumFault};
 ghost use Rattle.version_map.specs.Composing.{Merges, TrapsAtLeast, composed, entries};
 ghost use Rattle.version_map.specs.Composing.{IsComposed};
 ghost use Rattle.version_map.specs.Eights.{merged_eight};
-ghost use Rattle.version_map.specs.Parts.{HasPut, IsPart};
+ghost use Rattle.version_map.specs.Parts.{HasPut, IsPart, TrapsFrom};
 
 use crate::eights::{eight_roots, eight_values, eight_words, follow, put_eight};
 use crate::end::{EndValue, Written};
@@ -78,7 +78,8 @@ pub struct MergeTrap {
 /// whose merge faults, after which nothing is said of `values`.
 ///
 /// Eight written locations that follow each other and are merged at once go by eight; an eight
-/// with a fault goes one by one, so that its first fault is told.
+/// with a fault goes one by one, so that its first fault is told. Behind a location that is merged
+/// alone the next seven go one by one with no question.
 pub fn compose<M: MergeBy>(
     mains: &[u64],
     end: &EndValue,
@@ -97,20 +98,77 @@ pub fn compose<M: MergeBy>(
     let written = end.written.as_slice();
     let mut at = 0;
     while at < written.len() {
-        if compose_eight(mains, written, at, merges, values) {
-            at += 8;
-        } else {
-            let w = written[at];
-            match merges.merge(w.location, mains[at], w.value, w.root) {
-                Ok(value) => values[at] = value,
-                Err(fault) => {
-                    return Err(MergeTrap {
-                        location: w.location,
-                        fault,
-                    })
-                }
+        match compose_next(mains, written, at, merges, values) {
+            Ok(many) => at += many,
+            Err(trap) => return Err(trap),
+        }
+    }
+    Ok(())
+}
+
+/// Puts the new words of the next locations, and tells of how many. An eight that is merged at once
+/// goes at once. Where this location is merged alone, up to eight go one by one with no question.
+fn compose_next<M: MergeBy>(
+    mains: &[u64],
+    written: &[Written],
+    at: usize,
+    merges: &mut M,
+    values: &mut [u64],
+) -> Result<usize, MergeTrap>
+    requires mains { length mains.now ≡ length written.now }
+    requires values { length values.old ≡ length written.now }
+    requires within { All (λ w. w.location < M.size merges.old) written.now }
+    requires here { at < length written.now }
+    ensures length { length values.new ≡ length values.old }
+    ensures put { IfOk result (λ n. (0 < n) × (at + n ≤ length written.now)
+        × HasPut (M.merges merges.old) mains.now written.now at n values.old values.new) }
+    ensures trap { IfErr result (TrapsFrom (M.merges merges.old) mains.now written.now at) }
+    ensures size { M.size merges.new ≡ M.size merges.old }
+    ensures merges { M.merges merges.new ≡ M.merges merges.old }
+{
+    if !merges.row_at(written[at].location) {
+        let many = (written.len() - at).min(8);
+        compose_ones(mains, written, at, many, merges, values)?;
+        return Ok(many);
+    }
+    if compose_eight(mains, written, at, merges, values) {
+        return Ok(8);
+    }
+    compose_ones(mains, written, at, 1, merges, values)?;
+    Ok(1)
+}
+
+/// Puts the new words of so many locations from this place on, one by one, up to the first whose
+/// merge faults.
+fn compose_ones<M: MergeBy>(
+    mains: &[u64],
+    written: &[Written],
+    at: usize,
+    many: usize,
+    merges: &mut M,
+    values: &mut [u64],
+) -> Result<(), MergeTrap>
+    requires mains { length mains.now ≡ length written.now }
+    requires values { length values.old ≡ length written.now }
+    requires within { All (λ w. w.location < M.size merges.old) written.now }
+    requires here { at + many ≤ length written.now }
+    ensures length { length values.new ≡ length values.old }
+    ensures put { IfOk result (λ _. HasPut (M.merges merges.old) mains.now written.now at many
+        values.old values.new) }
+    ensures trap { IfErr result (TrapsFrom (M.merges merges.old) mains.now written.now at) }
+    ensures size { M.size merges.new ≡ M.size merges.old }
+    ensures merges { M.merges merges.new ≡ M.merges merges.old }
+{
+    for k in 0..many {
+        let w = written[at + k];
+        match merges.merge(w.location, mains[at + k], w.value, w.root) {
+            Ok(value) => values[at + k] = value,
+            Err(fault) => {
+                return Err(MergeTrap {
+                    location: w.location,
+                    fault,
+                })
             }
-            at += 1;
         }
     }
     Ok(())
@@ -128,7 +186,6 @@ fn compose_eight<M: MergeBy>(
     requires mains { length mains.now ≡ length written.now }
     requires values { length values.old ≡ length written.now }
     requires within { All (λ w. w.location < M.size merges.old) written.now }
-    requires here { at < length written.now }
     ensures length { length values.new ≡ length values.old }
     ensures kept { result ≡ false → values.new ≡ values.old }
     ensures put { result ≡ true → (at + 8 ≤ length written.now)
@@ -136,9 +193,6 @@ fn compose_eight<M: MergeBy>(
     ensures size { M.size merges.new ≡ M.size merges.old }
     ensures merges { M.merges merges.new ≡ M.merges merges.old }
 {
-    if !merges.row_at(written[at].location) {
-        return false;
-    }
     match merge_row(mains, written, at, merges) {
         Some(eight) => {
             put_eight(values, at, eight);

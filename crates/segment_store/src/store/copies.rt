@@ -100,13 +100,13 @@ pub(super) fn words_under(
         × Agree (locations delta.now) (slice_index v.items)
         (under delta.now (slice_index words.now))) }
 {
-    let mut all = Vec::new(alloc);
+    let mut all = Vec::with_capacity(alloc, words.len())?;
     for l in 0..delta.locations() {
         let word = match delta.get(l) {
             Some(word) => word,
             None => words[l as usize],
         };
-        all.push(word)?;
+        all.push_reserved(word);
     }
     Ok(all)
 }

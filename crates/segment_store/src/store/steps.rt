@@ -10,7 +10,7 @@ ghost use Rattle.segment_store.specs.Same.{IsSameSeat, Becomes, IsWord};
 
 use crate::board::View;
 use crate::plays::{
-    Claim, Gather, HandOn, Look, Part, Publish, Release, See, Share, Tally, Witness, Write,
+    Claim, Find, Gather, HandOn, Look, Part, Publish, Release, See, Share, Tally, Witness, Write,
 };
 use crate::store::{Place, Store};
 
@@ -36,7 +36,18 @@ impl Store {
         self.table.shared.load::<See>(seat, segment)
     }
 
-    pub(super) fn claim(&self, seat: &mut Place, segment: usize) -> bool
+    // Whether the count of a segment was found 0. Another may claim it at once.
+    fn finds_free(&self, seat: &mut Place, segment: usize) -> bool
+        requires own { IsSeatOf self.now seat.old × IsSegmentIn self.now segment }
+        ensures free { result ≡ true → IsSameSeat seat.old seat.new }
+        ensures taken { result ≡ false → (n : ℕ) × (0 < n)
+            × Becomes seat.old seat.new (notes seat.old.me.0 segment n) }
+    {
+        self.table.shared.load::<Find>(seat, segment) == 0
+    }
+
+    // A segment whose count was found 0, unless another has claimed it since.
+    fn claim_free(&self, seat: &mut Place, segment: usize) -> bool
         requires own { IsSeatOf self.now seat.old × IsSegmentIn self.now segment }
         requires free { (seat.old.me.0.build ≡ 0) × (0 < seat.old.me.0.holds) }
         ensures claimed { result ≡ true → Becomes seat.old seat.new (claims seat.old.me.0 segment) }
@@ -48,6 +59,18 @@ impl Store {
             .shared
             .compare_exchange::<Claim>(seat, segment, 0, 1 << 63);
         found == 0
+    }
+
+    // It looks first. A look at a count that all threads only read is cheap, and an exchange would
+    // fetch the count's cache line from the thread that has it, also where it changes nothing.
+    pub(super) fn claim(&self, seat: &mut Place, segment: usize) -> bool
+        requires own { IsSeatOf self.now seat.old × IsSegmentIn self.now segment }
+        requires free { (seat.old.me.0.build ≡ 0) × (0 < seat.old.me.0.holds) }
+        ensures claimed { result ≡ true → Becomes seat.old seat.new (claims seat.old.me.0 segment) }
+        ensures taken { result ≡ false → (n : ℕ) × (0 < n)
+            × Becomes seat.old seat.new (notes seat.old.me.0 segment n) }
+    {
+        self.finds_free(seat, segment) && self.claim_free(seat, segment)
     }
 
     pub(super) fn put(&self, seat: &mut Place, segment: usize, i: usize, x: u64)

@@ -91,16 +91,8 @@ impl Store {
             self.put(seat, segment, segment + (2 + k), delta.mask_row(k));
             k += 1;
         }
-        for l in 0..delta.locations() {
-            match delta.get(l) {
-                Some(word) => self.put(
-                    seat,
-                    segment,
-                    segment + (2 + self.masks + l as usize),
-                    word,
-                ),
-                None => {},
-            }
+        for row in 0..self.masks {
+            self.fill_row(seat, segment, row, delta);
         }
     }
 
@@ -201,74 +193,6 @@ impl Store {
         match own {
             Some(words) => words[location],
             None => self.walk(seat, first, depth, location),
-        }
-    }
-
-    // What `into` has at the location once it has taken the segment's value, whose mask word is
-    // `bits`.
-    pub(super) fn taken(
-        &self,
-        seat: &mut Place,
-        segment: usize,
-        l: usize,
-        bits: u64,
-        old: Option<u64>,
-    ) -> Option<u64>
-        requires own { IsSeatOf self.now seat.old × (l < vec_len self.now.initial)
-            × (segment + self.now.stride ≤ self.now.words) }
-        requires bits { IsWord seat.old (segment + (2 + l / 64)) bits }
-        ensures same { IsSameSeat seat.old seat.new }
-        ensures value { IsTakenIn self.now segment l seat.old.me.0.chain old result }
-        ensures none { result ≡ None → old ≡ None }
-    {
-        match old {
-            Some(word) => Some(word),
-            None => {
-                if bits >> (l % 64) & 1 != 1 {
-                    return None;
-                }
-                Some(self.word(seat, segment + (2 + self.masks + l)))
-            },
-        }
-    }
-
-    // Copies the values of one row of the mask where `into` has none. A row of 0 is passed over.
-    pub(super) fn absorb_row(&self, seat: &mut Place, segment: usize, row: usize, into: &mut Delta)
-        requires own { IsSeatOf self.now seat.old × IsDeltaOf self.now into.old
-            × (segment + self.now.stride ≤ self.now.words) }
-        requires inside { row < self.now.masks }
-        ensures same { IsSameSeat seat.old seat.new }
-        ensures size { locations into.new ≡ locations into.old }
-        ensures before { (l : ℕ) → l < 64 * row → at into.new l ≡ at into.old l }
-        ensures after { (l : ℕ) → 64 * row + 64 ≤ l → at into.new l ≡ at into.old l }
-        ensures values { (l : ℕ) → 64 * row ≤ l → l < 64 * row + 64 → l < locations into.old
-            → IsTakenIn self.now segment l seat.old.me.0.chain (at into.old l) (at into.new l) }
-    {
-        let bits = self.word(seat, segment + (2 + row));
-        if bits == 0 {
-            return;
-        }
-        let first = 64 * row;
-        let end = self.initial.len().min(first + 64);
-        for l in first..end {
-            match self.taken(seat, segment, l, bits, into.get(l as u32)) {
-                Some(word) => into.set(l as u32, word),
-                None => {},
-            }
-        }
-    }
-
-    // Copies the segment's values where `into` has none.
-    pub(super) fn absorb(&self, seat: &mut Place, segment: usize, into: &mut Delta)
-        requires own { IsSeatOf self.now seat.old × IsDeltaOf self.now into.old
-            × (segment + self.now.stride ≤ self.now.words) }
-        ensures same { IsSameSeat seat.old seat.new }
-        ensures size { locations into.new ≡ locations into.old }
-        ensures values { (l : ℕ) → l < locations into.old
-            → IsTakenIn self.now segment l seat.old.me.0.chain (at into.old l) (at into.new l) }
-    {
-        for row in 0..self.masks {
-            self.absorb_row(seat, segment, row, into);
         }
     }
 

@@ -1,23 +1,19 @@
 -- Answers of run_block_noting: each act is a step of the machine with what it reads, so the way grows act by act.
-use Rattle.std.proofs.Common.{◌≡◌, ◌≢◌, ◌∙◌, ℕ, List, Option, ◌<◌, ◌^◌, length, sym, ap, refl, arith, subst, ◌+◌, ◌≤◌}
+use Rattle.std.proofs.Common.{◌≡◌, ◌∙◌, ℕ, List, Option, ◌<◌, ◌^◌, length, sym, ap, refl, arith, subst, ◌+◌, ◌≤◌}
 use Rattle.std.specs.Prelude.{ℤ, slice_get}
 use Rattle.rev_code.specs.Step as step
 use Rattle.rev_code.specs.declared.code.Code.{Code}
 use Rattle.code_soundness.specs.Whole.{notes_of}
 use Rattle.rev_code.specs.declared.code.CodeBlock.{CodeBlock}
 use Rattle.rev_code.specs.State.{State}
-use Rattle.block_run.specs.declared.registers.Act.{Act}
-use Rattle.block_run.specs.declared.registers.Act.TheVariants as act
 use Rattle.block_run.specs.declared.registers.Registers.{Registers}
 use Rattle.block_run.specs.declared.registers.Stop.{Stop}
-use Rattle.block_run.specs.declared.registers.Stop.TheVariants as stop
 use Rattle.block_run.specs.Area.{low}
 use Rattle.block_run.specs.Standing.{IsRoomy, Mode}
 use Rattle.noting_run.specs.declared.notes.Noted.{Noted}
 use Rattle.noting_run.specs.Runs.{EndsNoting}
 use Rattle.noting_run.proofs.Adding.{none_marked}
 use Rattle.noting_run.proofs.Rounds.{onward_noting, ended_noting}
-use Rattle.block_run.specs.Stops.{stop_of}
 use Rattle.block_run.proofs.Turning.{inside_now, found_operand, placed, room, smaller, all_same, below_still}
 use Rattle.noting_run.proofs.block.run_block_noting.Goals as goal
 
@@ -28,11 +24,6 @@ roomy_still code b r r' n n' h d e f at k =
 
 few_locations : (size size' most few : ℕ) → size' ≡ size → size ≡ most → few ≤ most → few ≤ size'
 few_locations size size' most few e f h = omega (arith, e, f, h)
-
-not_goes : (a : Act) → a ≢ act.Goes → stop_of a ≢ stop.Goes
-not_goes act.Goes other = absurd (other refl)
-not_goes (act.Traps f) other = λ e. absurd cc
-not_goes act.Leaves other = λ e. absurd cc
 
 -- the loop leaves the block and the base as they were
 same_registers : (r r' : Registers) → r'.block ≡ r.block → r'.base ≡ r.base
@@ -177,12 +168,12 @@ returns-in_default g c =
           let n = v.ahead m c0 here in
           let a = n.ahead in
           stopped c.args.code.now c.args.inputs.now m c.args.b.now c0 _ _ c.act_noting.new.words _ _ _ _
-          c.args.noted.now c.act_noting.new.noted (sym c.stop.ensures) same
+          c.args.noted.now c.act_noting.new.noted refl same
           (ended_noting c.args.code.now c.requires.accepted c.args.inputs.now c.requires.inputs m c.args.b.now a.now
           c.loop-last.words c.loop-last.r _ _ a.here is _ at c.args.noted.now c.loop-last.noted c.act_noting.new.noted
           c0 a.steps n.noted e.marked c.act_noting.new.words c.act_noting.new.r _ _ _
-          (few_locations _ _ _ _ v.size c.requires.size a.here.many) e.int a.same (stop_of c.act_noting.result) e.does
-          e.stays (not_goes c.act_noting.result c.in_default.not-Goes));
+          (few_locations _ _ _ _ v.size c.requires.size a.here.many) e.int a.same c.act_noting.result e.does e.stays
+          c.in_default.not-Goes);
       block = ap (λ (r : Registers). r.block) was;
       base = ap (λ (r : Registers). r.base) was;
       below = below_still _ _ _ _ _ v.base e.stays.below v.below;

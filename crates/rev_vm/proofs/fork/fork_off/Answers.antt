@@ -2,7 +2,7 @@
 use Rattle.std.proofs.Common.{◌∙◌, ap, sym, subst, arith}
 use Rattle.rev_code.specs.Events as events
 use Rattle.rev_vm.specs.Starts.{IsForker, run_under}
-use Rattle.rev_vm.proofs.Forking.{above, child_at, parent_at, place, room_for_handle, safe, within}
+use Rattle.rev_vm.proofs.Forking.{above, child_born, parent_at, place, room_for_handle, safe, top_of, within}
 use Rattle.code_machine.proofs.Paying.{part_less}
 use Rattle.rev_vm.proofs.fork.fork_off.Goals as goal
 
@@ -14,16 +14,16 @@ block-b-requires g c =
     q.2 in
     (s.0.body, s.0.is)
 
-pub child_frame-requires-clause-enough : goal.child_frame-requires-clause-enough
-child_frame-requires-clause-enough g c =
+pub words_on_top-requires-clause-enough : goal.words_on_top-requires-clause-enough
+words_on_top-requires-clause-enough g c =
     let q = c.requires.at in
     let a = above (run_under c.args.setting.now) c.args.revision.now.run c.args.revision.now.memory.delta
     (g.P.Snapshot.base c.args.revision.now.memory.snapshot) c.args.revision.now.memory.first.roots c.args.block q.0 q.1
     q.2 c.block-b.result.now c.block-b.ensures in
-    omega (arith, a)
+    let e = c.params_of-count.ensures in omega (arith, a, e)
 
-pub child_frame-requires-clause-within : goal.child_frame-requires-clause-within
-child_frame-requires-clause-within g c =
+pub words_on_top-requires-clause-within : goal.words_on_top-requires-clause-within
+words_on_top-requires-clause-within g c =
     let q = c.requires.at in
     within (run_under c.args.setting.now) c.args.revision.now.run c.args.revision.now.memory.delta
     (g.P.Snapshot.base c.args.revision.now.memory.snapshot) c.args.revision.now.memory.first.roots c.args.block q.0 q.1
@@ -35,7 +35,7 @@ leave_fork-requires-clause-taken g c =
     let a = above (run_under c.args.setting.now) c.args.revision.now.run c.args.revision.now.memory.delta
     (g.P.Snapshot.base c.args.revision.now.memory.snapshot) c.args.revision.now.memory.first.roots c.args.block q.0 q.1
     q.2 c.block-b.result.now c.block-b.ensures in
-    let e = c.params_of.ensures in omega (arith, a, e)
+    let e = c.params_of-count.ensures in omega (arith, a, e)
 
 pub leave_fork-requires-clause-room : goal.leave_fork-requires-clause-room
 leave_fork-requires-clause-room g c =
@@ -43,7 +43,7 @@ leave_fork-requires-clause-room g c =
     let a = room_for_handle (run_under c.args.setting.now) c.args.revision.now.run c.args.revision.now.memory.delta
     (g.P.Snapshot.base c.args.revision.now.memory.snapshot) c.args.revision.now.memory.first.roots c.args.block q.0 q.1
     q.2 c.block-b.result.now c.block-b.ensures in
-    let e = c.params_of.ensures in omega (arith, a, e)
+    let e = c.params_of-count.ensures in omega (arith, a, e)
 
 pub leave_fork-requires-clause-place : goal.leave_fork-requires-clause-place
 leave_fork-requires-clause-place g c =
@@ -55,7 +55,7 @@ leave_fork-requires-clause-place g c =
 pub leave_fork-requires-clause-part : goal.leave_fork-requires-clause-part
 leave_fork-requires-clause-part g c =
     let a = part_less c.args.setting.now.share c.args.revision.now.run.registers.fuel in
-    let e = c.part_of-part.ensures ∙ ap (λ s. events.part s c.args.revision.now.run.registers.fuel) c.share.ensures in
+    let e = c.part_of-fuel.ensures ∙ ap (λ s. events.part s c.args.revision.now.run.registers.fuel) c.share.ensures in
     omega (arith, a, e)
 
 pub leave_fork-requires-clause-few : goal.leave_fork-requires-clause-few
@@ -68,35 +68,36 @@ returns-clause-parent g c = λ st xs h.
     c.block-b.result.now c.block-b.ensures
     (g.P.Snapshot.size c.args.revision.now.memory.snapshot) (sym c.args.revision.now.memory.written ∙ h.stands.size)
     c.leave_fork.new.run c.fork.new.self.delta c.fork.new.self.first.roots (g.P.Snapshot.base c.fork.new.self.snapshot)
-    (c.fork.new.self.written ∙ c.in_ok-child.ensures.size)
+    (c.fork.new.self.written ∙ c.in_ok-snapshot.ensures.size)
     (subst (λ m.
     IsForker m (events.part c.args.setting.now.share c.args.revision.now.run.registers.fuel) c.args.revision.now.run
     c.leave_fork.new.run)
-    c.params_of.ensures (subst (λ m. IsForker c.params_of.result m c.args.revision.now.run c.leave_fork.new.run)
-    (c.part_of-part.ensures ∙ ap (λ s. events.part s c.args.revision.now.run.registers.fuel) c.share.ensures)
+    c.params_of-count.ensures (subst (λ m. IsForker c.params_of-count.result m c.args.revision.now.run c.leave_fork.new.run)
+    (c.part_of-fuel.ensures ∙ ap (λ s. events.part s c.args.revision.now.run.registers.fuel) c.share.ensures)
     c.in_ok-leave_fork.ensures.forker))
-    c.in_ok-child.ensures.kept
+    c.in_ok-snapshot.ensures.kept
 
 pub returns-clause-child : goal.returns-clause-child
 returns-clause-child g c = λ st xs h. (
   c.block-b.result.now,
   c.block-b.ensures,
-  child_at (run_under c.args.setting.now) c.args.revision.now.run c.args.revision.now.memory.delta
+  child_born (run_under c.args.setting.now) c.args.revision.now.run c.args.revision.now.memory.delta
       (g.P.Snapshot.base c.args.revision.now.memory.snapshot) c.args.revision.now.memory.first.roots c.args.block st xs
-      h c.block-b.result.now c.block-b.ensures
+      h c.block-b.result.now c.block-b.ensures c.in_ok-args.args.items
+      (c.in_ok-args.ensures.items ∙ c.words_on_top.ensures
+      ∙ ap (λ m. top_of m c.args.revision.now.run) c.params_of-count.ensures)
+      c.part_of-fuel.result
+      (c.part_of-fuel.ensures ∙ ap (λ s. events.part s c.args.revision.now.run.registers.fuel) c.share.ensures)
       (g.P.Snapshot.size c.args.revision.now.memory.snapshot) (sym c.args.revision.now.memory.written ∙ h.stands.size)
-      c.in_ok-run.run' c.in_ok-child.child.0.delta c.in_ok-child.child.0.first.roots
-      (g.P.Snapshot.base c.in_ok-child.child.0.snapshot)
-      (c.in_ok-child.child.0.written ∙ c.in_ok-child.ensures.child_size)
-      c.in_ok-run.ensures.room c.in_ok-run.ensures.enough c.in_ok-run.ensures.first c.in_ok-child.ensures.child
-      (c.in_ok-child.child.0.roots ∙ c.in_ok-child.ensures.child_size) c.in_ok-child.ensures.unwritten,
+      (g.P.Snapshot.base c.in_ok-snapshot.snapshot) c.in_ok-snapshot.ensures.child
+      (g.P.Snapshot.size c.in_ok-snapshot.snapshot) c.in_ok-snapshot.ensures.child_size,
 )
 
 pub returns-clause-shared : goal.returns-clause-shared
-returns-clause-shared g c = c.in_ok-child.ensures.shared
+returns-clause-shared g c = c.in_ok-snapshot.ensures.shared
 
 pub returns-clause-copied : goal.returns-clause-copied
-returns-clause-copied g c = c.in_ok-child.ensures.copied
+returns-clause-copied g c = c.in_ok-snapshot.ensures.copied
 
 pub returns-clause-how : goal.returns-clause-how
-returns-clause-how g c = c.in_ok-child.ensures.how
+returns-clause-how g c = c.in_ok-snapshot.ensures.how

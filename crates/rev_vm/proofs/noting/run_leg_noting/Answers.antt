@@ -5,7 +5,7 @@ use Rattle.version_map.specs.Overlay.{under}
 use Rattle.leg_run.specs.Ends.{LegEnds}
 use Rattle.leg_run.specs.Standing.{state_of}
 use Rattle.rev_vm.specs.Starts.{run_under}
-use Rattle.rev_vm.proofs.Boxes.{same_at, same_line, same_some}
+use Rattle.rev_vm.proofs.Boxes.{same_at, same_joining, same_line, same_some}
 use Rattle.rev_vm.proofs.Legs.{end_event, fork_event, join_event_as, own, ready, trap_event, trap_own}
 use Rattle.rev_vm.proofs.Reading.{noted_at}
 use Rattle.rev_vm.proofs.noting.run_leg_noting.Goals as goal
@@ -13,17 +13,24 @@ use Rattle.rev_vm.proofs.noting.run_leg_noting.Goals as goal
 pub run_noting-requires-clause-size : goal.run_noting-requires-clause-size
 run_noting-requires-clause-size g c =
     sym c.deref_mut.result.now.memory.written
-    ∙ (same_some (sym c.deref_mut.ensures.value) (run_under c.args.setting.now) c.requires.stands).1.size
+    ∙ (same_some (sym c.deref_mut.ensures.value) (run_under c.args.setting.now) (
+      c.requires.stands.0,
+      c.in_ok-revision.ensures.state c.requires.stands.0 c.requires.stands.1,
+    )).1.size
 
 pub run_noting-requires-clause-stands : goal.run_noting-requires-clause-stands
 run_noting-requires-clause-stands g c =
-    let q = same_some (sym c.deref_mut.ensures.value) (run_under c.args.setting.now) c.requires.stands in
+    let q = same_some (sym c.deref_mut.ensures.value) (run_under c.args.setting.now) (
+      c.requires.stands.0,
+      c.in_ok-revision.ensures.state c.requires.stands.0 c.requires.stands.1,
+    ) in
     own (run_under c.args.setting.now) c.deref_mut.result.now.run c.deref_mut.result.now.memory.delta
     (g.P.Snapshot.base c.deref_mut.result.now.memory.snapshot) c.deref_mut.result.now.memory.first.roots q.0 q.1
 
 pub returns-in-Ok-Fork-clause-event : goal.returns-in-Ok-Fork-clause-event
 returns-in-Ok-Fork-clause-event g c = λ st h0.
-    let h = same_at (sym c.deref_mut.ensures.value) (run_under c.args.setting.now) st h0 in
+    let h = same_at (sym c.deref_mut.ensures.value) (run_under c.args.setting.now) st
+    (c.in_ok-revision.ensures.state st h0) in
     fork_event (run_under c.args.setting.now) c.deref_mut.result.now.run c.deref_mut.result.now.memory.delta
     (g.P.Snapshot.base c.deref_mut.result.now.memory.snapshot) c.deref_mut.result.now.memory.first.roots st h
     c.run_noting.new.revision.run c.run_noting.new.revision.memory.delta
@@ -43,7 +50,10 @@ returns-in-Ok-Fork-clause-event g c = λ st h0.
 
 pub at_join-requires : goal.at_join-requires
 at_join-requires g c =
-    let q = same_some (sym c.deref_mut.ensures.value) (run_under c.args.setting.now) c.requires.stands in
+    let q = same_some (sym c.deref_mut.ensures.value) (run_under c.args.setting.now) (
+      c.requires.stands.0,
+      c.in_ok-revision.ensures.state c.requires.stands.0 c.requires.stands.1,
+    ) in
     ready (run_under c.args.setting.now) c.deref_mut.result.now.run c.deref_mut.result.now.memory.delta
     (g.P.Snapshot.base c.deref_mut.result.now.memory.snapshot) c.deref_mut.result.now.memory.first.roots q.0 q.1
     c.run_noting.new.revision.run c.run_noting.new.revision.memory.delta
@@ -61,8 +71,9 @@ at_join-requires g c =
 
 pub returns-in_ok-joiner-in-Ok-Join-clause-event : goal.returns-in_ok-joiner-in-Ok-Join-clause-event
 returns-in_ok-joiner-in-Ok-Join-clause-event g c = λ st h0.
-    let h = same_at (sym c.deref_mut.ensures.value) (run_under c.args.setting.now) st h0 in
-    join_event_as (run_under c.args.setting.now) c.deref_mut.result.now.run c.deref_mut.result.now.memory.delta
+    let h = same_at (sym c.deref_mut.ensures.value) (run_under c.args.setting.now) st
+    (c.in_ok-revision.ensures.state st h0) in
+    let e = join_event_as (run_under c.args.setting.now) c.deref_mut.result.now.run c.deref_mut.result.now.memory.delta
     (g.P.Snapshot.base c.deref_mut.result.now.memory.snapshot) c.deref_mut.result.now.memory.first.roots st h
     c.run_noting.new.revision.run c.run_noting.new.revision.memory.delta
     (g.P.Snapshot.base c.run_noting.new.revision.memory.snapshot) c.run_noting.new.revision.memory.first.roots
@@ -76,20 +87,22 @@ returns-in_ok-joiner-in-Ok-Join-clause-event g c = λ st h0.
     (under c.run_noting.new.revision.memory.delta (g.P.Snapshot.base c.run_noting.new.revision.memory.snapshot))
     (at c.run_noting.new.revision.memory.first.roots))
     c.in-Ok-Join.field-0-is c.in-Ok-Join.ensures.leg)
-    c.in_ok-joiner-in-Ok-Join.joiner.revision.value.run c.in_ok-joiner-in-Ok-Join.joiner.revision.value.memory.delta
-    (g.P.Snapshot.base c.in_ok-joiner-in-Ok-Join.joiner.revision.value.memory.snapshot)
-    c.in_ok-joiner-in-Ok-Join.joiner.revision.value.memory.first.roots c.in_ok-joiner-in-Ok-Join.ensures.noted
+    c.in_ok-joiner-in-Ok-Join.joiner.revision.value.run c.in_ok-joiner-in-Ok-Join.ensures.noted
     c.in_ok-joiner-in-Ok-Join.joiner.is_try c.in_ok-joiner-in-Ok-Join.joiner.on c.in_ok-joiner-in-Ok-Join.ensures.tries
     c.in_ok-joiner-in-Ok-Join.ensures.on
-    (g.P.Snapshot.size c.run_noting.new.revision.memory.snapshot)
-    (c.in-Ok-Join.ensures.size ∙ sym c.deref_mut.result.now.memory.written ∙ h.size)
-    (c.in_ok-joiner-in-Ok-Join.joiner.revision.value.memory.written ∙ c.in_ok-joiner-in-Ok-Join.ensures.size)
-    c.in_ok-joiner-in-Ok-Join.ensures.kept c.in_ok-joiner-in-Ok-Join.joiner.written
-    c.in_ok-joiner-in-Ok-Join.ensures.written
+    (c.run_noting.new.revision.memory.written ∙ c.in-Ok-Join.ensures.size ∙ sym c.deref_mut.result.now.memory.written
+    ∙ h.size) in (
+      e.0,
+      e.1,
+      same_joining (sym c.in_ok-joiner-in-Ok-Join.ensures.memory) (run_under c.args.setting.now)
+          c.in_ok-joiner-in-Ok-Join.joiner.revision.value.run c.in_ok-joiner-in-Ok-Join.joiner.is_try
+          c.in_ok-joiner-in-Ok-Join.joiner.on e.0 e.2,
+    )
 
 pub returns-in_ok-ended-in-Ok-End-clause-event : goal.returns-in_ok-ended-in-Ok-End-clause-event
 returns-in_ok-ended-in-Ok-End-clause-event g c = λ st h0.
-    let h = same_at (sym c.deref_mut.ensures.value) (run_under c.args.setting.now) st h0 in
+    let h = same_at (sym c.deref_mut.ensures.value) (run_under c.args.setting.now) st
+    (c.in_ok-revision.ensures.state st h0) in
     end_event (run_under c.args.setting.now) c.deref_mut.result.now.run c.deref_mut.result.now.memory.delta
     (g.P.Snapshot.base c.deref_mut.result.now.memory.snapshot) c.deref_mut.result.now.memory.first.roots st h
     c.run_noting.new.revision.run c.run_noting.new.revision.memory.delta
@@ -110,7 +123,8 @@ returns-in_ok-ended-in-Ok-End-clause-event g c = λ st h0.
 
 pub returns-in_ok-stopped-in-Ok-Trap-clause-event : goal.returns-in_ok-stopped-in-Ok-Trap-clause-event
 returns-in_ok-stopped-in-Ok-Trap-clause-event g c = λ st h0.
-    let h = same_at (sym c.deref_mut.ensures.value) (run_under c.args.setting.now) st h0 in
+    let h = same_at (sym c.deref_mut.ensures.value) (run_under c.args.setting.now) st
+    (c.in_ok-revision.ensures.state st h0) in
     trap_event (run_under c.args.setting.now) c.deref_mut.result.now.run c.deref_mut.result.now.memory.delta
     (g.P.Snapshot.base c.deref_mut.result.now.memory.snapshot) c.deref_mut.result.now.memory.first.roots st h
     c.run_noting.new.revision.run c.run_noting.new.revision.memory.delta
@@ -134,7 +148,10 @@ returns-in_ok-stopped-in-Ok-Trap-clause-event g c = λ st h0.
 
 pub returns-in_ok-stopped-in-Ok-Trap-clause-own : goal.returns-in_ok-stopped-in-Ok-Trap-clause-own
 returns-in_ok-stopped-in-Ok-Trap-clause-own g c =
-    let q = same_some (sym c.deref_mut.ensures.value) (run_under c.args.setting.now) c.requires.stands in
+    let q = same_some (sym c.deref_mut.ensures.value) (run_under c.args.setting.now) (
+      c.requires.stands.0,
+      c.in_ok-revision.ensures.state c.requires.stands.0 c.requires.stands.1,
+    ) in
     trap_own (run_under c.args.setting.now) c.deref_mut.result.now.run c.deref_mut.result.now.memory.delta
     (g.P.Snapshot.base c.deref_mut.result.now.memory.snapshot) c.deref_mut.result.now.memory.first.roots q.0 q.1
     c.run_noting.new.revision.run c.run_noting.new.revision.memory.delta
@@ -160,26 +177,26 @@ pub returns-in-Ok-Fork-clause-noted : goal.returns-in-Ok-Fork-clause-noted
 returns-in-Ok-Fork-clause-noted g c = λ st h.
     noted_at (run_under c.args.setting.now) c.deref_mut.result.now.run c.deref_mut.result.now.memory.delta
     (g.P.Snapshot.base c.deref_mut.result.now.memory.snapshot) c.deref_mut.result.now.memory.first.roots st
-    (same_at (sym c.deref_mut.ensures.value) (run_under c.args.setting.now) st h) c.args.noted.now
+    (same_at (sym c.deref_mut.ensures.value) (run_under c.args.setting.now) st (c.in_ok-revision.ensures.state st h)) c.args.noted.now
     c.run_noting.new.noted c.in-Ok-Fork.ensures.noted
 
 pub returns-in_ok-joiner-in-Ok-Join-clause-noted : goal.returns-in_ok-joiner-in-Ok-Join-clause-noted
 returns-in_ok-joiner-in-Ok-Join-clause-noted g c = λ st h.
     noted_at (run_under c.args.setting.now) c.deref_mut.result.now.run c.deref_mut.result.now.memory.delta
     (g.P.Snapshot.base c.deref_mut.result.now.memory.snapshot) c.deref_mut.result.now.memory.first.roots st
-    (same_at (sym c.deref_mut.ensures.value) (run_under c.args.setting.now) st h) c.args.noted.now
+    (same_at (sym c.deref_mut.ensures.value) (run_under c.args.setting.now) st (c.in_ok-revision.ensures.state st h)) c.args.noted.now
     c.run_noting.new.noted c.in-Ok-Join.ensures.noted
 
 pub returns-in_ok-ended-in-Ok-End-clause-noted : goal.returns-in_ok-ended-in-Ok-End-clause-noted
 returns-in_ok-ended-in-Ok-End-clause-noted g c = λ st h.
     noted_at (run_under c.args.setting.now) c.deref_mut.result.now.run c.deref_mut.result.now.memory.delta
     (g.P.Snapshot.base c.deref_mut.result.now.memory.snapshot) c.deref_mut.result.now.memory.first.roots st
-    (same_at (sym c.deref_mut.ensures.value) (run_under c.args.setting.now) st h) c.args.noted.now
+    (same_at (sym c.deref_mut.ensures.value) (run_under c.args.setting.now) st (c.in_ok-revision.ensures.state st h)) c.args.noted.now
     c.run_noting.new.noted c.in-Ok-End.ensures.noted
 
 pub returns-in_ok-stopped-in-Ok-Trap-clause-noted : goal.returns-in_ok-stopped-in-Ok-Trap-clause-noted
 returns-in_ok-stopped-in-Ok-Trap-clause-noted g c = λ st h.
     noted_at (run_under c.args.setting.now) c.deref_mut.result.now.run c.deref_mut.result.now.memory.delta
     (g.P.Snapshot.base c.deref_mut.result.now.memory.snapshot) c.deref_mut.result.now.memory.first.roots st
-    (same_at (sym c.deref_mut.ensures.value) (run_under c.args.setting.now) st h) c.args.noted.now
+    (same_at (sym c.deref_mut.ensures.value) (run_under c.args.setting.now) st (c.in_ok-revision.ensures.state st h)) c.args.noted.now
     c.run_noting.new.noted c.in-Ok-Trap.ensures.noted

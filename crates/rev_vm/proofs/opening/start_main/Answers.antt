@@ -8,8 +8,8 @@ use Rattle.rev_code.specs.Events as events
 use Rattle.rev_code.specs.State.{State}
 use Rattle.rev_code.specs.Variables.{start_locations}
 use Rattle.code_rules.specs.Tables.{is_main}
-use Rattle.rev_vm.specs.Meaning.{IsAt}
 use Rattle.rev_vm.specs.Starts.{run_under}
+use Rattle.rev_vm.specs.Values.{StandsFor}
 use Rattle.rev_vm.proofs.Mains.{main_called, starts_based}
 use Rattle.rev_vm.proofs.opening.start_main.Goals as goal
 
@@ -34,8 +34,7 @@ returns-clause-state g c = λ n m.
     starts_based (run_under c.args.setting.now) c.args.setting.now.faultless (g.P.Snapshot.base c.args.snapshot)
     c.requires.base in
     subst (λ k.
-    IfOk c.start.result (λ r. IsAt (run_under c.args.setting.now) r.revision.value.run r.revision.value.memory.delta
-    (g.P.Snapshot.base r.revision.value.memory.snapshot) r.revision.value.memory.first.roots
+    IfOk c.start.result (λ r. StandsFor (run_under c.args.setting.now) r
     (events.start k m.body [] (start_locations c.args.setting.now.code.vars) c.args.fuel))) (sym e)
     (c.start.ensures.state m.body [] (start_locations c.args.setting.now.code.vars)
     (main_called (run_under c.args.setting.now) c.args.setting.now.faultless c.main_of-main.result m.body there m.class)
@@ -52,11 +51,9 @@ returns-clause-stands g c =
     starts_based (run_under c.args.setting.now) c.args.setting.now.faultless (g.P.Snapshot.base c.args.snapshot)
     c.requires.base in
     IfOk-weaker c.start.result
-    (λ r. IsAt (run_under c.args.setting.now) r.revision.value.run r.revision.value.memory.delta
-    (g.P.Snapshot.base r.revision.value.memory.snapshot) r.revision.value.memory.first.roots
+    (λ r. StandsFor (run_under c.args.setting.now) r
     (events.start c.main_of-main.result q.0 [] (start_locations c.args.setting.now.code.vars) c.args.fuel))
-    (λ r. (s : State ℕ) × IsAt (run_under c.args.setting.now) r.revision.value.run r.revision.value.memory.delta
-    (g.P.Snapshot.base r.revision.value.memory.snapshot) r.revision.value.memory.first.roots s)
+    (λ r. (s : State ℕ) × StandsFor (run_under c.args.setting.now) r s)
     (λ r h. (events.start c.main_of-main.result q.0 [] (start_locations c.args.setting.now.code.vars) c.args.fuel, h))
     (c.start.ensures.state q.0 [] (start_locations c.args.setting.now.code.vars)
     (main_called (run_under c.args.setting.now) c.args.setting.now.faultless c.main_of-main.result q.0 q.1 q.2) base)

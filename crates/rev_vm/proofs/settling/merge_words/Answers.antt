@@ -2,12 +2,16 @@
 use Rattle.std.proofs.Common.{All, ◌<◌, List, sym, refl, subst}
 use Rattle.std.proofs.lemmas.Result.{IfOk-from_err}
 use Rattle.version_map.specs.declared.end.Written.{Written}
+use Rattle.version_map.specs.Ascending.{IsAscending}
 use Rattle.rev_vm.proofs.settling.merge_words.Goals as goal
 
-pub read_all-requires : goal.read_all-requires
-read_all-requires g c = subst (λ (ws : List Written).
+pub read_all-requires-clause-within : goal.read_all-requires-clause-within
+read_all-requires-clause-within g c = subst (λ (ws : List Written).
     All (λ (w : Written). w.location < g.P.Snapshot.size c.args.memory.now.snapshot) ws)
     (sym c.as_slice.ensures) c.requires.memory
+
+pub read_all-requires-clause-ascending : goal.read_all-requires-clause-ascending
+read_all-requires-clause-ascending g c = subst IsAscending (sym c.as_slice.ensures) c.args.end.now.ascending
 
 pub returns-in_err-mains-clause-merged : goal.returns-in_err-mains-clause-merged
 returns-in_err-mains-clause-merged g c = IfOk-from_err _ _ c.from_residual.ensures.0

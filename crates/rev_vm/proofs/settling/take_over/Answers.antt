@@ -1,6 +1,7 @@
 -- Answers of take_over: the words are written, the run goes past its join, and gets the end's fuel and text.
 use Rattle.std.proofs.Common.{◌∙◌, ◌++◌, ◌<◌, All, List, length, refl, sym, ap, subst}
 use Rattle.version_map.specs.declared.end.Written.{Written}
+use Rattle.version_map.specs.Ascending.{IsAscending}
 use Rattle.version_map.specs.Deltas.{at}
 use Rattle.version_map.specs.Overlay.{under}
 use Rattle.rev_vm.specs.Writes.{HasWritten}
@@ -63,6 +64,9 @@ write_all-requires-clause-within g c = subst (λ r.
     (sym c.deref_mut-inside.ensures.value) (subst (λ (ws : List Written).
     All (λ (w : Written). w.location < g.P.Snapshot.size c.args.revision.value.memory.snapshot) ws)
     (sym c.as_slice.ensures) c.requires.within)
+
+pub write_all-requires-clause-ascending : goal.write_all-requires-clause-ascending
+write_all-requires-clause-ascending g c = subst IsAscending (sym c.as_slice.ensures) c.args.end.ascending
 
 pub write_all-requires-clause-many : goal.write_all-requires-clause-many
 write_all-requires-clause-many g c = ap length c.as_slice-2.ensures.value

@@ -2,7 +2,7 @@
 use Rattle.std.proofs.Common.{sym}
 use Rattle.rev_code.specs.Events as events
 use Rattle.rev_vm.specs.Starts.{run_under}
-use Rattle.rev_vm.proofs.Boxes.{same_at, same_fork}
+use Rattle.rev_vm.proofs.Boxes.{same_fork}
 use Rattle.rev_vm.proofs.fork.AtFork.fork.Goals as goal
 
 pub fork_off-requires : goal.fork_off-requires
@@ -16,17 +16,17 @@ fork_off-requires g c =
       );
     }
 
-pub returns-in-Ok-in_box-clause-parent : goal.returns-in-Ok-in_box-clause-parent
-returns-in-Ok-in_box-clause-parent g c = λ s args h.
+pub returns-in-Ok-born-clause-parent : goal.returns-in-Ok-born-clause-parent
+returns-in-Ok-born-clause-parent g c = λ s args h.
     c.in-Ok.ensures.parent s args
     (same_fork (sym c.deref_mut.ensures.value) (run_under c.args.setting.now) c.args.self.block s args h)
 
-pub returns-in-Ok-in_box-clause-child : goal.returns-in-Ok-in_box-clause-child
-returns-in-Ok-in_box-clause-child g c = λ s args h.
+pub returns-in-Ok-born-clause-child : goal.returns-in-Ok-born-clause-child
+returns-in-Ok-born-clause-child g c = λ s args h.
     let q = c.in-Ok.ensures.child s args
     (same_fork (sym c.deref_mut.ensures.value) (run_under c.args.setting.now) c.args.self.block s args h) in (
       q.0,
       q.1,
-      same_at (sym c.in-Ok-in_box.ensures.ok) (run_under c.args.setting.now)
+      c.in-Ok-born.ensures.state (run_under c.args.setting.now)
           (events.child c.args.setting.now.share s c.args.self.block q.0 args) q.2,
     )

@@ -5,5 +5,5 @@ use Rattle.rev_vm.proofs.join.AtJoin.line.Goals as goal
 
 pub returns : goal.returns
 returns t c = λ g s h.
-    (same_join (sym c.deref.ensures) g c.args.self.now.written c.args.self.now.is_try c.args.self.now.on s
+    (same_join (sym c.deref.ensures) g c.args.self.now.is_try c.args.self.now.on s
     h).stands.stands.here.run.line

@@ -6,5 +6,5 @@ use Rattle.rev_vm.proofs.join.AtJoin.text.Goals as goal
 pub returns : goal.returns
 returns t c = λ g s h.
     c.as_slice.ensures.value
-    ∙ sym (same_join (sym c.deref.ensures) g c.args.self.now.written c.args.self.now.is_try c.args.self.now.on s
+    ∙ sym (same_join (sym c.deref.ensures) g c.args.self.now.is_try c.args.self.now.on s
     h).stands.stands.text

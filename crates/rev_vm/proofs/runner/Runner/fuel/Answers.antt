@@ -1,7 +1,16 @@
--- Answers of Runner::fuel: the runner stands for the state, so its register has the fuel that is left in the state.
-use Rattle.std.proofs.Common.{sym}
+-- Answers of Runner::fuel: the runner stands for the state, whose fuel is that of its register or of its beginning.
+use Rattle.std.proofs.Common.{◌∙◌, sym, ap}
+use Rattle.rev_code.specs.State.{State}
+use Rattle.rev_vm.proofs.Born.{begun_as, born_as}
 use Rattle.rev_vm.proofs.Boxes.{same_at}
 use Rattle.rev_vm.proofs.runner.Runner.fuel.Goals as goal
 
-pub returns : goal.returns
-returns t c = λ g s h. (same_at (sym c.deref.ensures) g s h).stands.here.run.fuel
+pub returns-in-Begun : goal.returns-in-Begun
+returns-in-Begun t c = λ g s h.
+    (same_at (sym c.deref.ensures) g s
+    (begun_as g c.args.self.now.stage c.in-Begun.revision s c.in-Begun.is h)).stands.here.run.fuel
+
+pub returns-in-Born : goal.returns-in-Born
+returns-in-Born t c = λ g s h.
+    ap (λ z. z.fuel) c.deref-in-Born.ensures
+    ∙ sym (ap (λ (x : State _). x.fuel) (born_as g c.args.self.now.stage c.in-Born.beginning s c.in-Born.is h).is)

@@ -6,24 +6,22 @@ use Rattle.run_revision.specs.CodeState.{state_of}
 use Rattle.run_revision.specs.CodeValues.{joined}
 use Rattle.rev_vm.specs.Starts.{run_under}
 use Rattle.rev_vm.specs.Values.{joiner_state}
-use Rattle.rev_vm.proofs.Values.{one_state}
-use Rattle.run_revision.proofs.Standing.{at_own}
+use Rattle.rev_vm.proofs.Born.{one_runner, runner_own}
 use Rattle.run_revision.proofs.Events.{dropped_is}
 use Rattle.run_revision.proofs.legs.CodeRevisionsLegs.dropped.Goals as goal
 
 pub invariant_of-result : goal.invariant_of-result
 invariant_of-result g c =
     let own = run_under c.at.inside.setting.now in
-    at_own own _ _ _ _ _ (c.dropped.ensures.state own (joiner_state own c.at.inside.at) c.at.invariant)
+    runner_own own c.dropped.result _ (c.dropped.ensures.state own (joiner_state own c.at.inside.at) c.at.invariant)
 
 pub returns-clause-state : goal.returns-clause-state
 returns-clause-state g c e trap =
     let own = run_under c.at.inside.setting.now in
     let s = joiner_state own c.at.inside.at in
-    let r = c.dropped.result.revision.value in
     let try : c.at.inside.at.is_try ≡ true = ap (λ a. a.try) c.at.view_is ∙ c.requires in
     let one =
-    one_state own r.run r.memory.delta (g.P.Snapshot.base r.memory.snapshot) r.memory.first.roots
+    one_runner own c.dropped.result
     (past_join s true false c.at.inside.at.on) (c.dropped.ensures.state own s c.at.invariant) in
     ap (λ z. state_of own (at_work z)) (sym one)
     ∙ (sym (ap (state_of own) (dropped_is own s c.at.inside.at.is_try c.at.inside.at.on e.left e.left.phase try trap))

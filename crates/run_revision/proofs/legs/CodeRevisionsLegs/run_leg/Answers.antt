@@ -22,7 +22,7 @@ invariant_of-result-in-Ok-Join g c =
     let e = rw c.in-Ok-Join.field-0-is at
     (c.in-Ok-Join.ensures.event (runner_state (run_under c.runner.inside.setting.now) c.runner.inside.runner)
     c.runner.invariant) in
-    join_own (run_under c.runner.inside.setting.now) _ _ _ _ _ _ _ e.0 e.2
+    join_own (run_under c.runner.inside.setting.now) _ _ _ _ _ _ e.0 e.2
 
 pub leave-requires-clause-end : goal.leave-requires-clause-end
 leave-requires-clause-end g c =
@@ -87,7 +87,7 @@ returns-in-Ok-Join-clause-event g c =
     joins_here own (runner_state own c.runner.inside.runner) e.0 a c.args.runner.state
     (ap (λ x. x.state) c.runner.view_is) refl
     (one_joining own at.revision.value.run at.revision.value.memory.delta
-    (g.P.Snapshot.base at.revision.value.memory.snapshot) at.revision.value.memory.first.roots at.written at.is_try
+    (g.P.Snapshot.base at.revision.value.memory.snapshot) at.revision.value.memory.first.roots at.is_try
     at.on e.0 e.2)
     e.1
 

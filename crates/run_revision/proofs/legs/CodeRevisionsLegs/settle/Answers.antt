@@ -13,10 +13,11 @@ use Rattle.rev_vm.specs.Meaning.{IsClaimed, IsEnd}
 use Rattle.rev_vm.specs.Starts.{run_under}
 use Rattle.rev_vm.specs.States.{end_for}
 use Rattle.rev_vm.specs.Values.{joiner_state, joiner_group}
-use Rattle.rev_vm.proofs.Values.{one_state, one_end}
+use Rattle.rev_vm.proofs.Born.{one_runner, runner_own}
+use Rattle.rev_vm.proofs.Values.{one_end}
 use Rattle.run_revision.specs.Hands.{begins}
 use Rattle.run_revision.specs.Values.{made_by_join}
-use Rattle.run_revision.proofs.Standing.{at_own, end_own}
+use Rattle.run_revision.proofs.Standing.{end_own}
 use Rattle.run_revision.proofs.Events.{by_phase}
 use Rattle.run_revision.proofs.Taking.{same_hand, same_end, fuels, is_done, joined_is, end_stops}
 use Rattle.run_revision.proofs.legs.CodeRevisionsLegs.settle.Goals as goal
@@ -82,7 +83,7 @@ settle-requires g c =
     (ap (λ z. z.run) c.hand.view_is) q.4 in
     let at = c.at.inside.at in
     let has : IsClaimed own at.revision.value.run at.revision.value.memory.delta
-    (g.P.Snapshot.base at.revision.value.memory.snapshot) at.revision.value.memory.first.roots at.written at.is_try
+    (g.P.Snapshot.base at.revision.value.memory.snapshot) at.revision.value.memory.first.roots at.is_try
     at.on c.end.inside.value.value s j = record {
       joiner = c.at.invariant;
       joinee = subst (λ z. IsEnd z (end_for z c.end.inside.value.value) c.end.inside.value.value) alike c.end.invariant;
@@ -92,17 +93,17 @@ settle-requires g c =
     } in
     let given : IsClaimed own c.claim.result.at.revision.value.run c.claim.result.at.revision.value.memory.delta
     (g.P.Snapshot.base c.claim.result.at.revision.value.memory.snapshot)
-    c.claim.result.at.revision.value.memory.first.roots c.claim.result.at.written c.claim.result.at.is_try
+    c.claim.result.at.revision.value.memory.first.roots c.claim.result.at.is_try
     c.claim.result.at.on c.claim.result.end s j =
     subst (λ v.
     IsClaimed own c.claim.result.at.revision.value.run c.claim.result.at.revision.value.memory.delta
     (g.P.Snapshot.base c.claim.result.at.revision.value.memory.snapshot)
-    c.claim.result.at.revision.value.memory.first.roots c.claim.result.at.written c.claim.result.at.is_try
+    c.claim.result.at.revision.value.memory.first.roots c.claim.result.at.is_try
     c.claim.result.at.on v s j)
     (sym (c.claim.ensures.end ∙ c.into_inner-left.ensures))
     (subst (λ k.
     IsClaimed own k.revision.value.run k.revision.value.memory.delta
-    (g.P.Snapshot.base k.revision.value.memory.snapshot) k.revision.value.memory.first.roots k.written k.is_try k.on
+    (g.P.Snapshot.base k.revision.value.memory.snapshot) k.revision.value.memory.first.roots k.is_try k.on
     c.end.inside.value.value s j)
     (sym c.claim.ensures.at) has) in
     c.hand.invariant.0 ∙ ap (λ z. count z.code.vars) (sym same) ∙ sym given.joiner.stands.size
@@ -126,7 +127,7 @@ invariant_of-result g c =
     (ap (λ z. z.run) c.hand.view_is) q.4 in
     let at = c.at.inside.at in
     let has : IsClaimed own at.revision.value.run at.revision.value.memory.delta
-    (g.P.Snapshot.base at.revision.value.memory.snapshot) at.revision.value.memory.first.roots at.written at.is_try
+    (g.P.Snapshot.base at.revision.value.memory.snapshot) at.revision.value.memory.first.roots at.is_try
     at.on c.end.inside.value.value s j = record {
       joiner = c.at.invariant;
       joinee = subst (λ z. IsEnd z (end_for z c.end.inside.value.value) c.end.inside.value.value) alike c.end.invariant;
@@ -136,23 +137,23 @@ invariant_of-result g c =
     } in
     let given : IsClaimed own c.claim.result.at.revision.value.run c.claim.result.at.revision.value.memory.delta
     (g.P.Snapshot.base c.claim.result.at.revision.value.memory.snapshot)
-    c.claim.result.at.revision.value.memory.first.roots c.claim.result.at.written c.claim.result.at.is_try
+    c.claim.result.at.revision.value.memory.first.roots c.claim.result.at.is_try
     c.claim.result.at.on c.claim.result.end s j =
     subst (λ v.
     IsClaimed own c.claim.result.at.revision.value.run c.claim.result.at.revision.value.memory.delta
     (g.P.Snapshot.base c.claim.result.at.revision.value.memory.snapshot)
-    c.claim.result.at.revision.value.memory.first.roots c.claim.result.at.written c.claim.result.at.is_try
+    c.claim.result.at.revision.value.memory.first.roots c.claim.result.at.is_try
     c.claim.result.at.on v s j)
     (sym (c.claim.ensures.end ∙ c.into_inner-left.ensures))
     (subst (λ k.
     IsClaimed own k.revision.value.run k.revision.value.memory.delta
-    (g.P.Snapshot.base k.revision.value.memory.snapshot) k.revision.value.memory.first.roots k.written k.is_try k.on
+    (g.P.Snapshot.base k.revision.value.memory.snapshot) k.revision.value.memory.first.roots k.is_try k.on
     c.end.inside.value.value s j)
     (sym c.claim.ensures.at) has) in
     let merges : AreMergesOf own (g.M.MergeBy.merges c.hand.inside.merges) =
     subst (λ z. AreMergesOf z (g.M.MergeBy.merges c.hand.inside.merges)) (sym same) c.hand.invariant.1 in
     let r = rw c.in-Ok-Run.field-0-is at (c.in-Ok-Run.ensures.settled own s j given merges) in
-    at_own own _ _ _ _ _ r.2
+    runner_own own c.in-Ok-Run.runner _ r.2
 
 pub invariant_of-hand : goal.invariant_of-hand
 invariant_of-hand g c = (
@@ -193,7 +194,7 @@ leave-requires-clause-end g c =
     (ap (λ z. z.run) c.hand.view_is) q.4 in
     let at = c.at.inside.at in
     let has : IsClaimed own at.revision.value.run at.revision.value.memory.delta
-    (g.P.Snapshot.base at.revision.value.memory.snapshot) at.revision.value.memory.first.roots at.written at.is_try
+    (g.P.Snapshot.base at.revision.value.memory.snapshot) at.revision.value.memory.first.roots at.is_try
     at.on c.end.inside.value.value s j = record {
       joiner = c.at.invariant;
       joinee = subst (λ z. IsEnd z (end_for z c.end.inside.value.value) c.end.inside.value.value) alike c.end.invariant;
@@ -203,17 +204,17 @@ leave-requires-clause-end g c =
     } in
     let given : IsClaimed own c.claim.result.at.revision.value.run c.claim.result.at.revision.value.memory.delta
     (g.P.Snapshot.base c.claim.result.at.revision.value.memory.snapshot)
-    c.claim.result.at.revision.value.memory.first.roots c.claim.result.at.written c.claim.result.at.is_try
+    c.claim.result.at.revision.value.memory.first.roots c.claim.result.at.is_try
     c.claim.result.at.on c.claim.result.end s j =
     subst (λ v.
     IsClaimed own c.claim.result.at.revision.value.run c.claim.result.at.revision.value.memory.delta
     (g.P.Snapshot.base c.claim.result.at.revision.value.memory.snapshot)
-    c.claim.result.at.revision.value.memory.first.roots c.claim.result.at.written c.claim.result.at.is_try
+    c.claim.result.at.revision.value.memory.first.roots c.claim.result.at.is_try
     c.claim.result.at.on v s j)
     (sym (c.claim.ensures.end ∙ c.into_inner-left.ensures))
     (subst (λ k.
     IsClaimed own k.revision.value.run k.revision.value.memory.delta
-    (g.P.Snapshot.base k.revision.value.memory.snapshot) k.revision.value.memory.first.roots k.written k.is_try k.on
+    (g.P.Snapshot.base k.revision.value.memory.snapshot) k.revision.value.memory.first.roots k.is_try k.on
     c.end.inside.value.value s j)
     (sym c.claim.ensures.at) has) in
     let merges : AreMergesOf own (g.M.MergeBy.merges c.hand.inside.merges) =
@@ -238,7 +239,7 @@ returns-in-Ok-Run-clause-state g c a e is none met =
     (ap (λ z. z.run) c.hand.view_is) met in
     let at = c.at.inside.at in
     let has : IsClaimed own at.revision.value.run at.revision.value.memory.delta
-    (g.P.Snapshot.base at.revision.value.memory.snapshot) at.revision.value.memory.first.roots at.written at.is_try
+    (g.P.Snapshot.base at.revision.value.memory.snapshot) at.revision.value.memory.first.roots at.is_try
     at.on c.end.inside.value.value s j = record {
       joiner = c.at.invariant;
       joinee = subst (λ z. IsEnd z (end_for z c.end.inside.value.value) c.end.inside.value.value) alike c.end.invariant;
@@ -248,25 +249,24 @@ returns-in-Ok-Run-clause-state g c a e is none met =
     } in
     let given : IsClaimed own c.claim.result.at.revision.value.run c.claim.result.at.revision.value.memory.delta
     (g.P.Snapshot.base c.claim.result.at.revision.value.memory.snapshot)
-    c.claim.result.at.revision.value.memory.first.roots c.claim.result.at.written c.claim.result.at.is_try
+    c.claim.result.at.revision.value.memory.first.roots c.claim.result.at.is_try
     c.claim.result.at.on c.claim.result.end s j =
     subst (λ v.
     IsClaimed own c.claim.result.at.revision.value.run c.claim.result.at.revision.value.memory.delta
     (g.P.Snapshot.base c.claim.result.at.revision.value.memory.snapshot)
-    c.claim.result.at.revision.value.memory.first.roots c.claim.result.at.written c.claim.result.at.is_try
+    c.claim.result.at.revision.value.memory.first.roots c.claim.result.at.is_try
     c.claim.result.at.on v s j)
     (sym (c.claim.ensures.end ∙ c.into_inner-left.ensures))
     (subst (λ k.
     IsClaimed own k.revision.value.run k.revision.value.memory.delta
-    (g.P.Snapshot.base k.revision.value.memory.snapshot) k.revision.value.memory.first.roots k.written k.is_try k.on
+    (g.P.Snapshot.base k.revision.value.memory.snapshot) k.revision.value.memory.first.roots k.is_try k.on
     c.end.inside.value.value s j)
     (sym c.claim.ensures.at) has) in
     let merges : AreMergesOf own (g.M.MergeBy.merges c.hand.inside.merges) =
     subst (λ z. AreMergesOf z (g.M.MergeBy.merges c.hand.inside.merges)) (sym same) c.hand.invariant.1 in
     let r = rw c.in-Ok-Run.field-0-is at (c.in-Ok-Run.ensures.settled own s j given merges) in
-    let run = c.in-Ok-Run.runner.revision.value in
     let one =
-    one_state own run.run run.memory.delta (g.P.Snapshot.base run.memory.snapshot) run.memory.first.roots r.0 r.2 in
+    one_runner own c.in-Ok-Run.runner r.0 r.2 in
     ap (λ z. state_of own (at_work z)) (sym one)
     ∙ (ap (state_of own) (sym r.1)
     ∙ (ap (λ k. state_of own (join_in own s k.is_try k.on j j.phase)) c.claim.ensures.at
@@ -291,7 +291,7 @@ returns-in_ok-leave-in-Ok-Trap-clause-state g c a e is none met =
     (ap (λ z. z.run) c.hand.view_is) met in
     let at = c.at.inside.at in
     let has : IsClaimed own at.revision.value.run at.revision.value.memory.delta
-    (g.P.Snapshot.base at.revision.value.memory.snapshot) at.revision.value.memory.first.roots at.written at.is_try
+    (g.P.Snapshot.base at.revision.value.memory.snapshot) at.revision.value.memory.first.roots at.is_try
     at.on c.end.inside.value.value s j = record {
       joiner = c.at.invariant;
       joinee = subst (λ z. IsEnd z (end_for z c.end.inside.value.value) c.end.inside.value.value) alike c.end.invariant;
@@ -301,17 +301,17 @@ returns-in_ok-leave-in-Ok-Trap-clause-state g c a e is none met =
     } in
     let given : IsClaimed own c.claim.result.at.revision.value.run c.claim.result.at.revision.value.memory.delta
     (g.P.Snapshot.base c.claim.result.at.revision.value.memory.snapshot)
-    c.claim.result.at.revision.value.memory.first.roots c.claim.result.at.written c.claim.result.at.is_try
+    c.claim.result.at.revision.value.memory.first.roots c.claim.result.at.is_try
     c.claim.result.at.on c.claim.result.end s j =
     subst (λ v.
     IsClaimed own c.claim.result.at.revision.value.run c.claim.result.at.revision.value.memory.delta
     (g.P.Snapshot.base c.claim.result.at.revision.value.memory.snapshot)
-    c.claim.result.at.revision.value.memory.first.roots c.claim.result.at.written c.claim.result.at.is_try
+    c.claim.result.at.revision.value.memory.first.roots c.claim.result.at.is_try
     c.claim.result.at.on v s j)
     (sym (c.claim.ensures.end ∙ c.into_inner-left.ensures))
     (subst (λ k.
     IsClaimed own k.revision.value.run k.revision.value.memory.delta
-    (g.P.Snapshot.base k.revision.value.memory.snapshot) k.revision.value.memory.first.roots k.written k.is_try k.on
+    (g.P.Snapshot.base k.revision.value.memory.snapshot) k.revision.value.memory.first.roots k.is_try k.on
     c.end.inside.value.value s j)
     (sym c.claim.ensures.at) has) in
     let merges : AreMergesOf own (g.M.MergeBy.merges c.hand.inside.merges) =

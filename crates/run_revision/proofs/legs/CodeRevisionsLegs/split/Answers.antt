@@ -6,9 +6,10 @@ use Rattle.run_revision.specs.CodeState.{state_of}
 use Rattle.rev_vm.specs.Starts.{run_under}
 use Rattle.rev_vm.specs.States.{state_at}
 use Rattle.rev_vm.specs.Values.{runner_state, fork_state, fork_group}
+use Rattle.rev_vm.proofs.Born.{one_runner, runner_own}
 use Rattle.rev_vm.proofs.Values.{one_state}
 use Rattle.run_revision.specs.Forking.{ForkValue, arguments_at, forker, child, child_of, renamed}
-use Rattle.run_revision.proofs.Standing.{at_own, renamed_parent}
+use Rattle.run_revision.proofs.Standing.{renamed_parent}
 use Rattle.run_revision.proofs.legs.CodeRevisionsLegs.split.Goals as goal
 
 pub invariant_of-result : goal.invariant_of-result
@@ -22,7 +23,7 @@ invariant_of-result-in-Ok g c =
     let own = run_under c.at.inside.setting.now in
     let s = fork_state own c.at.inside.at in
     let e = c.in-Ok.ensures.child s (arguments_at own s) c.at.invariant in
-    at_own own _ _ _ _ _ e.2
+    runner_own own c.in-Ok.runner _ e.2
 
 pub returns-in-Ok-clause-parent : goal.returns-in-Ok-clause-parent
 returns-in-Ok-clause-parent g c n =
@@ -43,10 +44,9 @@ returns-in-Ok-clause-child g c =
     let s = fork_state own c.at.inside.at in
     let given = arguments_at own s in
     let e = c.in-Ok.ensures.child s given c.at.invariant in
-    let r = c.in-Ok.runner.revision.value in
     let v : ForkValue =
     record { run = own; state = s; block = c.at.inside.at.block; args = given; group = fork_group c.at.inside.at } in
     let one : events.child own.share s c.at.inside.at.block e.0 given ≡ runner_state own c.in-Ok.runner =
-    one_state own r.run r.memory.delta (g.P.Snapshot.base r.memory.snapshot) r.memory.first.roots
+    one_runner own c.in-Ok.runner
     (events.child own.share s c.at.inside.at.block e.0 given) e.2 in
     ap (λ z. state_of own (at_work z)) (sym one) ∙ (ap (child_of v) (sym e.1) ∙ ap child c.at.view_is)

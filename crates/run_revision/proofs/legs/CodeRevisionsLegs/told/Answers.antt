@@ -6,25 +6,25 @@ use Rattle.run_revision.specs.CodeState.{state_of}
 use Rattle.rev_vm.specs.Starts.{run_under}
 use Rattle.rev_vm.specs.States.{state_at}
 use Rattle.rev_vm.specs.Values.{runner_state}
+use Rattle.rev_vm.proofs.Born.{one_runner, runner_own}
 use Rattle.rev_vm.proofs.Values.{one_state}
 use Rattle.run_revision.specs.Forking.{renamed, told_as}
-use Rattle.run_revision.proofs.Standing.{at_own, renamed_parent}
+use Rattle.run_revision.proofs.Standing.{renamed_parent}
 use Rattle.run_revision.proofs.legs.CodeRevisionsLegs.told.Goals as goal
 
 pub invariant_of-result : goal.invariant_of-result
 invariant_of-result g c =
     let own = run_under c.parent.inside.setting.now in
     let w = c.parent.invariant in
-    at_own own _ _ _ _ _ (c.told.ensures.state own w.0 w.1 w.2)
+    runner_own own c.told.result _ (c.told.ensures.state own w.0 w.1 w.2)
 
 pub returns-clause-state : goal.returns-clause-state
 returns-clause-state g c =
     let own = run_under c.parent.inside.setting.now in
     let w = c.parent.invariant in
-    let r = c.told.result.revision.value in
     let p = c.parent.inside.parent.revision.value in
     let after : events.parent own.share w.0 w.1 c.args.number ≡ runner_state own c.told.result =
-    one_state own r.run r.memory.delta (g.P.Snapshot.base r.memory.snapshot) r.memory.first.roots
+    one_runner own c.told.result
     (events.parent own.share w.0 w.1 c.args.number) (c.told.ensures.state own w.0 w.1 w.2) in
     let before : events.parent own.share w.0 w.1 0
     ≡ state_at own p.run p.memory.delta (g.P.Snapshot.base p.memory.snapshot) p.memory.first.roots =

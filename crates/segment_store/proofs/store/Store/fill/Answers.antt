@@ -1,31 +1,26 @@
--- Answers of Store::fill: a word that is put adds its row or value to what is laid, and no value adds none.
-use Rattle.std.proofs.Common.{◌+◌, List, subst, sym, ◌∙◌}
-use Rattle.atomic_table.specs.declared.shared.Seat.{Seat}
-use Rattle.segment_store.specs.Entry.{Put}
-use Rattle.segment_store.specs.declared.board.View.{View}
-use Rattle.segment_store.specs.Same.{Becomes}
-use Rattle.segment_store.specs.Base.{filled}
-use Rattle.segment_store.proofs.Fills.{Filling, filling_value, filling_skips, puts_more}
-use Rattle.segment_store.proofs.store.Store.fill.Goals.{in-Some, in-None}
+-- Answers of Store::fill: a row more is laid down, and all rows have all locations.
+use Rattle.std.proofs.Common.{arith, ◌≡◌, ◌+◌, ◌*◌, ℕ, subst}
+use Rattle.segment_store.specs.Filling.{Filling}
+use Rattle.segment_store.proofs.Fills.{fills_more}
 use Rattle.segment_store.proofs.store.Store.fill.Goals as goal
 
-pub loop-l-preserved : goal.loop-l-preserved
-loop-l-preserved c = let i = c.loop-l.invariant in
-    let f : Seat (Unit {0}) View → Type 0 = λ s. Becomes c.loop-k.seat s
-    (filled c.loop-k.seat.me.0 s.me.0.made)
-    × Filling c.args.segment c.args.parent c.args.self.now.masks c.args.delta.now
-    c.args.self.now.masks (c.loop-l.l + 1) s.me.0.made in
-    elim c.match-get.branch [
-      | in-Some w ↦
-          (let m = puts_more c.loop-k.seat c.loop-l.seat w.put-in-Some.new.seat _ _ i.0
-          w.put-in-Some.ensures in subst f (sym w.seat-is) (
-            m.0,
-            subst (λ (ps : List Put). Filling c.args.segment c.args.parent c.args.self.now.masks
-                c.args.delta.now c.args.self.now.masks (c.loop-l.l + 1) ps) m.1
-                (filling_value _ _ _ _ _ w.in-Some.word _ i.1 (sym c.get.ensures ∙ w.in-Some.is)),
-          ))
-      | in-None w ↦ subst f (sym w.seat-is) (
-        i.0,
-        filling_skips _ _ _ _ _ _ i.1 (sym c.get.ensures ∙ w.in-None.is),
-      )
-    ]
+pub loop-row-preserved : goal.loop-row-preserved
+loop-row-preserved c =
+    let i = c.loop-row.invariant in let s = c.args.self.now in
+    let next : 64 * c.loop-row.row + 64 ≡ 64 * (c.loop-row.row + 1) = omega arith in (
+      fills_more c.loop-k.seat c.loop-row.seat c.fill_row.new.seat i.0 c.fill_row.ensures.view,
+      subst (λ (n : ℕ).
+          Filling c.args.segment c.args.parent s.masks c.args.delta.now s.masks n c.fill_row.new.seat.me.0.made) next
+          (c.fill_row.ensures.laid c.args.parent i.1),
+    )
+
+pub returns-clause-laid : goal.returns-clause-laid
+returns-clause-laid c =
+    let f = c.loop-row.invariant.1 in let s = c.args.self.now in
+    let rows = s.rowed.0 in let wide = s.wide.0 in let done = c.loop-row-test.false in
+    record {
+      parent_is = f.parent_is;
+      mask_is = f.mask_is;
+      value_is = λ l w lt e. f.value_is l w (omega (arith, lt, rows, wide, done)) e;
+      none_is = λ l lt e. f.none_is l (λ less. e);
+    }

@@ -1,5 +1,5 @@
 -- Answers of words_under: the delta's value at a location is the word, and without one it is the word beneath.
-use Rattle.std.proofs.Common.{arith, ◌≡◌, ◌<◌, ℕ, ◌+◌, ◌++◌, List, [], ◌∷◌, length, slice_index}
+use Rattle.std.proofs.Common.{arith, ◌≡◌, ◌<◌, ◌≤◌, ℕ, ◌+◌, ◌++◌, List, [], ◌∷◌, length, slice_index}
 use Rattle.std.proofs.Common.{sym, ap, ◌∙◌, subst, None, Some}
 use Rattle.std.proofs.Math.Seq.{get_or-append_seam}
 use Rattle.std.proofs.lemmas.List.{get_or_append_left}
@@ -30,7 +30,7 @@ pub returns : goal.returns
 returns c = let i = c.loop-l.invariant in let e = c.locations-l-end.ensures in
     let a = c.loop-l.auto.l-end in let t = c.loop-l-test.false in
     let same : c.loop-l.l ≡ c.locations-l-end.result = omega arith in
-    (i.0 ∙ (same ∙ e), λ l lt. i.1 l (subst (λ (n : ℕ). l < n) (sym (same ∙ e)) lt))
+    (i.0 ∙ (same ∙ e), λ l lt. i.2 l (subst (λ (n : ℕ). l < n) (sym (same ∙ e)) lt))
 
 pub get-requires : goal.get-requires
 get-requires c = subst (λ (n : ℕ). c.loop-l.l < n) c.locations-l-end.ensures c.loop-l-test.true
@@ -42,7 +42,8 @@ loop-l-preserved c = let i = c.loop-l.invariant in let d = c.args.delta.now in
       | in-Some w ↦ w.word-is ∙ word_some d xs c.loop-l.l _ (sym c.get.ensures ∙ w.in-Some.is)
       | in-None w ↦ w.word-is ∙ word_none d xs c.loop-l.l (sym c.get.ensures ∙ w.in-None.is)
     ] in (
-      c.in_ok-push.ensures.len ∙ ap (λ (n : ℕ). n + 1) i.0,
-      pushed (under d (slice_index xs)) all.items c.push.new.self.items c.loop-l.l
-          c.match-get.word (sym all.ok.0 ∙ i.0) i.1 c.in_ok-push.ensures.items here,
+      c.push_reserved.ensures.len ∙ ap (λ (n : ℕ). n + 1) i.0,
+      subst (λ (k : ℕ). length xs ≤ k) (sym c.push_reserved.ensures.capacity) i.1,
+      pushed (under d (slice_index xs)) all.items c.push_reserved.new.self.items c.loop-l.l
+          c.match-get.word (sym all.ok.0 ∙ i.0) i.2 c.push_reserved.ensures.items here,
     )

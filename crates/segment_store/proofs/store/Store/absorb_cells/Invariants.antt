@@ -1,9 +1,9 @@
--- Loops of Store::absorb_row: the locations of the row so far are taken in, and all others are as at first.
+-- Loops of Store::absorb_cells: the locations of the row so far are taken in, and all others are as at first.
 use Rattle.std.proofs.Common.{◌≡◌, ℕ, ◌*◌, ◌<◌, ◌≤◌}
 use Rattle.version_map.specs.Deltas.{at, locations}
 use Rattle.segment_store.specs.Same.{IsSameSeat}
 use Rattle.segment_store.specs.Base.{IsTaken}
-use Rattle.segment_store.proofs.store.Store.absorb_row.Given as goal
+use Rattle.segment_store.proofs.store.Store.absorb_cells.Given as goal
 
 abbrev pub invariant-loop-l : goal.invariant-loop-l
 invariant-loop-l l = IsSameSeat l.initial.seat l.seat

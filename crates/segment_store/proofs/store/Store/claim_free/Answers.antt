@@ -1,8 +1,8 @@
--- Answers of Store::claim: the exchange on a free count is a claim that the rule allows where nothing is built.
+-- Answers of Store::claim_free: the exchange on a free count is a claim that the rule allows where nothing is built.
 use Rattle.std.proofs.Common.{arith, ℕ, sym, subst}
 use Rattle.segment_store.specs.Store.{IsSegment}
 use Rattle.segment_store.proofs.Lifts.{claim}
-use Rattle.segment_store.proofs.store.Store.claim.Goals as goal
+use Rattle.segment_store.proofs.store.Store.claim_free.Goals as goal
 
 pub compare_exchange-found-requires : goal.compare_exchange-found-requires
 compare_exchange-found-requires c = let s = c.args.self.now.sized in let b = c.requires.own.1 in

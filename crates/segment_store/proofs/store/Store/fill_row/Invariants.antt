@@ -1,0 +1,14 @@
+-- Loops of Store::fill_row: the seat has put the values of the row's locations so far, and no more.
+use Rattle.std.proofs.Common.{ℕ, ◌+◌, ◌*◌}
+use Rattle.segment_store.specs.Same.{Becomes}
+use Rattle.segment_store.specs.Base.{filled}
+use Rattle.segment_store.specs.Filling.{Filling}
+use Rattle.segment_store.proofs.store.Store.fill_row.Given as goal
+
+abbrev pub invariant-loop-k : goal.invariant-loop-k
+invariant-loop-k l = Becomes l.initial.seat l.seat (filled l.initial.seat.me.0 l.seat.me.0.made)
+    × ((parent : ℕ)
+    → Filling l.fn.segment parent l.fn.self.masks l.fn.delta l.fn.self.masks (64 * l.fn.row)
+    l.initial.seat.me.0.made
+    → Filling l.fn.segment parent l.fn.self.masks l.fn.delta l.fn.self.masks (64 * l.fn.row + l.k)
+    l.seat.me.0.made)
