@@ -4,14 +4,13 @@
 --   before_fault       a later entry faults
 --   composed_here      the composition from an entry on
 --   goes_on, stops     one entry more, which has a new word or faults
---   puts_more          one entry more is put
 --   is_done            no entry is left
-use Rattle.std.proofs.Common.{◌≡◌, ℕ, ◌+◌, ◌<◌, ◌≤◌, List, [], ◌∷◌, ◌++◌, length, take, drop, set, get_or, Result, Ok, Err, ap, sym, ◌∙◌, refl, arith}
-use Rattle.std.proofs.lemmas.List.{drop_more, drop_all, take_all, take_more_set, append_assoc, length_push}
+use Rattle.std.proofs.Common.{◌≡◌, ℕ, ◌+◌, ◌<◌, ◌≤◌, List, [], ◌∷◌, ◌++◌, length, take, drop, get_or, Result, Ok, Err, ap, sym, ◌∙◌, refl}
+use Rattle.std.proofs.lemmas.List.{drop_more, drop_all, take_all}
 use Rattle.rev_num.specs.declared.value.NumFault.{NumFault}
 use Rattle.version_map.specs.declared.end.Written.{Written}
 use Rattle.version_map.specs.Composing.{Merges, Composition, before_later, and_later, composed, entries}
-use Rattle.version_map.specs.Parts.{before, HasPut}
+use Rattle.version_map.specs.Parts.{before}
 
 pub before_one_more : {W : Type 0} (xs : List W) (x : W) (c : Composition W)
     → before xs (before_later x c) ≡ before (xs ++ x ∷ []) c
@@ -61,23 +60,6 @@ module _ (merge : Merges ℕ) (mains : List ℕ) (ws : List Written) (i d : ℕ)
       ∙ (ap (before part)
       (composed_here merge mains ws i d z h k ∙ ap (λ r. and_later (get_or ws i z).location r (left (i + 1))) (sym e))
       ∙ before_fault part ((get_or ws i z).location, f))
-
--- one entry more is put
-pub puts_more : (merge : Merges ℕ) (mains : List ℕ) (ws : List Written) (at k d v : ℕ) (z : Written) (old now : List ℕ)
-    → at + k < length mains → at + k < length ws → at + k < length now
-    → Ok v ≡ outcome merge mains ws (at + k) d z
-    → HasPut merge mains ws at k old now → HasPut merge mains ws at (k + 1) old (set now (at + k) v)
-puts_more merge mains ws at k d v z old now h i j e (part, (many, is), put) =
-    let same : at + k + 1 ≡ at + (k + 1) = omega arith in (
-      part ++ v ∷ [],
-      (
-        length_push part v ∙ ap (λ n. n + 1) many,
-        goes_on merge mains ws (at + k) d z part v _ h i e is
-            ∙ ap (λ n. before (part ++ v ∷ []) (left merge mains ws (at + k) d z n)) same,
-      ),
-      ap (λ n. take n (set now (at + k) v)) (sym same)
-          ∙ (take_more_set now (at + k) v j ∙ (ap (λ xs. xs ++ v ∷ []) put ∙ append_assoc (take at old) part (v ∷ []))),
-    )
 
 -- no entry is left
 pub is_done : (merge : Merges ℕ) (mains values : List ℕ) (ws : List Written) (i : ℕ) (c : Composition ℕ)

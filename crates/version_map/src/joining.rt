@@ -159,10 +159,35 @@ fn compose_ones<M: MergeBy>(
     ensures size { M.size merges.new ≡ M.size merges.old }
     ensures merges { M.merges merges.new ≡ M.merges merges.old }
 {
-    for k in 0..many {
-        let w = written[at + k];
-        match merges.merge(w.location, mains[at + k], w.value, w.root) {
-            Ok(value) => values[at + k] = value,
+    let end = at + many;
+    compose_all(
+        &mains[at..end],
+        &written[at..end],
+        merges,
+        &mut values[at..end],
+    )
+}
+
+/// Puts the new words of written locations, one by one, up to the first whose merge faults.
+fn compose_all<M: MergeBy>(
+    mains: &[u64],
+    written: &[Written],
+    merges: &mut M,
+    values: &mut [u64],
+) -> Result<(), MergeTrap>
+    requires mains { length mains.now ≡ length written.now }
+    requires values { length values.old ≡ length written.now }
+    requires within { All (λ w. w.location < M.size merges.old) written.now }
+    ensures composed { IsComposed
+        (composed (M.merges merges.old) mains.now (entries written.now)) result values.new }
+    ensures length { length values.new ≡ length values.old }
+    ensures size { M.size merges.new ≡ M.size merges.old }
+    ensures merges { M.merges merges.new ≡ M.merges merges.old }
+{
+    for k in 0..written.len() {
+        let w = written[k];
+        match merges.merge(w.location, mains[k], w.value, w.root) {
+            Ok(word) => values[k] = word,
             Err(fault) => {
                 return Err(MergeTrap {
                     location: w.location,
