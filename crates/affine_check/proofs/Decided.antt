@@ -592,13 +592,13 @@ module _ (p : ProgramTree) (typed : ProgramTyped p) where
           }))
 
 -- the first breach of a program is that of its declarations or of `main`, by a checker with its tables
-pub program_found : (q : ProgramTree) (o : held_checker.Checker) (e1 e2 e3 e4 : List Declaration) (d m x : Fault)
+pub program_found : (q : ProgramTree) (o : held_checker.Checker) {e1 e2 e3 e4 : List Declaration} {d m x : Fault}
     → e1 ≡ q.declarations → e2 ≡ q.declarations → e3 ≡ q.declarations → e4 ≡ q.declarations
     → o.inside ≡ false → o.shared.now ≡ shared_table [] e1 → callees o.procs.now ≡ proc_table [] e2
     → callees o.funs.now ≡ fun_table [] e3
     → d ≡ broken_declarations (names_of o) None e4 → m ≡ broken_body (names_of o) [] q.main → x ≡ both d m
     → x ≡ broken_in_program q
-program_found q o e1 e2 e3 e4 d m x p1 p2 p3 p4 oi os op of hd hm hx =
+program_found q o p1 p2 p3 p4 oi os op of hd hm hx =
     let names : names_of o ≡ outside q.declarations =
     outer_names o q.declarations oi (os ∙ ap (λ es. shared_table [] es) p1) (op ∙ ap (λ es. proc_table [] es) p2)
     (of ∙ ap (λ es. fun_table [] es) p3) in

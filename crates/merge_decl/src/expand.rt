@@ -282,6 +282,8 @@ fn assembled(
 
 /// The program with the number of the fun of each application, or the first rule on funs that it
 /// breaks: the one at the least place, and there the first of `UnknownFun`, `LaterFun` and `Arity`.
+/// The program is small, as one that was parsed is: it has fewer than 2^24 parts, its words have the
+/// forms of the language, and its expressions are no deeper than a text can nest them (`IsSmall`).
 ///
 /// A name means the first fun of that name. A fun or a merge may apply the funs that are declared
 /// before it, and everything else may apply all.

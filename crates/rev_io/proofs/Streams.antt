@@ -6,8 +6,8 @@ use Rattle.std.proofs.lemmas.List.{take_all}
 use Rattle.std.specs.Prelude.{Some, Ok}
 use Rattle.rev_io.specs.Stream.{Stream, Gave, Leave, Reads, Took}
 
-pub took_more : (a b c : Stream) (x y xy : List ℕ) → Took a x b → Took b y c → xy ≡ x ++ y → Took a xy c
-took_more a b c x y xy first second whole = record {
+pub took_more : {a b c : Stream} {x y xy : List ℕ} → Took a x b → Took b y c → xy ≡ x ++ y → Took a xy c
+took_more {x} {y} first second whole = record {
   told = λ held is.
       second.told _ (first.told held is) ∙ ap Some (append_assoc held x y ∙ ap (λ bytes. held ++ bytes) (sym whole));
   calm = second.calm ∙ first.calm;
@@ -19,8 +19,8 @@ leave_more a b c x y first second all is =
     let two = second one.0 one.1 in
     (two.0, two.1, one.2 ∙ ap (λ rest. x ++ rest) two.2 ∙ sym (append_assoc x y two.0))
 
-pub gave_more : (a b c : Stream) (x y : List ℕ) → Gave a x b → Gave b y c → Gave a (x ++ y) c
-gave_more a b c x y first second = record {
+pub gave_more : {a b c : Stream} {x y : List ℕ} → Gave a x b → Gave b y c → Gave a (x ++ y) c
+gave_more {a} {b} {c} {x} {y} first second = record {
   told = leave_more a b c x y first.told second.told;
   calm = second.calm ∙ first.calm;
 }

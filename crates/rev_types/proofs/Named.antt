@@ -108,7 +108,7 @@ inner_names c es o q f = λ i. record {
 
 -- the first fault of a program is that of its declarations or of `main`, by checkers with its tables
 pub program_found :
-    (q : ProgramTree) (o i : held_checker.Checker) (es : List Declaration) (l : Locals) (left : ℕ) (d m x : Fault)
+    (q : ProgramTree) (o i : held_checker.Checker) {es : List Declaration} {l : Locals} {left : ℕ} {d m x : Fault}
     → es ≡ q.declarations → l ≡ [] → left ≡ first_past limits.Locals
     → o.inside ≡ false → o.shared.now ≡ shared_table [] es → callees o.procs.now ≡ proc_table [] es
     → callees o.funs.now ≡ fun_table [] es
@@ -116,7 +116,7 @@ pub program_found :
     → d ≡ broken_in_declarations (names_of o) (names_of i) p.nothing_passed None es
     → m ≡ broken_in_statements (names_of o) None l left None q.main → x ≡ both d m
     → x ≡ broken_in_program q
-program_found q o i es l left d m x pe pl pn oi os op of ii ip if' hd hm hx =
+program_found q o i {es} pe pl pn oi os op of ii ip if' hd hm hx =
     let outer =
     outer_names o q.declarations oi (os ∙ ap (λ es. shared_table [] es) pe) (op ∙ ap (λ es. proc_table [] es) pe)
     (of ∙ ap (λ es. fun_table [] es) pe) in

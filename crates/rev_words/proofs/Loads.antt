@@ -88,10 +88,10 @@ joined d s p l r a b c e f da sb pc le rf =
     rf ∙ ap (λ t. t ++ r) (le ∙ ap (λ t. t ++ l) (pc ∙ ap (λ t. t ++ p) (sb ∙ ap (λ t. t ++ s) da)))
     ∙ append_assoc ((d ++ s) ++ p) l r ∙ append_assoc (d ++ s) p (l ++ r) ∙ append_assoc d s (p ++ (l ++ r))
 
-pub whole-text : (seed size : ℕ) (a b c e f : List ℕ) → a ≡ lines declarations
+pub whole-text : (seed size : ℕ) {a b c e f : List ℕ} → a ≡ lines declarations
     → b ≡ a ++ lines (map statement_text (statements_from seed 32)) → c ≡ b ++ lines procedures
     → e ≡ c ++ (start size ++ 10 ∷ []) → f ≡ e ++ lines prints → f ≡ load_text seed size
-whole-text seed size a b c e f da sb pc le rf =
+whole-text seed size {a} {b} {c} {e} {f} da sb pc le rf =
     joined (lines declarations) (lines (map statement_text (statements_from seed 32))) (lines procedures)
     (start size ++ 10 ∷ []) (lines prints)
     a b c e f da sb pc le rf

@@ -100,6 +100,12 @@ assembled o ns ws ss fs hs es bs ds zs values = do
 abbrev Lies : ℕ → ℕ → Option ℕ → Type 0
 Lies least most o = (n : ℕ) → o ≡ Some n → (least ≤ n) × (n ≤ most)
 
+-- where a chain of values ends with one, the first of them is there, and so does the rest
+value_said : {A B : Type 0} (o : Option A) (f : A → Option B) (w : B) → o >>= f ≡ Some w
+    → (x : A) × (o ≡ Some x) × (f x ≡ Some w)
+value_said None f w h = absurd cc
+value_said (Some x) f w h = (x, refl, h)
+
 assembled_keeps : (o : Option Mode) (ns : Option (List ℤ)) (ws ss fs hs : Option ℕ) (es : Option (List ℕ))
     (bs : Option (List ℤ)) (ds zs : Option ℕ) (values : Bool) (w : Words)
     → ((l : List ℤ) → ns ≡ Some l → length l ≤ 1024) → Lies 1 64 ws → Lies 0 65536 ss → Lies 1 most_fuel fs
@@ -107,33 +113,28 @@ assembled_keeps : (o : Option Mode) (ns : Option (List ℤ)) (ws ss fs hs : Opti
     → ((l : List ℕ) → es ≡ Some l → length l ≤ 65536) → ((l : List ℤ) → bs ≡ Some l → length l ≤ 1024)
     → Lies 0 2147483647 ds → Lies 1 500 zs
     → assembled o ns ws ss fs hs es bs ds zs values ≡ Some w → KeepsRanges w
-assembled_keeps None _ _ _ _ _ _ _ _ _ _ w _ _ _ _ _ _ _ _ _ h = grind (arith, rules)
-assembled_keeps (Some o) None _ _ _ _ _ _ _ _ _ w _ _ _ _ _ _ _ _ _ h = grind (arith, rules)
-assembled_keeps (Some o) (Some ns) None _ _ _ _ _ _ _ _ w _ _ _ _ _ _ _ _ _ h = grind (arith, rules)
-assembled_keeps (Some o) (Some ns) (Some ws) None _ _ _ _ _ _ _ w _ _ _ _ _ _ _ _ _ h = grind (arith, rules)
-assembled_keeps (Some o) (Some ns) (Some ws) (Some ss) None _ _ _ _ _ _ w _ _ _ _ _ _ _ _ _ h = grind (arith, rules)
-assembled_keeps (Some o) (Some ns) (Some ws) (Some ss) (Some fs) None _ _ _ _ _ w _ _ _ _ _ _ _ _ _ h =
-    grind (arith, rules)
-assembled_keeps (Some o) (Some ns) (Some ws) (Some ss) (Some fs) (Some hs) None _ _ _ _ w _ _ _ _ _ _ _ _ _ h =
-    grind (arith, rules)
-assembled_keeps (Some o) (Some ns) (Some ws) (Some ss) (Some fs) (Some hs) (Some es) None _ _ _ w _ _ _ _ _ _ _ _ _ h =
-    grind (arith, rules)
-assembled_keeps (Some o) (Some ns) (Some ws) (Some ss) (Some fs) (Some hs) (Some es) (Some bs) None _ _ w _ _ _ _ _ _ _
-    _ _ h = grind (arith, rules)
-assembled_keeps (Some o) (Some ns) (Some ws) (Some ss) (Some fs) (Some hs) (Some es) (Some bs) (Some ds) None _ w _ _ _
-    _ _ _ _ _ _ h = grind (arith, rules)
-assembled_keeps (Some o) (Some ns) (Some ws) (Some ss) (Some fs) (Some hs) (Some es) (Some bs) (Some ds) (Some zs)
-    values w numbers_in workers_in segments_in fuel_in share_in schedule_in before_in seed_in size_in h =
-    subst (λ v. KeepsRanges v) (some_is _ _ h) (record {
-      numbers = numbers_in ns refl;
-      workers = workers_in ws refl;
-      segments = (segments_in ss refl).1;
-      fuel = fuel_in fs refl;
-      share = (share_in hs refl).1;
-      schedule = schedule_in es refl;
-      before = before_in bs refl;
-      seed = (seed_in ds refl).1;
-      size = size_in zs refl;
+assembled_keeps o ns ws ss fs hs es bs ds zs values w numbers_in workers_in segments_in fuel_in share_in schedule_in
+    before_in seed_in size_in h =
+    let mode = value_said o _ w h in
+    let numbers = value_said ns _ w mode.2 in
+    let workers = value_said ws _ w numbers.2 in
+    let segments = value_said ss _ w workers.2 in
+    let fuel = value_said fs _ w segments.2 in
+    let share = value_said hs _ w fuel.2 in
+    let schedule = value_said es _ w share.2 in
+    let before = value_said bs _ w schedule.2 in
+    let seed = value_said ds _ w before.2 in
+    let size = value_said zs _ w seed.2 in
+    subst (λ v. KeepsRanges v) (some_is _ _ size.2) (record {
+      numbers = numbers_in numbers.0 numbers.1;
+      workers = workers_in workers.0 workers.1;
+      segments = (segments_in segments.0 segments.1).1;
+      fuel = fuel_in fuel.0 fuel.1;
+      share = (share_in share.0 share.1).1;
+      schedule = schedule_in schedule.0 schedule.1;
+      before = before_in before.0 before.1;
+      seed = (seed_in seed.0 seed.1).1;
+      size = size_in size.0 size.1;
     })
   where
     some_is : (v x : Words) → Some v ≡ Some x → v ≡ x

@@ -126,8 +126,8 @@ pub plain_end : (line end rest : List ℕ) (c : Cause) (o : Option PartEnd) → 
 plain_end line end rest c o at not_done h ends =
     reads_end line end rest c [] o at not_done (no_place c h.plain) h.text ends
 
-pub merge_end : (line end rest place : List ℕ) (f : NumFault) (o : Option PartEnd) → line ≡ codes "end " ++ end
+pub merge_end : {line end rest place : List ℕ} {f : NumFault} (o : Option PartEnd) → line ≡ codes "end " ++ end
     → end ≢ codes "done" → IsMerge place f end rest → EndsSo (cause.Merge 0 f) place rest o
     → Reads FitsEnd end_text line o
-merge_end line end rest place f o at not_done h ends =
+merge_end {line} {end} {rest} {place} {f} o at not_done h ends =
     reads_end line end rest (cause.Merge 0 f) place o at not_done h.place_is h.text ends

@@ -145,7 +145,8 @@ pub spells_more : (bytes ks rest : List ℕ) (k : ℕ) → decimal k ≡ rest �
     → path_text (ks ++ k ∷ []) ≡ bytes
 spells_more bytes ks rest k is front = dotted_path ks k ∙ ap (dotted ks) is ∙ front
 
-pub dotted_cut : (bytes ks rest front more : List ℕ) (k : ℕ) → IsCut 46 rest front more → decimal k ≡ front
+pub dotted_cut : {bytes : List ℕ} (ks : List ℕ) {rest front more : List ℕ} (k : ℕ) → IsCut 46 rest front more
+    → decimal k ≡ front
     → dotted ks rest ≡ bytes → dotted (ks ++ k ∷ []) more ≡ bytes
-dotted_cut bytes ks rest front more k cut is at =
+dotted_cut ks {more} k cut is at =
     dotted_more ks k more ∙ ap (λ t. dotted ks (t ++ 46 ∷ more)) is ∙ ap (dotted ks) (sym cut.is) ∙ at

@@ -128,9 +128,9 @@ no_merge_fault bytes named p more at cut o z place f rest h =
     go fault.Overflow is = o rest (sym is)
     go fault.ZeroDivisor is = z rest (sym is)
 
-pub is_merge : (bytes named p more rest : List ℕ) (f : NumFault) → bytes ≡ codes "merge of " ++ named
+pub is_merge : {bytes named p more rest : List ℕ} (f : NumFault) → bytes ≡ codes "merge of " ++ named
     → IsCut 58 named p more → IsPlace p → more ≡ behind_colon f rest → IsMerge p f bytes rest
-is_merge bytes named p more rest f at cut place is =
+is_merge {p} {rest} f at cut place is =
     record {
       place_is = place;
       text = at ∙ ap (λ t. codes "merge of " ++ t) (cut.is ∙ ap (λ t. p ++ 58 ∷ t) is) ∙ sym (merge_split p f rest);
@@ -162,10 +162,10 @@ nowhere bytes digits at none x fit is =
     append_cancel (codes " at line ") _ _ (is ∙ at) in
     not_without 32 (decimal x.line) (codes "in revision " ++ path_text x.path) (subst (IsWithout 32) (sym behind) none)
 
-pub where_is : (bytes digits front rest p : List ℕ) (x : Located) → bytes ≡ codes " at line " ++ digits
+pub where_is : {bytes digits front rest p : List ℕ} (x : Located) → bytes ≡ codes " at line " ++ digits
     → IsCut 32 digits front rest → decimal x.line ≡ front → rest ≡ codes "in revision " ++ p → path_text x.path ≡ p
     → where_text x ≡ bytes
-where_is bytes digits front rest p x at cut line is path =
+where_is {front} {p} x at cut line is path =
     ap (λ t. codes " at line " ++ (decimal x.line ++ (codes " in revision " ++ t))) path
     ∙ ap (λ t. codes " at line " ++ (t ++ (codes " in revision " ++ p))) line
     ∙ ap (λ t. codes " at line " ++ (front ++ 32 ∷ t)) (sym is)

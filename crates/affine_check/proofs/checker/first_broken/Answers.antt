@@ -13,7 +13,7 @@ returns c =
       funs = record { ref_ptr = (0, 0); now = c.in_ok-tables.tables.funs };
       inside = false;
     } in
-    program_found (whole c.args.p.now) checker _ _ _ _ _ _ _
+    program_found (whole c.args.p.now) checker
     (ap (λ ds. map declaration ds) c.deref.ensures.value) (ap (λ ds. map declaration ds) c.deref.ensures.value)
     (ap (λ ds. map declaration ds) c.deref.ensures.value) (ap (λ ds. map declaration ds) c.deref-2.ensures.value)
     refl c.in_ok-tables.ensures.shared c.in_ok-tables.ensures.procs c.in_ok-tables.ensures.funs

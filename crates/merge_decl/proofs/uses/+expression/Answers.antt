@@ -8,14 +8,14 @@ use Rattle.merge_decl.proofs.uses.+expression.Goals as goal
 
 pub add_node-returns-in_ok-add_links-in-Chain : goal.add_node-returns-in_ok-add_links-in-Chain
 add_node-returns-in_ok-add_links-in-Chain t c =
-    chain_added c.args.within _ _ _ _ _ _ _ _
+    chain_added c.args.within _
     (ap expression_form c.in-Chain.is ∙ expression_form-Chain c.in-Chain.first c.in-Chain.rest)
     (ap expression c.deref-in-Chain.ensures) (ap links c.deref-in-Chain-2.ensures.value)
     c.in_ok-add_expression-in-Chain.ensures c.in_ok-add_links-in-Chain.ensures
 
 pub add_node-returns-in_ok-add_expression-in-Pick-3 : goal.add_node-returns-in_ok-add_expression-in-Pick-3
 add_node-returns-in_ok-add_expression-in-Pick-3 t c =
-    pick_added c.args.within _ _ _ _ _ _ _ _ _ _ _
+    pick_added c.args.within _
     (ap expression_form c.in-Pick.is ∙ expression_form-Pick c.in-Pick.test c.in-Pick.yes c.in-Pick.no)
     (ap expression c.deref-in-Pick.ensures) (ap expression c.deref-in-Pick-2.ensures)
     (ap expression c.deref-in-Pick-3.ensures)
@@ -24,7 +24,7 @@ add_node-returns-in_ok-add_expression-in-Pick-3 t c =
 
 pub add_node-returns-in_ok-add_expressions-in-Apply : goal.add_node-returns-in_ok-add_expressions-in-Apply
 add_node-returns-in_ok-add_expressions-in-Apply t c =
-    apply_added c.args.within _ _ _ _ _ _ _ _
+    apply_added c.args.within _
     (ap expression_form c.in-Apply.is ∙ expression_form-Apply c.in-Apply.name c.in-Apply.args)
     (ap expressions c.deref-in-Apply.ensures.value)
     (c.len.ensures ∙ c.in-Apply.args.ok.0 ∙ sym (count_expressions c.in-Apply.args.items))

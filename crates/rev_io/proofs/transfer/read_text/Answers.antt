@@ -9,5 +9,5 @@ returns-then-is_err g c =
     let read = c.in-Ok.ensures in
     let most : length (c.loop-piece.text.items ++ take c.in-Ok.count c.read.new.buf) ≤ c.args.limit + 1 =
     grind (arith, common_steps) in
-    let gave = gave_more _ _ _ _ _ c.loop-piece.invariant.gave read.1 in
+    let gave = gave_more c.loop-piece.invariant.gave read.1 in
     (gave.calm, (c.loop-piece.text.items ++ take c.in-Ok.count c.read.new.buf, most, gave.told))

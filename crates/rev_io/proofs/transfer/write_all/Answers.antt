@@ -8,6 +8,6 @@ loop-done-preserved g c =
     let wrote = c.in_ok-done.ensures in
     record {
       within = omega (arith, length-drop c.loop-done.done c.args.bytes.now, wrote.0);
-      took = took_more _ _ _ _ _ _ c.loop-done.invariant.took wrote.2
+      took = took_more c.loop-done.invariant.took wrote.2
           (taken c.loop-done.done c.in_ok-done.field-0 c.args.bytes.now);
     }

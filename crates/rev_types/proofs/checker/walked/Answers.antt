@@ -14,7 +14,7 @@ returns-clause-fault c =
       inside = false;
     } in
     let inner : Checker = record outer { inside = true } in
-    program_found (whole c.args.p.now) outer inner _ _ _ _ _ _
+    program_found (whole c.args.p.now) outer inner
     (ap (λ ds. map declaration ds) c.deref-decls.ensures.value) c.new-body.ensures.locals c.new-body.ensures.left
     refl c.in_ok-names.ensures.shared c.in_ok-names.ensures.procs c.in_ok-names.ensures.funs
     refl c.in_ok-names.ensures.procs c.in_ok-names.ensures.funs

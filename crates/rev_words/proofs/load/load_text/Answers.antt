@@ -9,7 +9,7 @@ pub returns : goal.returns
 returns c =
     let first : string_bytes c.append_declarations.new.text ≡ lines declarations = search rules in
     let whole : string_bytes c.append_prints.new.text ≡ load_text c.args.seed c.args.size =
-    whole-text c.args.seed c.args.size _ _ _ _ _ first c.in_ok-append_statements.ensures
+    whole-text c.args.seed c.args.size first c.in_ok-append_statements.ensures
     c.in_ok-append_procedures.ensures
     c.in_ok-append_start.ensures c.in_ok-append_prints.ensures in
     let bytes : c.into_bytes.result.items ≡ load_text c.args.seed c.args.size =

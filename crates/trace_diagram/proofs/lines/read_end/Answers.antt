@@ -11,5 +11,5 @@ returns-in-Some-read_cause c =
 pub returns-in-Some-read_merge : goal.returns-in-Some-read_merge
 returns-in-Some-read_merge c =
     IfOk-weaker c.read_trap-in-Some-read_merge.result _ _
-    (λ o. merge_end _ _ _ _ _ o c.in-Some.ensures c.if-are.ensures c.in-Some-read_merge.ensures)
+    (λ o. merge_end o c.in-Some.ensures c.if-are.ensures c.in-Some-read_merge.ensures)
     c.read_trap-in-Some-read_merge.ensures

@@ -11,7 +11,7 @@ returns-then-not-is_place c = no_merge_place _ _ _ _ c.in-Some.ensures c.in-Some
 
 pub returns-in-Some-behind-2 : goal.returns-in-Some-behind-2
 returns-in-Some-behind-2 c =
-    is_merge _ _ _ _ _ fault.ZeroDivisor c.in-Some.ensures c.in-Some-cut.ensures c.if-not-is_place.ensures
+    is_merge fault.ZeroDivisor c.in-Some.ensures c.in-Some-cut.ensures c.if-not-is_place.ensures
     c.in-Some-behind-2.ensures
 
 pub returns-in-None : goal.returns-in-None

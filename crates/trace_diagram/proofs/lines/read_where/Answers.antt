@@ -22,7 +22,7 @@ returns-in-Some-2 c =
     let path = rw c.in-Some-2.is at c.in_ok-path.ensures in
     let line = c.in-Some-read_small.ensures in (
       (path.0, line.0),
-      where_is _ _ _ _ _ (record { path = c.in-Some-2.path; line = c.in-Some-read_small.line }) c.in-Some.ensures
+      where_is (record { path = c.in-Some-2.path; line = c.in-Some-read_small.line }) c.in-Some.ensures
           c.in-Some-cut.ensures line.1 c.in-Some-behind.ensures path.1,
     )
 

@@ -21,7 +21,7 @@ loop-front-preserved c =
     record {
       fit = subst FitsPath (sym is) (fits_more _ _ h.fit n.0);
       so_far = subst (λ ks. dotted ks c.in-Some.more.now ≡ c.args.bytes.now) (sym is)
-          (dotted_cut _ _ _ _ _ _ c.in-Some.ensures n.1 h.so_far);
+          (dotted_cut _ _ c.in-Some.ensures n.1 h.so_far);
       begin = subst (λ ks. AllBegin c.args.bytes.now ks c.in-Some.more.now) (sym is)
           (begins_more c.args.bytes.now c.loop-front.forks.items c.loop-front.rest.now _ _ _ c.in-Some.ensures n.0 n.1
           h.begin);
