@@ -8,6 +8,7 @@ mod mark;
 mod node;
 mod operands;
 mod pass;
+mod proved;
 mod shapes;
 mod spent;
 mod stack;
