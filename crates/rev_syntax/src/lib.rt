@@ -10,6 +10,7 @@ mod lex;
 mod names;
 mod place;
 mod scan;
+mod starts;
 mod token;
 mod tree;
 

@@ -5,7 +5,8 @@ ghost use Rattle.rev_syntax.specs.Bytes as bytes;
 ghost use Rattle.rev_syntax.specs.Tokens.{begins_with_letter};
 ghost use Rattle.rev_syntax.specs.Scan as spec;
 
-use crate::token::{Fixed, PieceKind, SIGNS, TokenKind, WORDS};
+use crate::starts::{sign_from, spelled, words_with};
+use crate::token::{Fixed, PieceKind, TokenKind};
 use rev_num::read_decimal;
 use std::alloc::AllocFailed;
 
@@ -104,7 +105,10 @@ fn line_bytes(text: &[u8]) -> usize
 fn reserved_word(text: &[u8]) -> Option<Fixed>
     ensures { result ≡ spec.reserved_word text.now }
 {
-    WORDS.iter().copied().find(|word| word.spelling() == text)
+    match text {
+        [] => None,
+        [first, ..] => spelled(words_with(*first), text),
+    }
 }
 
 fn word_kind(text: &[u8]) -> TokenKind
@@ -130,10 +134,10 @@ fn word(text: &[u8]) -> Cut
 fn first_sign(text: &[u8]) -> Option<Fixed>
     ensures { result ≡ spec.first_sign text.now }
 {
-    SIGNS
-        .iter()
-        .copied()
-        .find(|sign| text.starts_with(sign.spelling()))
+    match text {
+        [] => None,
+        [first, rest @ ..] => sign_from(*first, rest),
+    }
 }
 
 fn begins_with_letter(text: &[u8]) -> bool
