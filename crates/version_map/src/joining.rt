@@ -64,6 +64,43 @@ pub trait MergeBy {
         }
         Some(values)
     }
+
+    /// Puts the new words of so many written locations from this place on into `values`, one by one,
+    /// up to the first whose merge faults. `mains` are the joiner's words there before.
+    fn merge_each(
+        &mut self,
+        mains: &[u64],
+        written: &[Written],
+        at: usize,
+        many: usize,
+        values: &mut [u64],
+    ) -> Result<(), MergeTrap>
+        requires mains { length mains.now ≡ length written.now }
+        requires values { length values.old ≡ length written.now }
+        requires within { All (λ w. w.location < size self.old) written.now }
+        requires here { at + many ≤ length written.now }
+        ensures length { length values.new ≡ length values.old }
+        ensures put { IfOk result (λ _. HasPut (merges self.old) mains.now written.now at many
+            values.old values.new) }
+        ensures trap { IfErr result (TrapsFrom (merges self.old) mains.now written.now at) }
+        ensures size { size self.new ≡ size self.old }
+        ensures merges { merges self.new ≡ merges self.old }
+        ensures row { row self.new ≡ row self.old }
+    {
+        for k in 0..many {
+            let w = written[at + k];
+            match self.merge(w.location, mains[at + k], w.value, w.root) {
+                Ok(value) => values[at + k] = value,
+                Err(fault) => {
+                    return Err(MergeTrap {
+                        location: w.location,
+                        fault,
+                    })
+                }
+            }
+        }
+        Ok(())
+    }
 }
 
 /// The least location whose merge faults, and how.
@@ -79,7 +116,7 @@ pub struct MergeTrap {
 ///
 /// Eight written locations that follow each other and are merged at once go by eight; an eight
 /// with a fault goes one by one, so that its first fault is told. Behind a location that is merged
-/// alone the next seven go one by one with no question.
+/// alone the next 63 go one by one with no question.
 pub fn compose<M: MergeBy>(
     mains: &[u64],
     end: &EndValue,
@@ -107,7 +144,7 @@ pub fn compose<M: MergeBy>(
 }
 
 /// Puts the new words of the next locations, and tells of how many. An eight that is merged at once
-/// goes at once. Where this location is merged alone, up to eight go one by one with no question.
+/// goes at once. Where this location is merged alone, up to 64 go one by one with no question.
 fn compose_next<M: MergeBy>(
     mains: &[u64],
     written: &[Written],
@@ -126,52 +163,21 @@ fn compose_next<M: MergeBy>(
     ensures size { M.size merges.new ≡ M.size merges.old }
     ensures merges { M.merges merges.new ≡ M.merges merges.old }
 {
-    if !merges.row_at(written[at].location) {
-        let many = (written.len() - at).min(8);
-        compose_ones(mains, written, at, many, merges, values)?;
-        return Ok(many);
-    }
     if compose_eight(mains, written, at, merges, values) {
         return Ok(8);
     }
-    compose_ones(mains, written, at, 1, merges, values)?;
-    Ok(1)
+    let many = portion(merges.row_at(written[at].location), written.len() - at);
+    merges.merge_each(mains, written, at, many, values)?;
+    Ok(many)
 }
 
-/// Puts the new words of so many locations from this place on, one by one, up to the first whose
-/// merge faults.
-fn compose_ones<M: MergeBy>(
-    mains: &[u64],
-    written: &[Written],
-    at: usize,
-    many: usize,
-    merges: &mut M,
-    values: &mut [u64],
-) -> Result<(), MergeTrap>
-    requires mains { length mains.now ≡ length written.now }
-    requires values { length values.old ≡ length written.now }
-    requires within { All (λ w. w.location < M.size merges.old) written.now }
-    requires here { at + many ≤ length written.now }
-    ensures length { length values.new ≡ length values.old }
-    ensures put { IfOk result (λ _. HasPut (M.merges merges.old) mains.now written.now at many
-        values.old values.new) }
-    ensures trap { IfErr result (TrapsFrom (M.merges merges.old) mains.now written.now at) }
-    ensures size { M.size merges.new ≡ M.size merges.old }
-    ensures merges { M.merges merges.new ≡ M.merges merges.old }
+/// How many of these locations go one by one with no further question: one where the first of them
+/// is merged with others at once, and else up to 64.
+fn portion(is_at_once: bool, left: usize) -> usize
+    requires { 0 < left }
+    ensures { (0 < result) × (result ≤ left) }
 {
-    for k in 0..many {
-        let w = written[at + k];
-        match merges.merge(w.location, mains[at + k], w.value, w.root) {
-            Ok(value) => values[at + k] = value,
-            Err(fault) => {
-                return Err(MergeTrap {
-                    location: w.location,
-                    fault,
-                })
-            }
-        }
-    }
-    Ok(())
+    if is_at_once { 1 } else { left.min(64) }
 }
 
 /// Puts the new words of eight locations from this place on, where they follow each other, are
