@@ -5,3 +5,4 @@ pub mod RowSteps
 pub mod RowParts
 pub mod Following
 pub mod WholeRows
+pub mod Alone

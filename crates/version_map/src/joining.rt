@@ -5,7 +5,7 @@ ghost use Rattle.rev_num.specs.declared.value.NumFault.{NumFault};
 ghost use Rattle.version_map.specs.Composing.{Merges, TrapsAtLeast, composed, entries};
 ghost use Rattle.version_map.specs.Composing.{IsComposed};
 ghost use Rattle.version_map.specs.Eights.{merged_eight};
-ghost use Rattle.version_map.specs.Parts.{HasPut, IsPart, TrapsFrom};
+ghost use Rattle.version_map.specs.Parts.{GoAlone, HasPut, IsPart, TrapsFrom};
 
 use crate::eights::{eight_roots, eight_values, eight_words, follow, put_eight};
 use crate::end::{EndValue, Written};
@@ -65,6 +65,22 @@ pub trait MergeBy {
         Some(values)
     }
 
+    /// How many written locations from this place on go one by one: at least one, at most 64, and
+    /// none further at which eight are merged at once.
+    fn alone_from(&self, written: &[Written], at: usize) -> usize
+        requires { at < length written.now }
+        ensures some { (0 < result) × (at + result ≤ length written.now) }
+        ensures alone { GoAlone (row self.now) written.now at result }
+    {
+        let most = (written.len() - at).min(64);
+        for k in 1..most {
+            if self.row_at(written[at + k].location) {
+                return k;
+            }
+        }
+        most
+    }
+
     /// Puts the new words of so many written locations from this place on into `values`, one by one,
     /// up to the first whose merge faults. `mains` are the joiner's words there before.
     fn merge_each(
@@ -114,9 +130,9 @@ pub struct MergeTrap {
 /// of `end.written`. `mains` are the joiner's words there before. The error is the least location
 /// whose merge faults, after which nothing is said of `values`.
 ///
-/// Eight written locations that follow each other and are merged at once go by eight; an eight
-/// with a fault goes one by one, so that its first fault is told. Behind a location that is merged
-/// alone the next 63 go one by one with no question.
+/// Eight written locations that follow each other and are merged at once go by eight; all others
+/// go one by one, and so does the first location of an eight with a fault, so that its first fault
+/// is told.
 pub fn compose<M: MergeBy>(
     mains: &[u64],
     end: &EndValue,
@@ -143,8 +159,8 @@ pub fn compose<M: MergeBy>(
     Ok(())
 }
 
-/// Puts the new words of the next locations, and tells of how many. An eight that is merged at once
-/// goes at once. Where this location is merged alone, up to 64 go one by one with no question.
+/// Puts the new words of the next locations, and tells of how many: of an eight that is merged at
+/// once, or of this location and of others up to the next at which an eight may be.
 fn compose_next<M: MergeBy>(
     mains: &[u64],
     written: &[Written],
@@ -166,18 +182,9 @@ fn compose_next<M: MergeBy>(
     if compose_eight(mains, written, at, merges, values) {
         return Ok(8);
     }
-    let many = portion(merges.row_at(written[at].location), written.len() - at);
+    let many = merges.alone_from(written, at);
     merges.merge_each(mains, written, at, many, values)?;
     Ok(many)
-}
-
-/// How many of these locations go one by one with no further question: one where the first of them
-/// is merged with others at once, and else up to 64.
-fn portion(is_at_once: bool, left: usize) -> usize
-    requires { 0 < left }
-    ensures { (0 < result) × (result ≤ left) }
-{
-    if is_at_once { 1 } else { left.min(64) }
 }
 
 /// Puts the new words of eight locations from this place on, where they follow each other, are
