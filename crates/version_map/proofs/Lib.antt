@@ -5,4 +5,3 @@ pub mod RowSteps
 pub mod RowParts
 pub mod Following
 pub mod WholeRows
-pub mod Alone

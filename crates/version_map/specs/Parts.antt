@@ -2,9 +2,10 @@
 --   before   a composition behind new words that are known
 --   IsPart   from this place on, these are the new words of the next n entries
 --   HasPut   they were put there, behind the words that stood before that place
---   GoAlone   behind the first of so many written locations no eight begins that is merged at once
 --   TrapsFrom   from this place on, the first merge that faults is that of this location, and faults so
-use Rattle.std.specs.Prelude.{◌≡◌, ◌<◌, ℕ, ◌+◌, Bool, false, List, [], ◌∷◌, ◌++◌, length, take, drop, slice_get, Some, Err}
+--   AreAlone    behind the first of n entries from this place on, none is at a location from which eight are
+--               merged at once
+use Rattle.std.specs.Prelude.{◌≡◌, ◌<◌, ℕ, ◌+◌, Bool, false, List, [], ◌∷◌, ◌++◌, length, take, drop, Err, Some, slice_get}
 use Rattle.version_map.specs.declared.end.Written.{Written}
 use Rattle.version_map.specs.declared.joining.MergeTrap.{MergeTrap}
 use Rattle.version_map.specs.Composing.{Merges, Composition, before_later, composed, entries}
@@ -26,6 +27,6 @@ HasPut m mains ws at n old new =
 abbrev pub TrapsFrom : Merges ℕ → (mains : List ℕ) → List Written → (at : ℕ) → MergeTrap → Type 0
 TrapsFrom m mains ws at t = composed m (drop at mains) (entries (drop at ws)) ≡ Err (t.location, t.fault)
 
-abbrev pub GoAlone : (row : ℕ → Bool) → List Written → (at many : ℕ) → Type 0
-GoAlone row ws at many =
-    (k : ℕ) (w : Written) → 0 < k → k < many → slice_get ws (at + k) ≡ Some w → row w.location ≡ false
+abbrev pub AreAlone : (row : ℕ → Bool) → List Written → (at n : ℕ) → Type 0
+AreAlone row ws at n =
+    (k : ℕ) (w : Written) → 0 < k → k < n → slice_get ws (at + k) ≡ Some w → row w.location ≡ false
