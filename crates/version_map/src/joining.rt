@@ -5,7 +5,7 @@ ghost use Rattle.rev_num.specs.declared.value.NumFault.{NumFault};
 ghost use Rattle.version_map.specs.Composing.{Merges, TrapsAtLeast, composed, entries};
 ghost use Rattle.version_map.specs.Composing.{IsComposed};
 ghost use Rattle.version_map.specs.Eights.{merged_eight};
-ghost use Rattle.version_map.specs.Parts.{AreAlone, HasPut, IsPart, TrapsFrom};
+ghost use Rattle.version_map.specs.Parts.{HasPut, IsPart, TrapsFrom};
 
 use crate::eights::{eight_roots, eight_values, eight_words, follow, put_eight};
 use crate::end::{EndValue, Written};
@@ -64,59 +64,6 @@ pub trait MergeBy {
         }
         Some(values)
     }
-
-    /// Puts the new words of written locations from this place on into `values`, one by one, up to
-    /// the first whose merge faults, and tells of how many: at least one, and at most `most`. Behind
-    /// the first of them there is none at which eight are merged at once. `mains` are the joiner's
-    /// words there before.
-    fn merge_each(
-        &mut self,
-        mains: &[u64],
-        written: &[Written],
-        at: usize,
-        most: usize,
-        values: &mut [u64],
-    ) -> Result<usize, MergeTrap>
-        requires mains { length mains.now ≡ length written.now }
-        requires values { length values.old ≡ length written.now }
-        requires within { All (λ w. w.location < size self.old) written.now }
-        requires here { at + most ≤ length written.now }
-        requires some { 0 < most }
-        ensures length { length values.new ≡ length values.old }
-        ensures put { IfOk result (λ n. (0 < n) × (n ≤ most)
-            × HasPut (merges self.old) mains.now written.now at n values.old values.new) }
-        ensures alone { IfOk result (AreAlone (row self.old) written.now at) }
-        ensures trap { IfErr result (TrapsFrom (merges self.old) mains.now written.now at) }
-        ensures size { size self.new ≡ size self.old }
-        ensures merges { merges self.new ≡ merges self.old }
-        ensures row { row self.new ≡ row self.old }
-    {
-        for k in 0..most {
-            let w = written[at + k];
-            if stops(k, self.row_at(w.location)) {
-                return Ok(k);
-            }
-            match self.merge(w.location, mains[at + k], w.value, w.root) {
-                Ok(value) => values[at + k] = value,
-                Err(fault) => {
-                    return Err(MergeTrap {
-                        location: w.location,
-                        fault,
-                    })
-                }
-            }
-        }
-        Ok(most)
-    }
-}
-
-/// Whether merges one by one stop before this location, behind so many: where eight are merged at
-/// once from it on, but not before the first.
-fn stops(behind: usize, is_row: bool) -> bool
-    ensures some { result ≡ true → 0 < behind }
-    ensures alone { result ≡ false → 0 < behind → is_row ≡ false }
-{
-    0 < behind && is_row
 }
 
 /// The least location whose merge faults, and how.
@@ -131,7 +78,8 @@ pub struct MergeTrap {
 /// whose merge faults, after which nothing is said of `values`.
 ///
 /// Eight written locations that follow each other and are merged at once go by eight; an eight
-/// with a fault goes one by one, so that its first fault is told.
+/// with a fault goes one by one, so that its first fault is told. Behind a location that is merged
+/// alone the next seven go one by one with no question.
 pub fn compose<M: MergeBy>(
     mains: &[u64],
     end: &EndValue,
@@ -159,8 +107,7 @@ pub fn compose<M: MergeBy>(
 }
 
 /// Puts the new words of the next locations, and tells of how many. An eight that is merged at once
-/// goes at once. Else this location is merged alone, and so are those behind it, up to 64 in all and
-/// up to the next one from which eight are merged at once.
+/// goes at once. Where this location is merged alone, up to eight go one by one with no question.
 fn compose_next<M: MergeBy>(
     mains: &[u64],
     written: &[Written],
@@ -179,12 +126,52 @@ fn compose_next<M: MergeBy>(
     ensures size { M.size merges.new ≡ M.size merges.old }
     ensures merges { M.merges merges.new ≡ M.merges merges.old }
 {
+    if !merges.row_at(written[at].location) {
+        let many = (written.len() - at).min(8);
+        compose_ones(mains, written, at, many, merges, values)?;
+        return Ok(many);
+    }
     if compose_eight(mains, written, at, merges, values) {
         return Ok(8);
     }
-    let most = (written.len() - at).min(64);
-    let many = merges.merge_each(mains, written, at, most, values)?;
-    Ok(many)
+    compose_ones(mains, written, at, 1, merges, values)?;
+    Ok(1)
+}
+
+/// Puts the new words of so many locations from this place on, one by one, up to the first whose
+/// merge faults.
+fn compose_ones<M: MergeBy>(
+    mains: &[u64],
+    written: &[Written],
+    at: usize,
+    many: usize,
+    merges: &mut M,
+    values: &mut [u64],
+) -> Result<(), MergeTrap>
+    requires mains { length mains.now ≡ length written.now }
+    requires values { length values.old ≡ length written.now }
+    requires within { All (λ w. w.location < M.size merges.old) written.now }
+    requires here { at + many ≤ length written.now }
+    ensures length { length values.new ≡ length values.old }
+    ensures put { IfOk result (λ _. HasPut (M.merges merges.old) mains.now written.now at many
+        values.old values.new) }
+    ensures trap { IfErr result (TrapsFrom (M.merges merges.old) mains.now written.now at) }
+    ensures size { M.size merges.new ≡ M.size merges.old }
+    ensures merges { M.merges merges.new ≡ M.merges merges.old }
+{
+    for k in 0..many {
+        let w = written[at + k];
+        match merges.merge(w.location, mains[at + k], w.value, w.root) {
+            Ok(value) => values[at + k] = value,
+            Err(fault) => {
+                return Err(MergeTrap {
+                    location: w.location,
+                    fault,
+                })
+            }
+        }
+    }
+    Ok(())
 }
 
 /// Puts the new words of eight locations from this place on, where they follow each other, are
