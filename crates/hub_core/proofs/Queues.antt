@@ -371,10 +371,10 @@ module _ {L R A E : Type 0} (d : HubMachine L R A E) where
       same.1
       (let a = same.0 in let b = f.1 in omega arith)
 
-  pub queue_take : (slots : Slots) (q q' q'' : RunQueue) (n : ℕ) (x : Status R A E) → Queued d slots q
+  pub queue_take : {slots : Slots} {q q' q'' : RunQueue} (n : ℕ) {x : Status R A E} → Queued d slots q
       → Takes q q' (Some n) → (q'.unfinished ≡ q.unfinished) × IsAsLong q q' → at_number slots n ≡ Some x → q'' ≡ q'
       → Queued d (put_number slots n Out) q''
-  queue_take slots q q' q'' n x h takes same e is =
+  queue_take {slots} {q} {q'} n {x} h takes same e is =
       subst (Queued d (put_number slots n Out)) (sym is) (queue_taken slots q q' n x h takes same e)
 
   -- nothing is ready
@@ -404,10 +404,10 @@ module _ {L R A E : Type 0} (d : HubMachine L R A E) where
   }
 
   -- a joiner waits
-  pub queue_delay : (slots : Slots) (q q' : RunQueue) (n : ℕ) (a : A) → Queued d slots q → at_number slots n ≡ Some Out
+  pub queue_delay : {slots : Slots} {q q' : RunQueue} (n : ℕ) (a : A) → Queued d slots q → at_number slots n ≡ Some Out
       → ended_here (at_number slots (d.on a)) ≡ false → DelaysOne q q' n (d.on a)
       → Queued d (put_number slots n (Waiting a)) q'
-  queue_delay slots q q' n a h e not_ended delays =
+  queue_delay {slots} {q} {q'} n a h e not_ended delays =
       let ends = ends_put slots n Out (Waiting a) e refl (d.on a) ∙ not_ended in
       let nowhere = is_nowhere slots q h n (Some Out) e out_idle in
       turned slots n Out (Waiting a) q q' h.ready (with_waiter h.waits (d.on a) n) h e refl
@@ -480,9 +480,9 @@ module _ {L R A E : Type 0} (d : HubMachine L R A E) where
   waits_woken slots' k w (Some (Over e)) = refl
   waits_woken slots' k w (Some Gone) = refl
 
-  pub queue_end : (slots : Slots) (q q' : RunQueue) (n : ℕ) (i : E) → Queued d slots q → at_number slots n ≡ Some Out
+  pub queue_end : {slots : Slots} {q q' : RunQueue} (n : ℕ) (i : E) → Queued d slots q → at_number slots n ≡ Some Out
       → EndsOne q q' n → Queued d (put_number slots n (Over i)) q'
-  queue_end slots q q' n i h e ends =
+  queue_end {slots} {q} {q'} n i h e ends =
       let nowhere = is_nowhere slots q h n (Some Out) e out_idle in
       let woken : Woken slots (put_number slots n (Over i)) n = (
         ap ended_here e,
@@ -517,18 +517,18 @@ module _ {L R A E : Type 0} (d : HubMachine L R A E) where
   pub queue_same : (slots : Slots) (q q' : RunQueue) → Queued d slots q → q' ≡ q → Queued d slots q'
   queue_same slots q q' h is = subst (Queued d slots) (sym is) h
 
-  pub queue_join : (slots : Slots) (q q' : RunQueue) (n : ℕ) (i : E) → Queued d slots q
+  pub queue_join : {slots : Slots} {q q' : RunQueue} (n : ℕ) {i : E} → Queued d slots q
       → at_number slots n ≡ Some (Over i) → q' ≡ q → Queued d (put_number slots n Gone) q'
-  queue_join slots q q' n i h e is =
+  queue_join {slots} {q} {q'} n {i} h e is =
       queue_same (put_number slots n Gone) q q' (turned slots n (Over i) Gone q q h.ready h.waits h e refl h.lists
       (h.ready_are n ∙ ap (λ o. flag (is_ready d slots o)) e) (λ j apart. refl)
       (λ m. h.waits_are m n ∙ ap (λ o. flag (waits_for d slots m o)) e) (λ m j apart. refl)
       (refl, omega arith) refl) is
 
   -- one revision more
-  pub queue_add : (slots : Slots) (q q' : RunQueue) (n : ℕ) (c : R) → Queued d slots q → n ≡ length slots
+  pub queue_add : {slots : Slots} {q q' : RunQueue} {n : ℕ} (c : R) → Queued d slots q → n ≡ length slots
       → AddsOne q q' n → Queued d (slots ++ Ready c ∷ []) q'
-  queue_add slots q q' n c h is adds =
+  queue_add {slots} {q} {n} c h is adds =
       let none : at_number slots n ≡ None = slice_get_past slots n (omega arith) in
       let here : at_number (slots ++ Ready c ∷ []) n ≡ Some (Ready c) =
       ap (at_number (slots ++ Ready c ∷ [])) is ∙ at_length slots (Ready c) [] in

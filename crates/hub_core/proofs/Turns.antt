@@ -440,12 +440,12 @@ module _ {L R A E : Type 0} (d : HubMachine L R A E) (ends : E → L → Type 0)
   }
 
   -- what is told of a value is told of an equal one, as of what lies in its box
-  pub told_at : (v w : View L) (t t' : Value) → t' ≡ t → Told d ends v w t → Told d ends v w t'
-  told_at v w t t' is told = subst (λ x. Told d ends v w x) (sym is) told
+  pub told_at : {v w : View L} {t t' : Value} → t' ≡ t → Told d ends v w t → Told d ends v w t'
+  told_at {v} {w} is told = subst (λ x. Told d ends v w x) (sym is) told
 
   -- the same of the view as a step leaves it
-  pub moved_hand : (x y : View L) (t : Value) → InHand d ends y t → x ≡ y → InHand d ends x t
-  moved_hand x y t h is = subst (λ z. InHand d ends z t) (sym is) h
+  pub moved_hand : {x y : View L} {t : Value} → InHand d ends y t → x ≡ y → InHand d ends x t
+  moved_hand {t} h is = subst (λ z. InHand d ends z t) (sym is) h
 
   -- the other passes stay
   kept_pass : (v w : View L) (t : Value) (j : ℕ) (at : List ℕ) → Told d ends v w t → IsPass v.passes j at
@@ -500,16 +500,16 @@ module _ {L R A E : Type 0} (d : HubMachine L R A E) (ends : E → L → Type 0)
   lacks_end w k = λ at p. none_left k ((k, w.log ++ k ∷ []) ∷ left k w.passes) at p
 
   -- the seat has the pass that it had
-  pub has_pass : (v w : View L) (t : Value) (k : ℕ) (at : List ℕ) → Told d ends v w t → IsPass v.passes k at
+  pub has_pass : {v w : View L} {t : Value} (k : ℕ) (at : List ℕ) → Told d ends v w t → IsPass v.passes k at
       → 0 < named k w.passes
-  has_pass v w t k at told p =
+  has_pass {v} {w} k at told p =
       let q : named k w.passes ≡ named k v.passes = ap (named k) told.passes in
       let r = pass_named v.passes k at p in
       omega arith
 
-  pub still_out : (v w : View L) (t : Value) (k : ℕ) (at : List ℕ) → Told d ends v w t → IsPass v.passes k at
+  pub still_out : {v w : View L} {t : Value} (k : ℕ) (at : List ℕ) → Told d ends v w t → IsPass v.passes k at
       → at_number t.revisions.slots.items k ≡ Some Out
-  still_out v w t k at told pass = its_out v w t k at told pass
+  still_out {v} {w} {t} k at told pass = its_out v w t k at told pass
 
   -- what is handed in at the end of a revision
   pub trap_by : (v : View L) (k : ℕ) (e : E) (b : Bool) → b ≡ true

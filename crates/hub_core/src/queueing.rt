@@ -1,25 +1,31 @@
 //! How the lists of what is ready and of what waits change. No call goes along a list, and only
 //! `reach` has a loop, which has no round where there is a revision of the number.
 ghost use Rattle.std.specs.Prelude.{◌≡◌, ◌<◌, ◌≤◌, ◌+◌, ◌^◌, ℕ, [], length, true, None};
-ghost use Rattle.std.specs.Prelude.{MatchOption};
-ghost use Rattle.std.specs.Prelude.{vec_len, vec_capacity};
+ghost use Rattle.std.specs.Prelude.{Option, vec_len, vec_capacity};
 ghost use Rattle.hub_core.specs.Chains.{IsAsLong, KeepsLists, Adds, Takes, Waits, Wakes, EndsOne};
 ghost use Rattle.hub_core.specs.Chains.{IsWithin, chain_at};
+ghost use Rattle.hub_core.specs.Marks.{counted, first_in, mark_of, told_many, told_first};
+ghost use Rattle.hub_core.specs.declared.run_queue.Chain.{Chain};
 
 use crate::chains::{after_first, before, joined};
 use crate::run_queue::{Chain, RunQueue};
 use crate::vectors::append;
 use std::alloc::Global;
 
-// A number plus 1 has at most so many bits.
-const MARK_BITS: u32 = 33;
+// A mark has so much for each number that is ready. The first of them and 1 is less.
+const EACH_MARKED: u64 = 1 << 33;
 
-// The bits above these tell of so many numbers at most.
+// A mark tells of so many numbers at most.
 const MOST_MARKED: u64 = (1 << 31) - 1;
 
-/// How many numbers a counted mark tells to be ready.
-pub fn marked(counted: u64) -> u64 {
-    counted >> MARK_BITS
+/// How many numbers a mark tells to be ready. Of the mark of a queue these are as many as the queue
+/// counts, up to the limit.
+pub fn marked(mark: u64) -> u64
+    ensures many { result ≡ told_many mark }
+    ensures back { (list : Option Chain) (many : ℕ) → IsWithin list (2 ^ 32)
+        → mark ≡ mark_of list many → result ≡ counted list many }
+{
+    mark / EACH_MARKED
 }
 
 // So many lists, of which there is at most one too few.
@@ -105,24 +111,17 @@ impl RunQueue {
         Some(chain.first)
     }
 
-    /// The first number that is ready plus 1, or 0 where none is.
-    pub fn mark(&self) -> u64
-        ensures { MatchOption self.now.ready (result ≡ 0) (λ chain. result ≡ chain.first + 1) }
+    /// The first number that is ready and how many the queue counts to be, up to `MOST_MARKED`, as
+    /// one number, or 0 where none is.
+    pub fn counted_mark(&self) -> u64
+        ensures is { result ≡ mark_of self.now.ready self.now.many }
+        ensures first { told_first result ≡ first_in self.now.ready }
+        ensures many { told_many result ≡ counted self.now.ready self.now.many }
     {
         match self.ready {
             None => 0,
-            Some(chain) => chain.first as u64 + 1,
+            Some(chain) => self.many.min(MOST_MARKED) * EACH_MARKED + (chain.first as u64 + 1),
         }
-    }
-
-    /// A hint: 0 where no number is ready, and else the mark and, in the bits above it, how many are
-    /// ready, up to `MOST_MARKED`. No clause speaks of it.
-    pub fn counted_mark(&self) -> u64 {
-        let mark = self.mark();
-        if mark == 0 {
-            return 0;
-        }
-        mark | self.many.min(MOST_MARKED) << MARK_BITS
     }
 
     /// A list of what waits for this number, also where there is no such number yet. `false` is

@@ -17,7 +17,7 @@ pub struct RunQueue {
     pub ready: Option<Chain>,
     /// How many have not ended.
     pub unfinished: usize,
-    /// How many are ready, where of several that waited for one end only one is counted. It is for
-    /// a hint (`counted_mark`): no clause speaks of it.
+    /// How many are ready, where of several that waited for one end only one is counted. The mark
+    /// tells it. No clause says how it stands to the list of what is ready.
     pub many: u64,
 }

@@ -101,18 +101,18 @@ module _ {L R A E C S : Type 0} (d : HubMachine L R A E) (ends : E → L → Typ
   step_as said v w ending.Nothing h = (h.1.keeps.0, tt)
 
   pub ended_on :
-      (v w : View L) (k : ℕ) (e : E) (b : Bool) (n : EndStep R A C S) (n' : Next R A C S)
+      {v w : View L} {k : ℕ} {e : E} {b : Bool} {n : EndStep R A C S} {n' : Next R A C S}
       → EndedOn d ends claimed stopped group halted v w k e b n → n' ≡ of_step n
       → IsSameSeat v w × Nexts w n'
-  ended_on v w k e b n n' is same =
+  ended_on {v} {w} {k} {e} {n} is same =
       let said = put_number w.said k (cond (d.trapped e) mark.Trapped mark.Done) in
       let s = step_as said is.between w n is.onward in
       (same_twice v is.between w is.ended.keeps.0 s.0, subst (Nexts w) (sym same) s.1)
 
   pub waited_on :
-      (v w : View L) (k : ℕ) (a : A) (n : Onward R A) (n' : Next R A C S)
+      {v w : View L} {k : ℕ} {a : A} {n : Onward R A} {n' : Next R A C S}
       → WaitedOn d ends v w k a n → n' ≡ of_onward n → IsSameSeat v w × Nexts w n'
-  waited_on v w k a n n' is same =
+  waited_on {v} {w} {k} {a} {n} is same =
       let said = put_number w.said k (mark.Waits (d.on a)) in
       let s = onward_as said is.between w n is.onward in
       (same_twice v is.between w is.waited.keeps.0 s.0, subst (Nexts w) (sym same) s.1)

@@ -95,18 +95,18 @@ module _ {L R A E C S : Type 0} (d : HubMachine L R A E) (ends : E → L → Typ
   step_only said v w ending.Nothing h none = still_in v w h.1.keeps none
 
   pub ended_only :
-      (v w : View L) (k : ℕ) (e : E) (b : Bool) (n : EndStep R A C S) (n' : Next R A C S)
+      {v w : View L} {k : ℕ} {e : E} {b : Bool} {n : EndStep R A C S} {n' : Next R A C S}
       → EndedOn d ends claimed stopped group halted v w k e b n → n' ≡ of_step n → IsAlone v k
       → OnlyNext w n'
-  ended_only v w k e b n n' is same alone =
+  ended_only {v} {w} {k} {e} {n} is same alone =
       let said = put_number w.said k (cond (d.trapped e) mark.Trapped mark.Done) in
       subst (OnlyNext w) (sym same)
       (step_only said is.between w n is.onward (all_in v is.between k is.ended.keeps is.ended.gone alone))
 
   pub waited_only :
-      (v w : View L) (k : ℕ) (a : A) (n : Onward R A) (n' : Next R A C S) → WaitedOn d ends v w k a n
+      {v w : View L} {k : ℕ} {a : A} {n : Onward R A} {n' : Next R A C S} → WaitedOn d ends v w k a n
       → n' ≡ of_onward n → IsAlone v k → OnlyNext w n'
-  waited_only v w k a n n' is same alone =
+  waited_only {v} {w} {k} {a} {n} is same alone =
       let said = put_number w.said k (mark.Waits (d.on a)) in
       subst (OnlyNext w) (sym same)
       (onward_only said is.between w n is.onward (all_in v is.between k is.waited.keeps is.waited.gone alone))

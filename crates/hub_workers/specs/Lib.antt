@@ -1,6 +1,7 @@
 pub mod Legs
 pub mod Nexts
 pub mod Work
+pub mod Looks
 pub mod Handed
 pub mod Threads
 pub mod Running

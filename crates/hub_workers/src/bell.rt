@@ -1,4 +1,6 @@
 //! What threads sleep on that have nothing to do.
+ghost use Rattle.std.specs.Prelude.{◌≡◌, ◌↔◌, ◌≤◌, ◌*◌, ◌%◌, ◌^◌, true};
+ghost use Rattle.hub_core.specs.Marks.{told_many};
 
 use crate::legs::Legs;
 use hub_core::marked;
@@ -43,6 +45,13 @@ pub struct Bell {
     over: AtomicU64,
 }
 
+// The bits of the count of rings that a sleep compares.
+fn low_bits(count: u64) -> u32
+    ensures { result ≡ count % 2 ^ 32 }
+{
+    (count % (1 << 32)) as u32
+}
+
 /// The hub's mark, as it was when the turn was last given back.
 pub(crate) fn ready_mark<L: Legs>(hub: &TurnHub<L>) -> u64 {
     hub.signs.mark.load(Ordering::SeqCst)
@@ -50,7 +59,9 @@ pub(crate) fn ready_mark<L: Legs>(hub: &TurnHub<L>) -> u64 {
 
 impl Bell {
     /// Nobody sleeps yet of so many threads.
-    pub fn new(workers: usize) -> Bell {
+    pub fn new(workers: usize) -> Bell
+        ensures { result.workers ≡ workers }
+    {
         Bell {
             workers: workers as u64,
             rings: AtomicU64::new(0),
@@ -97,7 +108,9 @@ impl Bell {
     }
 
     /// Whether a hub's mark tells that two revisions are ready for each thread.
-    pub fn has_two_each(&self, mark: u64) -> bool {
+    pub fn has_two_each(&self, mark: u64) -> bool
+        ensures { result ≡ true ↔ 2 * self.now.workers ≤ told_many mark }
+    {
         marked(mark) / 2 >= self.workers
     }
 
@@ -124,7 +137,7 @@ impl Bell {
     pub fn sleep<L: Legs, W: Wait>(&self, rt: &W, hub: &TurnHub<L>, heard: u64) {
         self.sleepers.fetch_add(1, Ordering::SeqCst);
         if ready_mark(hub) == 0 {
-            self.rings.park(rt, (heard & 0xffff_ffff) as u32);
+            self.rings.park(rt, low_bits(heard));
         }
         self.sleepers.fetch_sub(1, Ordering::SeqCst);
         self.scouted.store(true, Ordering::SeqCst);

@@ -1,4 +1,6 @@
 //! How a thread looks for work that has found nothing.
+ghost use Rattle.std.specs.Prelude.{◌≡◌, ◌↔◌, ◌<◌, ◌*◌, ◌/◌, min, true, false};
+ghost use Rattle.hub_workers.specs.Looks.{look_of, most_rings, rings_since};
 
 use crate::bell::{Bell, ready_mark};
 use crate::legs::Legs;
@@ -51,24 +53,48 @@ pub fn pass_on<L: Legs>(hub: &TurnHub<L>, bell: &Bell) {
     }
 }
 
-// A look after a nap of so many microseconds. A thread that forks within less than `EACH_RING` and
-// joins nothing changes the mark all the time, and leaves more and more ready. So two revisions for
-// each thread at both looks are enough to take from.
-fn judge<L: Legs>(hub: &TurnHub<L>, bell: &Bell, before: &Before, nap: u64) -> Look {
-    if bell.is_over() {
-        return Look::Take;
-    }
-    let is_busy = bell.heard().wrapping_sub(before.heard) > nap.saturating_add(LATE) / EACH_RING;
-    let mark = ready_mark(hub);
-    let is_enough = bell.has_two_each(before.mark) && bell.has_two_each(mark);
-    if mark != 0 && (mark == before.mark || is_enough || !is_busy) {
+// Whether it rang more often than each `EACH_RING` microseconds of a nap of so many, by the counts
+// of rings before and after it.
+fn rang_often(before: u64, after: u64, nap: u64) -> bool
+    ensures { result ≡ true ↔ most_rings nap < rings_since before after }
+{
+    after.wrapping_sub(before) > nap.saturating_add(LATE) / EACH_RING
+}
+
+// What a scout does, by the mark before its nap and after it. A thread that forks within less than
+// `EACH_RING` and joins nothing changes the mark all the time, and leaves more and more ready. So
+// where two revisions were ready for each thread at both looks, there is enough to take from.
+fn decide(before: u64, after: u64, is_enough: bool, is_busy: bool) -> Look
+    ensures { result ≡ look_of before after is_enough is_busy }
+{
+    if after != 0 && (after == before || is_enough || !is_busy) {
         return Look::Take;
     }
     if is_busy { Look::Again } else { Look::Park }
 }
 
+// The nap after one of so many microseconds.
+fn longer(nap: u64) -> u64
+    ensures { result ≡ min (2 * nap) LONG_NAP }
+{
+    nap.saturating_mul(2).min(LONG_NAP)
+}
+
+// A look after a nap of so many microseconds.
+fn judge<L: Legs>(hub: &TurnHub<L>, bell: &Bell, before: &Before, nap: u64) -> Look {
+    if bell.is_over() {
+        return Look::Take;
+    }
+    let is_busy = rang_often(before.heard, bell.heard(), nap);
+    let mark = ready_mark(hub);
+    let is_enough = bell.has_two_each(before.mark) && bell.has_two_each(mark);
+    decide(before.mark, mark, is_enough, is_busy)
+}
+
 impl Scout {
-    pub fn new() -> Scout {
+    pub fn new() -> Scout
+        ensures { (result.is_scout ≡ false) × (result.nap ≡ SHORT_NAP) }
+    {
         Scout {
             is_scout: false,
             nap: SHORT_NAP,
@@ -85,11 +111,7 @@ impl Scout {
             };
             bell.nap(rt, self.nap);
             match judge(hub, bell, &before, self.nap) {
-                Look::Again => {
-                    if self.nap < LONG_NAP {
-                        self.nap *= 2;
-                    }
-                },
+                Look::Again => self.nap = longer(self.nap),
                 other => {
                     self.nap = SHORT_NAP;
                     return other;

@@ -24,9 +24,9 @@ use Rattle.hub_core.proofs.Keeps.{AtEnd}
 use Rattle.hub_core.proofs.Turns.{some_start}
 
 module _ {L R A E : Type 0} (d : HubMachine L R A E) (ends : E → L → Type 0) where
-  pub closes : (first v : View L) (s : State (Option (Box (Turn R A E))) (View L)) (a : AtEnd d ends first s v)
+  pub closes : {first v : View L} {s : State (Option (Box (Turn R A E))) (View L)} (a : AtEnd d ends first s v)
       → v.saw ≡ 1 → ClosedTurn d ends first v a.value.value
-  closes first v s a saw =
+  closes {first} a saw =
       let h = a.holds in
       let t = a.value.value in
       let start =

@@ -97,8 +97,8 @@ module _ {L R A E : Type 0} (d : HubMachine L R A E) (ends : E → L → Type 0)
   abbrev Value : Type 0
   Value = Turn R A E
 
-  pub passes_after : (v w u : V) (t : Value) (k : ℕ) (b : Bool) → Told d ends v w t → u ≡ ends_in b k w → Passes u
-  passes_after v w u t k b told is =
+  pub passes_after : {v w u : V} (t : Value) (k : ℕ) (b : Bool) → Told d ends v w t → u ≡ ends_in b k w → Passes u
+  passes_after {w} t k b told is =
       let before : Passes w =
       subst (λ ps. Fresh w.log ps × ((j : ℕ) → named j ps ≤ times j w.out)) (sym told.passes) (told.fresh, told.mine) in
       subst Passes (sym is) (passes_by b k w before)
@@ -114,9 +114,9 @@ module _ {L R A E : Type 0} (d : HubMachine L R A E) (ends : E → L → Type 0)
   unseen v t said found h =
       record { has = h.has; part = h.part; holds = h.holds; saw = h.saw; halt = h.halt; seen = h.seen }
 
-  pub onward_rests : (said : List Said) (v w x : V) (n : Onward R A) → OnwardSays d ends said v w n → x ≡ rests w
+  pub onward_rests : (said : List Said) (v w : V) {x : V} (n : Onward R A) → OnwardSays d ends said v w n → x ≡ rests w
       → OnwardSays d ends said v x n
-  onward_rests said v w x n h is = subst (λ y. OnwardSays d ends said v y n) (sym is) (by n h)
+  onward_rests said v w n h is = subst (λ y. OnwardSays d ends said v y n) (sym is) (by n h)
     where
       by : (n : Onward R A) → OnwardSays d ends said v w n → OnwardSays d ends said v (rests w) n
       by (onward.Run n r) h = record { free = h.free; keeps = h.keeps; was = h.was; state = h.state; group = h.group }
@@ -217,17 +217,17 @@ module _ {L R A E : Type 0} (d : HubMachine L R A E) (ends : E → L → Type 0)
       onward_over d ends said said' (rests y) y x onward.Nothing e (refl, refl, refl) refl (λ z. refl) h.1,
     )
 
-    pub ended_on : (v w u x : V) (t t' : Value) (k : ℕ) (e : E) (b : Bool) (n : EndStep R A C S) → Told d ends v w t
+    pub ended_on : {v w u x : V} (t t' : Value) (k : ℕ) (e : E) (b : Bool) (n : EndStep R A C S) → Told d ends v w t
         → t.state ≡ All → u ≡ ends_in b k w → t'.revisions.slots.items ≡ put_number t.revisions.slots.items k (Over e)
         → IsOneTurn u x → Steps (says d ends t'.revisions.slots.items) u x n
         → EndedOn d ends claimed stopped group halted v x k e b n
-    ended_on v w u x t t' k e b n told none is put turn h =
+    ended_on {w} {x} t t' k e b n told none is put turn h =
         let y : V = ends_in b k w in
         let one : IsOneTurn y x = subst (λ z. IsOneTurn z x) is turn in
         let found : x.said ≡ says d ends t.revisions.slots.items =
         one.said ∙ (ends_said d ends b k w ∙ told.said) in record {
           between = rests y;
-          ended = ended_says d ends v w (rests y) t k b told none refl;
+          ended = ended_says d ends t k b told none refl;
           turn = record { said = one.said; entered = one.entered; found = one.found };
           onward = step_over (says d ends t'.revisions.slots.items) (put_number x.said k (said_of d ends (Over e))) y x
               n

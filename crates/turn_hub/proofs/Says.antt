@@ -224,44 +224,44 @@ module _ {L R A E : Type 0} (d : HubMachine L R A E) (ends : E → L → Type 0)
       onward_over (says d ends t.revisions.slots.items) x.said v w x n (sym (same.said ∙ told.said))
       (told.start, told.group, told.parts) told.passes (told_halt d ends v w t told) h
 
-  pub ran_after : (v w x : V) (t : Value) (n : ℕ) (r : R) → Told d ends v w t → IsSameTurn w x
+  pub ran_after : {v w x : V} (t : Value) (n : ℕ) (r : R) → Told d ends v w t → IsSameTurn w x
       → Ran d ends (says d ends t.revisions.slots.items) w x n r → Ran d ends x.said v x n r
-  ran_after v w x t n r told same h = after v w x t (onward.Run n r) told same h
+  ran_after {v} {w} {x} t n r told same h = after v w x t (onward.Run n r) told same h
 
-  pub retried_after : (v w x : V) (t : Value) (n : ℕ) (a : A) → Told d ends v w t → IsSameTurn w x
+  pub retried_after : {v w x : V} (t : Value) (n : ℕ) (a : A) → Told d ends v w t → IsSameTurn w x
       → Retried d ends (says d ends t.revisions.slots.items) w x n a → Retried d ends x.said v x n a
-  retried_after v w x t n a told same h = after v w x t (onward.Retry n a) told same h
+  retried_after {v} {w} {x} t n a told same h = after v w x t (onward.Retry n a) told same h
 
-  pub idle_now : (v w x : V) (t : Value) → Told d ends v w t → all_over t.revisions.slots.items ≡ false → IsSameTurn w x
+  pub idle_now : {v w x : V} (t : Value) → Told d ends v w t → all_over t.revisions.slots.items ≡ false → IsSameTurn w x
       → IsNoneReady d ends (says d ends t.revisions.slots.items) w x → IsIdleNow d ends v x
-  idle_now v w x t told over same h = let g = after v w x t onward.Nothing told same h in record {
+  idle_now {v} {w} {x} t told over same h = let g = after v w x t onward.Nothing told same h in record {
     free = g.free;
     keeps = g.keeps;
     unfinished = ap all_said (same.said ∙ told.said) ∙ (says_all t.revisions.slots.items ∙ over);
     none_ready = g.none_ready;
   }
 
-  pub finished : (v w x : V) (t : Value) → Told d ends v w t → t.state ≡ All → all_over t.revisions.slots.items ≡ true
+  pub finished : {v w x : V} (t : Value) → Told d ends v w t → t.state ≡ All → all_over t.revisions.slots.items ≡ true
       → IsSameTurn w x → IsNoneReady d ends (says d ends t.revisions.slots.items) w x → IsFinished d ends v x
-  finished v w x t told none over same h = let g = after v w x t onward.Nothing told same h in record {
+  finished {v} {w} {x} t told none over same h = let g = after v w x t onward.Nothing told same h in record {
     free = g.free;
     keeps = g.keeps;
     finished = ap all_said (same.said ∙ told.said) ∙ (says_all t.revisions.slots.items ∙ over);
     saw = same.saw ∙ told.over (ap (λ h. done h t.revisions.slots.items) none ∙ over);
   }
 
-  pub was_halted : (v w x : V) (t : Value) (twice : Bool) → Told d ends v w t → t.state ≡ halt_by twice → x ≡ rests w
+  pub was_halted : {v w x : V} (t : Value) (twice : Bool) → Told d ends v w t → t.state ≡ halt_by twice → x ≡ rests w
       → WasHalted d ends v x twice
-  was_halted v w x t b told halted is = subst (λ y. WasHalted d ends v y b) (sym is) record {
+  was_halted {v} {w} t b told halted is = subst (λ y. WasHalted d ends v y b) (sym is) record {
     entered = told.entered ∙ halted;
     keeps = keeps_all v w t told;
     saw = told.hand.seen (λ c. is_halt b (sym halted ∙ c));
     halt = told.hand.halt ∙ halted;
   }
 
-  pub now_halted : (v w x : V) (t : Value) → Told d ends v w t → x ≡ rests (stops (or_no_memory w.halt) w)
+  pub now_halted : {v w x : V} (t : Value) → Told d ends v w t → x ≡ rests (stops (or_no_memory w.halt) w)
       → IsHalted v x
-  now_halted v w x t told is = subst (IsHalted v) (sym is) record {
+  now_halted {v} {w} t told is = subst (IsHalted v) (sym is) record {
     keeps = (
       (told.start, told.group, told.parts),
       told.passes,
@@ -272,12 +272,12 @@ module _ {L R A E : Type 0} (d : HubMachine L R A E) (ends : E → L → Type 0)
     entry = sym told.found;
   }
 
-  pub has_forked : (v w x : V) (t t' : Value) (k n : ℕ) (c : R) → Told d ends v w t → t.state ≡ All
+  pub has_forked : {v w x : V} (t t' : Value) (k n : ℕ) (c : R) → Told d ends v w t → t.state ≡ All
       → HasFork d ends v k c → d.runner_group c ≡ w.group
       → Next d ends t' (t.schedule.items ++ k ∷ []) (t.revisions.slots.items ++ Ready c ∷ [])
       (t.revisions.forkers.items ++ k ∷ []) All
       → n ≡ length t.revisions.slots.items → x ≡ rests (commits k w) → Forked d ends v x k c n
-  has_forked v w x t t' k n c told none event group next number is =
+  has_forked {v} {w} t t' k n c told none event group next number is =
       subst (λ y. Forked d ends v y k c n) (sym is) record {
         free = told.entered ∙ none;
         keeps = keeps_commit d ends v w t k told;
@@ -290,12 +290,12 @@ module _ {L R A E : Type 0} (d : HubMachine L R A E) (ends : E → L → Type 0)
             (forked d ends v w t t' k c told none event group next).2;
       }
 
-  pub took_in : (v w x : V) (t t' : Value) (k : ℕ) (a : A) (e : E) → Told d ends v w t → t.state ≡ All
+  pub took_in : {v w x : V} (t t' : Value) (k : ℕ) (a : A) (e : E) → Told d ends v w t → t.state ≡ All
       → HasJoin d ends v k a → at_number t.revisions.slots.items (d.on a) ≡ Some (Over e)
       → Next d ends t' (t.schedule.items ++ k ∷ []) (put_number t.revisions.slots.items (d.on a) Gone)
       t.revisions.forkers.items All
       → x ≡ rests (commits k w) → TookIn d ends v x k (d.joined a e)
-  took_in v w x t t' k a e told none event over next is =
+  took_in {v} {w} t t' k a e told none event over next is =
       subst (λ y. TookIn d ends v y k (d.joined a e)) (sym is) record {
         free = told.entered ∙ none;
         keeps = keeps_commit d ends v w t k told;
@@ -303,10 +303,10 @@ module _ {L R A E : Type 0} (d : HubMachine L R A E) (ends : E → L → Type 0)
         state = (joined d ends v w t t' k a e told none event over next).1;
       }
 
-  pub waited : (v w x : V) (t : Value) (k : ℕ) (a : A) → Told d ends v w t → t.state ≡ All
+  pub waited : {v w x : V} (t : Value) (k : ℕ) (a : A) → Told d ends v w t → t.state ≡ All
       → ended_here (at_number t.revisions.slots.items (d.on a)) ≡ false → x ≡ rests (hands_in k w)
       → Waited d ends v x k a
-  waited v w x t k a told none not_ended is = subst (λ y. Waited d ends v y k a) (sym is) record {
+  waited {v} {w} t k a told none not_ended is = subst (λ y. Waited d ends v y k a) (sym is) record {
     free = told.entered ∙ none;
     keeps = keeps_in d ends v w t k told;
     gone = lacks_in d ends w k;
@@ -314,10 +314,10 @@ module _ {L R A E : Type 0} (d : HubMachine L R A E) (ends : E → L → Type 0)
     unfinished = where_waits w.said t.revisions.slots.items (d.on a) told.said not_ended;
   }
 
-  pub met_twice : (v w x : V) (t : Value) (k : ℕ) (a : A) → Told d ends v w t → t.state ≡ All
+  pub met_twice : {v w x : V} (t : Value) (k : ℕ) (a : A) → Told d ends v w t → t.state ≡ All
       → at_number t.revisions.slots.items (d.on a) ≡ Some Gone → x ≡ rests (stops Twice (commits k w))
       → MetTwice d ends v x k a
-  met_twice v w x t k a told none gone is = subst (λ y. MetTwice d ends v y k a) (sym is) record {
+  met_twice {v} {w} t k a told none gone is = subst (λ y. MetTwice d ends v y k a) (sym is) record {
     free = told.entered ∙ none;
     keeps = let h = keeps_commit d ends v w t k told in (h.0, h.1, h.2, λ n. absurd (n (told.known n ∙ none)));
     entry = ap (λ l. l ++ k ∷ []) (sym told.found);
@@ -344,10 +344,10 @@ module _ {L R A E : Type 0} (d : HubMachine L R A E) (ends : E → L → Type 0)
     entry = sym told.found;
   }
 
-  pub ended_says : (v w x : V) (t : Value) (k : ℕ) (b : Bool) → Told d ends v w t → t.state ≡ All
+  pub ended_says : {v w x : V} (t : Value) (k : ℕ) (b : Bool) → Told d ends v w t → t.state ≡ All
       → x ≡ rests (ends_in b k w) → EndedSays d ends v x k b
-  ended_says v w x t k true told none is = ended_trap v w x t k told none is
-  ended_says v w x t k false told none is = ended_leg v w x t k told none is
+  ended_says {v} {w} {x} t k true told none is = ended_trap v w x t k told none is
+  ended_says {v} {w} {x} t k false told none is = ended_leg v w x t k told none is
 
   -- the end of a revision leaves what the seat found
   pub ends_said : (b : Bool) (k : ℕ) (w : V) → (ends_in b k w).said ≡ w.said
@@ -358,9 +358,9 @@ module _ {L R A E : Type 0} (d : HubMachine L R A E) (ends : E → L → Type 0)
   ends_entered true k w = refl
   ends_entered false k w = refl
 
-  pub ended_free : (v w u : V) (t : Value) (k : ℕ) (b : Bool) → Told d ends v w t → t.state ≡ All → u ≡ ends_in b k w
+  pub ended_free : {v w u : V} (t : Value) (k : ℕ) (b : Bool) → Told d ends v w t → t.state ≡ All → u ≡ ends_in b k w
       → u.entered ≡ All
-  ended_free v w u t k b told none is = ap (λ y. y.entered) is ∙ (ends_entered b k w ∙ (told.entered ∙ none))
+  ended_free {w} t k b told none is = ap (λ y. y.entered) is ∙ (ends_entered b k w ∙ (told.entered ∙ none))
 
   -- two calls in one turn
   in_turn : (y u x : V) (t : Value) (slots : List (Status R A E)) (k : ℕ) (s : Status R A E) (n : Onward R A) → u ≡ y
@@ -384,23 +384,23 @@ module _ {L R A E : Type 0} (d : HubMachine L R A E) (ends : E → L → Type 0)
             (refl, refl, refl) refl (λ h. refl) (subst (λ z. OnwardSays d ends (says d ends slots) z x n) is h),
       )
 
-  pub waited_on : (v w u x : V) (t t' : Value) (k : ℕ) (a : A) (n : Onward R A) → Told d ends v w t → t.state ≡ All
+  pub waited_on : {v w u x : V} (t t' : Value) (k : ℕ) (a : A) (n : Onward R A) → Told d ends v w t → t.state ≡ All
       → ended_here (at_number t.revisions.slots.items (d.on a)) ≡ false → u ≡ hands_in k w
       → t'.revisions.slots.items ≡ put_number t.revisions.slots.items k (Waiting a) → IsSameTurn u x
       → OnwardSays d ends (says d ends t'.revisions.slots.items) u x n → WaitedOn d ends v x k a n
-  waited_on v w u x t t' k a n told none not_ended is put same h =
+  waited_on {w} {u} {x} t t' k a n told none not_ended is put same h =
       let f = in_turn (hands_in k w) u x t t'.revisions.slots.items k (Waiting a) n is told.said put same h in
       record {
         between = rests (hands_in k w);
-        waited = waited v w (rests (hands_in k w)) t k a told none not_ended refl;
+        waited = waited t k a told none not_ended refl;
         same = f.0;
         onward = f.1;
       }
 
-  pub has_met : (v w x : V) (t : Value) (k : ℕ) (a : A) (e : E) → Told d ends v w t → t.state ≡ All
+  pub has_met : {v w x : V} (t : Value) (k : ℕ) (a : A) (e : E) → Told d ends v w t → t.state ≡ All
       → HasJoin d ends v k a → at_number t.revisions.slots.items (d.on a) ≡ Some (Over e)
       → x ≡ rests (commits k w) → HasMet d ends x k a e
-  has_met v w x t k a e told none event over is = subst (λ y. HasMet d ends y k a e) (sym is) (
+  has_met {v} {w} t k a e told none event over is = subst (λ y. HasMet d ends y k a e) (sym is) (
     event.0,
     told.start ∙ event.2,
     subst (λ l. Meets (numbered d) (values d ends) event.0 l k a e) (sym told.found)

@@ -1,6 +1,6 @@
 //! How long a thread waits between two looks at a turn that is taken.
 
-ghost use Rattle.std.specs.Prelude.{◌≡◌, ◌+◌, ◌-◌, ◌*◌, ◌/◌, min};
+ghost use Rattle.std.specs.Prelude.{◌≡◌, ◌+◌, ◌-◌, ◌*◌, ◌/◌, ◌^◌, min};
 
 use std::sync::atomic::{AtomicU64, Ordering};
 
@@ -61,12 +61,18 @@ impl Patience {
     }
 }
 
-/// The wait of this number. Each takes twice as long as the one before, up to the longest. A step
-/// takes some nanoseconds: it is an addition to a word that no other thread sees. `spin_loop` has
-/// no body here, so that nothing is left of a loop over it.
+// The steps of the wait of this number, each twice as many as the one before, up to the longest.
+fn steps(number: u32) -> u32
+    ensures { result ≡ FIRST_PAUSE * 2 ^ min number LONGEST }
+{
+    FIRST_PAUSE << number.min(LONGEST)
+}
+
+/// The wait of this number. A step takes some nanoseconds: it is an addition to a word that no
+/// other thread sees. `spin_loop` has no body here, so that nothing is left of a loop over it.
 pub fn pause(number: u32) {
     let own = AtomicU64::new(0);
-    for _ in 0..FIRST_PAUSE << number.min(LONGEST) {
+    for _ in 0..steps(number) {
         own.fetch_add(1, Ordering::SeqCst);
     }
 }

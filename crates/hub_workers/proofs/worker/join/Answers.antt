@@ -6,7 +6,7 @@ use Rattle.hub_workers.proofs.worker.join.Goals as goal
 pub returns-in-Waits-clause-same : goal.returns-in-Waits-clause-same
 returns-in-Waits-clause-same g c =
     (waited_on g.L.Revision.machine g.L.Revision.ends g.L.Revision.claimed g.L.Revision.stopped
-    g.L.Revision.claimed_group g.L.Revision.stopped_group _ _ _ _ _ _ c.in-Waits.ensures.answer
+    g.L.Revision.claimed_group g.L.Revision.stopped_group c.in-Waits.ensures.answer
     c.after_joiner.ensures).0
 
 pub returns-in-Waits-clause-hand : goal.returns-in-Waits-clause-hand
@@ -14,21 +14,22 @@ returns-in-Waits-clause-hand g c =
     hand_stays g.L.Legs.begins g.L.Legs.hand_group c.args.seat.now.place.me.0 c.join_or_take.new.seat.place.me.0
     c.args.hand.now c.requires.hand
     (waited_on g.L.Revision.machine g.L.Revision.ends g.L.Revision.claimed g.L.Revision.stopped
-    g.L.Revision.claimed_group g.L.Revision.stopped_group _ _ _ _ _ _ c.in-Waits.ensures.answer
+    g.L.Revision.claimed_group g.L.Revision.stopped_group c.in-Waits.ensures.answer
     c.after_joiner.ensures).0
 
 pub returns-in-Waits-clause-next : goal.returns-in-Waits-clause-next
 returns-in-Waits-clause-next g c =
     (waited_on g.L.Revision.machine g.L.Revision.ends g.L.Revision.claimed g.L.Revision.stopped
-    g.L.Revision.claimed_group g.L.Revision.stopped_group _ _ _ _ _ _ c.in-Waits.ensures.answer
+    g.L.Revision.claimed_group g.L.Revision.stopped_group c.in-Waits.ensures.answer
     c.after_joiner.ensures).1
 
 pub returns-in-Waits-clause-only : goal.returns-in-Waits-clause-only
 returns-in-Waits-clause-only g c =
     waited_only g.L.Revision.machine g.L.Revision.ends g.L.Revision.claimed g.L.Revision.stopped
-    g.L.Revision.claimed_group g.L.Revision.stopped_group _ _ _ _ _ _ c.in-Waits.ensures.answer c.after_joiner.ensures
+    g.L.Revision.claimed_group g.L.Revision.stopped_group c.in-Waits.ensures.answer c.after_joiner.ensures
 
 pub returns-in-Came-clause-only : goal.returns-in-Came-clause-only
 returns-in-Came-clause-only g c = λ alone.
     c.come.ensures.only (came_only g.L.Revision.machine g.L.Revision.ends g.L.Revision.claimed g.L.Revision.stopped
-    g.L.Revision.claimed_group g.L.Revision.stopped_group _ _ _ _ _ c.in-Came.ensures.answer.1 alone)
+    g.L.Revision.claimed_group g.L.Revision.stopped_group c.args.seat.now.place.me.0 _ _ _ _ c.in-Came.ensures.answer.1
+    alone)

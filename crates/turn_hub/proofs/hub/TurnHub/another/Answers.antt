@@ -4,4 +4,5 @@ use Rattle.hub_core.proofs.Keeps.{another}
 use Rattle.turn_hub.proofs.hub.TurnHub.another.Goals as goal
 
 pub split_seat-requires : goal.split_seat-requires
-split_seat-requires g c = (c.requires.0, search rules, another _ _ _ _ _ c.requires.1.0 c.requires.2)
+split_seat-requires g c =
+    (c.requires.0, search rules, another g.L.Revision.machine g.L.Revision.ends _ _ _ c.requires.1.0 c.requires.2)

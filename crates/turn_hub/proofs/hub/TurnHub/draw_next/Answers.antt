@@ -40,26 +40,26 @@ draw-requires-in-Waiting-clause-has g c = (
 pub returns-in-Ready-clause-hand : goal.returns-in-Ready-clause-hand
 returns-in-Ready-clause-hand g c =
     let none = c.requires.free.0 in
-    moved_hand _ _ _ _ _ (drawn _ _ c.args.place.now.me.0 c.args.turn.now _ _ _ c.requires.hand none
+    moved_hand _ _ (drawn _ _ c.args.place.now.me.0 c.args.turn.now _ _ _ c.requires.hand none
     (c.swap.ensures.was ∙ ap Some c.in-Ready.is) (
       refl,
       c.swap.ensures.now,
       c.swap.ensures.forkers,
       none,
-      queue_take g.L.Revision.machine _ _ _ _ _ _ c.requires.hand.holds.queued c.in-Some.ensures.lists
+      queue_take g.L.Revision.machine _ c.requires.hand.holds.queued c.in-Some.ensures.lists
           c.take.ensures.same (c.swap.ensures.was ∙ ap Some c.in-Ready.is) c.swap.ensures.queue,
     )).0 (ap (λ m. m.0) c.draw.ensures.after)
 
 pub returns-in-Waiting-clause-hand : goal.returns-in-Waiting-clause-hand
 returns-in-Waiting-clause-hand g c =
     let none = c.requires.free.0 in
-    moved_hand _ _ _ _ _ (drawn_again _ _ c.args.place.now.me.0 c.args.turn.now _ _ _ c.requires.hand none
+    moved_hand _ _ (drawn_again _ _ c.args.place.now.me.0 c.args.turn.now _ _ _ c.requires.hand none
     (c.swap.ensures.was ∙ ap Some c.in-Waiting.is) (
       refl,
       c.swap.ensures.now,
       c.swap.ensures.forkers,
       none,
-      queue_take g.L.Revision.machine _ _ _ _ _ _ c.requires.hand.holds.queued c.in-Some.ensures.lists
+      queue_take g.L.Revision.machine _ c.requires.hand.holds.queued c.in-Some.ensures.lists
           c.take.ensures.same (c.swap.ensures.was ∙ ap Some c.in-Waiting.is) c.swap.ensures.queue,
     )).0 (ap (λ m. m.0) c.draw-in-Waiting.ensures.after)
 
@@ -85,7 +85,7 @@ returns-in-Ready-clause-answer g c =
       c.swap.ensures.now,
       c.swap.ensures.forkers,
       none,
-      queue_take g.L.Revision.machine _ _ _ _ _ _ c.requires.hand.holds.queued c.in-Some.ensures.lists
+      queue_take g.L.Revision.machine _ c.requires.hand.holds.queued c.in-Some.ensures.lists
           c.take.ensures.same (c.swap.ensures.was ∙ ap Some c.in-Ready.is) c.swap.ensures.queue,
     )
     (ap (λ m. m.0) c.draw.ensures.after)
@@ -102,7 +102,7 @@ returns-in-Waiting-clause-answer g c =
       c.swap.ensures.now,
       c.swap.ensures.forkers,
       none,
-      queue_take g.L.Revision.machine _ _ _ _ _ _ c.requires.hand.holds.queued c.in-Some.ensures.lists
+      queue_take g.L.Revision.machine _ c.requires.hand.holds.queued c.in-Some.ensures.lists
           c.take.ensures.same (c.swap.ensures.was ∙ ap Some c.in-Waiting.is) c.swap.ensures.queue,
     )
     (ap (λ m. m.0) c.draw-in-Waiting.ensures.after)

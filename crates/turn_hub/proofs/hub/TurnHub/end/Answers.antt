@@ -9,7 +9,7 @@ use Rattle.turn_hub.proofs.hub.TurnHub.end.Goals as goal
 pub end_in-requires-clause-told : goal.end_in-requires-clause-told
 end_in-requires-clause-told g c = (
   c.args.seat.now.place.me.0,
-  (told_at _ _ _ _ _ _ c.deref_mut.ensures.value c.enter-turn.ensures.told),
+  (told_at _ _ c.deref_mut.ensures.value c.enter-turn.ensures.told),
   c.requires.event,
 )
 
@@ -17,22 +17,22 @@ pub returns-in-Ok-clause-ok : goal.returns-in-Ok-clause-ok
 returns-in-Ok-clause-ok g c =
     let opened : c.enter-turn.result.value.state ≡ All = search rules in
     let none : c.deref_mut.result.now.state ≡ All = ap (λ t. t.state) c.deref_mut.ensures.value ∙ opened in
-    ended_says _ _ _ _ _ c.deref_mut.result.now _ _
-    (told_at _ _ _ _ _ _ c.deref_mut.ensures.value c.enter-turn.ensures.told) none
+    ended_says _ _ c.deref_mut.result.now _ _
+    (told_at _ _ c.deref_mut.ensures.value c.enter-turn.ensures.told) none
     (ap (λ m. m.0) c.put_home.ensures.rests ∙ ap rests c.in-Ok.ensures.ok.0)
 
 pub returns-in-Err-clause-err : goal.returns-in-Err-clause-err
 returns-in-Err-clause-err g c =
     let is = c.in-Err.ensures.err in (
       is.0,
-      now_halted _ _ _ _ _ c.enter-turn.result.value c.enter-turn.ensures.told
+      now_halted _ _ c.enter-turn.result.value c.enter-turn.ensures.told
           (ap (λ m. m.0) c.put_home_halted-in-Err.ensures.rests ∙ ap (λ v. rests (stops (or_no_memory v.halt) v)) is.1),
     )
 
 pub returns-then-is_some-clause-err : goal.returns-then-is_some-clause-err
 returns-then-is_some-clause-err g c = (
   refl,
-  now_halted _ _ _ _ _ c.enter-turn.result.value c.enter-turn.ensures.told
+  now_halted _ _ c.enter-turn.result.value c.enter-turn.ensures.told
       (ap (λ m. m.0) c.put_home_halted.ensures.rests),
 )
 

@@ -15,7 +15,7 @@ end-requires-clause-out g c =
     let event =
     trap_by g.L.Revision.machine g.L.Revision.ends c.requires.told.0 c.args.of c.args.end
     (g.L.Revision.by_join c.args.end) by c.requires.told.2 in
-    still_out _ _ _ _ _ _ _ c.requires.told.1 event.3
+    still_out _ _ _ _ c.requires.told.1 event.3
 
 pub end-requires-clause-within : goal.end-requires-clause-within
 end-requires-clause-within g c =
@@ -25,7 +25,7 @@ end-requires-clause-within g c =
     (g.L.Revision.by_join c.args.end) by c.requires.told.2 in
     let told = c.requires.told.1 in
     let queued = told.hand.holds.queued in (
-      (out_within g.L.Revision.machine _ _ _ _ queued (still_out _ _ _ _ _ _ _ told event.3)).1,
+      (out_within g.L.Revision.machine _ _ _ _ queued (still_out _ _ _ _ told event.3)).1,
       waits_within g.L.Revision.machine _ _ _ queued,
     )
 
@@ -36,7 +36,7 @@ end-requires-clause-some g c =
     trap_by g.L.Revision.machine g.L.Revision.ends c.requires.told.0 c.args.of c.args.end
     (g.L.Revision.by_join c.args.end) by c.requires.told.2 in
     let told = c.requires.told.1 in
-    queue_some g.L.Revision.machine _ _ _ told.hand.holds.queued (still_out _ _ _ _ _ _ _ told event.3)
+    queue_some g.L.Revision.machine _ _ _ told.hand.holds.queued (still_out _ _ _ _ told event.3)
 
 pub hand_in-requires-clause-has : goal.hand_in-requires-clause-has
 hand_in-requires-clause-has g c =
@@ -45,7 +45,7 @@ hand_in-requires-clause-has g c =
     trap_by g.L.Revision.machine g.L.Revision.ends c.requires.told.0 c.args.of c.args.end
     (g.L.Revision.by_join c.args.end) by c.requires.told.2 in
     let told = c.requires.told.1 in
-    (told.hand.has, has_pass _ _ _ _ _ _ _ told event.3)
+    (told.hand.has, has_pass _ _ _ _ told event.3)
 
 pub returns-then-is_by_join-clause-hand : goal.returns-then-is_by_join-clause-hand
 returns-then-is_by_join-clause-hand g c =
@@ -55,9 +55,9 @@ returns-then-is_by_join-clause-hand g c =
     (g.L.Revision.by_join c.args.end) by c.requires.told.2 in
     let told = c.requires.told.1 in
     let queued =
-    queue_end g.L.Revision.machine _ _ _ _ _ told.hand.holds.queued (still_out _ _ _ _ _ _ _ told event.3)
+    queue_end g.L.Revision.machine _ _ told.hand.holds.queued (still_out _ _ _ _ told event.3)
     c.end.ensures.queue in
-    moved_hand _ _ _ _ _ (handed_in _ _ _ _ c.args.turn.now _ _ _ told c.requires.free event
+    moved_hand _ _ (handed_in _ _ _ _ c.args.turn.now _ _ _ told c.requires.free event
     (refl, c.end.ensures.now, c.end.ensures.forkers, c.requires.free, queued))
     (ap (λ m. m.0) c.hand_in.ensures.after)
 
@@ -88,7 +88,7 @@ end-requires-2-clause-out g c =
     leg_by g.L.Revision.machine g.L.Revision.ends c.requires.told.0 c.args.of c.args.end
     (g.L.Revision.by_join c.args.end) by c.requires.told.2 in
     let told = c.requires.told.1 in
-    ap (λ r. at_number r.slots.items c.args.of) c.enter.ensures.same.0 ∙ still_out _ _ _ _ _ _ _ told event.3
+    ap (λ r. at_number r.slots.items c.args.of) c.enter.ensures.same.0 ∙ still_out _ _ _ _ told event.3
 
 pub end-requires-2-clause-within : goal.end-requires-2-clause-within
 end-requires-2-clause-within g c =
@@ -98,7 +98,7 @@ end-requires-2-clause-within g c =
     (g.L.Revision.by_join c.args.end) by c.requires.told.2 in
     let told = c.requires.told.1 in
     let out =
-    ap (λ r. at_number r.slots.items c.args.of) c.enter.ensures.same.0 ∙ still_out _ _ _ _ _ _ _ told event.3 in
+    ap (λ r. at_number r.slots.items c.args.of) c.enter.ensures.same.0 ∙ still_out _ _ _ _ told event.3 in
     let queued =
     subst (λ r. Queued g.L.Revision.machine r.slots.items r.queue) (sym c.enter.ensures.same.0)
     told.hand.holds.queued in
@@ -112,7 +112,7 @@ end-requires-2-clause-some g c =
     (g.L.Revision.by_join c.args.end) by c.requires.told.2 in
     let told = c.requires.told.1 in
     let out =
-    ap (λ r. at_number r.slots.items c.args.of) c.enter.ensures.same.0 ∙ still_out _ _ _ _ _ _ _ told event.3 in
+    ap (λ r. at_number r.slots.items c.args.of) c.enter.ensures.same.0 ∙ still_out _ _ _ _ told event.3 in
     let queued =
     subst (λ r. Queued g.L.Revision.machine r.slots.items r.queue) (sym c.enter.ensures.same.0)
     told.hand.holds.queued in
@@ -125,7 +125,7 @@ commit-requires-clause-has g c =
     leg_by g.L.Revision.machine g.L.Revision.ends c.requires.told.0 c.args.of c.args.end
     (g.L.Revision.by_join c.args.end) by c.requires.told.2 in
     let told = c.requires.told.1 in
-    (told.hand.has, has_pass _ _ _ _ _ _ _ told event.3)
+    (told.hand.has, has_pass _ _ _ _ told event.3)
 
 pub hand_in-requires-2-clause-has : goal.hand_in-requires-2-clause-has
 hand_in-requires-2-clause-has g c =
@@ -145,8 +145,8 @@ returns-clause-hand g c =
     let forkers = c.end-2.ensures.forkers ∙ ap (λ r. r.forkers.items) same.0 in
     let ends = subst (λ r. EndsOne r.queue c.end-2.new.self.queue c.args.of) same.0 c.end-2.ensures.queue in
     let queued =
-    queue_end g.L.Revision.machine _ _ _ _ _ told.hand.holds.queued (still_out _ _ _ _ _ _ _ told event.3) ends in
-    moved_hand _ _ _ _ _ (ended _ _ _ _ c.args.turn.now _ _ _ told c.requires.free event
+    queue_end g.L.Revision.machine _ _ told.hand.holds.queued (still_out _ _ _ _ told event.3) ends in
+    moved_hand _ _ (ended _ _ _ _ c.args.turn.now _ _ _ told c.requires.free event
     (more, now, forkers, same.1 ∙ c.requires.free, queued))
     (ap (λ m. m.0) c.hand_in-2.ensures.after ∙ ap (λ m. hands_in c.args.of m.0) c.commit.ensures.after)
 

@@ -4,4 +4,8 @@ use Rattle.hub_core.proofs.Keeps.{hand_in}
 use Rattle.turn_hub.proofs.hub.TurnHub.hand_in.Goals as goal
 
 pub compare_exchange-requires : goal.compare_exchange-requires
-compare_exchange-requires g c = (c.requires.own, search rules, hand_in _ _ _ _ _ _ _ c.requires.has.0 c.requires.has.1)
+compare_exchange-requires g c = (
+  c.requires.own,
+  search rules,
+  hand_in g.L.Revision.machine g.L.Revision.ends _ _ _ _ c.args.number c.requires.has.0 c.requires.has.1,
+)

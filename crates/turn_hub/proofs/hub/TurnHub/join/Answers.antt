@@ -24,7 +24,7 @@ join_in-requires-clause-group g c = c.requires.group ∙ sym c.enter-turn.ensure
 pub keep_in-requires-clause-told : goal.keep_in-requires-clause-told
 keep_in-requires-clause-told g c = (
   c.args.seat.now.place.me.0,
-  (told_at _ _ _ _ _ _ c.deref_mut.ensures.value c.enter-turn.ensures.told),
+  (told_at _ _ c.deref_mut.ensures.value c.enter-turn.ensures.told),
   c.requires.event,
 )
 
@@ -53,22 +53,22 @@ returns-in-Ok-clause-answer g c =
     let not_ended :
     ended_here (at_number c.deref_mut.result.now.revisions.slots.items (g.L.Revision.machine.on c.args.at)) ≡ false =
     search rules in
-    waited _ _ _ _ _ c.deref_mut.result.now _ _
-    (told_at _ _ _ _ _ _ c.deref_mut.ensures.value c.enter-turn.ensures.told) none not_ended
+    waited _ _ c.deref_mut.result.now _ _
+    (told_at _ _ c.deref_mut.ensures.value c.enter-turn.ensures.told) none not_ended
     (ap (λ m. m.0) c.put_home.ensures.rests ∙ ap rests c.in-Ok.ensures.ok.0)
 
 pub returns-in-Err-clause-answer : goal.returns-in-Err-clause-answer
 returns-in-Err-clause-answer g c =
     let is = c.in-Err.ensures.err in (
       is.0,
-      now_halted _ _ _ _ _ c.enter-turn.result.value c.enter-turn.ensures.told
+      now_halted _ _ c.enter-turn.result.value c.enter-turn.ensures.told
           (ap (λ m. m.0) c.put_home_halted-in-Err.ensures.rests ∙ ap (λ v. rests (stops (or_no_memory v.halt) v)) is.1),
     )
 
 pub returns-then-is_some-clause-answer : goal.returns-then-is_some-clause-answer
 returns-then-is_some-clause-answer g c = (
   refl,
-  now_halted _ _ _ _ _ c.enter-turn.result.value c.enter-turn.ensures.told
+  now_halted _ _ c.enter-turn.result.value c.enter-turn.ensures.told
       (ap (λ m. m.0) c.put_home_halted.ensures.rests),
 )
 

@@ -14,9 +14,9 @@ use Rattle.turn_hub.proofs.hub.TurnHub.join_in.Goals as goal
 
 pub commit-requires-clause-has : goal.commit-requires-clause-has
 commit-requires-clause-has g c =
-    let told = (told_at _ _ _ _ _ _ c.deref_mut-held.ensures.value c.requires.told.3) in
+    let told = (told_at _ _ c.deref_mut-held.ensures.value c.requires.told.3) in
     let event = c.requires.told.4 in
-    (told.hand.has, has_pass _ _ _ _ _ _ _ told event.3)
+    (told.hand.has, has_pass _ _ _ _ told event.3)
 
 pub join-requires : goal.join-requires
 join-requires g c =
@@ -41,19 +41,19 @@ put_home-requires-clause-hand g c =
     search rules in
     let forkers = c.join.ensures.forkers ∙ ap (λ r. r.forkers.items) same.0 in
     let queued =
-    queue_join g.L.Revision.machine _ _ _ _ _
-    (told_at _ _ _ _ _ _ c.deref_mut-held.ensures.value c.requires.told.3).hand.holds.queued was
+    queue_join g.L.Revision.machine _
+    (told_at _ _ c.deref_mut-held.ensures.value c.requires.told.3).hand.holds.queued was
     (c.join.ensures.queue ∙ ap (λ r. r.queue) same.0) in
-    moved_hand _ _ _ _ _ (unseen _ _ (commits c.args.of c.args.place.now.me.0) _ c.requires.told.1 c.requires.told.2
+    moved_hand _ _ (unseen _ _ (commits c.args.of c.args.place.now.me.0) _ c.requires.told.1 c.requires.told.2
     (joined _ _ _ _ c.deref_mut-held.result.now _ _ _ _
-    (told_at _ _ _ _ _ _ c.deref_mut-held.ensures.value c.requires.told.3) none c.requires.told.4 was
+    (told_at _ _ c.deref_mut-held.ensures.value c.requires.told.3) none c.requires.told.4 was
     (more, now, forkers, same.1 ∙ none, queued)).0)
     (ap (λ m. m.0) c.commit.ensures.after)
 
 pub returns-in-Some-clause-answer : goal.returns-in-Some-clause-answer
 returns-in-Some-clause-answer g c =
     λ v said found asked event.
-    let told = told_at _ _ _ _ _ _ c.deref_mut-held.ensures.value asked in
+    let told = told_at _ _ c.deref_mut-held.ensures.value asked in
     let none = ap (λ t. t.state) c.deref_mut-held.ensures.value ∙ c.requires.free in
     let same = c.enter.ensures.same in
     let t' : Turn g.row.L-Runner.Denot g.row.L-AtJoin.Denot g.row.L-End.Denot =
@@ -67,22 +67,22 @@ returns-in-Some-clause-answer g c =
     search rules in
     let forkers = c.join.ensures.forkers ∙ ap (λ r. r.forkers.items) same.0 in
     let queued =
-    queue_join g.L.Revision.machine _ _ _ _ _ told.hand.holds.queued was
+    queue_join g.L.Revision.machine _ told.hand.holds.queued was
     (c.join.ensures.queue ∙ ap (λ r. r.queue) same.0) in
     let e = ap (λ m. sees said found m.0) c.put_home.ensures.rests
     ∙ ap (λ m. sees said found (rests m.0)) c.commit.ensures.after in
     takes_says g.L.Revision.machine g.L.Revision.ends g.L.Revision.claimed g.L.Revision.stopped
     g.L.Revision.claimed_group g.L.Revision.stopped_group v (sees said found c.put_home.new.place.me.0)
     c.deref_mut-held.result.now.revisions.slots.items _ _ _ _ c.take_in.ensures
-    (took_in _ _ _ _ _ c.deref_mut-held.result.now t' _ _ _ told none event was
+    (took_in _ _ c.deref_mut-held.result.now t' _ _ _ told none event was
     (more, now, forkers, same.1 ∙ none, queued) e)
-    (has_met _ _ _ _ _ c.deref_mut-held.result.now _ _ _ told none event was e)
+    (has_met _ _ c.deref_mut-held.result.now _ _ _ told none event was e)
     (c.requires.group ∙ sym (ap (λ w. w.group) e)) (ap (λ w. w.said) e ∙ told.said) was
 
 pub stop_twice-requires-clause-has : goal.stop_twice-requires-clause-has
 stop_twice-requires-clause-has g c =
     let none = ap (λ t. t.state) c.deref_mut-held.ensures.value ∙ c.requires.free in
-    let told = (told_at _ _ _ _ _ _ c.deref_mut-held.ensures.value c.requires.told.3) in
+    let told = (told_at _ _ c.deref_mut-held.ensures.value c.requires.told.3) in
     let v = ap (λ m. m.0) c.commit.ensures.after in
     (ap (λ v. v.has) v ∙ told.hand.has, ap (λ v. v.halt) v ∙ (told.hand.halt ∙ none))
 
@@ -99,24 +99,24 @@ put_home-requires-in-None-clause-hand g c =
     let forkers = c.join.ensures.forkers ∙ ap (λ r. r.forkers.items) same.0 in
     let queued =
     queue_same g.L.Revision.machine _ _ _
-    (told_at _ _ _ _ _ _ c.deref_mut-held.ensures.value c.requires.told.3).hand.holds.queued
+    (told_at _ _ c.deref_mut-held.ensures.value c.requires.told.3).hand.holds.queued
     (c.join.ensures.queue ∙ ap (λ r. r.queue) same.0) in
-    moved_hand _ _ _ _ _ (unseen _ _ (stops Twice (commits c.args.of c.args.place.now.me.0)) _ c.requires.told.1
+    moved_hand _ _ (unseen _ _ (stops Twice (commits c.args.of c.args.place.now.me.0)) _ c.requires.told.1
     c.requires.told.2 (twice _ _ _ _ c.deref_mut-held.result.now _ _ _
-    (told_at _ _ _ _ _ _ c.deref_mut-held.ensures.value c.requires.told.3) none c.requires.told.4 was
+    (told_at _ _ c.deref_mut-held.ensures.value c.requires.told.3) none c.requires.told.4 was
     (more, now, forkers, refl, queued)))
     (ap (λ m. m.0) c.stop_twice.ensures.after ∙ ap (λ m. stops Twice m.0) c.commit.ensures.after)
 
 pub returns-in-None-clause-answer : goal.returns-in-None-clause-answer
 returns-in-None-clause-answer g c =
     λ v said found asked event.
-    let told = told_at _ _ _ _ _ _ c.deref_mut-held.ensures.value asked in
+    let told = told_at _ _ c.deref_mut-held.ensures.value asked in
     let none = ap (λ t. t.state) c.deref_mut-held.ensures.value ∙ c.requires.free in
     let was :
     at_number c.deref_mut-held.result.now.revisions.slots.items (g.L.Revision.machine.on c.args.at) ≡ Some Gone =
     search rules in (
       refl,
-      met_twice _ _ v _ _ c.deref_mut-held.result.now _ _ told none was
+      met_twice _ _ c.deref_mut-held.result.now _ _ told none was
           (ap (λ m. sees said found m.0) c.put_home-in-None.ensures.rests
           ∙ (ap (λ m. sees said found (rests m.0)) c.stop_twice.ensures.after
           ∙ ap (λ m. sees said found (rests (stops Twice m.0))) c.commit.ensures.after)),
@@ -128,19 +128,19 @@ put_home_halted-requires-clause-hand g c =
     let less : c.enter.new.self.schedule.items ≡ c.deref_mut-held.result.now.schedule.items = search rules in
     same_hand _ _ _ c.deref_mut-held.result.now _
     (unseen _ _ c.args.place.now.me.0 _ c.requires.told.1 c.requires.told.2
-    (told_at _ _ _ _ _ _ c.deref_mut-held.ensures.value c.requires.told.3).hand) (
+    (told_at _ _ c.deref_mut-held.ensures.value c.requires.told.3).hand) (
       less,
       ap (λ r. r.slots.items) same.0,
       ap (λ r. r.forkers.items) same.0,
       same.1,
       queue_same g.L.Revision.machine _ _ _
-          (told_at _ _ _ _ _ _ c.deref_mut-held.ensures.value c.requires.told.3).hand.holds.queued
+          (told_at _ _ c.deref_mut-held.ensures.value c.requires.told.3).hand.holds.queued
           (ap (λ r. r.queue) same.0),
     )
 
 pub returns-then-not-enter-clause-answer : goal.returns-then-not-enter-clause-answer
 returns-then-not-enter-clause-answer g c = λ v said found told event.
-    (refl, now_halted _ _ v _ _ c.args.turn.value told (ap (λ m. sees said found m.0) c.put_home_halted.ensures.rests))
+    (refl, now_halted _ _ c.args.turn.value told (ap (λ m. sees said found m.0) c.put_home_halted.ensures.rests))
 
 pub returns-in-Some-clause-come : goal.returns-in-Some-clause-come
 returns-in-Some-clause-come g c =

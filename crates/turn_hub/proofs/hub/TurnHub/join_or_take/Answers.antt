@@ -24,7 +24,7 @@ join_in-requires-clause-group g c = c.requires.group ∙ sym c.enter-turn.ensure
 pub keep_in-requires-clause-told : goal.keep_in-requires-clause-told
 keep_in-requires-clause-told g c = (
   c.args.seat.now.place.me.0,
-  (told_at _ _ _ _ _ _ c.deref_mut.ensures.value c.enter-turn.ensures.told),
+  (told_at _ _ c.deref_mut.ensures.value c.enter-turn.ensures.told),
   c.requires.event,
 )
 
@@ -65,8 +65,8 @@ returns-in-Ok-clause-answer g c =
     ended_here (at_number c.deref_mut.result.now.revisions.slots.items (g.L.Revision.machine.on c.args.at)) ≡ false =
     search rules in
     let is = c.in-Ok.ensures.ok in
-    waited_on _ _ _ _ _ _ c.deref_mut.result.now c.keep_in.new.turn _ _ _
-    (told_at _ _ _ _ _ _ c.deref_mut.ensures.value c.enter-turn.ensures.told) none not_ended is.0 is.1
+    waited_on _ _ c.deref_mut.result.now c.keep_in.new.turn _ _ _
+    (told_at _ _ c.deref_mut.ensures.value c.enter-turn.ensures.told) none not_ended is.0 is.1
     c.take_next.ensures.turn c.take_next.ensures.answer
 
 pub returns-in-Err-clause-answer : goal.returns-in-Err-clause-answer
@@ -75,7 +75,7 @@ returns-in-Err-clause-answer g c =
       tt,
       (
         is.0,
-        now_halted _ _ _ _ _ c.enter-turn.result.value c.enter-turn.ensures.told
+        now_halted _ _ c.enter-turn.result.value c.enter-turn.ensures.told
             (ap (λ m. m.0) c.put_home_halted-in-Err.ensures.rests
             ∙ ap (λ v. rests (stops (or_no_memory v.halt) v)) is.1),
       ),
@@ -86,7 +86,7 @@ returns-then-is_some-clause-answer g c = (
   tt,
   (
     refl,
-    now_halted _ _ _ _ _ c.enter-turn.result.value c.enter-turn.ensures.told
+    now_halted _ _ c.enter-turn.result.value c.enter-turn.ensures.told
         (ap (λ m. m.0) c.put_home_halted.ensures.rests),
   ),
 )

@@ -6,19 +6,19 @@ use Rattle.hub_core.proofs.Turns.{waits, moved_hand, same_hand, has_pass, still_
 use Rattle.turn_hub.proofs.hub.TurnHub.keep_in.Goals as goal
 
 pub keep-requires-clause-out : goal.keep-requires-clause-out
-keep-requires-clause-out g c = let event = c.requires.told.2 in still_out _ _ _ _ _ _ _ c.requires.told.1 event.3
+keep-requires-clause-out g c = let event = c.requires.told.2 in still_out _ _ _ _ c.requires.told.1 event.3
 
 pub keep-requires-clause-queue : goal.keep-requires-clause-queue
 keep-requires-clause-queue g c =
     let told = c.requires.told.1 in
     let event = c.requires.told.2 in
-    (out_within g.L.Revision.machine _ _ _ _ told.hand.holds.queued (still_out _ _ _ _ _ _ _ told event.3)).0
+    (out_within g.L.Revision.machine _ _ _ _ told.hand.holds.queued (still_out _ _ _ _ told event.3)).0
 
 pub hand_in-requires-clause-has : goal.hand_in-requires-clause-has
 hand_in-requires-clause-has g c =
     let told = c.requires.told.1 in
     let event = c.requires.told.2 in
-    (told.hand.has, has_pass _ _ _ _ _ _ _ told event.3)
+    (told.hand.has, has_pass _ _ _ _ told event.3)
 
 pub returns-in-Ok-clause-hand : goal.returns-in-Ok-clause-hand
 returns-in-Ok-clause-hand g c =
@@ -28,9 +28,9 @@ returns-in-Ok-clause-hand g c =
     let delays =
     subst (DelaysOne c.args.turn.now.revisions.queue c.keep.new.self.queue c.args.of) c.on-on.ensures is.1 in
     let queued =
-    queue_delay g.L.Revision.machine _ _ _ _ _ told.hand.holds.queued (still_out _ _ _ _ _ _ _ told event.3)
+    queue_delay g.L.Revision.machine _ _ told.hand.holds.queued (still_out _ _ _ _ told event.3)
     c.requires.waits delays in
-    moved_hand _ _ _ _ _ (waits _ _ _ _ c.args.turn.now _ _ _ told c.requires.free event c.requires.group
+    moved_hand _ _ (waits _ _ _ _ c.args.turn.now _ _ _ told c.requires.free event c.requires.group
     (refl, is.0, c.keep.ensures.forkers, c.requires.free, queued))
     (ap (λ m. m.0) c.hand_in.ensures.after)
 

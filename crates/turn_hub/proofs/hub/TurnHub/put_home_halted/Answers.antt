@@ -11,6 +11,6 @@ put_home-requires-2-clause-hand g c =
     subst (λ t. InHand g.L.Revision.machine g.L.Revision.ends c.args.place.now.me.0 t)
     (sym c.deref_mut-held.ensures.value) c.requires.hand in
     let none : c.deref_mut-held.result.now.state ≡ All = search rules in
-    moved_hand _ _ _ _ _ (halts _ _ c.args.place.now.me.0 c.deref_mut-held.result.now _ hand none
+    moved_hand _ _ (halts _ _ c.args.place.now.me.0 c.deref_mut-held.result.now _ hand none
     (refl, refl, refl, refl, hand.holds.queued))
     (ap (λ m. m.0) c.stop_no_memory.ensures.after)

@@ -5,5 +5,8 @@ use Rattle.hub_core.proofs.Keeps.{stop}
 use Rattle.turn_hub.proofs.hub.TurnHub.stop_twice.Goals as goal
 
 pub compare_exchange-requires : goal.compare_exchange-requires
-compare_exchange-requires g c =
-    (c.requires.own, search rules, stop _ _ _ _ _ _ _ Twice c.requires.has.0 c.requires.has.1)
+compare_exchange-requires g c = (
+  c.requires.own,
+  search rules,
+  stop g.L.Revision.machine g.L.Revision.ends _ _ _ _ 0 Twice c.requires.has.0 c.requires.has.1,
+)

@@ -11,12 +11,12 @@ take_next-requires-clause-free g c =
 
 pub returns-in-Run-clause-answer : goal.returns-in-Run-clause-answer
 returns-in-Run-clause-answer g c =
-    ran_after _ _ _ _ _ c.enter-turn.result.value _ _ c.enter-turn.ensures.told c.take_next.ensures.turn
+    ran_after _ _ c.enter-turn.result.value _ _ c.enter-turn.ensures.told c.take_next.ensures.turn
     c.in-Run.ensures.answer
 
 pub returns-in-Retry-clause-answer : goal.returns-in-Retry-clause-answer
 returns-in-Retry-clause-answer g c =
-    retried_after _ _ _ _ _ c.enter-turn.result.value _ _ c.enter-turn.ensures.told c.take_next.ensures.turn
+    retried_after _ _ c.enter-turn.result.value _ _ c.enter-turn.ensures.told c.take_next.ensures.turn
     c.in-Retry.ensures.answer
 
 pub returns-then-over-clause-answer : goal.returns-then-over-clause-answer
@@ -24,7 +24,7 @@ returns-then-over-clause-answer g c =
     let none : c.enter-turn.result.value.state ≡ All = search rules in
     let told = c.enter-turn.ensures.told in
     let zero : c.enter-turn.result.value.revisions.queue.unfinished ≡ 0 = search rules in
-    finished _ _ _ _ _ c.enter-turn.result.value told none
+    finished _ _ c.enter-turn.result.value told none
     (queue_over g.L.Revision.machine _ _ told.hand.holds.queued zero) c.take_next.ensures.turn
     c.in-Nothing.ensures.answer
 
@@ -32,12 +32,12 @@ pub returns-else-over-clause-answer : goal.returns-else-over-clause-answer
 returns-else-over-clause-answer g c =
     let told = c.enter-turn.ensures.told in
     let some : c.enter-turn.result.value.revisions.queue.unfinished ≢ 0 = search rules in
-    idle_now _ _ _ _ _ c.enter-turn.result.value told (queue_open g.L.Revision.machine _ _ told.hand.holds.queued some)
+    idle_now _ _ c.enter-turn.result.value told (queue_open g.L.Revision.machine _ _ told.hand.holds.queued some)
     c.take_next.ensures.turn c.in-Nothing.ensures.answer
 
 pub returns-in-Some-clause-answer : goal.returns-in-Some-clause-answer
 returns-in-Some-clause-answer g c =
-    was_halted _ _ _ _ _ c.enter-turn.result.value _ c.enter-turn.ensures.told
+    was_halted _ _ c.enter-turn.result.value _ c.enter-turn.ensures.told
     (ap (λ t. t.state) (sym c.deref.ensures) ∙ c.in-Some.ensures) (ap (λ m. m.0) c.put_home.ensures.rests)
 
 pub returns-in-Run-clause-turn : goal.returns-in-Run-clause-turn

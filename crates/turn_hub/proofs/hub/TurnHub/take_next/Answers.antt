@@ -26,4 +26,5 @@ returns-clause-answer g c =
     (says g.L.Revision.machine g.L.Revision.ends t.revisions.slots.items) c.args.place.now.me.0
     c.put_home.new.place.me.0 c.draw_next-next.result)
     c.deref_mut.ensures.value
-    (onward_rests _ _ _ _ _ _ _ c.draw_next-next.ensures.answer (ap (λ m. m.0) c.put_home.ensures.rests))
+    (onward_rests g.L.Revision.machine g.L.Revision.ends _ _ _ _ c.draw_next-next.ensures.answer
+    (ap (λ m. m.0) c.put_home.ensures.rests))

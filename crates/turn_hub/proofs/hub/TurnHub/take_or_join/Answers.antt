@@ -29,7 +29,7 @@ returns-in-Run-clause-answer g c =
           (says g.L.Revision.machine g.L.Revision.ends t.revisions.slots.items) c.args.place.now.me.0
           c.put_home.new.place.me.0 c.in-Run.number c.in-Run.runner)
           c.deref_mut.ensures.value
-          (onward_rests g.L.Revision.machine g.L.Revision.ends _ _ _ _ (onward.Run c.in-Run.number c.in-Run.runner)
+          (onward_rests g.L.Revision.machine g.L.Revision.ends _ _ _ (onward.Run c.in-Run.number c.in-Run.runner)
           c.in-Run.ensures.answer e),
     )
 

@@ -28,4 +28,4 @@ returns g c =
     let same = ap (λ o. (unwrap_or o t.value).value) (sym is ∙ c.unwrap.ensures) ∙ sym c.into_inner.ensures in
     subst
     (ClosedTurn g.L.Revision.machine g.L.Revision.ends (first_of c.args.self.turn.shared.key.views) c.args.place.me.0)
-    same (closes _ _ _ _ _ t c.requires.over)
+    same (closes _ _ t c.requires.over)

@@ -4,7 +4,8 @@ use Rattle.hub_core.proofs.Keeps.{take}
 use Rattle.turn_hub.proofs.hub.TurnHub.take_turn.Goals as goal
 
 pub compare_exchange-requires : goal.compare_exchange-requires
-compare_exchange-requires g c = (c.requires.0, search rules, take _ _ _ _ _ _ c.requires.1)
+compare_exchange-requires g c =
+    (c.requires.0, search rules, take g.L.Revision.machine g.L.Revision.ends _ _ _ _ c.requires.1)
 
 pub returns-clause-took : goal.returns-clause-took
 returns-clause-took g c = λ e. c.compare_exchange.ensures.2.0 (search rules)
