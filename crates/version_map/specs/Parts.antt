@@ -3,7 +3,9 @@
 --   IsPart   from this place on, these are the new words of the next n entries
 --   HasPut   they were put there, behind the words that stood before that place
 --   TrapsFrom   from this place on, the first merge that faults is that of this location, and faults so
-use Rattle.std.specs.Prelude.{◌≡◌, ℕ, ◌+◌, List, [], ◌∷◌, ◌++◌, length, take, drop, Err}
+--   AreAlone    behind the first of n entries from this place on, none is at a location from which eight are
+--               merged at once
+use Rattle.std.specs.Prelude.{◌≡◌, ◌<◌, ℕ, ◌+◌, Bool, false, List, [], ◌∷◌, ◌++◌, length, take, drop, Err, Some, slice_get}
 use Rattle.version_map.specs.declared.end.Written.{Written}
 use Rattle.version_map.specs.declared.joining.MergeTrap.{MergeTrap}
 use Rattle.version_map.specs.Composing.{Merges, Composition, before_later, composed, entries}
@@ -24,3 +26,7 @@ HasPut m mains ws at n old new =
 
 abbrev pub TrapsFrom : Merges ℕ → (mains : List ℕ) → List Written → (at : ℕ) → MergeTrap → Type 0
 TrapsFrom m mains ws at t = composed m (drop at mains) (entries (drop at ws)) ≡ Err (t.location, t.fault)
+
+abbrev pub AreAlone : (row : ℕ → Bool) → List Written → (at n : ℕ) → Type 0
+AreAlone row ws at n =
+    (k : ℕ) (w : Written) → 0 < k → k < n → slice_get ws (at + k) ≡ Some w → row w.location ≡ false

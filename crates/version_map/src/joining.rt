@@ -5,7 +5,7 @@ ghost use Rattle.rev_num.specs.declared.value.NumFault.{NumFault};
 ghost use Rattle.version_map.specs.Composing.{Merges, TrapsAtLeast, composed, entries};
 ghost use Rattle.version_map.specs.Composing.{IsComposed};
 ghost use Rattle.version_map.specs.Eights.{merged_eight};
-ghost use Rattle.version_map.specs.Parts.{HasPut, IsPart, TrapsFrom};
+ghost use Rattle.version_map.specs.Parts.{AreAlone, HasPut, IsPart, TrapsFrom};
 
 use crate::eights::{eight_roots, eight_values, eight_words, follow, put_eight};
 use crate::end::{EndValue, Written};
@@ -65,30 +65,37 @@ pub trait MergeBy {
         Some(values)
     }
 
-    /// Puts the new words of so many written locations from this place on into `values`, one by one,
-    /// up to the first whose merge faults. `mains` are the joiner's words there before.
+    /// Puts the new words of written locations from this place on into `values`, one by one, up to
+    /// the first whose merge faults, and tells of how many: at least one, and at most `most`. Behind
+    /// the first of them there is none at which eight are merged at once. `mains` are the joiner's
+    /// words there before.
     fn merge_each(
         &mut self,
         mains: &[u64],
         written: &[Written],
         at: usize,
-        many: usize,
+        most: usize,
         values: &mut [u64],
-    ) -> Result<(), MergeTrap>
+    ) -> Result<usize, MergeTrap>
         requires mains { length mains.now ≡ length written.now }
         requires values { length values.old ≡ length written.now }
         requires within { All (λ w. w.location < size self.old) written.now }
-        requires here { at + many ≤ length written.now }
+        requires here { at + most ≤ length written.now }
+        requires some { 0 < most }
         ensures length { length values.new ≡ length values.old }
-        ensures put { IfOk result (λ _. HasPut (merges self.old) mains.now written.now at many
-            values.old values.new) }
+        ensures put { IfOk result (λ n. (0 < n) × (n ≤ most)
+            × HasPut (merges self.old) mains.now written.now at n values.old values.new) }
+        ensures alone { IfOk result (AreAlone (row self.old) written.now at) }
         ensures trap { IfErr result (TrapsFrom (merges self.old) mains.now written.now at) }
         ensures size { size self.new ≡ size self.old }
         ensures merges { merges self.new ≡ merges self.old }
         ensures row { row self.new ≡ row self.old }
     {
-        for k in 0..many {
+        for k in 0..most {
             let w = written[at + k];
+            if stops(k, self.row_at(w.location)) {
+                return Ok(k);
+            }
             match self.merge(w.location, mains[at + k], w.value, w.root) {
                 Ok(value) => values[at + k] = value,
                 Err(fault) => {
@@ -99,8 +106,17 @@ pub trait MergeBy {
                 }
             }
         }
-        Ok(())
+        Ok(most)
     }
+}
+
+/// Whether merges one by one stop before this location, behind so many: where eight are merged at
+/// once from it on, but not before the first.
+fn stops(behind: usize, is_row: bool) -> bool
+    ensures some { result ≡ true → 0 < behind }
+    ensures alone { result ≡ false → 0 < behind → is_row ≡ false }
+{
+    0 < behind && is_row
 }
 
 /// The least location whose merge faults, and how.
@@ -115,8 +131,7 @@ pub struct MergeTrap {
 /// whose merge faults, after which nothing is said of `values`.
 ///
 /// Eight written locations that follow each other and are merged at once go by eight; an eight
-/// with a fault goes one by one, so that its first fault is told. Behind a location that is merged
-/// alone the next 63 go one by one with no question.
+/// with a fault goes one by one, so that its first fault is told.
 pub fn compose<M: MergeBy>(
     mains: &[u64],
     end: &EndValue,
@@ -144,7 +159,8 @@ pub fn compose<M: MergeBy>(
 }
 
 /// Puts the new words of the next locations, and tells of how many. An eight that is merged at once
-/// goes at once. Where this location is merged alone, up to 64 go one by one with no question.
+/// goes at once. Else this location is merged alone, and so are those behind it, up to 64 in all and
+/// up to the next one from which eight are merged at once.
 fn compose_next<M: MergeBy>(
     mains: &[u64],
     written: &[Written],
@@ -166,18 +182,9 @@ fn compose_next<M: MergeBy>(
     if compose_eight(mains, written, at, merges, values) {
         return Ok(8);
     }
-    let many = portion(merges.row_at(written[at].location), written.len() - at);
-    merges.merge_each(mains, written, at, many, values)?;
+    let most = (written.len() - at).min(64);
+    let many = merges.merge_each(mains, written, at, most, values)?;
     Ok(many)
-}
-
-/// How many of these locations go one by one with no further question: one where the first of them
-/// is merged with others at once, and else up to 64.
-fn portion(is_at_once: bool, left: usize) -> usize
-    requires { 0 < left }
-    ensures { (0 < result) × (result ≤ left) }
-{
-    if is_at_once { 1 } else { left.min(64) }
 }
 
 /// Puts the new words of eight locations from this place on, where they follow each other, are

@@ -1,8 +1,9 @@
 -- Answers of MergeBy::merge_each: one word more is put, and the first fault is that of all from the place on.
-use Rattle.std.proofs.Common.{rules, ◌∙◌, ◌+◌, ℕ, ap, sym, get_or, arith}
+use Rattle.std.proofs.Common.{rules, ◌∙◌, ◌+◌, ℕ, Bool, ap, sym, refl, get_or, arith}
 use Rattle.version_map.specs.declared.end.Written.{Written}
 use Rattle.version_map.specs.Composing.{Merges}
 use Rattle.version_map.proofs.Composing.{stops, puts_more}
+use Rattle.version_map.proofs.Following.{alone_too}
 use Rattle.version_map.proofs.joining.MergeBy.merge_each.Goals as goal
 
 abbrev no_entry : Written
@@ -39,4 +40,8 @@ loop-k-preserved g c =
           ∙ (c.merge.ensures.value
           ∙ ap (λ (m : Merges ℕ). m w.location (get_or mains i 0) w.value w.root) c.loop-k.invariant.1))
           c.loop-k.invariant.4,
+      alone_too (g.Self.MergeBy.row c.args.self.now) ws c.args.at c.loop-k.k no_entry
+          (λ some. sym (c.row_at.ensures ∙ ap (λ (r : ℕ → Bool). r w.location) c.loop-k.invariant.2)
+          ∙ c.if-stops.ensures.alone refl some)
+          c.loop-k.invariant.5,
     )
