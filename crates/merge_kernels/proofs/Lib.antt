@@ -6,5 +6,6 @@ pub mod MergeTerms
 pub mod ThreeValues
 pub mod OneLane
 pub mod RowChoices
+pub mod Chosen
 pub mod RowWords
 pub mod Crossing

@@ -6,8 +6,11 @@
 --   row_choice   the one choice of eight locations, from this one on
 --   has_row      whether they have one, of a kernel with a row
 --   IsRowFor     this definition was chosen for each of them
+--   HaveChoice   each of so many written locations from a place on has this choice
+--   IsChosenFor  this definition was chosen for each of them
 use Rattle.std.specs.Prelude.{◌≡◌, ◌<◌, ◌+◌, ℕ, Bool, true, false, ◌&&◌, nat_eq, nat_lt, if◌then◌else◌, List, [], ◌∷◌, take, drop, length, Option, Some, None, slice_get, option_and_then}
 use Rattle.rev_syntax.specs.Trees.{Expression}
+use Rattle.version_map.specs.declared.end.Written.{Written}
 
 abbrev pub the_choice : Option (Option ℕ) → Option ℕ
 the_choice (Some c) = c
@@ -54,3 +57,14 @@ has_row choices rows first = is_true (option_and_then (slice_get rows) (row_choi
 
 abbrev pub IsRowFor : List (Option ℕ) → List Expression → (first : ℕ) → Expression → Type 0
 IsRowFor choices kernels first e = (k : ℕ) → k < 8 → chosen_at choices kernels (first + k) ≡ Some e
+
+-- ---- written locations
+
+abbrev pub HaveChoice : List (Option ℕ) → List Written → (at many n : ℕ) → Type 0
+HaveChoice choices ws at many n =
+    (k : ℕ) (w : Written) → k < many → slice_get ws (at + k) ≡ Some w → choice_at choices w.location ≡ Some n
+
+abbrev pub IsChosenFor : List (Option ℕ) → List Expression → List Written → (at many : ℕ) → Expression → Type 0
+IsChosenFor choices kernels ws at many e =
+    (k : ℕ) (w : Written) → k < many → slice_get ws (at + k) ≡ Some w
+    → chosen_at choices kernels w.location ≡ Some e

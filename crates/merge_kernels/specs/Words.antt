@@ -5,10 +5,12 @@
 --   overlaid      the merges that a plan makes: by the chosen definition, or else those of another
 --   Agrees        where a definition was chosen, the merge of each three words is its value
 --   AreAlike      two merges of words that give the same
-use Rattle.std.specs.Prelude.{◌≡◌, ◌<◌, ◌^◌, ℕ, ℤ, List, map, option_map, Option, Some, None, Result, Ok, Err}
+--   MergesBy      at so many written locations from a place on, merges are by this definition
+use Rattle.std.specs.Prelude.{◌≡◌, ◌<◌, ◌+◌, ◌^◌, ℕ, ℤ, List, map, option_map, Option, Some, None, Result, Ok, Err, slice_get}
 use Rattle.rev_num.specs.declared.value.NumFault.{NumFault}
 use Rattle.rev_num.specs.Words.{int_of, word_of}
 use Rattle.rev_syntax.specs.Trees.{Expression}
+use Rattle.version_map.specs.declared.end.Written.{Written}
 use Rattle.version_map.specs.Composing.{Merges}
 use Rattle.merge_kernels.specs.Lanes.{lanes_answer}
 use Rattle.merge_kernels.specs.Terms.{answer_of}
@@ -43,3 +45,8 @@ Agrees choices kernels merges =
     (location : ℕ) (e : Expression) → chosen_at choices kernels location ≡ Some e
     → (main join root : ℕ) → main < 2 ^ 64 → join < 2 ^ 64 → root < 2 ^ 64
     → merges location main join root ≡ merged e main join root
+
+abbrev pub MergesBy : Merges ℕ → Expression → List Written → (at many : ℕ) → Type 0
+MergesBy merges e ws at many =
+    (k : ℕ) (w : Written) → k < many → slice_get ws (at + k) ≡ Some w
+    → (main join root : ℕ) → merges w.location main join root ≡ merged e main join root

@@ -23,4 +23,4 @@ pub use laws::kernel_laws;
 pub use plan::KernelPlan;
 pub use term::{MergeDef, Term, TermLink};
 pub use three::{greatest, greatest_def, least, least_def, sum, sum_def};
-pub use words::{by_kernel, by_row};
+pub use words::{by_kernel, by_row, each_by_kernel};

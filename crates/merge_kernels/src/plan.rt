@@ -1,12 +1,16 @@
 //! Which kernel merges which location.
 
-ghost use Rattle.std.specs.Prelude.{◌≡◌, ◌≤◌, ◌+◌, IfSome, MatchBool, None, Some, drop, is_some, length, map, option_map, take};
+ghost use Rattle.std.specs.Prelude.{◌≡◌, ◌<◌, ◌≤◌, ◌+◌, IfSome, MatchBool, None, Some, drop, is_some, length, map};
+ghost use Rattle.std.specs.Prelude.{option_map, take, true};
 ghost use Rattle.std.specs.Option.{option_copied};
-ghost use Rattle.merge_kernels.specs.Plans.{AreWithin, IsRowFor, choice_at, chosen_at, has_row, have, row_choice};
+ghost use Rattle.merge_kernels.specs.Plans.{AreWithin, HaveChoice, IsChosenFor, IsRowFor, choice_at, chosen_at};
+ghost use Rattle.merge_kernels.specs.Plans.{has_row, have, row_choice};
 ghost use Rattle.merge_kernels.specs.Terms.{definition};
+ghost use Rattle.version_map.specs.Parts.{AreAlone};
 
 use crate::finding::kernel_at;
 use crate::kernel::{Kernel, RowKernel};
+use version_map::Written;
 
 /// For each location the number of a kernel, or none. It is made once, and lent to all threads of a
 /// run.
@@ -84,6 +88,47 @@ impl<'k> KernelPlan<'k> {
             return false;
         }
         all_have(&eight_choices(choices, at), n)
+    }
+
+    /// The one kernel that was chosen for each of so many written locations from this place on, where
+    /// it has no row, so that eight are merged at once from none of them. None where there may be no
+    /// such kernel.
+    pub fn lone_kernel(&self, written: &[Written], at: usize, many: usize) -> Option<&Kernel>
+        requires here { at + many ≤ length written.now }
+        requires some { 0 < many }
+        ensures chosen { IfSome result (λ k. IsChosenFor self.now.choices.items
+            (map (λ k. definition k.def) self.now.kernels.now) written.now at many
+            (definition k.now.def)) }
+        ensures alone { IfSome result (λ _. AreAlone (has_row self.now.choices.items
+            (map (λ k. is_some k.row) self.now.kernels.now)) written.now at many) }
+    {
+        let Some(n) = self.choice(written[at].location) else {
+            return None;
+        };
+        let kernel = kernel_at(self.kernels, n as usize);
+        match kernel.row() {
+            Some(_) => None,
+            None => {
+                if self.have_choice(written, at, many, n) {
+                    Some(kernel)
+                } else {
+                    None
+                }
+            },
+        }
+    }
+
+    /// Whether each of so many written locations from this place on has this choice.
+    fn have_choice(&self, written: &[Written], at: usize, many: usize, n: u32) -> bool
+        requires { at + many ≤ length written.now }
+        ensures { result ≡ true → HaveChoice self.now.choices.items written.now at many n }
+    {
+        for k in 0..many {
+            if self.choice(written[at + k].location) != Some(n) {
+                return false;
+            }
+        }
+        true
     }
 }
 

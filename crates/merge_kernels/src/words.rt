@@ -1,12 +1,15 @@
 //! Merges of words by kernels.
 
-ghost use Rattle.std.specs.Prelude.{◌≡◌, length, map, option_map};
+ghost use Rattle.std.specs.Prelude.{◌≡◌, ◌≤◌, ◌+◌, ℕ, IfErr, IfOk, length, map, option_map};
 ghost use Rattle.rev_num.specs.Words.{int_of, word_of};
 ghost use Rattle.merge_kernels.specs.Terms.{definition};
-ghost use Rattle.merge_kernels.specs.Words.{merged, merged_lanes, word_answer};
+ghost use Rattle.merge_kernels.specs.Words.{MergesBy, merged, merged_lanes, word_answer};
+ghost use Rattle.version_map.specs.Composing.{Merges};
+ghost use Rattle.version_map.specs.Parts.{HasPut, TrapsFrom};
 
 use crate::kernel::{Kernel, RowKernel};
 use rev_num::{NumFault, int_of_word, word_of_int};
+use version_map::{MergeTrap, Written};
 
 /// The word of a number, or the fault.
 fn word_of_answer(answer: Result<i64, NumFault>) -> Result<u64, NumFault>
@@ -27,6 +30,40 @@ pub fn by_kernel(kernel: &Kernel, main: u64, join: u64, root: u64) -> Result<u64
     let join = int_of_word(join);
     let root = int_of_word(root);
     word_of_answer(kernel.call(main, join, root))
+}
+
+/// Puts the new words of so many written locations from this place on into `values`, each by the
+/// definition of this kernel, up to the first that faults.
+pub fn each_by_kernel(
+    kernel: &Kernel,
+    mains: &[u64],
+    written: &[Written],
+    at: usize,
+    many: usize,
+    values: &mut [u64],
+) -> Result<(), MergeTrap>
+    requires mains { length mains.now ≡ length written.now }
+    requires values { length values.old ≡ length written.now }
+    requires here { at + many ≤ length written.now }
+    ensures length { length values.new ≡ length values.old }
+    ensures put { (m : Merges ℕ) → MergesBy m (definition kernel.now.def) written.now at many
+        → IfOk result (λ _. HasPut m mains.now written.now at many values.old values.new) }
+    ensures trap { (m : Merges ℕ) → MergesBy m (definition kernel.now.def) written.now at many
+        → IfErr result (TrapsFrom m mains.now written.now at) }
+{
+    for k in 0..many {
+        let w = written[at + k];
+        match by_kernel(kernel, mains[at + k], w.value, w.root) {
+            Ok(value) => values[at + k] = value,
+            Err(fault) => {
+                return Err(MergeTrap {
+                    location: w.location,
+                    fault,
+                })
+            }
+        }
+    }
+    Ok(())
 }
 
 /// The numbers of eight words.

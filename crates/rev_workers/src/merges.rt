@@ -1,13 +1,13 @@
 //! The merges of all locations, by kernels where a plan has chosen them.
 
-ghost use Rattle.std.specs.Prelude.{◌≡◌, is_some, map};
+ghost use Rattle.std.specs.Prelude.{◌≡◌, ◌<◌, false, is_some, map, true};
 ghost use Rattle.merge_kernels.specs.Plans.{has_row};
 ghost use Rattle.merge_kernels.specs.Terms.{definition};
 ghost use Rattle.merge_kernels.specs.Words.{Agrees, AreAlike, overlaid};
 
-use merge_kernels::{KernelPlan, by_kernel, by_row};
+use merge_kernels::{KernelPlan, by_kernel, by_row, each_by_kernel};
 use rev_num::NumFault;
-use version_map::MergeBy;
+use version_map::{MergeBy, MergeTrap, Written};
 
 /// The merges of another, of which those at locations with a choice are made by kernels.
 #[derive(Drop)]
@@ -66,4 +66,43 @@ impl<'k, M: MergeBy> MergeBy for KernelMerges<'k, M> {
             None => None,
         }
     }
+
+    fn merge_each(
+        &mut self,
+        mains: &[u64],
+        written: &[Written],
+        at: usize,
+        most: usize,
+        values: &mut [u64],
+    ) -> Result<usize, MergeTrap> {
+        if let Some(kernel) = self.plan.lone_kernel(written, at, most) {
+            each_by_kernel(kernel, mains, written, at, most, values)?;
+            return Ok(most);
+        }
+        for k in 0..most {
+            let w = written[at + k];
+            if stops(k, self.row_at(w.location)) {
+                return Ok(k);
+            }
+            match self.merge(w.location, mains[at + k], w.value, w.root) {
+                Ok(value) => values[at + k] = value,
+                Err(fault) => {
+                    return Err(MergeTrap {
+                        location: w.location,
+                        fault,
+                    })
+                }
+            }
+        }
+        Ok(most)
+    }
+}
+
+/// Whether merges one by one stop before this location, behind so many: where eight are merged at
+/// once from it on, but not before the first.
+fn stops(behind: usize, is_row: bool) -> bool
+    ensures some { result ≡ true → 0 < behind }
+    ensures alone { result ≡ false → 0 < behind → is_row ≡ false }
+{
+    0 < behind && is_row
 }
