@@ -7,6 +7,7 @@ use Rattle.hub_core.specs.declared.status.Status.TheVariants.{Ready}
 use Rattle.hub_core.specs.HubMachine.{HubMachine, numbered, values}
 use Rattle.hub_core.proofs.Hub as hub
 use Rattle.hub_core.specs.declared.value.Turn.{Turn}
+use Rattle.hub_core.specs.declared.slot.Slot.TheVariants.{Home}
 use Rattle.hub_core.specs.declared.state.HubState.{HubState}
 use Rattle.hub_core.specs.declared.state.HubState.TheVariants.{All}
 use Rattle.hub_core.specs.Chains.{HasOne}
@@ -26,9 +27,9 @@ module _ {L R A E : Type 0} (d : HubMachine L R A E) (ends : E → L → Type 0)
       → first ≡ opens seats (Some (d.runs c)) (d.runner_group c) → 0 < seats
       → b.value.schedule.items ≡ [] → b.value.state ≡ All → b.value.revisions.slots.items ≡ Ready c ∷ []
       → b.value.revisions.forkers.items ≡ 0 ∷ [] → HasOne b.value.revisions.queue
-      → Turned d ends first (opening (0 ∷ []) (Some b ∷ []) first)
+      → Turned d ends first (opening (0 ∷ []) (Home b ∷ []) first)
   begins first b c seats is some_seat schedule free slots forkers one =
-      subst (λ f. Turned d ends f (opening (0 ∷ []) (Some b ∷ []) f)) (sym is)
+      subst (λ f. Turned d ends f (opening (0 ∷ []) (Home b ∷ []) f)) (sym is)
       (starts d ends (opens seats (Some (d.runs c)) (d.runner_group c)) b refl refl refl refl refl some_seat free
       record {
         schedule = schedule;

@@ -1,5 +1,5 @@
 -- Each step of the turn keeps its rule.
-use Rattle.std.proofs.Common.{◌≡◌, ◌≢◌, ◌⊎◌, inl, inr, ℕ, zero, suc, ◌+◌, ◌<◌, ◌≤◌, Bool, true, false, cond, eqb, List, [], ◌∷◌, ◌++◌, get_or, set, length-set, get_or-set_same, sym, refl, ap, ◌∙◌, subst, arith, ⊎_elim, eq-eqb, ne_eqb, Option, Some}
+use Rattle.std.proofs.Common.{◌≡◌, ◌≢◌, ◌⊎◌, inl, inr, ℕ, zero, suc, ◌+◌, ◌<◌, ◌≤◌, Bool, true, false, cond, eqb, List, [], ◌∷◌, ◌++◌, get_or, set, length-set, get_or-set_same, sym, refl, ap, ◌∙◌, subst, arith, ⊎_elim, eq-eqb, ne_eqb, Option}
 use mathlib.Core.Option as m
 use mathlib.Core.Logic.{dite}
 use native.Mathlib.Decide.{ℕ_discrete}
@@ -11,6 +11,8 @@ use Rattle.atomic_table.specs.Table.{State, Me, step, keeps, takes, gives, stepp
 use Rattle.atomic_table.proofs.Lists.{at_set, at_snoc, set_again, set_here}
 use Rattle.hub_core.specs.HubMachine.{HubMachine}
 use Rattle.hub_core.specs.declared.value.Turn.{Turn}
+use Rattle.hub_core.specs.declared.slot.Slot.{Slot}
+use Rattle.hub_core.specs.declared.slot.Slot.TheVariants.{Home, Away}
 use Rattle.hub_core.specs.Counts.{total, is_at, times}
 use Rattle.hub_core.specs.declared.view.View.{View}
 use Rattle.hub_core.specs.Passes.{Pass, named, without, left, IsPass, Fresh, AreStartsOf}
@@ -63,11 +65,11 @@ module _ {L R A E : Type 0} (d : HubMachine L R A E) (ends : E → L → Type 0)
   abbrev V : Type 0
   V = View L
 
-  abbrev Slot : Type 0
-  Slot = Option (Box (Turn R A E))
+  abbrev S : Type 0
+  S = Slot R A E
 
   abbrev St : Type 0
-  St = State Slot V
+  St = State S V
 
   abbrev Rule : St → Type 0
   Rule = Turned d ends first
@@ -178,104 +180,104 @@ module _ {L R A E : Type 0} (d : HubMachine L R A E) (ends : E → L → Type 0)
   own_fresh : (s : St) (r : Rule s) (id : ℕ) (v : V) → At s id v → v.has ≡ 1 → Fresh v.log v.passes
   own_fresh s r id v at h = subst (λ l. Fresh l v.passes) (sym (its_log s r id v at h).0) (r.seats id v at).fresh
 
-  -- a step that leaves the word, by an exchange of k for itself
-  stays : (slots id : ℕ) (me : Me Slot V) (k : ℕ) (w : V) → ((s : St) → Rule s → At s id me.0 → Rule (with_view s id w))
-      → Allows Rule slots id me 0 (λ x. either (eqb x k) k x) (λ n me'. me' ≡ (w, me.1))
-  stays slots id me k w ok s r wide at _ =
-      let x : ℕ = get_or s.words 0 0 in
-      let same : either (eqb x k) k x ≡ x =
-      dite (ℕ_discrete x k) (λ e. ap (λ (b : Bool). either b k x) (eq-eqb x k e) ∙ sym e)
-      (λ e. ap (λ (b : Bool). either b k x) (ne_eqb x k e)) in (
-        w,
-        keeps,
-        tt,
-        subst (λ ws. Rule record { words = ws; homes = s.homes; views = set s.views id w })
-            (sym (ap (set s.words 0) same ∙ set-get_or s.words 0 0)) (ok s r at),
-        refl,
-      )
+  -- a step that leaves the word, by a load
+  stays : (slots id : ℕ) (me : Me S V) (w : V) → ((s : St) → Rule s → At s id me.0 → Rule (with_view s id w))
+      → Allows Rule slots id me 0 (λ x. x) (λ n me'. me' ≡ (w, me.1))
+  stays slots id me w ok s r wide at _ = (
+    w,
+    keeps,
+    tt,
+    subst (λ ws. Rule record { words = ws; homes = s.homes; views = set s.views id w })
+        (sym (set-get_or s.words 0 0)) (ok s r at),
+    refl,
+  )
 
-  pub commit : (slots id : ℕ) (me : Me Slot V) (k : ℕ) → me.0.has ≡ 1 → 0 < named k me.0.passes
-      → Allows Rule slots id me 0 (λ x. either (eqb x k) k x) (committed d ends (step slots 0 k k m.none) me)
-  commit slots id me k h has =
-      stays slots id me k (commits k me.0)
-      (λ s r at. steady s r id me.0 (commits k me.0) at h (h, refl, refl, refl, refl, refl)
-      (refl, λ ats b. starts_more me.0.log k ats b)
+  -- a seat whose slot is away, for a step about this number
+  abbrev pub aims : V → ℕ → Me S V
+  aims v k = (v, (0, Away k) ∷ [])
+
+  pub commit : (slots id : ℕ) (v : V) (k : ℕ) → v.has ≡ 1 → 0 < named k v.passes
+      → Allows Rule slots id (aims v k) 0 (λ x. x) (committed d ends (step slots 0 0 0 m.none) (aims v k))
+  commit slots id v k h has =
+      stays slots id (aims v k) (commits k v)
+      (λ s r at. steady s r id v (commits k v) at h (h, refl, refl, refl, refl, refl)
+      (refl, λ ats b. starts_more v.log k ats b)
       (λ j before p. ⊎_elim
-      (λ (q : (k ≡ j) × (me.0.log ++ k ∷ [] ≡ before)). since_now (me.0.log ++ k ∷ []) j before q.1)
-      (λ (q : IsPass (left k me.0.passes) j before).
-      let z = left_pass k me.0.passes j before q in
-      since_more me.0.log j k before (λ e. z.1 (sym e)) (own_fresh s r id me.0 at h j before z.0))
+      (λ (q : (k ≡ j) × (v.log ++ k ∷ [] ≡ before)). since_now (v.log ++ k ∷ []) j before q.1)
+      (λ (q : IsPass (left k v.passes) j before).
+      let z = left_pass k v.passes j before q in
+      since_more v.log j k before (λ e. z.1 (sym e)) (own_fresh s r id v at h j before z.0))
       p)
       (λ ps f apart j before p.
-      since_more me.0.log j k before
+      since_more v.log j k before
       (λ e.
       let z = apart k has in
       let y = pass_named ps j before p in
       let q : named j ps ≡ named k ps = ap (λ n. named n ps) (sym e) in
       absurd (omega arith))
       (f j before p))
-      (λ n. let z = mine_once s r id me.0 at h k in let z0 = z.0 in let z1 = z.1 in dite (ℕ_discrete n k)
+      (λ n. let z = mine_once s r id v at h k in let z0 = z.0 in let z1 = z.1 in dite (ℕ_discrete n k)
       (λ e.
-      let a : named n (left k me.0.passes) ≡ 0 =
-      ap (λ i. named i (left k me.0.passes)) e ∙ count_gone (λ (p : Pass). p.0) k me.0.passes in
+      let a : named n (left k v.passes) ≡ 0 =
+      ap (λ i. named i (left k v.passes)) e ∙ count_gone (λ (p : Pass). p.0) k v.passes in
       let b : is_at n k ≡ 1 = ap (λ i. is_at i k) e ∙ is_at_same k in
-      let c : named n me.0.passes ≡ named k me.0.passes = ap (λ i. named i me.0.passes) e in
+      let c : named n v.passes ≡ named k v.passes = ap (λ i. named i v.passes) e in
       omega arith)
       (λ ne.
-      let a = count_other (λ (p : Pass). p.0) k n me.0.passes ne in
+      let a = count_other (λ (p : Pass). p.0) k n v.passes ne in
       let b = is_at_other n k (λ e. ne (sym e)) in
       omega arith))
-      (λ n. (mine_once s r id me.0 at h n).1))
+      (λ n. (mine_once s r id v at h n).1))
 
-  pub hand_in : (slots id : ℕ) (me : Me Slot V) (k : ℕ) → me.0.has ≡ 1 → 0 < named k me.0.passes
-      → Allows Rule slots id me 0 (λ x. either (eqb x k) k x) (handed_in d ends (step slots 0 k k m.none) me)
-  hand_in slots id me k h has =
-      stays slots id me k (hands_in k me.0)
-      (λ s r at. steady s r id me.0 (hands_in k me.0) at h (h, refl, refl, refl, refl, refl) (refl, λ ats b. b)
-      (λ j before p. own_fresh s r id me.0 at h j before (left_pass k me.0.passes j before p).0)
+  pub hand_in : (slots id : ℕ) (v : V) (k : ℕ) → v.has ≡ 1 → 0 < named k v.passes
+      → Allows Rule slots id (aims v k) 0 (λ x. x) (handed_in d ends (step slots 0 0 0 m.none) (aims v k))
+  hand_in slots id v k h has =
+      stays slots id (aims v k) (hands_in k v)
+      (λ s r at. steady s r id v (hands_in k v) at h (h, refl, refl, refl, refl, refl) (refl, λ ats b. b)
+      (λ j before p. own_fresh s r id v at h j before (left_pass k v.passes j before p).0)
       (λ ps f apart. f)
-      (λ n. let z = mine_once s r id me.0 at h k in let z0 = z.0 in let z1 = z.1 in dite (ℕ_discrete n k)
+      (λ n. let z = mine_once s r id v at h k in let z0 = z.0 in let z1 = z.1 in dite (ℕ_discrete n k)
       (λ e.
-      let a : named n (left k me.0.passes) ≡ 0 =
-      ap (λ i. named i (left k me.0.passes)) e ∙ count_gone (λ (p : Pass). p.0) k me.0.passes in
-      let b : times n (without k me.0.out) ≡ 0 =
-      ap (λ i. times i (without k me.0.out)) e ∙ count_gone (λ (x : ℕ). x) k me.0.out in
-      let c : named n me.0.passes ≡ named k me.0.passes = ap (λ i. named i me.0.passes) e in
-      let g : times n me.0.out ≡ times k me.0.out = ap (λ i. times i me.0.out) e in
+      let a : named n (left k v.passes) ≡ 0 =
+      ap (λ i. named i (left k v.passes)) e ∙ count_gone (λ (p : Pass). p.0) k v.passes in
+      let b : times n (without k v.out) ≡ 0 =
+      ap (λ i. times i (without k v.out)) e ∙ count_gone (λ (x : ℕ). x) k v.out in
+      let c : named n v.passes ≡ named k v.passes = ap (λ i. named i v.passes) e in
+      let g : times n v.out ≡ times k v.out = ap (λ i. times i v.out) e in
       omega arith)
       (λ ne.
-      let a = count_other (λ (p : Pass). p.0) k n me.0.passes ne in
-      let b = count_other (λ (x : ℕ). x) k n me.0.out ne in
+      let a = count_other (λ (p : Pass). p.0) k n v.passes ne in
+      let b = count_other (λ (x : ℕ). x) k n v.out ne in
       omega arith))
-      (λ n. let z = (mine_once s r id me.0 at h n).1 in dite (ℕ_discrete n k)
+      (λ n. let z = (mine_once s r id v at h n).1 in dite (ℕ_discrete n k)
       (λ e.
-      let b : times n (without k me.0.out) ≡ 0 =
-      ap (λ i. times i (without k me.0.out)) e ∙ count_gone (λ (x : ℕ). x) k me.0.out in
+      let b : times n (without k v.out) ≡ 0 =
+      ap (λ i. times i (without k v.out)) e ∙ count_gone (λ (x : ℕ). x) k v.out in
       omega arith)
-      (λ ne. let b = count_other (λ (x : ℕ). x) k n me.0.out ne in omega arith)))
+      (λ ne. let b = count_other (λ (x : ℕ). x) k n v.out ne in omega arith)))
 
-  pub draw : (slots id : ℕ) (me : Me Slot V) (k : ℕ) → me.0.has ≡ 1 → times k me.0.out ≡ 0
-      → Allows Rule slots id me 0 (λ x. either (eqb x k) k x) (drew d ends (step slots 0 k k m.none) me)
-  draw slots id me k h none =
-      stays slots id me k (draws k me.0)
-      (λ s r at. steady s r id me.0 (draws k me.0) at h (h, refl, refl, refl, refl, refl) (refl, λ ats b. b)
+  pub draw : (slots id : ℕ) (v : V) (k : ℕ) → v.has ≡ 1 → times k v.out ≡ 0
+      → Allows Rule slots id (aims v k) 0 (λ x. x) (drew d ends (step slots 0 0 0 m.none) (aims v k))
+  draw slots id v k h none =
+      stays slots id (aims v k) (draws k v)
+      (λ s r at. steady s r id v (draws k v) at h (h, refl, refl, refl, refl, refl) (refl, λ ats b. b)
       (λ j before p.
-      ⊎_elim (λ (q : (k ≡ j) × (me.0.log ≡ before)). since_now me.0.log j before q.1)
-      (λ (q : IsPass me.0.passes j before). own_fresh s r id me.0 at h j before q) p)
+      ⊎_elim (λ (q : (k ≡ j) × (v.log ≡ before)). since_now v.log j before q.1)
+      (λ (q : IsPass v.passes j before). own_fresh s r id v at h j before q) p)
       (λ ps f apart. f)
       (λ n. omega arith)
-      (λ n. let z = (mine_once s r id me.0 at h n).1 in dite (ℕ_discrete n k)
+      (λ n. let z = (mine_once s r id v at h n).1 in dite (ℕ_discrete n k)
       (λ e.
       let b : is_at n k ≡ 1 = ap (λ i. is_at i k) e ∙ is_at_same k in
-      let c : times n me.0.out ≡ times k me.0.out = ap (λ i. times i me.0.out) e in
+      let c : times n v.out ≡ times k v.out = ap (λ i. times i v.out) e in
       omega arith)
       (λ ne. let b = is_at_other n k (λ e. ne (sym e)) in omega arith)))
 
   -- a halt, where none was entered
-  pub stop : (slots id : ℕ) (me : Me Slot V) (k : ℕ) (state : HubState) → me.0.has ≡ 1 → me.0.halt ≡ All
-      → Allows Rule slots id me 0 (λ x. either (eqb x k) k x) (stopped d ends state (step slots 0 k k m.none) me)
-  stop slots id me k state h none =
-      stays slots id me k (stops state me.0) (λ s r at. let its = (r.seats id me.0 at).holds h in
+  pub stop : (slots id : ℕ) (me : Me S V) (state : HubState) → me.0.has ≡ 1 → me.0.halt ≡ All
+      → Allows Rule slots id me 0 (λ x. x) (stopped d ends state (step slots 0 0 0 m.none) me)
+  stop slots id me state h none =
+      stays slots id me (stops state me.0) (λ s r at. let its = (r.seats id me.0 at).holds h in
       moved s r id me.0 (stops state me.0) 1 state at h (h, refl, refl, refl) ((λ _. refl), (λ _. refl), refl)
       ((λ _. refl), λ n. absurd (n (sym its.3 ∙ none))) (refl, λ ats b. b)
       (own_fresh s r id me.0 at h) (λ ps f apart. f) (λ n. refl) (λ n. (mine_once s r id me.0 at h n).1))
@@ -370,7 +372,7 @@ module _ {L R A E : Type 0} (d : HubMachine L R A E) (ends : E → L → Type 0)
   }
 
   -- the seat learns what the value says, and that its own passes are right
-  pub take : (slots id : ℕ) (me : Me Slot V) → IsIdle me
+  pub take : (slots id : ℕ) (me : Me S V) → IsIdle me
       → Allows Rule slots id me 0 (λ n. either (eqb n 0) 1 n) (took d ends (step slots 0 0 1 m.none) me)
   take slots id me idle s r wide at _ = let x : ℕ = get_or s.words 0 0 in let v : V = me.0 in dite (ℕ_discrete x 0)
       (λ z.
@@ -379,15 +381,15 @@ module _ {L R A E : Type 0} (d : HubMachine L R A E) (ends : E → L → Type 0)
       let t : Turn R A E = b.value in
       let w : V = taking v r.log r.out t in (
         w,
-        takes 0 (Some b),
+        takes 0 (Home b),
         h.1,
-        subst (λ y. Rule (stepped s 0 (either y 1 x) id me.1 w (takes 0 (Some b)))) (sym (eq-eqb x 0 z))
+        subst (λ y. Rule (stepped s 0 (either y 1 x) id me.1 w (takes 0 (Home b)))) (sym (eq-eqb x 0 z))
             (taken_rule s r id v at idle.0 idle.2 t z h.3 h.4),
         (
           (λ _. record {
             value = b;
             told = told s r id v at idle.2 t h.2 h.4;
-            slot = ap (λ (l : List (ℕ × Slot)). (0, Some b) ∷ l) idle.1;
+            slot = ap (λ (l : List (ℕ × S)). (0, Home b) ∷ l) idle.1;
           }),
           λ n. absurd (n z),
         ),
@@ -403,8 +405,8 @@ module _ {L R A E : Type 0} (d : HubMachine L R A E) (ends : E → L → Type 0)
       ))
 
   give_held : (slots id : ℕ) (v : V) (t : Box (Turn R A E)) → InHand d ends v t.value
-      → Allows Rule slots id (v, (0, Some t) ∷ []) 0 (λ _. 0)
-      (λ _. gave d ends (step slots 0 0 0 m.none) (v, (0, Some t) ∷ []) 0)
+      → Allows Rule slots id (v, (0, Home t) ∷ []) 0 (λ _. 0)
+      (λ _. gave d ends (step slots 0 0 0 m.none) (v, (0, Home t) ∷ []) 0)
   give_held slots id v t h s r wide at _ = (rests v, gives, tt, rule, refl)
     where
       mine : Knows d ends first.start first.group r.log r.out r.over r.state v
@@ -417,14 +419,14 @@ module _ {L R A E : Type 0} (d : HubMachine L R A E) (ends : E → L → Type 0)
       now = get_or-set_same s.words 0 0 0 (let o = r.wide in omega arith)
 
       rule : Rule
-          record { words = set s.words 0 0; homes = set s.homes 0 (m.some (Some t)); views = set s.views id (rests v) }
+          record { words = set s.words 0 0; homes = set s.homes 0 (m.some (Home t)); views = set s.views id (rests v) }
       rule = record {
         log = r.log;
         out = r.out;
         over = r.over;
         state = r.state;
         wide = length-set s.words 0 0 ∙ r.wide;
-        long = length-set s.homes 0 (m.some (Some t)) ∙ r.long;
+        long = length-set s.homes 0 (m.some (Home t)) ∙ r.long;
         word =
             let t' = total_set has_turn s.views id v (rests v) at in
             let a = r.word in
@@ -436,7 +438,7 @@ module _ {L R A E : Type 0} (d : HubMachine L R A E) (ends : E → L → Type 0)
         all = let t' = total_set parts_of s.views id v (rests v) at in let a = r.all in omega arith;
         home = λ _. (
           t,
-          set_here s.homes 0 (m.some (Some t)) (let o = r.long in omega arith),
+          set_here s.homes 0 (m.some (Home t)) (let o = r.long in omega arith),
           subst (λ (z : Option L × List ℕ × List ℕ × List ℕ). Holds d ends z.0 z.1 t.value z.2 z.3)
               (λ i. ((mine.begun h.part).0 i, (mine.begun h.part).1 i, its.0 i, its.1 i)) h.holds,
           (λ o. h.saw (its.2 o)),
@@ -460,10 +462,10 @@ module _ {L R A E : Type 0} (d : HubMachine L R A E) (ends : E → L → Type 0)
         known = λ n. let t' = total_set halts s.views id v (rests v) at in let a = r.known n in omega arith;
       }
 
-  pub give : (slots id : ℕ) (me : Me Slot V) (t : Box (Turn R A E)) → InHand d ends me.0 t.value
-      → me.1 ≡ (0, Some t) ∷ [] → Allows Rule slots id me 0 (λ _. 0) (λ _. gave d ends (step slots 0 0 0 m.none) me 0)
+  pub give : (slots id : ℕ) (me : Me S V) (t : Box (Turn R A E)) → InHand d ends me.0 t.value
+      → me.1 ≡ (0, Home t) ∷ [] → Allows Rule slots id me 0 (λ _. 0) (λ _. gave d ends (step slots 0 0 0 m.none) me 0)
   give slots id me t h slot =
-      subst (λ (c : List (ℕ × Slot)).
+      subst (λ (c : List (ℕ × S)).
       Allows Rule slots id (me.0, c) 0 (λ _. 0) (λ _. gave d ends (step slots 0 0 0 m.none) (me.0, c) 0))
       (sym slot) (give_held slots id me.0 t h)
 
@@ -658,7 +660,7 @@ module _ {L R A E : Type 0} (d : HubMachine L R A E) (ends : E → L → Type 0)
     pub value : Box (Turn R A E)
     pub log : List ℕ
     pub out : List ℕ
-    pub home : get_elem? s.homes 0 ≡ m.some (m.some (Some value))
+    pub home : get_elem? s.homes 0 ≡ m.some (m.some (Home value))
     pub holds : Holds d ends first.start first.group value.value log out
     pub over : v.saw ≡ 1 → is_over value.value ≡ true
     pub state : value.value.state ≡ v.halt
@@ -713,7 +715,7 @@ module _ {L R A E : Type 0} (d : HubMachine L R A E) (ends : E → L → Type 0)
 
   pub starts : (t : Box (Turn R A E)) → first.has ≡ 0 → first.saw ≡ 0 → first.passes ≡ [] → first.turns ≡ []
       → first.halt ≡ All → 0 < first.parts → t.value.state ≡ All → Holds d ends first.start first.group t.value [] []
-      → Rule record { words = 0 ∷ []; homes = m.some (Some t) ∷ []; views = first ∷ [] }
+      → Rule record { words = 0 ∷ []; homes = m.some (Home t) ∷ []; views = first ∷ [] }
   starts t idle blind none fresh clear some_part free holds = record {
     log = [];
     out = [];

@@ -9,6 +9,7 @@ pub mod Found
 pub mod Queued
 pub mod Left
 pub mod Halts
+pub mod Slots
 pub mod Marks
 pub mod Passes
 pub mod Views

@@ -25,6 +25,9 @@ use Rattle.hub_core.specs.Queued.{Queued}
 use Rattle.hub_core.specs.declared.view.Said.{Said}
 use Rattle.hub_core.specs.declared.view.Said.TheVariants as mark
 use Rattle.hub_core.specs.declared.view.View.{View}
+use Rattle.hub_core.specs.declared.slot.Slot.{Slot}
+use Rattle.hub_core.specs.declared.slot.Slot.TheVariants.{Home, Away}
+use Rattle.hub_core.specs.Slots.{aim_of}
 use Rattle.hub_core.specs.Passes.{named, Fresh, AreStartsOf}
 use Rattle.hub_core.specs.Views.{halts, has_turn, parts_of, names, commits, hands_in, draws, stops, rests}
 
@@ -100,7 +103,7 @@ module _ {L R A E : Type 0} (d : HubMachine L R A E) (ends : E → L → Type 0)
     pub saw : v.saw ≡ 1 → over ≡ 1
     pub halted : v.halt ≢ All → v.halt ≡ state
 
-  pub record Turned (first : View L) (s : State (Option (Box (Turn R A E))) (View L)) : Type 0 where
+  pub record Turned (first : View L) (s : State (Slot R A E) (View L)) : Type 0 where
     pub log : List ℕ
     pub out : List ℕ
     pub over : ℕ
@@ -112,7 +115,7 @@ module _ {L R A E : Type 0} (d : HubMachine L R A E) (ends : E → L → Type 0)
     pub all : total parts_of s.views ≡ first.parts
     pub home :
         slice_index s.words 0 ≡ 0
-        → (t : Box (Turn R A E)) × (get_elem? s.homes 0 ≡ m.some (m.some (Some t)))
+        → (t : Box (Turn R A E)) × (get_elem? s.homes 0 ≡ m.some (m.some (Home t)))
         × Holds first.start first.group t.value log out × (over ≡ 1 → is_over t.value ≡ true) × (t.value.state ≡ state)
     pub seats :
         (i : ℕ) (v : View L) → get_elem? s.views i ≡ m.some v
@@ -124,7 +127,7 @@ module _ {L R A E : Type 0} (d : HubMachine L R A E) (ends : E → L → Type 0)
     pub known : state ≢ All → 0 < total halts s.views
 
   abbrev Sat : Type 0
-  Sat = Me (Option (Box (Turn R A E))) (View L)
+  Sat = Me (Slot R A E) (View L)
 
   abbrev pub said_of : Status R A E → Said
   said_of (Ready r) = mark.Ready
@@ -164,30 +167,31 @@ module _ {L R A E : Type 0} (d : HubMachine L R A E) (ends : E → L → Type 0)
     -- a halt that it knew of is that of the value
     pub known : v.halt ≢ All → v.halt ≡ t.state
 
-  -- the slot is empty, and the seat has it
-  abbrev pub IsOpen : Sat → Type 0
-  IsOpen me = me.1 ≡ (0, None) ∷ []
+  -- the seat has the slot, whose value is away
+  pub record IsOpen (me : Sat) : Type 0 where
+    pub number : ℕ
+    pub slot : me.1 ≡ (0, Away number) ∷ []
 
   pub record Took (me me' : Sat) : Type 0 where
     pub value : Box (Turn R A E)
     pub told : Told me.0 me'.0 value.value
-    pub slot : me'.1 ≡ (0, Some value) ∷ []
+    pub slot : me'.1 ≡ (0, Home value) ∷ []
 
-  -- what each step tells
-  abbrev pub took : Step (Option (Box (Turn R A E))) → Sat → ℕ → Sat → Type 0
+  -- what each step tells. A step that enters, hands in or draws is about the number in the slot
+  abbrev pub took : Step (Slot R A E) → Sat → ℕ → Sat → Type 0
   took st me r me' = (r ≡ 0 → Took me me') × (r ≢ 0 → me' ≡ me)
 
-  abbrev pub gave : Step (Option (Box (Turn R A E))) → Sat → ℕ → Sat → Type 0
+  abbrev pub gave : Step (Slot R A E) → Sat → ℕ → Sat → Type 0
   gave st me r me' = me' ≡ (rests me.0, [])
 
-  abbrev pub committed : Step (Option (Box (Turn R A E))) → Sat → ℕ → Sat → Type 0
-  committed st me r me' = me' ≡ (commits st.first me.0, me.1)
+  abbrev pub committed : Step (Slot R A E) → Sat → ℕ → Sat → Type 0
+  committed st me r me' = me' ≡ (commits (aim_of me.1) me.0, me.1)
 
-  abbrev pub handed_in : Step (Option (Box (Turn R A E))) → Sat → ℕ → Sat → Type 0
-  handed_in st me r me' = me' ≡ (hands_in st.first me.0, me.1)
+  abbrev pub handed_in : Step (Slot R A E) → Sat → ℕ → Sat → Type 0
+  handed_in st me r me' = me' ≡ (hands_in (aim_of me.1) me.0, me.1)
 
-  abbrev pub drew : Step (Option (Box (Turn R A E))) → Sat → ℕ → Sat → Type 0
-  drew st me r me' = me' ≡ (draws st.first me.0, me.1)
+  abbrev pub drew : Step (Slot R A E) → Sat → ℕ → Sat → Type 0
+  drew st me r me' = me' ≡ (draws (aim_of me.1) me.0, me.1)
 
-  abbrev pub stopped : HubState → Step (Option (Box (Turn R A E))) → Sat → ℕ → Sat → Type 0
+  abbrev pub stopped : HubState → Step (Slot R A E) → Sat → ℕ → Sat → Type 0
   stopped h st me r me' = me' ≡ (stops h me.0, me.1)

@@ -9,6 +9,7 @@ mod queueing;
 mod revision;
 mod revisions;
 mod run_queue;
+mod slot;
 mod state;
 mod status;
 mod steps;
@@ -22,11 +23,11 @@ pub use queueing::marked;
 pub use revision::Revision;
 pub use revisions::{Parted, Revisions};
 pub use run_queue::{Chain, RunQueue};
+pub use slot::Slot;
 pub use state::HubState;
 pub use status::Status;
 pub use steps::{
-    Another, Commit, Draw, Give, HandIn, OneHolder, Slot, StopNoMemory, StopTwice, Take, TakeIn,
-    Witness,
+    Another, Commit, Draw, Give, HandIn, OneHolder, StopNoMemory, StopTwice, Take, TakeIn, Witness,
 };
 pub use value::Turn;
 pub use vectors::{append, empty};

@@ -3,16 +3,11 @@ ghost use Rattle.hub_core.specs.declared.state.HubState.TheVariants as state;
 ghost use Rattle.hub_core.specs.Views.{first_of, both, most, part, witness, blank};
 ghost use Rattle.hub_core.specs.Rule.{Turned, took, gave, committed, handed_in, drew, stopped};
 
-use crate::Turn;
 use crate::revision::Revision;
+use crate::slot::Slot;
 use crate::view::View;
 use atomic_table::{Badge, Join, Play, Split, TableRule};
 use std::marker::PhantomData;
-
-/// What the slot holds. The value lies in a box, so that no step moves more than a pointer.
-pub type Slot<L> = Option<
-    Box<Turn<<L as Revision>::Runner, <L as Revision>::AtJoin, <L as Revision>::End>>,
->;
 
 /// At most one seat has the turn. The key is a badge whose view has the start and the number of
 /// seats.
@@ -21,7 +16,7 @@ pub struct OneHolder<L: Revision> {
 }
 
 impl<L: Revision> TableRule<
-    Option<Box<Turn<L::Runner, L::AtJoin, L::End>>>,
+    Slot<L::Runner, L::AtJoin, L::End>,
     View<L::State>,
     Badge<View<L::State>>,
 > for OneHolder<L> {
@@ -34,8 +29,7 @@ pub struct Take<L: Revision> {
     of: PhantomData<L>,
 }
 
-impl<L: Revision> Play<Option<Box<Turn<L::Runner, L::AtJoin, L::End>>>, View<L::State>>
-    for Take<L> {
+impl<L: Revision> Play<Slot<L::Runner, L::AtJoin, L::End>, View<L::State>> for Take<L> {
     ghost then = { took L.machine L.ends };
 }
 
@@ -43,38 +37,34 @@ pub struct Give<L: Revision> {
     of: PhantomData<L>,
 }
 
-impl<L: Revision> Play<Option<Box<Turn<L::Runner, L::AtJoin, L::End>>>, View<L::State>>
-    for Give<L> {
+impl<L: Revision> Play<Slot<L::Runner, L::AtJoin, L::End>, View<L::State>> for Give<L> {
     ghost then = { gave L.machine L.ends };
 }
 
-/// The entry, the number of the revision, is the operand.
+/// The entry is the number in the slot, of a revision.
 pub struct Commit<L: Revision> {
     of: PhantomData<L>,
 }
 
-impl<L: Revision> Play<Option<Box<Turn<L::Runner, L::AtJoin, L::End>>>, View<L::State>>
-    for Commit<L> {
+impl<L: Revision> Play<Slot<L::Runner, L::AtJoin, L::End>, View<L::State>> for Commit<L> {
     ghost then = { committed L.machine L.ends };
 }
 
-/// The number of the revision is the operand.
+/// The number of the revision is that in the slot.
 pub struct HandIn<L: Revision> {
     of: PhantomData<L>,
 }
 
-impl<L: Revision> Play<Option<Box<Turn<L::Runner, L::AtJoin, L::End>>>, View<L::State>>
-    for HandIn<L> {
+impl<L: Revision> Play<Slot<L::Runner, L::AtJoin, L::End>, View<L::State>> for HandIn<L> {
     ghost then = { handed_in L.machine L.ends };
 }
 
-/// The number of the revision is the operand.
+/// The number of the revision is that in the slot.
 pub struct Draw<L: Revision> {
     of: PhantomData<L>,
 }
 
-impl<L: Revision> Play<Option<Box<Turn<L::Runner, L::AtJoin, L::End>>>, View<L::State>>
-    for Draw<L> {
+impl<L: Revision> Play<Slot<L::Runner, L::AtJoin, L::End>, View<L::State>> for Draw<L> {
     ghost then = { drew L.machine L.ends };
 }
 
@@ -82,8 +72,7 @@ pub struct StopTwice<L: Revision> {
     of: PhantomData<L>,
 }
 
-impl<L: Revision> Play<Option<Box<Turn<L::Runner, L::AtJoin, L::End>>>, View<L::State>>
-    for StopTwice<L> {
+impl<L: Revision> Play<Slot<L::Runner, L::AtJoin, L::End>, View<L::State>> for StopTwice<L> {
     ghost then = { stopped L.machine L.ends state.Twice };
 }
 
@@ -91,8 +80,7 @@ pub struct StopNoMemory<L: Revision> {
     of: PhantomData<L>,
 }
 
-impl<L: Revision> Play<Option<Box<Turn<L::Runner, L::AtJoin, L::End>>>, View<L::State>>
-    for StopNoMemory<L> {
+impl<L: Revision> Play<Slot<L::Runner, L::AtJoin, L::End>, View<L::State>> for StopNoMemory<L> {
     ghost then = { stopped L.machine L.ends state.NoMemory };
 }
 

@@ -1,6 +1,5 @@
 -- What is known at the close: of the slot, and of what the hub leaves.
 use Rattle.std.proofs.Common.{◌≡◌, ℕ, true, List, [], ◌∷◌, map, Option, Some, None, sym, ◌∙◌, refl, subst}
-use Rattle.std.specs.Global.{Box}
 use Rattle.atomic_table.specs.Table.{State}
 use Rattle.revision_machine.specs.Numbered.{Wish, Entries, at_number}
 use Rattle.hub_core.specs.declared.status.Status.{Status}
@@ -13,6 +12,7 @@ use Rattle.hub_core.specs.declared.kept.Kept.{Kept}
 use Rattle.hub_core.specs.declared.state.HubState.{HubState}
 use Rattle.hub_core.specs.declared.state.HubState.TheVariants.{All, Twice, NoMemory}
 use Rattle.hub_core.specs.declared.value.Turn.{Turn}
+use Rattle.hub_core.specs.declared.slot.Slot.{Slot}
 use Rattle.hub_core.specs.Left.{kept_of}
 use Rattle.hub_core.specs.Found.{all_over}
 use Rattle.hub_core.proofs.Slots.{no_more}
@@ -24,7 +24,7 @@ use Rattle.hub_core.proofs.Keeps.{AtEnd}
 use Rattle.hub_core.proofs.Turns.{some_start}
 
 module _ {L R A E : Type 0} (d : HubMachine L R A E) (ends : E → L → Type 0) where
-  pub closes : {first v : View L} {s : State (Option (Box (Turn R A E))) (View L)} (a : AtEnd d ends first s v)
+  pub closes : {first v : View L} {s : State (Slot R A E) (View L)} (a : AtEnd d ends first s v)
       → v.saw ≡ 1 → ClosedTurn d ends first v a.value.value
   closes {first} a saw =
       let h = a.holds in

@@ -6,11 +6,10 @@
 --   run_start, run_group       where a run began, and what its snapshots belong to
 --   run_state, run_schedule, run_forkers, run_ends   what a run tells
 --   schedule_numbers, schedule_forkers, schedule_state, schedule_group   what its schedule tells
-use Rattle.std.specs.Global.{Box}
 use Rattle.std.specs.Prelude.{◌≡◌, ℕ, List, map, Option}
 use Rattle.atomic_table.specs.declared.shared.Seat.{Seat}
 use Rattle.hub_core.specs.declared.state.HubState.{HubState}
-use Rattle.hub_core.specs.declared.value.Turn.{Turn}
+use Rattle.hub_core.specs.declared.slot.Slot.{Slot}
 use Rattle.turn_hub.specs.declared.closing.HubRun.{HubRun}
 use Rattle.turn_hub.specs.declared.closing.order.HubSchedule.{HubSchedule}
 use Rattle.turn_hub.specs.declared.hub.TurnHub.{TurnHub}
@@ -67,7 +66,7 @@ module _ {L S R A E C P : Type 0} where
 
     -- seats at their hub's table
     abbrev pub places :
-        List (HubSeat L S R A E C P g) → List (Seat (Option (Box (Turn R A E))) (View S))
+        List (HubSeat L S R A E C P g) → List (Seat (Slot R A E) (View S))
     places seats = map (λ s. s.place) seats
 
     abbrev pub AreSeatsOf : TurnHub L S R A E C P → List (HubSeat L S R A E C P g) → Type 0

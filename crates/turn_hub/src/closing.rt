@@ -129,7 +129,7 @@ impl<L: Revision> TurnHub<L> {
         let mut closed = turn.close_with(place);
         let value = closed.take(0);
         closed.free();
-        Box::into_inner(value.unwrap())
+        Box::into_inner(value.into_home())
     }
 
     /// What the hub has. All seats that `open` made are handed in, and one of them was answered

@@ -1,5 +1,5 @@
 //! The hub: the turn is taken and given back.
-ghost use Rattle.std.specs.Prelude.{◌≡◌, ◌<◌, [], ◌∷◌, Some, None, true, false};
+ghost use Rattle.std.specs.Prelude.{◌≡◌, ◌<◌, [], ◌∷◌, true, false};
 ghost use Rattle.std.specs.Global.{Box};
 
 use crate::patience::{Patience, WAITS, pause};
@@ -7,8 +7,8 @@ use crate::seat::Place;
 use atomic_table::{Badge, Table};
 use crossbeam_utils::CachePadded;
 use hub_core::{
-    Commit, Draw, Give, HandIn, HubState, OneHolder, Revision, StopNoMemory, StopTwice, Take, Turn,
-    View, empty,
+    Commit, Draw, Give, HandIn, HubState, OneHolder, Revision, Slot, StopNoMemory, StopTwice, Take,
+    Turn, View,
 };
 use std::alloc::Global;
 use std::sync::Wait;
@@ -39,7 +39,7 @@ impl Signs {
 /// A hub, whose revisions the threads take, run and hand back.
 pub struct TurnHub<L: Revision> {
     pub(crate) turn: Table<
-        Option<Box<Turn<L::Runner, L::AtJoin, L::End>>>,
+        Slot<L::Runner, L::AtJoin, L::End>,
         View<L::State>,
         Badge<View<L::State>>,
         OneHolder<L>,
@@ -52,6 +52,7 @@ pub struct TurnHub<L: Revision> {
 
 impl<L: Revision> TurnHub<L> {
     ghost use Rattle.hub_core.specs.declared.state.HubState.TheVariants as state;
+    ghost use Rattle.hub_core.specs.declared.slot.Slot.TheVariants.{Home, Away};
     ghost use Rattle.hub_core.specs.Counts.{times};
     ghost use Rattle.hub_core.specs.Passes.{named};
     ghost use Rattle.hub_core.specs.Views.{rests, commits, hands_in, draws, stops, or_no_memory};
@@ -136,7 +137,7 @@ impl<L: Revision> TurnHub<L> {
         unreachable!()
     }
 
-    // Waits for the turn. Its place in the slot is empty until `put_home`.
+    // Waits for the turn. The value is away until `put_home`.
     pub(crate) fn enter<W: Wait>(
         &self,
         rt: &W,
@@ -149,7 +150,21 @@ impl<L: Revision> TurnHub<L> {
         ensures told { Told L.machine L.ends place.old.me.0 place.new.me.0 result.value }
     {
         self.wait_turn(rt, place, patience);
-        self.turn.shared.exchange(place, 0, None).unwrap()
+        self.turn
+            .shared
+            .exchange(place, 0, Slot::Away(0))
+            .into_home()
+    }
+
+    // What the slot holds from now on, which the seat has with the turn. No other thread looks at
+    // it before the turn is given back.
+    fn fill(&self, place: &mut Place<L>, slot: Slot<L::Runner, L::AtJoin, L::End>)
+        requires own { (place.old.table_id ≡ self.now.turn.shared.table_id)
+            × IsOpen L.machine L.ends place.old.me }
+        ensures own { place.new.table_id ≡ place.old.table_id }
+        ensures after { place.new.me ≡ (place.old.me.0, (0, slot) ∷ []) }
+    {
+        self.turn.shared.exchange(place, 0, slot).spend();
     }
 
     // Only a seat with the turn calls this, so nothing is written in between.
@@ -171,7 +186,7 @@ impl<L: Revision> TurnHub<L> {
         ensures rests { place.new.me ≡ (rests place.old.me.0, []) }
     {
         self.put_mark(turn.revisions.queue.counted_mark());
-        empty(self.turn.shared.exchange(place, 0, Some(turn)));
+        self.fill(place, Slot::Home(turn));
         self.give(place);
         if self.signs.sleepers.load(Ordering::SeqCst) > 0 {
             self.turn.shared.wake_one(0);
@@ -181,7 +196,7 @@ impl<L: Revision> TurnHub<L> {
     fn give(&self, place: &mut Place<L>)
         requires own { place.old.table_id ≡ self.now.turn.shared.table_id }
         requires hand { (t : Box (Turn L.Runner L.AtJoin L.End)) × InHand L.machine L.ends
-            place.old.me.0 t.value × (place.old.me.1 ≡ (0, Some t) ∷ []) }
+            place.old.me.0 t.value × (place.old.me.1 ≡ (0, Home t) ∷ []) }
         ensures own { place.new.table_id ≡ place.old.table_id }
         ensures rests { place.new.me ≡ (rests place.old.me.0, []) }
     {
@@ -190,65 +205,65 @@ impl<L: Revision> TurnHub<L> {
 
     // An entry of a revision that this seat has.
     pub(crate) fn commit(&self, place: &mut Place<L>, number: u32)
-        requires own { place.old.table_id ≡ self.now.turn.shared.table_id }
+        requires own { (place.old.table_id ≡ self.now.turn.shared.table_id)
+            × IsOpen L.machine L.ends place.old.me }
         requires has { (place.old.me.0.has ≡ 1) × (0 < named number place.old.me.0.passes) }
-        ensures own { place.new.table_id ≡ place.old.table_id }
-        ensures after { place.new.me ≡ (commits number place.old.me.0, place.old.me.1) }
+        ensures own { (place.new.table_id ≡ place.old.table_id)
+            × IsOpen L.machine L.ends place.new.me }
+        ensures after { place.new.me ≡ (commits number place.old.me.0, (0, Away number) ∷ []) }
     {
-        let number = number as u64;
-        self.turn
-            .shared
-            .compare_exchange::<Commit<L>>(place, 0, number, number);
+        self.fill(place, Slot::Away(number));
+        self.turn.shared.load::<Commit<L>>(place, 0);
     }
 
     // The pass of a revision that this seat had.
     pub(crate) fn hand_in(&self, place: &mut Place<L>, number: u32)
-        requires own { place.old.table_id ≡ self.now.turn.shared.table_id }
+        requires own { (place.old.table_id ≡ self.now.turn.shared.table_id)
+            × IsOpen L.machine L.ends place.old.me }
         requires has { (place.old.me.0.has ≡ 1) × (0 < named number place.old.me.0.passes) }
-        ensures own { place.new.table_id ≡ place.old.table_id }
-        ensures after { place.new.me ≡ (hands_in number place.old.me.0, place.old.me.1) }
+        ensures own { (place.new.table_id ≡ place.old.table_id)
+            × IsOpen L.machine L.ends place.new.me }
+        ensures after { place.new.me ≡ (hands_in number place.old.me.0, (0, Away number) ∷ []) }
     {
-        let number = number as u64;
-        self.turn
-            .shared
-            .compare_exchange::<HandIn<L>>(place, 0, number, number);
+        self.fill(place, Slot::Away(number));
+        self.turn.shared.load::<HandIn<L>>(place, 0);
     }
 
     // A pass of a revision that no seat has.
     pub(crate) fn draw(&self, place: &mut Place<L>, number: u32)
-        requires own { place.old.table_id ≡ self.now.turn.shared.table_id }
+        requires own { (place.old.table_id ≡ self.now.turn.shared.table_id)
+            × IsOpen L.machine L.ends place.old.me }
         requires has { (place.old.me.0.has ≡ 1) × (times number place.old.me.0.out ≡ 0) }
-        ensures own { place.new.table_id ≡ place.old.table_id }
-        ensures after { place.new.me ≡ (draws number place.old.me.0, place.old.me.1) }
+        ensures own { (place.new.table_id ≡ place.old.table_id)
+            × IsOpen L.machine L.ends place.new.me }
+        ensures after { place.new.me ≡ (draws number place.old.me.0, (0, Away number) ∷ []) }
     {
-        let number = number as u64;
-        self.turn
-            .shared
-            .compare_exchange::<Draw<L>>(place, 0, number, number);
+        self.fill(place, Slot::Away(number));
+        self.turn.shared.load::<Draw<L>>(place, 0);
     }
 
     // The first halt is Twice.
     pub(crate) fn stop_twice(&self, place: &mut Place<L>)
-        requires own { place.old.table_id ≡ self.now.turn.shared.table_id }
+        requires own { (place.old.table_id ≡ self.now.turn.shared.table_id)
+            × IsOpen L.machine L.ends place.old.me }
         requires has { (place.old.me.0.has ≡ 1) × (place.old.me.0.halt ≡ state.All) }
-        ensures own { place.new.table_id ≡ place.old.table_id }
+        ensures own { (place.new.table_id ≡ place.old.table_id)
+            × IsOpen L.machine L.ends place.new.me }
         ensures after { place.new.me ≡ (stops state.Twice place.old.me.0, place.old.me.1) }
     {
-        self.turn
-            .shared
-            .compare_exchange::<StopTwice<L>>(place, 0, 0, 0);
+        self.turn.shared.load::<StopTwice<L>>(place, 0);
     }
 
     // The first halt is want of memory.
     fn stop_no_memory(&self, place: &mut Place<L>)
-        requires own { place.old.table_id ≡ self.now.turn.shared.table_id }
+        requires own { (place.old.table_id ≡ self.now.turn.shared.table_id)
+            × IsOpen L.machine L.ends place.old.me }
         requires has { (place.old.me.0.has ≡ 1) × (place.old.me.0.halt ≡ state.All) }
-        ensures own { place.new.table_id ≡ place.old.table_id }
+        ensures own { (place.new.table_id ≡ place.old.table_id)
+            × IsOpen L.machine L.ends place.new.me }
         ensures after { place.new.me ≡ (stops state.NoMemory place.old.me.0, place.old.me.1) }
     {
-        self.turn
-            .shared
-            .compare_exchange::<StopNoMemory<L>>(place, 0, 0, 0);
+        self.turn.shared.load::<StopNoMemory<L>>(place, 0);
     }
 
     // Gives the turn back halted: by want of memory, where no halt was entered before.

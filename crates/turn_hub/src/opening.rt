@@ -3,6 +3,7 @@ ghost use Rattle.std.specs.Prelude.{◌≡◌, ◌<◌, ◌≤◌, [], ◌∷◌
 ghost use Rattle.std.specs.Prelude.{IfOk, IfErr, IfSome, vec_capacity};
 ghost use Rattle.std.specs.Global.{Box};
 ghost use Rattle.hub_core.specs.declared.status.Status.TheVariants.{Ready};
+ghost use Rattle.hub_core.specs.declared.slot.Slot.TheVariants.{Home};
 ghost use Rattle.hub_core.specs.declared.state.HubState.TheVariants as state;
 ghost use Rattle.hub_core.specs.Left.{IsReadyAlone};
 ghost use Rattle.hub_core.specs.Seats.{AreOf, AreNew};
@@ -13,7 +14,7 @@ use crate::patience::Patience;
 use crate::seat::{HubSeat, Place};
 use atomic_table::{Badge, Refused, Table, TableRule};
 use crossbeam_utils::CachePadded;
-use hub_core::{Another, HubState, OneHolder, Revision, Revisions, Turn, View, append};
+use hub_core::{Another, HubState, OneHolder, Revision, Revisions, Slot, Turn, View, append};
 use std::alloc::Global;
 use std::marker::PhantomData;
 
@@ -67,12 +68,9 @@ fn take_back<R, A, E>(turn: Turn<R, A, E>) -> R
 
 // The value in its box, as the one that the slot begins with. The runner comes back for want of
 // memory.
-fn home_of<R, A, E>(
-    alloc: Global,
-    turn: Turn<R, A, E>,
-) -> Result<Vec<Option<Box<Turn<R, A, E>>>>, R>
+fn home_of<R, A, E>(alloc: Global, turn: Turn<R, A, E>) -> Result<Vec<Slot<R, A, E>>, R>
     requires { IsReadyAlone turn.revisions.slots.items }
-    ensures ok { IfOk result (λ hs. (b : Box (Turn R A E)) × (hs.items ≡ Some b ∷ [])
+    ensures ok { IfOk result (λ hs. (b : Box (Turn R A E)) × (hs.items ≡ Home b ∷ [])
         × (b.value ≡ turn)) }
     ensures err { IfErr result (λ r. turn.revisions.slots.items ≡ Ready r ∷ []) }
 {
@@ -81,11 +79,11 @@ fn home_of<R, A, E>(
         Err(failed) => return Err(take_back(failed.value)),
     };
     let mut homes = Vec::new(alloc);
-    match homes.push(Some(boxed)) {
+    match homes.push(Slot::Home(boxed)) {
         Ok(()) => Ok(homes),
         Err(failed) => {
             homes.destroy_empty();
-            Err(take_back(Box::into_inner(failed.value.unwrap())))
+            Err(take_back(Box::into_inner(failed.value.into_home())))
         },
     }
 }
@@ -132,7 +130,7 @@ impl<L: Revision> TurnHub<L> {
             Err(Refused { mut slots }) => {
                 let turn = slots.pop().unwrap();
                 slots.destroy_empty();
-                Err(take_back(Box::into_inner(turn.unwrap())))
+                Err(take_back(Box::into_inner(turn.into_home())))
             },
         }
     }

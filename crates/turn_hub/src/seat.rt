@@ -3,11 +3,11 @@ ghost use Rattle.std.specs.Prelude.{◌≡◌, []};
 
 use crate::patience::Patience;
 use atomic_table::Seat;
-use hub_core::{Revision, Turn, View};
+use hub_core::{Revision, Slot, View};
 
 /// A seat at the table of a hub.
 pub type Place<L> = Seat<
-    Option<Box<Turn<<L as Revision>::Runner, <L as Revision>::AtJoin, <L as Revision>::End>>>,
+    Slot<<L as Revision>::Runner, <L as Revision>::AtJoin, <L as Revision>::End>,
     View<<L as Revision>::State>,
 >;
 

@@ -1,8 +1,9 @@
 -- Answers of TurnHub::open_one: one ready runner with an empty schedule is a turn with which the rule opens a hub.
-use Rattle.std.proofs.Common.{rules, ◌≡◌, List, [], ◌∷◌, Option, Some, sym, ap, ◌∙◌, subst}
+use Rattle.std.proofs.Common.{rules, ◌≡◌, List, [], ◌∷◌, Some, sym, ap, ◌∙◌, subst}
 use Rattle.std.specs.Global.{Box}
 use Rattle.atomic_table.specs.Table.{opening}
 use Rattle.hub_core.specs.declared.value.Turn.{Turn}
+use Rattle.hub_core.specs.declared.slot.Slot.{Slot}
 use Rattle.hub_core.specs.Chains.{HasOne}
 use Rattle.hub_core.specs.Views.{first_of, opens}
 use Rattle.hub_core.specs.Rule.{Turned}
@@ -18,7 +19,7 @@ new-requires-2 g c =
     (g.L.Revision.machine.runner_group c.args.first) = search rules in
     let homes = c.in_ok-homes.ensures.ok in
     let b : Box (Turn g.row.L-Runner.Denot g.row.L-AtJoin.Denot g.row.L-End.Denot) = homes.0 in
-    subst (λ (xs : List (Option (Box (Turn g.row.L-Runner.Denot g.row.L-AtJoin.Denot g.row.L-End.Denot)))).
+    subst (λ (xs : List (Slot g.row.L-Runner.Denot g.row.L-AtJoin.Denot g.row.L-End.Denot)).
     Turned g.L.Revision.machine g.L.Revision.ends (first_of c.in-Some.badge.views)
     (opening (0 ∷ []) xs (first_of c.in-Some.badge.views)))
     (sym homes.1)

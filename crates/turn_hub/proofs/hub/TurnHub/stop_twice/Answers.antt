@@ -1,12 +1,18 @@
 -- Answers of TurnHub::stop_twice: to stop for a second join is a step that the rule allows before any halt.
-use Rattle.std.proofs.Common.{rules}
+use Rattle.std.proofs.Common.{rules, ap, ◌∙◌}
 use Rattle.hub_core.specs.declared.state.HubState.TheVariants.{Twice}
 use Rattle.hub_core.proofs.Keeps.{stop}
 use Rattle.turn_hub.proofs.hub.TurnHub.stop_twice.Goals as goal
 
-pub compare_exchange-requires : goal.compare_exchange-requires
-compare_exchange-requires g c = (
-  c.requires.own,
+pub load-requires : goal.load-requires
+load-requires g c = (
+  c.requires.own.0,
   search rules,
-  stop g.L.Revision.machine g.L.Revision.ends _ _ _ _ 0 Twice c.requires.has.0 c.requires.has.1,
+  stop g.L.Revision.machine g.L.Revision.ends _ _ _ _ Twice c.requires.has.0 c.requires.has.1,
+)
+
+pub returns-clause-own : goal.returns-clause-own
+returns-clause-own g c = (
+  c.load.ensures.0,
+  record { number = c.requires.own.1.number; slot = ap (λ m. m.1) c.load.ensures.2 ∙ c.requires.own.1.slot },
 )
