@@ -20,7 +20,9 @@ ghost use Rattle.code_world.specs.Slots.{Runs, StandsAtFork, StandsAtJoin};
 use crate::slot::Slot;
 use leg_run::CodeSetting;
 use noting_run::Noted;
-use rev_vm::{AtFork, AtJoin, Event, Runner, Settled, retire, run_leg, run_leg_noting, settle};
+use rev_vm::{
+    AtFork, AtJoin, Event, Runner, Settled, Spares, retire, run_leg, run_leg_noting, settle,
+};
 use std::alloc::{AllocError, Global};
 use version_map::{CodeTrap, EndValue, Finish, MergeBy, Whole};
 
@@ -64,16 +66,17 @@ pub fn advance(
     setting: &CodeSetting,
     runner: Runner<Whole>,
     child: u32,
+    spares: &mut Spares,
 ) -> Result<Came, AllocError>
     requires stands { (c : State ℕ) × Runs (run_under setting.now) runner c }
     ensures { (c : State ℕ) → Runs (run_under setting.now) runner c
         → IfOk result (λ k. HasCome (run_under setting.now) child c k) }
 {
-    match run_leg(alloc, runner, setting) {
+    match run_leg(alloc, runner, setting, spares) {
         Ok(Event::Fork(at)) => fork(alloc, setting, at, child),
         Ok(Event::Join(at)) => Ok(Came::Standing(at)),
-        Ok(Event::End(stopped)) => Ok(Came::Ended(retire(stopped).0)),
-        Ok(Event::Trap(stopped)) => Ok(Came::Ended(retire(stopped).0)),
+        Ok(Event::End(stopped)) => Ok(Came::Ended(retire(stopped, spares).0)),
+        Ok(Event::Trap(stopped)) => Ok(Came::Ended(retire(stopped, spares).0)),
         Err(broken) => {
             broken.give_up();
             Err(AllocError)
@@ -87,6 +90,7 @@ pub fn advance_noting(
     setting: &CodeSetting,
     runner: Runner<Whole>,
     child: u32,
+    spares: &mut Spares,
     noted: &mut Noted,
 ) -> Result<Came, AllocError>
     requires stands { (c : State ℕ) × Runs (run_under setting.now) runner c }
@@ -99,11 +103,11 @@ pub fn advance_noting(
         → IfOk result (λ _. HasMarked noted.old noted.new
         (marks_of (leg_reads (run_under setting.now) c))) }
 {
-    match run_leg_noting(alloc, runner, setting, noted) {
+    match run_leg_noting(alloc, runner, setting, spares, noted) {
         Ok(Event::Fork(at)) => fork(alloc, setting, at, child),
         Ok(Event::Join(at)) => Ok(Came::Standing(at)),
-        Ok(Event::End(stopped)) => Ok(Came::Ended(retire(stopped).0)),
-        Ok(Event::Trap(stopped)) => Ok(Came::Ended(retire(stopped).0)),
+        Ok(Event::End(stopped)) => Ok(Came::Ended(retire(stopped, spares).0)),
+        Ok(Event::Trap(stopped)) => Ok(Came::Ended(retire(stopped, spares).0)),
         Err(broken) => {
             broken.give_up();
             Err(AllocError)
@@ -112,7 +116,7 @@ pub fn advance_noting(
 }
 
 /// The joiner of a revision that has trapped.
-fn meet_trapped(at: AtJoin<Whole>, trap: CodeTrap) -> Slot
+fn meet_trapped(at: AtJoin<Whole>, trap: CodeTrap, spares: &mut Spares) -> Slot
     ensures { (g : CodeRun) (c : State ℕ) (j : End ℕ) (v : EndValue) → StandsAtJoin g at c
         → IsEnd g j v → v.finish ≡ finish.Trapped trap
         → HasMet g result (meets g at c j) }
@@ -120,7 +124,7 @@ fn meet_trapped(at: AtJoin<Whole>, trap: CodeTrap) -> Slot
     if at.is_try() {
         Slot::Running(at.dropped())
     } else {
-        Slot::Ended(retire(at.trapped(trap)).0)
+        Slot::Ended(retire(at.trapped(trap), spares).0)
     }
 }
 
@@ -130,6 +134,7 @@ fn meet_done<M: MergeBy>(
     at: AtJoin<Whole>,
     end: EndValue,
     merges: &mut M,
+    spares: &mut Spares,
 ) -> Result<Slot, AllocError>
     requires meeting { (g : CodeRun) × (c : State ℕ) × (j : End ℕ) × IsMeeting g at end c j
         × (M.size merges.old ≡ count g.code.vars) }
@@ -142,7 +147,7 @@ fn meet_done<M: MergeBy>(
 {
     match settle(alloc, at.claim(end), merges) {
         Ok(Settled::Run(runner)) => Ok(Slot::Running(runner)),
-        Ok(Settled::Trap(stopped)) => Ok(Slot::Ended(retire(stopped).0)),
+        Ok(Settled::Trap(stopped)) => Ok(Slot::Ended(retire(stopped, spares).0)),
         Err(broken) => {
             broken.give_up();
             Err(AllocError)
@@ -156,6 +161,7 @@ pub fn meet<M: MergeBy>(
     at: AtJoin<Whole>,
     end: EndValue,
     merges: &mut M,
+    spares: &mut Spares,
 ) -> Result<Slot, AllocError>
     requires { (g : CodeRun) × (c : State ℕ) × (j : End ℕ) × IsMeeting g at end c j
         × (M.size merges.old ≡ count g.code.vars) }
@@ -166,7 +172,7 @@ pub fn meet<M: MergeBy>(
     ensures same { M.merges merges.new ≡ M.merges merges.old }
 {
     match end.finish {
-        Finish::Done => meet_done(alloc, at, end, merges),
-        Finish::Trapped(trap) => Ok(meet_trapped(at, trap)),
+        Finish::Done => meet_done(alloc, at, end, merges, spares),
+        Finish::Trapped(trap) => Ok(meet_trapped(at, trap, spares)),
     }
 }

@@ -36,7 +36,11 @@ impl Table {
         ensures births { result.births ≡ self.births }
     {
         let end = self.take_end(0);
-        let Table { slots, births } = self;
+        let Table {
+            slots,
+            births,
+            spares: _,
+        } = self;
         give_up_all(slots);
         MainEnd { end, births }
     }

@@ -13,7 +13,7 @@ use crate::slot::Slot;
 use crate::table::{Birth, Table};
 use crate::world::World;
 use leg_run::CodeSetting;
-use rev_vm::{Runner, start_main, start_whole};
+use rev_vm::{Runner, Spares, start_main, start_whole};
 use std::alloc::{AllocError, Global};
 use version_map::{Snapshot, Whole};
 
@@ -42,6 +42,7 @@ fn alone(alloc: Global, runner: Runner<Whole>) -> Result<Table, AllocError>
     let mut table = Table {
         slots: Vec::new(alloc),
         births: Vec::new(alloc),
+        spares: Spares::new(alloc),
     };
     match table.enter(runner) {
         Ok(()) => Ok(table),

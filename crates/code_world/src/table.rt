@@ -7,7 +7,7 @@ ghost use Rattle.code_world.specs.Turns.{IsStage, born};
 
 use crate::lists::swap;
 use crate::slot::Slot;
-use rev_vm::{AtJoin, Runner};
+use rev_vm::{AtJoin, Runner, Spares};
 use std::alloc::{AllocError, Global};
 use version_map::{EndValue, Whole};
 
@@ -20,10 +20,12 @@ pub struct Birth {
     pub forks: u32,
 }
 
-/// The revisions of a world, in the order of their forks.
+/// The revisions of a world, in the order of their forks, with what those that have ended left of
+/// their memory to those that begin.
 pub struct Table {
     pub(crate) slots: Vec<Slot>,
     pub(crate) births: Vec<Birth>,
+    pub(crate) spares: Spares,
 }
 
 /// How far a revision is.
@@ -53,7 +55,11 @@ impl Table {
 
     /// Lets all revisions go.
     pub fn give_up(self) {
-        let Table { slots, births: _ } = self;
+        let Table {
+            slots,
+            births: _,
+            spares: _,
+        } = self;
         let mut rest = slots.into_iter();
         while let Some(slot) = rest.next() {
             slot.give_up();

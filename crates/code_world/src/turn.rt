@@ -80,7 +80,7 @@ impl Table {
     {
         let end = self.join_end(alloc, on as usize)?;
         let at = self.take_joiner(number as usize);
-        let slot = meet(alloc, at, end, merges)?;
+        let slot = meet(alloc, at, end, merges, &mut self.spares)?;
         let answer = answer_behind(&slot, on);
         self.put(number as usize, slot);
         Ok(answer)
@@ -179,7 +179,7 @@ impl Table {
     {
         let child = self.slots.len() as u32;
         let runner = self.take_runner(number as usize);
-        let came = advance(alloc, setting, runner, child)?;
+        let came = advance(alloc, setting, runner, child, &mut self.spares)?;
         self.come(alloc, merges, number, child, came)
     }
 
@@ -212,7 +212,7 @@ impl Table {
     {
         let child = self.slots.len() as u32;
         let runner = self.take_runner(number as usize);
-        let came = advance_noting(alloc, setting, runner, child, noted)?;
+        let came = advance_noting(alloc, setting, runner, child, &mut self.spares, noted)?;
         self.come(alloc, merges, number, child, came)
     }
 

@@ -15,7 +15,9 @@ ghost use Rattle.std.specs.Prelude.{List};
 ghost use Rattle.machine_cases.specs.Driving.{Goes, IsSettled};
 
 use leg_run::CodeSetting;
-use rev_vm::{AtFork, AtJoin, Broken, Event, Runner, Settled, Stopped, retire, run_leg, settle};
+use rev_vm::{
+    AtFork, AtJoin, Broken, Event, Runner, Settled, Spares, Stopped, retire, run_leg, settle,
+};
 use std::alloc::{AllocError, Global};
 use version_map::{EndValue, Finish, MergeBy, Snapshot};
 
@@ -39,20 +41,21 @@ fn leaf_end<P: Snapshot>(
     alloc: Global,
     setting: &CodeSetting,
     runner: Runner<P>,
+    spares: &mut Spares,
 ) -> Result<Option<EndValue>, AllocError>
 where
     P::Spent: Drop,
     requires stands { (c : State ℕ) × StandsFor (run_under setting.now) runner c }
     ensures { IfOk result (λ o. IfSome o (λ v. (j : End ℕ) × IsEnd (run_under setting.now) j v)) }
 {
-    match run_leg(alloc, runner, setting) {
+    match run_leg(alloc, runner, setting, spares) {
         Err(broken) => Err(let_go(broken)),
         Ok(Event::End(stopped)) => {
-            let (end, _) = retire(stopped);
+            let (end, _) = retire(stopped, spares);
             Ok(Some(end))
         },
         Ok(Event::Trap(stopped)) => {
-            let (end, _) = retire(stopped);
+            let (end, _) = retire(stopped, spares);
             Ok(Some(end))
         },
         Ok(Event::Fork(at)) => {
@@ -72,6 +75,7 @@ fn fork_leaf<P: Snapshot>(
     setting: &CodeSetting,
     at: AtFork<P>,
     number: u32,
+    spares: &mut Spares,
 ) -> Result<Turn<P>, AllocError>
 where
     P::Spent: Drop,
@@ -84,7 +88,7 @@ where
             broken.give_up();
             Err(AllocError)
         },
-        Ok((parent, child, _)) => match leaf_end(alloc, setting, child) {
+        Ok((parent, child, _)) => match leaf_end(alloc, setting, child, spares) {
             Ok(left) => Ok(Turn::Goes(parent.told(number), left)),
             Err(_) => {
                 parent.give_up();
@@ -175,6 +179,7 @@ fn go_on<P: Snapshot, M: MergeBy>(
     runner: Runner<P>,
     left: Option<EndValue>,
     number: u32,
+    spares: &mut Spares,
 ) -> Result<Turn<P>, AllocError>
 where
     P::Spent: Drop,
@@ -186,11 +191,11 @@ where
     ensures merges_size { M.size merges.new ≡ M.size merges.old }
     ensures merges_same { M.merges merges.new ≡ M.merges merges.old }
 {
-    match run_leg(alloc, runner, setting) {
+    match run_leg(alloc, runner, setting, spares) {
         Err(broken) => Err(let_go(broken)),
         Ok(Event::End(stopped)) => Ok(Turn::Ends(stopped)),
         Ok(Event::Trap(stopped)) => Ok(Turn::Ends(stopped)),
-        Ok(Event::Fork(at)) => fork_leaf(alloc, setting, at, number),
+        Ok(Event::Fork(at)) => fork_leaf(alloc, setting, at, number, spares),
         Ok(Event::Join(at)) => match left {
             Some(end) => {
                 let settled = meet(alloc, setting, merges, at, end)?;
@@ -220,6 +225,7 @@ where
     ensures merges_size { M.size merges.new ≡ M.size merges.old }
     ensures merges_same { M.merges merges.new ≡ M.merges merges.old }
 {
+    let mut spares = Spares::new(alloc);
     let mut now = Turn::Goes(runner, None);
     for number in 0..legs {
         match now {
@@ -231,9 +237,10 @@ where
                     runner,
                     left,
                     number.saturating_add(1),
+                    &mut spares,
                 )?;
             },
-            Turn::Ends(stopped) => return Ok(Some(retire(stopped))),
+            Turn::Ends(stopped) => return Ok(Some(retire(stopped, &mut spares))),
         }
     }
     match now {
@@ -241,6 +248,6 @@ where
             runner.give_up();
             Ok(None)
         },
-        Turn::Ends(stopped) => Ok(Some(retire(stopped))),
+        Turn::Ends(stopped) => Ok(Some(retire(stopped, &mut spares))),
     }
 }

@@ -9,6 +9,7 @@ ghost use Rattle.rev_vm.specs.Values.{StandsFor, runner_delta, runner_group};
 
 use crate::end::{Broken, in_box};
 use crate::runner::{Beginning, Runner, Stage};
+use crate::spares::Spares;
 use crate::starting::begin_with;
 use block_run::Memory;
 use leg_run::{CodeSetting, Revision};
@@ -48,12 +49,13 @@ pub(crate) fn born<P: Snapshot>(
     }
 }
 
-/// Makes the first frame of a revision, and its tables of locations, in which nothing is written.
-/// The error is want of memory.
+/// Makes the first frame of a revision. Its tables of locations, in which nothing is written, are
+/// spare ones or are made too. The error is want of memory.
 fn begin<P: Snapshot>(
     alloc: Global,
     setting: &CodeSetting,
     beginning: Beginning<P>,
+    spares: &mut Spares,
 ) -> Result<Box<Revision<P>>, Broken<P>>
     requires stands { (c : State ℕ) × BornAs (run_under setting.now) P.base P.size beginning c }
     ensures state { (c : State ℕ) → BornAs (run_under setting.now) P.base P.size beginning c
@@ -68,7 +70,7 @@ fn begin<P: Snapshot>(
         args,
         fuel,
     } = beginning;
-    match begin_with(alloc, setting, block, args.as_slice(), fuel) {
+    match begin_with(alloc, setting, block, args.as_slice(), fuel, spares) {
         Ok(parts) => in_box(
             alloc,
             Revision {
@@ -90,6 +92,7 @@ pub(crate) fn begun<P: Snapshot>(
     alloc: Global,
     setting: &CodeSetting,
     runner: Runner<P>,
+    spares: &mut Spares,
 ) -> Result<Box<Revision<P>>, Broken<P>>
     requires stands { (c : State ℕ) × StandsFor (run_under setting.now) runner c }
     ensures state { (c : State ℕ) → StandsFor (run_under setting.now) runner c
@@ -100,6 +103,6 @@ pub(crate) fn begun<P: Snapshot>(
     let Runner { stage } = runner;
     match stage {
         Stage::Begun(revision) => Ok(revision),
-        Stage::Born(beginning) => begin(alloc, setting, Box::into_inner(beginning)),
+        Stage::Born(beginning) => begin(alloc, setting, Box::into_inner(beginning), spares),
     }
 }

@@ -7,6 +7,7 @@ ghost use Rattle.version_map.specs.Deltas.{at};
 ghost use Rattle.version_map.specs.Overlay.{under};
 ghost use Rattle.block_run.specs.Remembering.{HasRoom, written_below};
 
+use crate::spares::Spares;
 use block_run::Memory;
 use leg_run::Revision;
 use rev_num::Items;
@@ -42,8 +43,9 @@ impl<P: Snapshot> Model for Stopped<P> {
     ghost invariant = { λ _. Unit {0} };
 }
 
-/// What the revision leaves, and its snapshot, given back.
-pub fn retire<P: Snapshot>(stopped: Stopped<P>) -> (EndValue, P::Spent)
+/// What the revision leaves, and its snapshot, given back. Its tables of locations become spare
+/// ones, where there is room for them. It takes no memory.
+pub fn retire<P: Snapshot>(stopped: Stopped<P>, spares: &mut Spares) -> (EndValue, P::Spent)
     ensures end { result.0 ≡ stopped.end }
     ensures group { P.spent_group result.1 ≡ P.group stopped.snapshot }
 {
@@ -54,10 +56,11 @@ pub fn retire<P: Snapshot>(stopped: Stopped<P>) -> (EndValue, P::Spent)
     } = stopped;
     let Revision { memory, run } = Box::into_inner(revision);
     let Memory {
-        delta: _,
-        first: _,
+        delta,
+        first,
         snapshot,
     } = memory;
+    spares.keep(delta, first);
     let end = EndValue {
         written,
         text: Items::from_vec(run.text),

@@ -24,6 +24,7 @@ use crate::end::{Broken, Stopped, break_off, stop};
 use crate::fork::AtFork;
 use crate::join::AtJoin;
 use crate::runner::Runner;
+use crate::spares::Spares;
 use leg_run::{CodeSetting, LegEnd, Meeting, Revision, Run, run};
 use rev_num::{Cause, Items};
 use std::alloc::{AllocError, Global};
@@ -128,13 +129,14 @@ pub(crate) fn own_trap(cause: Cause, line: u32) -> Finish
     })
 }
 
-/// Does the instructions of a leg up to its event. The first leg of a revision makes its tables of
-/// locations and its first frame. No join makes the trap that a leg has by itself.
+/// Does the instructions of a leg up to its event. The first leg of a revision makes its first
+/// frame, and its tables of locations where there are no spare ones. No join makes the trap that a leg has by itself.
 /// The error is want of memory, as which a join of a number of 2^32 or more counts.
 pub fn run_leg<P: Snapshot>(
     alloc: Global,
     runner: Runner<P>,
     setting: &CodeSetting,
+    spares: &mut Spares,
 ) -> Result<Event<P>, Broken<P>>
     requires stands { (c : State ℕ) × StandsFor (run_under setting.now) runner c }
     ensures event { (c : State ℕ) → StandsFor (run_under setting.now) runner c
@@ -167,7 +169,7 @@ pub fn run_leg<P: Snapshot>(
     ensures broken { IfErr result
         (λ b. P.group b.snapshot ≡ runner_group runner) }
 {
-    let mut revision = begun(alloc, setting, runner)?;
+    let mut revision = begun(alloc, setting, runner, spares)?;
     match run(setting, &mut *revision) {
         Err(_) => Err(break_off(revision)),
         Ok(LegEnd::Fork(block)) => Ok(Event::Fork(AtFork { revision, block })),

@@ -14,6 +14,7 @@ mod noting;
 mod opening;
 mod runner;
 mod settling;
+mod spares;
 mod starting;
 
 pub use end::{Broken, Stopped, retire};
@@ -25,3 +26,4 @@ pub use noting::run_leg_noting;
 pub use opening::{start_main, start_whole, start_words};
 pub use runner::Runner;
 pub use settling::{Settled, settle};
+pub use spares::Spares;

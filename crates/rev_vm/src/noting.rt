@@ -24,6 +24,7 @@ use crate::end::{Broken, break_off};
 use crate::fork::AtFork;
 use crate::leg::{Event, at_join, own_trap, stop_at};
 use crate::runner::Runner;
+use crate::spares::Spares;
 use leg_run::{CodeSetting, LegEnd, Noted, run_noting};
 use std::alloc::Global;
 use version_map::{Finish, Snapshot};
@@ -33,6 +34,7 @@ pub fn run_leg_noting<P: Snapshot>(
     alloc: Global,
     runner: Runner<P>,
     setting: &CodeSetting,
+    spares: &mut Spares,
     noted: &mut Noted,
 ) -> Result<Event<P>, Broken<P>>
     requires stands { (c : State ℕ) × StandsFor (run_under setting.now) runner c }
@@ -72,7 +74,7 @@ pub fn run_leg_noting<P: Snapshot>(
     ensures broken { IfErr result
         (λ b. P.group b.snapshot ≡ runner_group runner) }
 {
-    let mut revision = begun(alloc, setting, runner)?;
+    let mut revision = begun(alloc, setting, runner, spares)?;
     match run_noting(setting, &mut *revision, noted) {
         Err(_) => Err(break_off(revision)),
         Ok(LegEnd::Fork(block)) => Ok(Event::Fork(AtFork { revision, block })),

@@ -9,6 +9,7 @@ ghost use Rattle.version_map.specs.Deltas.{locations, IsEmpty};
 ghost use Rattle.rev_vm.specs.Starts.{Begins};
 
 use crate::frame::first_frame;
+use crate::spares::Spares;
 use leg_run::{CodeSetting, Run};
 use rev_code::Code;
 use std::alloc::{AllocError, Global};
@@ -34,6 +35,7 @@ pub fn begin_with(
     block: u16,
     args: &[u64],
     fuel: u64,
+    spares: &mut Spares,
 ) -> Result<(Run, Delta, First), AllocError>
     requires block { (b : CodeBlock) × (slice_get setting.now.code.blocks block ≡ Some b)
         × (length args.now ≡ length (params b)) }
@@ -46,5 +48,6 @@ pub fn begin_with(
     let room = setting.room(block);
     let run = first_frame(alloc, b, block, room, args, fuel)?;
     let count = location_count(setting.code());
-    Ok((run, Delta::new(alloc, count)?, First::new(alloc, count)?))
+    let (delta, first) = spares.take(alloc, count)?;
+    Ok((run, delta, first))
 }

@@ -12,6 +12,8 @@ use Rattle.rev_vm.specs.Meaning.{IsAtFork, IsAtJoin, IsEnd}
 use Rattle.rev_vm.specs.States.{state_at, before_join, end_for}
 use Rattle.rev_vm.proofs.Values.{one_state, one_joining, one_end}
 use Rattle.run_revision.specs.Forking.{arguments_of, arguments_at, last_named, renamed}
+use Rattle.hub_workers.specs.Legs.{IsSameHand}
+use Rattle.run_revision.specs.Hands.{HandValue, begins}
 
 module _ (g : CodeRun) (run : Run) (delta : Delta) (base : ℕ → ℕ) (first : Delta) where
   abbrev pub own_state : State ℕ
@@ -48,3 +50,9 @@ pub renamed_parent : (share : ℕ) (c : State ℕ) (args : List (Word ℕ)) (n :
     → renamed (events.parent share c args 0) n ≡ events.parent share c args n
 renamed_parent share c args n =
     ap (λ ls. record (events.parent share c args n) { listed = ls }) (last_fork n c.line c.listed)
+
+-- ---- a hand whose spare tables changed
+
+pub same_hand : (a b c : HandValue) → a ≡ b → IsSameHand begins (λ (h : HandValue). h.group) a c
+    → IsSameHand begins (λ (h : HandValue). h.group) b c
+same_hand a b c is = subst (λ (x : HandValue). IsSameHand begins (λ (h : HandValue). h.group) x c) is

@@ -5,6 +5,7 @@ ghost use Rattle.block_run.specs.Area.{count};
 ghost use Rattle.rev_vm.specs.Starts.{run_under};
 
 use leg_run::CodeSetting;
+use rev_vm::Spares;
 use std::alloc::Global;
 use std::marker::{Model, PhantomData};
 use version_map::{How, MergeBy, Snapshot};
@@ -32,7 +33,7 @@ pub trait Keeper<P: Snapshot> {
 }
 
 /// What a thread needs to run revisions of this setting, of a run whose `main` has this fuel: the
-/// merges of all locations, and a keeper. Contracts see what runs, the fuel, and of the keeper its
+/// merges of all locations, a keeper, and spare tables of locations. Contracts see what runs, the fuel, and of the keeper its
 /// group and how much it has.
 pub struct CodeHand<'a, P: Snapshot, M: MergeBy, K: Keeper<P>> {
     pub(crate) alloc: Global,
@@ -40,6 +41,7 @@ pub struct CodeHand<'a, P: Snapshot, M: MergeBy, K: Keeper<P>> {
     pub(crate) fuel: u64,
     pub(crate) merges: M,
     pub(crate) keeper: K,
+    pub(crate) spares: Spares,
     pub(crate) of: PhantomData<P>,
 }
 
@@ -85,6 +87,7 @@ impl<'a, P: Snapshot, M: MergeBy, K: Keeper<P>> CodeHand<'a, P, M, K> {
             fuel,
             merges,
             keeper,
+            spares: Spares::new(alloc),
             of: PhantomData,
         }
     }
@@ -100,6 +103,7 @@ impl<'a, P: Snapshot, M: MergeBy, K: Keeper<P>> CodeHand<'a, P, M, K> {
             fuel: _,
             merges,
             keeper,
+            spares: _,
             of: _,
         } = self;
         (merges, keeper)

@@ -59,7 +59,7 @@ fn leave<'a, P: Snapshot, M: MergeBy, K: Keeper<P>>(
         (λ e. e.left ≡ end_for (run_under setting.entry.now) stopped.end) }
     ensures hand { IsSameHand hands.begins (λ h. h.group) hand.old hand.new }
 {
-    let (value, spent) = retire(stopped);
+    let (value, spent) = retire(stopped, &mut hand.spares);
     hand.keeper.keep(spent);
     in_box(hand.alloc, setting, value)
 }
@@ -78,7 +78,7 @@ fn leave_in<'a, P: Snapshot, M: MergeBy, K: Keeper<P>>(
     ensures left { result.left ≡ end_for (run_under setting.entry.now) stopped.end }
     ensures hand { IsSameHand hands.begins (λ h. h.group) hand.old hand.new }
 {
-    let (value, spent) = retire(stopped);
+    let (value, spent) = retire(stopped, &mut hand.spares);
     hand.keeper.keep(spent);
     *place = value;
     CodeEnd {
@@ -124,7 +124,7 @@ impl<'a, P: Snapshot, M: MergeBy, K: Keeper<P>> Legs for CodeRevisions<'a, P, M,
         runner: CodeRunner<'a, P>,
     ) -> Result<Event<CodeFork<'a, P>, CodeJoiner<'a, P>, CodeEnd<'a>>, AllocError> {
         let CodeRunner { setting, runner } = runner;
-        match run_leg(hand.alloc, runner, setting) {
+        match run_leg(hand.alloc, runner, setting, &mut hand.spares) {
             Ok(VmEvent::Fork(at)) => Ok(Event::Fork(CodeFork { setting, at })),
             Ok(VmEvent::Join(at)) => Ok(Event::Join(CodeJoiner { setting, at })),
             Ok(VmEvent::End(stopped)) => Ok(Event::End(leave(hand, setting, stopped)?)),

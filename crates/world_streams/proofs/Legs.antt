@@ -96,7 +96,7 @@ all_on : (a b c : rust.World) (old mid new : Stream) → PutsAll a b old mid →
 all_on a b c old mid new p q = record {
   gain = p.gain ++ q.gain;
   gains = q.gains ∙ ap (λ x. x ++ q.gain) p.gains ∙ append_assoc (main_text a) p.gain q.gain;
-  took = took_more old mid new p.gain q.gain (p.gain ++ q.gain) p.took q.took refl;
+  took = took_more p.took q.took refl;
 }
 
 all_none : (a : rust.World) (old : Stream) → PutsAll a a old old

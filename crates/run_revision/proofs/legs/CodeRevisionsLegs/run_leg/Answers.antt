@@ -6,7 +6,7 @@ use Rattle.rev_vm.specs.Values.{runner_state, fork_state, fork_group, joiner_sta
 use Rattle.rev_vm.proofs.Forking.{safe}
 use Rattle.rev_vm.proofs.Values.{one_state, one_joining}
 use Rattle.run_revision.specs.Forking.{ForkValue, arguments_at, forker, child}
-use Rattle.run_revision.proofs.Standing.{fork_own, own_args, join_own, end_own}
+use Rattle.run_revision.proofs.Standing.{fork_own, own_args, join_own, end_own, same_hand}
 use Rattle.run_revision.proofs.Events.{forks_here, joins_here, ends_here, traps_here}
 use Rattle.run_revision.proofs.legs.CodeRevisionsLegs.run_leg.Goals as goal
 
@@ -110,3 +110,19 @@ returns-in_ok-leave-in-Ok-Trap-clause-event g c =
     c.args.runner.state c.in_ok-leave-in-Ok-Trap.field-0 (ap (λ x. x.state) c.runner.view_is) e.2 e.3
     (rw c.in-Ok-Trap.field-0-is at c.in-Ok-Trap.ensures.own) c.in_ok-leave-in-Ok-Trap.ensures.run
     c.in_ok-leave-in-Ok-Trap.ensures.left
+
+pub returns-in_err-leave-in-Ok-End-clause-hand : goal.returns-in_err-leave-in-Ok-End-clause-hand
+returns-in_err-leave-in-Ok-End-clause-hand g c =
+    same_hand _ _ c.leave.new.hand c.hand.view_is c.leave.ensures.hand
+
+pub returns-in_ok-leave-in-Ok-End-clause-hand : goal.returns-in_ok-leave-in-Ok-End-clause-hand
+returns-in_ok-leave-in-Ok-End-clause-hand g c =
+    same_hand _ _ c.leave.new.hand c.hand.view_is c.leave.ensures.hand
+
+pub returns-in_err-leave-in-Ok-Trap-clause-hand : goal.returns-in_err-leave-in-Ok-Trap-clause-hand
+returns-in_err-leave-in-Ok-Trap-clause-hand g c =
+    same_hand _ _ c.leave-in-Ok-Trap.new.hand c.hand.view_is c.leave-in-Ok-Trap.ensures.hand
+
+pub returns-in_ok-leave-in-Ok-Trap-clause-hand : goal.returns-in_ok-leave-in-Ok-Trap-clause-hand
+returns-in_ok-leave-in-Ok-Trap-clause-hand g c =
+    same_hand _ _ c.leave-in-Ok-Trap.new.hand c.hand.view_is c.leave-in-Ok-Trap.ensures.hand
