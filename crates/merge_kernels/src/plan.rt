@@ -27,6 +27,13 @@ impl<'k> KernelPlan<'k> {
         KernelPlan { choices, kernels }
     }
 
+    /// The choices, by location.
+    pub fn into_choices(self) -> Vec<Option<u32>>
+        ensures { result ≡ self.entry.choices }
+    {
+        self.choices
+    }
+
     /// The kernel that was chosen for this location.
     #[inline(always)]
     pub fn at(&self, location: u32) -> Option<&Kernel>

@@ -6,6 +6,7 @@ pub mod Ending
 pub mod Faults
 pub mod Findings
 pub mod Kept
+pub mod Kernels
 pub mod Printing
 pub mod Handles
 pub mod Listings

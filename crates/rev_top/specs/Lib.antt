@@ -4,6 +4,7 @@ pub mod Answer
 pub mod Codes
 pub mod Delivery
 pub mod Findings
+pub mod Kernels
 pub mod Making
 pub mod Promises
 pub mod RanLaws

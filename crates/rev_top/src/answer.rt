@@ -1,12 +1,14 @@
 //! The report that belongs to the words and to what the source gives.
-ghost use Rattle.std.specs.Prelude.{◌<◌, ◌≤◌, ◌^◌, ◌≡◌, ◌≢◌, IfOk, IfSome, Some, length};
+ghost use Rattle.std.specs.Prelude.{◌<◌, ◌≤◌, ◌^◌, ◌≡◌, ◌≢◌, IfOk, IfSome, Some, length, map};
 ghost use Rattle.rev_num.specs.Limits.{most_fuel};
 ghost use Rattle.rev_syntax.specs.View.{program as whole};
 ghost use Rattle.rev_words.specs.declared.Mode.TheVariants as modes;
 ghost use Rattle.rev_words.specs.declared.Words.{Words};
 ghost use Rattle.rev_report.specs.Report.{output};
+ghost use Rattle.merge_kernels.specs.Terms.{definition};
 ghost use Rattle.rev_top.specs.Answer.{Accepts, Answers, Given, IsWithin, Lists};
 ghost use Rattle.rev_top.specs.Answer.{SaysAs, Takes, reads_of, source_limit};
+ghost use Rattle.rev_top.specs.Kernels.{HasChosenIn, KernelsOf, text_of};
 ghost use Rattle.rev_top.specs.Making.{IsMade, said, without_run};
 ghost use Rattle.rev_top.specs.Rans.{Holds, Leaves};
 ghost use Rattle.rev_top.specs.Stops.{Meets};
@@ -98,6 +100,9 @@ fn say<R: Threads + Wait + Sync, G: Gate + Sync>(
     ensures says { Meets said result (SaysAs words.now.mode words.now bytes.now) }
     ensures holds { IfOk result (λ m.
         Holds words.now.mode words.now bytes.now m.ran (output m.report)) }
+    ensures kernels { IfOk result (λ m. HasChosenIn
+        (text_of words.now.mode words.now bytes.now)
+        (map (λ k. definition k.def) kernels.now) m.ran) }
 {
     match words.mode {
         Mode::Run => run(rt, alloc, words, bytes, gate, kernels),
@@ -181,6 +186,9 @@ fn answer_to<R: Threads + Wait + Sync, S: Source, G: Gate + Sync>(
         (Answers (Some words.now) (S.stream source.old) (S.stream source.new)) }
     ensures leaves { IfOk result (λ m. Leaves
         (Some words.now) (S.stream source.old) (S.stream source.new) m.ran (Ok (output m.report))) }
+    ensures kernels { IfOk result (λ m. KernelsOf
+        (Some words.now) (S.stream source.old) (S.stream source.new)
+        (map (λ k. definition k.def) kernels.now) m.ran) }
     ensures takes { Takes (reads_of words.now.mode) (S.stream source.old) (S.stream source.new) }
 {
     let bytes = read_source(alloc, words.mode, source)?;
@@ -203,6 +211,9 @@ pub fn make_report<R: Threads + Wait + Sync, S: Source, G: Gate + Sync>(
     requires before { length words.now.before ≤ 1024 }
     ensures report { IfOk result (λ m. IsMade (Some words.now)
         (S.stream source.old) (S.stream source.new) m.ran (output m.report)) }
+    ensures kernels { IfOk result (λ m. KernelsOf
+        (Some words.now) (S.stream source.old) (S.stream source.new)
+        (map (λ k. definition k.def) kernels.now) m.ran) }
     ensures takes { Takes (reads_of words.now.mode) (S.stream source.old) (S.stream source.new) }
 {
     match answer_to(rt, alloc, words, source, gate, kernels) {

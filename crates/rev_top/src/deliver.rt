@@ -5,7 +5,9 @@ ghost use Rattle.std.specs.Prelude.{◌≡◌, ◌≤◌, Some, length, map};
 ghost use Rattle.std.specs.String.{string_bytes};
 ghost use Rattle.rev_num.specs.Limits.{most_fuel};
 ghost use Rattle.rev_words.specs.Reading.{reading};
+ghost use Rattle.merge_kernels.specs.Terms.{definition};
 ghost use Rattle.rev_top.specs.Answer.{Takes, reads, reads_of};
+ghost use Rattle.rev_top.specs.Kernels.{KernelsOf};
 ghost use Rattle.rev_top.specs.Rans.{Happened};
 
 use crate::answer::make_report;
@@ -40,6 +42,8 @@ fn happen_to<R: Threads + Wait + Sync, S: Source, O: Sink, E: Sink, G: Gate + Sy
         (S.stream source.old) (S.stream source.new) (O.stream out.old) (O.stream out.new)
         (E.stream err.old) (E.stream err.new) ran.new result }
     ensures takes { Takes (reads_of words.now.mode) (S.stream source.old) (S.stream source.new) }
+    ensures kernels { KernelsOf (Some words.now) (S.stream source.old) (S.stream source.new)
+        (map (λ k. definition k.def) kernels.now) ran.new }
 {
     if words.mode == Mode::Stream {
         *ran = None;
@@ -74,6 +78,9 @@ pub fn happen<R: Threads + Wait + Sync, S: Source, O: Sink, E: Sink, G: Gate + S
         (E.stream err.old) (E.stream err.new) ran.new result }
     ensures takes { Takes (reads (reading (map string_bytes words.now)))
         (S.stream source.old) (S.stream source.new) }
+    ensures kernels { KernelsOf (reading (map string_bytes words.now))
+        (S.stream source.old) (S.stream source.new)
+        (map (λ k. definition k.def) kernels.now) ran.new }
 {
     match read_words(alloc, words) {
         Ok(words) => happen_to(rt, alloc, &words, source, out, err, gate, ran, kernels),

@@ -4,7 +4,9 @@
 ghost use Rattle.std.specs.Prelude.{map};
 ghost use Rattle.std.specs.String.{string_bytes};
 ghost use Rattle.rev_words.specs.Reading.{reading};
+ghost use Rattle.merge_kernels.specs.Terms.{definition};
 ghost use Rattle.rev_top.specs.Accepted.{Accepted};
+ghost use Rattle.rev_top.specs.Kernels.{KernelsOf};
 ghost use Rattle.rev_top.specs.Promises.{Keeps};
 ghost use Rattle.rev_top.specs.RanLaws.{RanSays};
 
@@ -60,8 +62,10 @@ use thread_runs::Ran;
 ///
 /// In the modes `run`, `load` and `order` the program is run by threads, each of which enters the
 /// gate before each leg, and all of which have ended when it returns; a kernel with the definition
-/// of a location's merge makes its merges there. No clause tells of threads, of the gate or of
-/// kernels. What is written is made from their run, which is handed out in `ran`: behind each
+/// of a location's merge makes its merges there. Of each location the run that is handed out tells
+/// the least place of such a kernel, for which the plan was made that the run was given. No clause
+/// tells of threads, of the gate, or that a kernel is called.
+/// What is written is made from their run, which is handed out in `ran`: behind each
 /// of the statuses 0, 1 and 3; behind 6 and 7 surely where `out` tells its bytes and took one. In
 /// the other modes, and behind 2, 4 and 5, `ran` is None.
 pub fn rev_main<
@@ -89,6 +93,9 @@ pub fn rev_main<
     ensures ran { RanSays (reading (map string_bytes words.now))
         (S.stream source.old) (O.stream out.old) (O.stream out.new)
         (E.stream err.old) (E.stream err.new) ran.new result }
+    ensures kernels { KernelsOf (reading (map string_bytes words.now))
+        (S.stream source.old) (S.stream source.new)
+        (map (λ k. definition k.def) kernels.now) ran.new }
 {
     happen(rt, rt.alloc(), words, source, out, err, gate, ran, kernels)
 }

@@ -1,12 +1,14 @@
 //! The modes whose runs go by threads.
-ghost use Rattle.std.specs.Prelude.{◌≤◌, IfOk, length};
+ghost use Rattle.std.specs.Prelude.{◌≤◌, IfOk, Some, length, map};
 ghost use Rattle.rev_num.specs.Limits.{most_fuel};
 ghost use Rattle.rev_syntax.specs.View.{program as whole};
 ghost use Rattle.rev_words.specs.Load as spec;
 ghost use Rattle.code_generation.specs.Generated.{code_of};
 ghost use Rattle.revision_calculus.specs.Complete.{HasOutcome};
+ghost use Rattle.merge_kernels.specs.Terms.{definition};
 ghost use Rattle.thread_runs.specs.Runs.{IsRunOf};
 ghost use Rattle.rev_top.specs.Answer.{code_run, setting, source_limit};
+ghost use Rattle.rev_top.specs.Kernels.{HasChosen, HasChosenIn};
 ghost use Rattle.rev_top.specs.Making.{RunsBy, RunsText, told};
 ghost use Rattle.rev_top.specs.Rans.{of_load, of_order, of_run};
 ghost use Rattle.rev_top.specs.Stops.{Meets};
@@ -43,6 +45,8 @@ fn run_of<R: Threads + Wait + Sync, G: Gate + Sync>(
         (code_run words.now (code_of (whole typed.now.expanded.program))) words.now.fuel r) }
     ensures outcome { IfOk result (λ r. HasOutcome
         (setting words.now (whole typed.now.expanded.program)) words.now.fuel r.outcome) }
+    ensures kernels { IfOk result (λ r. HasChosen (whole typed.now.expanded.program)
+        (map (λ k. definition k.def) kernels.now) (Some r)) }
 {
     let code = generate(alloc, typed)?;
     let numbers = Vec::from_slice(alloc, words.numbers.as_slice())?;
@@ -58,7 +62,7 @@ fn run_of<R: Threads + Wait + Sync, G: Gate + Sync>(
         words.workers,
         words.segments,
         gate,
-        &plan,
+        plan,
     )
 }
 
@@ -73,8 +77,10 @@ fn run_program<R: Threads + Wait + Sync, G: Gate + Sync>(
 ) -> Result<Made, Stop>
     requires fuel { words.now.fuel ≤ most_fuel }
     requires workers { 1 ≤ words.now.workers }
-    ensures { Meets told result
+    ensures made { Meets told result
         (RunsBy words.now (of_run words.now) (whole typed.now.expanded.program)) }
+    ensures kernels { IfOk result (λ m. HasChosen (whole typed.now.expanded.program)
+        (map (λ k. definition k.def) kernels.now) m.ran) }
 {
     let ran = run_of(rt, alloc, words, typed, gate, kernels)?;
     let report = outcome_bytes(alloc, ran.outcome(), words.values)?;
@@ -95,8 +101,10 @@ fn load_program<R: Threads + Wait + Sync, G: Gate + Sync>(
 ) -> Result<Made, Stop>
     requires fuel { words.now.fuel ≤ most_fuel }
     requires workers { 1 ≤ words.now.workers }
-    ensures { Meets told result
+    ensures made { Meets told result
         (RunsBy words.now (of_load words.now) (whole typed.now.expanded.program)) }
+    ensures kernels { IfOk result (λ m. HasChosen (whole typed.now.expanded.program)
+        (map (λ k. definition k.def) kernels.now) m.ran) }
 {
     let ran = run_of(rt, alloc, words, typed, gate, kernels)?;
     let report = summary_report(alloc, words.seed, words.size, ran.outcome())?;
@@ -117,8 +125,10 @@ fn order_program<R: Threads + Wait + Sync, G: Gate + Sync>(
 ) -> Result<Made, Stop>
     requires fuel { words.now.fuel ≤ most_fuel }
     requires workers { 1 ≤ words.now.workers }
-    ensures { Meets told result
+    ensures made { Meets told result
         (RunsBy words.now of_order (whole typed.now.expanded.program)) }
+    ensures kernels { IfOk result (λ m. HasChosen (whole typed.now.expanded.program)
+        (map (λ k. definition k.def) kernels.now) m.ran) }
 {
     let ran = run_of(rt, alloc, words, typed, gate, kernels)?;
     let report = order_report(alloc, ran.schedule(), ran.outcome())?;
@@ -140,7 +150,9 @@ pub fn run<R: Threads + Wait + Sync, G: Gate + Sync>(
     requires limit { length text.now ≤ source_limit }
     requires fuel { words.now.fuel ≤ most_fuel }
     requires workers { 1 ≤ words.now.workers }
-    ensures { Meets told result (RunsText words.now (of_run words.now) text.now) }
+    ensures made { Meets told result (RunsText words.now (of_run words.now) text.now) }
+    ensures kernels { IfOk result (λ m. HasChosenIn text.now
+        (map (λ k. definition k.def) kernels.now) m.ran) }
 {
     let typed = checked(alloc, text)?;
     run_program(rt, alloc, words, &typed, gate, kernels)
@@ -165,8 +177,11 @@ pub fn load<R: Threads + Wait + Sync, G: Gate + Sync>(
 ) -> Result<Made, Stop>
     requires fuel { words.now.fuel ≤ most_fuel }
     requires workers { 1 ≤ words.now.workers }
-    ensures { Meets told result (RunsText words.now
+    ensures made { Meets told result (RunsText words.now
         (of_load words.now) (spec.load_text words.now.seed words.now.size)) }
+    ensures kernels { IfOk result (λ m. HasChosenIn
+        (spec.load_text words.now.seed words.now.size)
+        (map (λ k. definition k.def) kernels.now) m.ran) }
 {
     let typed = loaded(alloc, words)?;
     load_program(rt, alloc, words, &typed, gate, kernels)
@@ -185,7 +200,9 @@ pub fn order<R: Threads + Wait + Sync, G: Gate + Sync>(
     requires limit { length text.now ≤ source_limit }
     requires fuel { words.now.fuel ≤ most_fuel }
     requires workers { 1 ≤ words.now.workers }
-    ensures { Meets told result (RunsText words.now of_order text.now) }
+    ensures made { Meets told result (RunsText words.now of_order text.now) }
+    ensures kernels { IfOk result (λ m. HasChosenIn text.now
+        (map (λ k. definition k.def) kernels.now) m.ran) }
 {
     let typed = checked(alloc, text)?;
     order_program(rt, alloc, words, &typed, gate, kernels)

@@ -17,6 +17,7 @@ pub struct Ran {
     pub(crate) outcome: Outcome,
     pub(crate) order: HubSchedule<AnyState>,
     pub(crate) ends: Vec<Option<Box<EndValue>>>,
+    pub(crate) choices: Vec<Option<u32>>,
     pub(crate) copies: u64,
     pub(crate) live: u32,
     pub(crate) closed: Closed,
@@ -57,6 +58,14 @@ impl Ran {
         ensures { result.now ≡ ends_of self.now }
     {
         self.ends.as_slice()
+    }
+
+    /// By location, the place of the kernel that was chosen for its merges in the plan that the run
+    /// was given, and none where its merge block makes them. No clause tells that they were called.
+    pub fn choices(&self) -> &[Option<u32>]
+        ensures { result.now ≡ self.now.choices.items }
+    {
+        self.choices.as_slice()
     }
 
     /// How many forks gave the child words of its own, since they found each segment in use; up to

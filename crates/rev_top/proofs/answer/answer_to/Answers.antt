@@ -1,11 +1,14 @@
 -- Answers of answer_to: a source that fails or is too long leaves so, and else the mode says its answer.
-use Rattle.std.proofs.Common.{Vec, Global, ℕ, List, subst}
+use Rattle.std.proofs.Common.{Vec, Global, ℕ, List, map, subst}
+use Rattle.merge_kernels.specs.Terms.{definition}
+use Rattle.rev_top.specs.Kernels.{HasChosenIn, text_of}
 use Rattle.std.specs.Prelude.{IfOk}
 use Rattle.rev_report.specs.Report.{output}
 use Rattle.rev_top.specs.Answer.{Given, SaysAs, reads_of}
 use Rattle.rev_top.specs.Making.{said}
 use Rattle.rev_top.specs.Rans.{Holds}
 use Rattle.rev_top.specs.Stops.{Meets}
+use Rattle.rev_top.proofs.Kernels.{of_call}
 use Rattle.rev_top.proofs.Rans.{leaves_by}
 use Rattle.rev_top.proofs.Stages.{goes_on, leaves}
 use Rattle.rev_top.proofs.answer.answer_to.Goals as goal
@@ -29,3 +32,12 @@ returns-clause-leaves g c =
     (subst
     (λ (t : List ℕ). IfOk c.say.result (λ m. Holds c.args.words.now.mode c.args.words.now t m.ran (output m.report)))
     c.as_slice.ensures.value c.say.ensures.holds)
+
+pub returns-clause-kernels : goal.returns-clause-kernels
+returns-clause-kernels g c =
+    of_call c.args.words.now _ _ (map (λ k. definition k.def) c.args.kernels.now) c.in_ok-bytes.bytes.items
+    c.in_ok-bytes.ensures.meets c.say.result
+    (subst
+    (λ (t : List ℕ). IfOk c.say.result (λ m. HasChosenIn (text_of c.args.words.now.mode c.args.words.now t)
+    (map (λ k. definition k.def) c.args.kernels.now) m.ran))
+    c.as_slice.ensures.value c.say.ensures.kernels)

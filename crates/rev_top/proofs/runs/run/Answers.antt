@@ -1,19 +1,28 @@
 -- Answers of run: a text that is at fault leaves with its first fault, and a checked program is run.
+use Rattle.std.proofs.Common.{map}
 use Rattle.rev_syntax.specs.View.{program as whole}
+use Rattle.merge_kernels.specs.Terms.{definition}
 use Rattle.rev_types.specs.declared.typed.Typed.{Typed}
 use Rattle.rev_top.specs.Making.{RunsBy, told}
 use Rattle.rev_top.specs.Rans.{of_run}
 use Rattle.rev_top.specs.Texts.{Checks}
+use Rattle.rev_top.proofs.Kernels.{of_text}
 use Rattle.rev_top.proofs.Stages.{goes_on, leaves}
 use Rattle.rev_top.proofs.runs.run.Goals as goal
 
-pub returns-in_err-typed : goal.returns-in_err-typed
-returns-in_err-typed g c =
+pub returns-in_err-typed-clause-made : goal.returns-in_err-typed-clause-made
+returns-in_err-typed-clause-made g c =
     leaves (Checks c.args.text.now) (RunsBy c.args.words.now (of_run c.args.words.now))
     (λ (t : Typed). whole t.expanded.program) told
     _ c.in_err-typed.field-0.0 c.from_residual.ensures.1 c.in_err-typed.ensures
 
-pub returns : goal.returns
-returns g c =
+pub returns-clause-made : goal.returns-clause-made
+returns-clause-made g c =
     goes_on (Checks c.args.text.now) (RunsBy c.args.words.now (of_run c.args.words.now)) told
-    (whole c.in_ok-typed.typed.expanded.program) c.run_program.result c.in_ok-typed.ensures c.run_program.ensures
+    (whole c.in_ok-typed.typed.expanded.program) c.run_program.result c.in_ok-typed.ensures c.run_program.ensures.made
+
+pub returns-clause-kernels : goal.returns-clause-kernels
+returns-clause-kernels g c =
+    of_text c.args.text.now (whole c.in_ok-typed.typed.expanded.program)
+    (map (λ k. definition k.def) c.args.kernels.now) c.in_ok-typed.ensures c.run_program.result
+    c.run_program.ensures.kernels

@@ -7,8 +7,8 @@ use Rattle.rev_top.specs.Rans.{of_run}
 use Rattle.rev_top.proofs.Rans.{made_of}
 use Rattle.rev_top.proofs.runs.run_program.Goals as goal
 
-pub returns : goal.returns
-returns g c =
+pub returns-clause-made : goal.returns-clause-made
+returns-clause-made g c =
     made_of c.args.words.now (of_run c.args.words.now) (whole c.args.typed.now.expanded.program) c.in_ok-ran.ran
     (output c.in_ok-report.report)
     c.in_ok-ran.ensures.run c.in_ok-ran.ensures.outcome

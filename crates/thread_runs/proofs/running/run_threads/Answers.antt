@@ -20,7 +20,7 @@ new-requires-clause-inputs g c = c.note_inputs.ensures
 pub run_threads-requires-clause-plan : goal.run_threads-requires-clause-plan
 run_threads-requires-clause-plan g c κs within =
     subst
-    (λ (x : Code). IsPlanFor x c.args.plan.now.choices.items (map (λ k. definition k.def) c.args.plan.now.kernels.now))
+    (λ (x : Code). IsPlanFor x c.args.plan.choices.items (map (λ k. definition k.def) c.args.plan.kernels.now))
     (sym (c.in_ok-setting.ensures.code ∙ c.into_code.ensures.code)) c.requires.plan
 
 pub outcome_of_run-requires : goal.outcome_of_run-requires
