@@ -62,11 +62,22 @@ fn joined(alloc: Global, first: Expr, rest: Vec<Link>) -> Result<Expr, AllocErro
     })
 }
 
+/// Room for the first link alone, where there is none yet: most chains have one.
+fn make_room(found: &mut Vec<Link>) -> Result<(), AllocError>
+    ensures { found.new.items ≡ found.old.items }
+{
+    if found.is_empty() {
+        found.reserve_exact(1)?;
+    }
+    Ok(())
+}
+
 fn push_link(found: &mut Vec<Link>, op: BinaryOp, part: Expr) -> Result<(), AllocError>
     ensures { OnOk result
         (map view.link found.new.items
         ≡ map view.link found.old.items ++ (op, view.expression part) ∷ []) }
 {
+    make_room(found)?;
     found.push(Link { op, part })?;
     Ok(())
 }
