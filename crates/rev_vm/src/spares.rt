@@ -1,6 +1,6 @@
 //! Tables of locations that revisions which have ended leave to revisions that begin.
 
-ghost use Rattle.std.specs.Prelude.{◌≡◌, IfOk};
+ghost use Rattle.std.specs.Prelude.{◌≡◌, [], IfOk};
 ghost use Rattle.version_map.specs.Deltas.{locations, IsEmpty};
 
 use std::alloc::{AllocError, Global};
@@ -28,7 +28,9 @@ pub struct Spares {
 
 impl Spares {
     /// None. It takes no memory.
-    pub fn new(alloc: Global) -> Spares {
+    pub fn new(alloc: Global) -> Spares
+        ensures { result.tables.items ≡ [] }
+    {
         Spares {
             tables: Vec::new(alloc),
         }
