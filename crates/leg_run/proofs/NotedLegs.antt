@@ -1,4 +1,4 @@
--- Rounds and legs, with notes of what they read.
+-- Rounds and legs, with notes of what they read where notes are on.
 use Rattle.std.proofs.Common.{◌≡◌, ◌≢◌, ◌∙◌, ℕ, ℤ, List, ◌++◌, Option, Some, None, refl, sym, ap, subst}
 use Rattle.std.proofs.lemmas.List.{append-nil, append_assoc}
 use Rattle.std.specs.Prelude.{slice_get}
@@ -15,15 +15,14 @@ use Rattle.code_machine.specs.Local.{CodeRun}
 use Rattle.code_soundness.proofs.Accepting.{no_fault_accepted}
 use Rattle.plain_words.specs.Agreement.{AreInputs}
 use Rattle.noting_run.specs.Runs.{step_reads, reads_of}
-use Rattle.noting_run.proofs.Adding.{leg_reads_of_steps}
+use Rattle.noting_run.proofs.Adding.{leg_reads_of_steps, marks_more}
+use Rattle.noting_run.proofs.IfOn.{marked_more_if_on}
+pub use Rattle.noting_run.proofs.IfOn.{marked_back, places_of}
 use Rattle.block_run.specs.Standing.{program, IsLeaving}
 use Rattle.block_run.specs.declared.registers.Registers.{Registers}
 use Rattle.block_run.specs.declared.registers.Stop.{Stop}
 use Rattle.block_run.specs.declared.registers.Stop.TheVariants as stop
-use Rattle.noting_run.specs.declared.notes.Noted.{Noted}
-use Rattle.noting_run.specs.Marks.{marks_of, HasMarked}
 use Rattle.noting_run.specs.Runs.{EndsNoting}
-use Rattle.noting_run.proofs.Adding.{marked_more, marks_more}
 use Rattle.noting_run.proofs.Rounds.{reads_nothing}
 use Rattle.leg_run.specs.declared.revision.LegEnd.{LegEnd}
 use Rattle.leg_run.specs.declared.revision.LegEnd.TheVariants as end
@@ -31,8 +30,8 @@ use Rattle.leg_run.specs.declared.revision.Run.{Run}
 use Rattle.leg_run.specs.declared.turn.Turn.{Turn}
 use Rattle.leg_run.specs.declared.turn.Turn.TheVariants as turn
 use Rattle.leg_run.specs.Changes.{SameRest}
-use Rattle.leg_run.specs.Ends.{EventAt, RoundTo, TurnsTo}
-use Rattle.leg_run.specs.Noting.{HasNotedLeg, HasNotedTo, RoundNoting}
+use Rattle.leg_run.specs.Ends.{EventAt, TurnsTo}
+use Rattle.leg_run.specs.Noting.{Notes, HasMarkedIfOn, HasNotedLeg, HasNotedTo, RoundTo, marks_of}
 use Rattle.leg_run.specs.Standing.{Stands}
 use Rattle.leg_run.proofs.Rounding.{leaves_trap}
 
@@ -50,17 +49,17 @@ reads_then t c c' c'' (s.more {c' = d} e rest) k =
     ap (λ rs. step_reads t c ++ rs) (reads_then t d c' c'' rest k)
     ∙ sym (append_assoc (step_reads t c) (reads_of rest) (reads_of k))
 
--- ---- a block without its notes
+-- ---- a block
 
--- why the run of a block ended, and its notes
+-- the run of a block ended at an instruction that leaves it, with these notes
 pub record IsLeavingNoting (code : Code) (inputs : List ℤ) (share : ℕ) (b : CodeBlock) (c : State ℕ) (ws : List ℕ)
     (r : Registers)
-    (seen : ℕ → ℕ) (root : ℕ → Option ℕ) (old new : Noted) : Type 0 where
+    (seen : ℕ → ℕ) (root : ℕ → Option ℕ) (old new : Notes) : Type 0 where
   pub leaving : IsLeaving code inputs (program share) b c ws r seen root
-  pub noted : HasMarked old new (marks_of (reads_of leaving.ahead.steps))
+  pub noted : HasMarkedIfOn old new (marks_of (reads_of leaving.ahead.steps))
 
 pub leaving_noting : (code : Code) (inputs : List ℤ) (share : ℕ) (b : CodeBlock) (c : State ℕ) (v : Stop) (ws : List ℕ)
-    (r : Registers) (seen : ℕ → ℕ) (root : ℕ → Option ℕ) (old new : Noted)
+    (r : Registers) (seen : ℕ → ℕ) (root : ℕ → Option ℕ) (old new : Notes)
     → EndsNoting code inputs (program share) b c v ws r seen root old new → ((e : Cause) → v ≢ stop.Traps e)
     → IsLeavingNoting code inputs share b c ws r seen root old new
 leaving_noting code inputs share b c stop.Goes ws r seen root old new h k = absurd h
@@ -68,7 +67,7 @@ leaving_noting code inputs share b c (stop.Traps e) ws r seen root old new h k =
 leaving_noting code inputs share b c stop.Leaves ws r seen root old new h k = record { leaving = h.0; noted = h.1 }
 
 pub ends_noting_for : (code : Code) (inputs inputs' : List ℤ) (share : ℕ) (b : CodeBlock) (c : State ℕ) (v : Stop)
-    (ws : List ℕ) (r : Registers) (seen : ℕ → ℕ) (root : ℕ → Option ℕ) (old new : Noted)
+    (ws : List ℕ) (r : Registers) (seen : ℕ → ℕ) (root : ℕ → Option ℕ) (old new : Notes)
     → inputs' ≡ inputs → EndsNoting code inputs' (program share) b c v ws r seen root old new
     → EndsNoting code inputs (program share) b c v ws r seen root old new
 ends_noting_for code inputs inputs' share b c v ws r seen root old new e h =
@@ -76,10 +75,10 @@ ends_noting_for code inputs inputs' share b c v ws r seen root old new e h =
 
 -- steps from where the leg began, and notes of what they read
 abbrev pub AheadTo : Code → List ℤ → (share : ℕ) → State ℕ → Run → (seen : ℕ → ℕ) → (root : ℕ → Option ℕ)
-    → (old new : Noted) → Type 0
+    → (old new : Notes) → Type 0
 AheadTo code inputs share c0 run seen root old new =
     (c : State ℕ) × (steps : Steps (setting code inputs share) c0 c) × Stands code inputs share run seen root c
-    × HasMarked old new (marks_of (reads_of steps))
+    × HasMarkedIfOn old new (marks_of (reads_of steps))
 
 module _ (code : Code) (ok : first_fault code ≡ None) (inputs : List ℤ) (share : ℕ) where
   abbrev t : Setting ℕ
@@ -88,18 +87,12 @@ module _ (code : Code) (ok : first_fault code ≡ None) (inputs : List ℤ) (sha
   abbrev g : CodeRun
   g = record { code = code; inputs = inputs; share = share }
 
-  pub plain_round : (c : State ℕ) (v : Turn) (run : Run) (seen : ℕ → ℕ) (root : ℕ → Option ℕ) (old new : Noted)
-      → RoundNoting code inputs share c v run seen root old new → RoundTo code inputs share c v run seen root
-  plain_round c turn.Goes run seen root old new h =
-      record { last = h.0; steps = h.2; next = h.1; goes = h.3; stands = h.4 }
-  plain_round c (turn.Ends e) run seen root old new h = (h.0, h.1, h.2, h.3, h.4)
-
   pub trapped_noting : (run : Run) (seen : ℕ → ℕ) (root : ℕ → Option ℕ) (c : State ℕ)
       → Stands code inputs share run seen root c → (b : CodeBlock) → slice_get code.blocks run.registers.block ≡ Some b
-      → (e : Cause) (ws' : List ℕ) (r' : Registers) (seen' : ℕ → ℕ) (root' : ℕ → Option ℕ) (old new : Noted)
+      → (e : Cause) (ws' : List ℕ) (r' : Registers) (seen' : ℕ → ℕ) (root' : ℕ → Option ℕ) (old new : Notes)
       → EndsNoting code inputs (program share) b c (stop.Traps e) ws' r' seen' root' old new
       → (run' : Run) → run'.registers ≡ r' → SameRest run run'
-      → RoundNoting code inputs share c (turn.Ends (end.Trap e)) run' seen' root' old new
+      → RoundTo code inputs share c (turn.Ends (end.Trap e)) run' seen' root' old new
   trapped_noting run seen root c st b is e ws' r' seen' root' old new h run' registers rest =
       let x = h.0 in (
         x.before,
@@ -111,7 +104,7 @@ module _ (code : Code) (ok : first_fault code ≡ None) (inputs : List ℤ) (sha
       )
 
   module _ (b : CodeBlock) (c : State ℕ) (ws' : List ℕ) (r' : Registers) (seen' : ℕ → ℕ) (root' : ℕ → Option ℕ)
-      (old new : Noted) (h : IsLeavingNoting code inputs share b c ws' r' seen' root' old new)
+      (old new : Notes) (h : IsLeavingNoting code inputs share b c ws' r' seen' root' old new)
       (fits : AreInputs inputs) (is : slice_get code.blocks r'.block ≡ Some b) where
     -- the instruction that leaves the block reads nothing
     noted_to : HasNotedTo code inputs share c h.leaving.ahead.now h.leaving.ahead.steps old new
@@ -120,12 +113,12 @@ module _ (code : Code) (ok : first_fault code ≡ None) (inputs : List ℤ) (sha
         let none =
         reads_nothing code (no_fault_accepted code ok) inputs fits (program share) b l.ahead.now ws' r' seen' root'
         l.ahead.here is l.instr l.at l.leaves in
-        subst (λ rs. HasMarked old new (marks_of rs))
+        subst (λ rs. HasMarkedIfOn old new (marks_of rs))
         (sym (ap (λ rs. reads_of l.ahead.steps ++ rs) none ∙ append-nil (reads_of l.ahead.steps))) h.noted
 
     pub turned_noting : (run' : Run) (seen'' : ℕ → ℕ) (root'' : ℕ → Option ℕ) (v : Turn)
         → TurnsTo code inputs share h.leaving.ahead.now v run' seen'' root''
-        → RoundNoting code inputs share c v run' seen'' root'' old new
+        → RoundTo code inputs share c v run' seen'' root'' old new
     turned_noting run' seen'' root'' turn.Goes k =
         (h.leaving.ahead.now, k.next, h.leaving.ahead.steps, k.goes, k.stands, noted_to)
     turned_noting run' seen'' root'' (turn.Ends e) k =
@@ -133,29 +126,29 @@ module _ (code : Code) (ok : first_fault code ≡ None) (inputs : List ℤ) (sha
 
   -- ---- a leg
 
-  both_noted : (c0 c d : State ℕ) (steps : Steps t c0 c) (more : Steps t c d) (old now new : Noted)
-      → HasMarked old now (marks_of (reads_of steps)) → HasNotedTo code inputs share c d more now new
-      → HasMarked old new (marks_of (reads_of (steps_then t c0 c d steps more) ++ step_reads t d))
+  both_noted : (c0 c d : State ℕ) (steps : Steps t c0 c) (more : Steps t c d) (old now new : Notes)
+      → HasMarkedIfOn old now (marks_of (reads_of steps)) → HasNotedTo code inputs share c d more now new
+      → HasMarkedIfOn old new (marks_of (reads_of (steps_then t c0 c d steps more) ++ step_reads t d))
   both_noted c0 c d steps more old now new h k =
-      subst (λ rs. HasMarked old new (marks_of rs))
+      subst (λ rs. HasMarkedIfOn old new (marks_of rs))
       (sym (ap (λ rs. rs ++ step_reads t d) (reads_then t c0 c d steps more)
       ∙ append_assoc (reads_of steps) (reads_of more) (step_reads t d)))
-      (subst (HasMarked old new) (sym (marks_more (reads_of steps) (reads_of more ++ step_reads t d)))
-      (marked_more old now new (marks_of (reads_of steps)) (marks_of (reads_of more ++ step_reads t d)) h k))
+      (subst (HasMarkedIfOn old new) (sym (marks_more (reads_of steps) (reads_of more ++ step_reads t d)))
+      (marked_more_if_on old now new (marks_of (reads_of steps)) (marks_of (reads_of more ++ step_reads t d)) h k))
 
   -- the last of these steps is a step like the others
-  noted_on : (c0 d next : State ℕ) (steps : Steps t c0 d) (e : step t d ≡ goes next) (old new : Noted)
-      → HasMarked old new (marks_of (reads_of steps ++ step_reads t d))
-      → HasMarked old new (marks_of (reads_of (steps_then t c0 d next steps (s.more e s.none))))
+  noted_on : (c0 d next : State ℕ) (steps : Steps t c0 d) (e : step t d ≡ goes next) (old new : Notes)
+      → HasMarkedIfOn old new (marks_of (reads_of steps ++ step_reads t d))
+      → HasMarkedIfOn old new (marks_of (reads_of (steps_then t c0 d next steps (s.more e s.none))))
   noted_on c0 d next steps e old new h =
-      subst (λ rs. HasMarked old new (marks_of rs))
+      subst (λ rs. HasMarkedIfOn old new (marks_of rs))
       (sym (reads_then t c0 d next steps (s.more e s.none)
       ∙ ap (λ rs. reads_of steps ++ rs) (append-nil (step_reads t d))))
       h
 
   pub round_on_noting : (c0 : State ℕ) (run run' : Run) (seen seen' : ℕ → ℕ) (root root' : ℕ → Option ℕ)
-      (old now new : Noted) (a : AheadTo code inputs share c0 run seen root old now)
-      → RoundNoting code inputs share a.0 turn.Goes run' seen' root' now new
+      (old now new : Notes) (a : AheadTo code inputs share c0 run seen root old now)
+      → RoundTo code inputs share a.0 turn.Goes run' seen' root' now new
       → AheadTo code inputs share c0 run' seen' root' old new
   round_on_noting c0 run run' seen seen' root root' old now new a r =
       let there = steps_then t c0 a.0 r.0 a.1 r.2 in (
@@ -172,13 +165,13 @@ module _ (code : Code) (ok : first_fault code ≡ None) (inputs : List ℤ) (sha
   event_at last c' end.End h = (s.ends c' h.0, h.1, tt)
   event_at last c' (end.Trap e) h = (s.traps c' e, h, tt)
 
-  pub leg_noted : (c0 : State ℕ) (run run' : Run) (seen seen' : ℕ → ℕ) (root root' : ℕ → Option ℕ) (old now new : Noted)
+  pub leg_noted : (c0 : State ℕ) (run run' : Run) (seen seen' : ℕ → ℕ) (root root' : ℕ → Option ℕ) (old now new : Notes)
       (a : AheadTo code inputs share c0 run seen root old now) (e : LegEnd)
-      → RoundNoting code inputs share a.0 (turn.Ends e) run' seen' root' now new
+      → RoundTo code inputs share a.0 (turn.Ends e) run' seen' root' now new
       → HasNotedLeg code inputs share c0 old new
   leg_noted c0 run run' seen seen' root root' old now new a e r =
       let o = event_at r.0 r.1 e r.3 in
       let all = steps_then t c0 a.0 r.0 a.1 r.2 in
-      subst (λ rs. HasMarked old new (marks_of rs))
+      subst (λ rs. HasMarkedIfOn old new (marks_of rs))
       (sym (leg_reads_of_steps g ok c0 o.0 (record { last = r.0; steps = all; comes = o.1; is = o.2 })))
       (both_noted c0 a.0 r.0 a.1 r.2 old now new a.3 r.5)

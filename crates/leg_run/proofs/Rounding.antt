@@ -1,5 +1,5 @@
 -- Instructions of a block, and then the one that leaves it.
-use Rattle.std.proofs.Common.{◌≡◌, ◌≢◌, ◌∙◌, ℕ, ◌+◌, ◌<◌, ◌≤◌, ℤ, List, length, map, reverse, take, Option, Some, None, refl, sym, ap, subst, arith}
+use Rattle.std.proofs.Common.{◌≡◌, ◌∙◌, ℕ, ◌+◌, ◌<◌, ◌≤◌, ℤ, List, length, map, reverse, take, Option, Some, None, sym, ap, subst, arith}
 use Rattle.std.specs.Prelude.{slice_get}
 use Rattle.rev_num.specs.declared.outcome.Cause.{Cause}
 use Rattle.rev_code.specs.declared.code.Code.{Code}
@@ -22,18 +22,16 @@ use Rattle.code_soundness.specs.Typed.{location_kinds, AreLocations, IsRevision}
 use Rattle.code_soundness.specs.Whole.{notes_of}
 use Rattle.code_soundness.proofs.Accepting.{no_fault_accepted}
 use Rattle.code_soundness.proofs.Reaching.{is_safe}
-use Rattle.block_run.specs.Standing.{program, Ahead, Ends, Here, IsLeaving, IsRoomy, IsTrapped}
+use Rattle.block_run.specs.Standing.{program, Ahead, Here, IsRoomy, IsTrapped}
 use Rattle.block_run.specs.declared.registers.Registers.{Registers}
-use Rattle.block_run.specs.declared.registers.Stop.{Stop}
-use Rattle.block_run.specs.declared.registers.Stop.TheVariants as stop
 use Rattle.fun_run.proofs.Running.{steps_on}
 use Rattle.leg_run.specs.declared.revision.LegEnd.{LegEnd}
 use Rattle.leg_run.specs.declared.revision.LegEnd.TheVariants as end
 use Rattle.leg_run.specs.declared.revision.Run.{Run}
-use Rattle.leg_run.specs.declared.turn.Turn.{Turn}
 use Rattle.leg_run.specs.declared.turn.Turn.TheVariants as turn
 use Rattle.leg_run.specs.Changes.{SameRest}
-use Rattle.leg_run.specs.Ends.{Leaves, LegEnds, RoundTo, StandsAt, TurnsTo}
+use Rattle.leg_run.specs.Ends.{Leaves, LegEnds, StandsAt}
+use Rattle.leg_run.specs.Noting.{Notes, RoundTo}
 use Rattle.leg_run.specs.Standing.{AreBelow, Stands, IsStanding, listed_as, state_of}
 use Rattle.leg_run.proofs.Decoding.{its_state, leaves_state}
 use Rattle.leg_run.proofs.Frames as f
@@ -56,14 +54,6 @@ module _ (code : Code) (ok : first_fault code ≡ None) (inputs : List ℤ) (sha
       ap (λ (x : State ℕ). x.locations)
       (subst (IsAt c) h (events.stands (record { code = code; inputs = inputs; share = share }) c)).0
 
-  pub leaving_of :
-      (b : CodeBlock) (c : State ℕ) (ws : List ℕ) (r : Registers) (seen : ℕ → ℕ) (root : ℕ → Option ℕ) (v : Stop)
-      → Ends code inputs (program share) b c v ws r seen root → ((e : Cause) → v ≢ stop.Traps e)
-      → IsLeaving code inputs (program share) b c ws r seen root
-  leaving_of b c ws r seen root stop.Goes h k = absurd h
-  leaving_of b c ws r seen root (stop.Traps e) h k = absurd (k e refl)
-  leaving_of b c ws r seen root stop.Leaves h k = h
-
   module _ (run : Run) (seen : ℕ → ℕ) (root : ℕ → Option ℕ) (c : State ℕ)
       (st : Stands code inputs share run seen root c)
       (b : CodeBlock) (is : slice_get code.blocks run.registers.block ≡ Some b) where
@@ -81,13 +71,6 @@ module _ (code : Code) (ok : first_fault code ≡ None) (inputs : List ℤ) (sha
           listed = h.same.listed ∙ st.listed ∙ ap (map listed_as) (sym rest.meetings);
           text = h.same.text ∙ st.text ∙ sym rest.text;
         }
-
-    pub trapped : (e : Cause) (ws' : List ℕ) (r' : Registers) (seen' : ℕ → ℕ) (root' : ℕ → Option ℕ)
-        → IsTrapped code inputs (program share) b c e ws' r' seen' root'
-        → (run' : Run) → run'.registers ≡ r' → SameRest run run'
-        → RoundTo code inputs share c (turn.Ends (end.Trap e)) run' seen' root'
-    trapped e ws' r' seen' root' h run' registers rest =
-        (h.before, h.trapped, h.steps, h.trap, leaves_trap e ws' r' seen' root' h run' registers rest)
 
     module _ (ws' : List ℕ) (r' : Registers) (seen' : ℕ → ℕ) (root' : ℕ → Option ℕ)
         (h : Ahead code inputs (program share) b c ws' r' seen' root') where
@@ -120,12 +103,6 @@ module _ (code : Code) (ok : first_fault code ≡ None) (inputs : List ℤ) (sha
         few = (let a = st.few in let e = rest.forks in let d = ap length rest.meetings in omega (arith, a, e, d));
       }
 
-      pub turned : (run' : Run) (seen'' : ℕ → ℕ) (root'' : ℕ → Option ℕ) (t : Turn)
-          → TurnsTo code inputs share h.now t run' seen'' root'' → RoundTo code inputs share c t run' seen'' root''
-      turned run' seen'' root'' turn.Goes k =
-          record { last = h.now; steps = h.steps; next = k.next; goes = k.goes; stands = k.stands }
-      turned run' seen'' root'' (turn.Ends e) k = (h.now, h.now, h.steps, k.0, k.1)
-
   pub stands_at : (run : Run) (seen : ℕ → ℕ) (root : ℕ → Option ℕ) (c : State ℕ)
       (st : Stands code inputs share run seen root c) (b : CodeBlock)
       (is : slice_get code.blocks run.registers.block ≡ Some b) (e : LegEnd)
@@ -153,24 +130,14 @@ module _ (code : Code) (ok : first_fault code ≡ None) (inputs : List ℤ) (sha
 
   module _ (run run' : Run) (seen seen' : ℕ → ℕ) (root root' : ℕ → Option ℕ) (c : State ℕ)
       (st : Stands code inputs share run seen root c) where
-    pub round_less : RoundTo code inputs share c turn.Goes run' seen' root'
+    pub round_less : (old new : Notes) → RoundTo code inputs share c turn.Goes run' seen' root' old new
         → clock g (state_of code run' seen' root') < clock g (state_of code run seen root)
-    round_less r =
-        let a = less r.last r.next r.goes in
-        let b = no_more c r.last r.steps in
+    round_less old new r =
+        let a = less r.0 r.1 r.3 in
+        let b = no_more c r.0 r.2 in
         let x = ap (clock g) (its_state code inputs share run seen root c st) in
-        let y = ap (clock g) (its_state code inputs share run' seen' root' r.next r.stands) in
+        let y = ap (clock g) (its_state code inputs share run' seen' root' r.1 r.4) in
         omega (arith, a, b, x, y)
-
-    pub round_on : (c0 : State ℕ) → Steps (setting code inputs share) c0 c
-        → RoundTo code inputs share c turn.Goes run' seen' root'
-        → (d : State ℕ) × Steps (setting code inputs share) c0 d × Stands code inputs share run' seen' root' d
-    round_on c0 steps r = (
-      r.next,
-      steps_on (setting code inputs share) c0 c r.next steps
-          (steps_on (setting code inputs share) c r.last r.next r.steps (s.more r.goes s.none)),
-      r.stands,
-    )
 
   stands_own : (run : Run) (seen : ℕ → ℕ) (root : ℕ → Option ℕ) (c : State ℕ) → Stands code inputs share run seen root c
       → IsStanding code inputs share run seen root
@@ -178,9 +145,10 @@ module _ (code : Code) (ok : first_fault code ≡ None) (inputs : List ℤ) (sha
       subst (Stands code inputs share run seen root) (its_state code inputs share run seen root c st) st
 
   pub ends_leg : (run' : Run) (seen' : ℕ → ℕ) (root' : ℕ → Option ℕ) (c0 c : State ℕ)
-      → Steps (setting code inputs share) c0 c → (e : LegEnd)
-      → RoundTo code inputs share c (turn.Ends e) run' seen' root' → LegEnds code inputs share c0 e run' seen' root'
-  ends_leg run' seen' root' c0 c steps (end.Fork n) r =
+      → Steps (setting code inputs share) c0 c → (e : LegEnd) (old new : Notes)
+      → RoundTo code inputs share c (turn.Ends e) run' seen' root' old new
+      → LegEnds code inputs share c0 e run' seen' root'
+  ends_leg run' seen' root' c0 c steps (end.Fork n) old new r =
       let x = its_state code inputs share run' seen' root' r.1 r.4 in (
         r.3.0,
         record {
@@ -191,7 +159,7 @@ module _ (code : Code) (ok : first_fault code ≡ None) (inputs : List ℤ) (sha
         },
         stands_own run' seen' root' r.1 r.4,
       )
-  ends_leg run' seen' root' c0 c steps (end.Join try on) r =
+  ends_leg run' seen' root' c0 c steps (end.Join try on) old new r =
       let x = its_state code inputs share run' seen' root' r.1 r.4 in (
         record {
           last = r.0;
@@ -201,14 +169,14 @@ module _ (code : Code) (ok : first_fault code ≡ None) (inputs : List ℤ) (sha
         },
         stands_own run' seen' root' r.1 r.4,
       )
-  ends_leg run' seen' root' c0 c steps end.End r = (
+  ends_leg run' seen' root' c0 c steps end.End old new r = (
     r.3.0,
     r.1,
     record { last = r.0; steps = steps_on (setting code inputs share) c0 c r.0 steps r.2; comes = r.3.1; is = tt },
     leaves_state code run' seen' root' r.1 r.4,
     r.4,
   )
-  ends_leg run' seen' root' c0 c steps (end.Trap e) r = (
+  ends_leg run' seen' root' c0 c steps (end.Trap e) old new r = (
     r.1,
     record { last = r.0; steps = steps_on (setting code inputs share) c0 c r.0 steps r.2; comes = r.3; is = tt },
     leaves_state code run' seen' root' r.1 r.4,
@@ -224,10 +192,3 @@ pub here_for : (code : Code) (inputs inputs' : List ℤ) (share : ℕ) (b : Code
 here_for code inputs inputs' share b c ws ws' r seen root e d h =
     subst (λ is. Here code is (program share) b c ws' r seen root) (sym e)
     (subst (λ us. Here code inputs (program share) b c us r seen root) (sym d) h)
-
-pub ends_for : (code : Code) (inputs inputs' : List ℤ) (share : ℕ) (b : CodeBlock) (c : State ℕ) (v : Stop)
-    (ws : List ℕ) (r : Registers) (seen : ℕ → ℕ) (root : ℕ → Option ℕ)
-    → inputs' ≡ inputs → Ends code inputs' (program share) b c v ws r seen root
-    → Ends code inputs (program share) b c v ws r seen root
-ends_for code inputs inputs' share b c v ws r seen root e h =
-    subst (λ is. Ends code is (program share) b c v ws r seen root) e h

@@ -9,7 +9,7 @@ use Rattle.rev_code.specs.declared.code.Instr.{Instr}
 use Rattle.rev_code.specs.declared.code.Instr.TheVariants as i
 use Rattle.rev_code.specs.Words.{Word}
 use Rattle.rev_code.specs.State.{Setting, State}
-use Rattle.rev_code.specs.Step.{goes, traps, forks, joins, ends, step, Steps}
+use Rattle.rev_code.specs.Step.{goes, traps, forks, joins, ends, step}
 use Rattle.rev_code.specs.Funs.{setting}
 use Rattle.code_machine.specs.Leg.{IsLeg}
 use Rattle.code_soundness.specs.Typed.{location_kinds, AreLocations}
@@ -83,23 +83,6 @@ abbrev pub TurnsTo : Code → List ℤ → (share : ℕ) → State ℕ → Turn 
 TurnsTo code inputs share c turn.Goes run seen root = GoesOn code inputs share c run seen root
 TurnsTo code inputs share c (turn.Ends e) run seen root =
     EndsAt (setting code inputs share) c e × StandsAt code inputs share c e run seen root
-
--- ---- a block, and the instruction that leaves it
-
--- steps, and one more
-pub record Rounds (code : Code) (inputs : List ℤ) (share : ℕ) (c : State ℕ) (run : Run) (seen : ℕ → ℕ) (root : ℕ → Option ℕ)
-    : Type 0 where
-  pub last : State ℕ
-  pub steps : Steps (setting code inputs share) c last
-  pub next : State ℕ
-  pub goes : step (setting code inputs share) last ≡ goes next
-  pub stands : Stands code inputs share run seen root next
-
-abbrev pub RoundTo : Code → List ℤ → (share : ℕ) → State ℕ → Turn → Run → (seen : ℕ → ℕ) → (root : ℕ → Option ℕ) → Type 0
-RoundTo code inputs share c turn.Goes run seen root = Rounds code inputs share c run seen root
-RoundTo code inputs share c (turn.Ends e) run seen root =
-    (last : State ℕ) × (c' : State ℕ) × Steps (setting code inputs share) c last × EventAt (setting code inputs share) last e c'
-    × StandsAt code inputs share c' e run seen root
 
 -- ---- joins
 

@@ -1,4 +1,4 @@
-//! Legs.
+//! Legs, with notes of what they read where notes are on.
 
 ghost use Rattle.std.specs.Prelude.{◌≡◌, ◌<◌, true, ℕ, IfOk, Some, length, slice_get};
 ghost use Rattle.rev_code.specs.declared.code.Instr.{Instr};
@@ -7,7 +7,8 @@ ghost use Rattle.version_map.specs.Deltas.{at};
 ghost use Rattle.version_map.specs.Overlay.{under};
 ghost use Rattle.block_run.specs.Area.{count};
 ghost use Rattle.block_run.specs.Standing.{leaves_block};
-ghost use Rattle.leg_run.specs.Ends.{LegEnds, RoundTo, TurnsTo};
+ghost use Rattle.leg_run.specs.Ends.{LegEnds, TurnsTo};
+ghost use Rattle.leg_run.specs.Noting.{HasNotedLeg, HasPlacesIfOn, RoundTo};
 ghost use Rattle.leg_run.specs.Standing.{IsStanding, Stands, state_of};
 
 use crate::apply_fun::apply;
@@ -17,8 +18,9 @@ use crate::prints::print;
 use crate::revision::{LegEnd, Revision, Run};
 use crate::setting::CodeSetting;
 use crate::turn::Turn;
-use block_run::{Memory, Stop, run_block};
+use block_run::{Memory, Stop};
 use fun_run::block_at;
+use noting_run::{Notes, run_leg_block};
 use rev_code::{CodeBlock, Instr};
 use std::alloc::AllocError;
 use version_map::Snapshot;
@@ -32,7 +34,7 @@ fn instr_at(b: &CodeBlock, at: u32) -> Instr
 }
 
 /// Does an instruction that leaves its block, or ends the leg there.
-pub(crate) fn turn_at<P: Snapshot>(
+fn turn_at<P: Snapshot>(
     setting: &CodeSetting,
     memory: &mut Memory<P>,
     run: &mut Run,
@@ -67,21 +69,26 @@ pub(crate) fn turn_at<P: Snapshot>(
     }
 }
 
-/// Does instructions of a block, and then the one that leaves it, or ends the leg there.
+/// Does instructions of a block, and then the one that leaves it, or ends the leg there; with notes
+/// of what they read where notes are on.
 fn go_on<P: Snapshot>(
     setting: &CodeSetting,
     memory: &mut Memory<P>,
     run: &mut Run,
+    notes: &mut Notes,
 ) -> Result<Turn, AllocError>
     requires size { P.size memory.old.snapshot ≡ count setting.now.code.vars }
     requires stands { (c : State ℕ)
         × Stands setting.now.code setting.now.inputs.items setting.now.share run.old
         (under memory.old.delta (P.base memory.old.snapshot)) (at memory.old.first.roots) c }
+    requires places { HasPlacesIfOn (count setting.now.code.vars) setting.now.inputs.items
+        notes.old }
     ensures rounds { IfOk result (λ t. (c : State ℕ)
         → Stands setting.now.code setting.now.inputs.items setting.now.share run.old
         (under memory.old.delta (P.base memory.old.snapshot)) (at memory.old.first.roots) c
         → RoundTo setting.now.code setting.now.inputs.items setting.now.share c t run.new
-        (under memory.new.delta (P.base memory.new.snapshot)) (at memory.new.first.roots)) }
+        (under memory.new.delta (P.base memory.new.snapshot)) (at memory.new.first.roots)
+        notes.old notes.new) }
     ensures size { P.size memory.new.snapshot ≡ P.size memory.old.snapshot }
     ensures group { P.group memory.new.snapshot ≡ P.group memory.old.snapshot }
 {
@@ -89,7 +96,7 @@ fn go_on<P: Snapshot>(
     let table = setting.table.as_slice();
     let inputs = setting.inputs.as_slice();
     let words = run.words.as_mut_slice();
-    match run_block(
+    match run_leg_block(
         &setting.code,
         table,
         inputs,
@@ -97,22 +104,27 @@ fn go_on<P: Snapshot>(
         memory,
         words,
         &mut run.registers,
+        notes,
     ) {
         Stop::Traps(cause) => Ok(Turn::Ends(LegEnd::Trap(cause))),
         _ => turn_at(setting, memory, run, b),
     }
 }
 
-/// Does the instructions of a leg up to its event. The error is want of memory, after which nothing
-/// is said of where the revision stands.
+/// Does the instructions of a leg up to its event, and notes what they read where notes are on. The
+/// error is want of memory, after which nothing is said of where the revision stands, and nothing of
+/// the notes.
 pub fn run<P: Snapshot>(
     setting: &CodeSetting,
     revision: &mut Revision<P>,
+    notes: &mut Notes,
 ) -> Result<LegEnd, AllocError>
     requires size { P.size revision.old.memory.snapshot ≡ count setting.now.code.vars }
     requires stands { IsStanding setting.now.code setting.now.inputs.items setting.now.share
         revision.old.run (under revision.old.memory.delta (P.base revision.old.memory.snapshot))
         (at revision.old.memory.first.roots) }
+    requires places { HasPlacesIfOn (count setting.now.code.vars) setting.now.inputs.items
+        notes.old }
     ensures leg { IfOk result (λ e.
         LegEnds setting.now.code setting.now.inputs.items setting.now.share
         (state_of setting.now.code revision.old.run
@@ -120,11 +132,16 @@ pub fn run<P: Snapshot>(
         (at revision.old.memory.first.roots)) e revision.new.run
         (under revision.new.memory.delta (P.base revision.new.memory.snapshot))
         (at revision.new.memory.first.roots)) }
+    ensures noted { IfOk result (λ _.
+        HasNotedLeg setting.now.code setting.now.inputs.items setting.now.share
+        (state_of setting.now.code revision.old.run
+        (under revision.old.memory.delta (P.base revision.old.memory.snapshot))
+        (at revision.old.memory.first.roots)) notes.old notes.new) }
     ensures size { P.size revision.new.memory.snapshot ≡ P.size revision.old.memory.snapshot }
     ensures group { P.group revision.new.memory.snapshot ≡ P.group revision.old.memory.snapshot }
 {
     loop {
-        match go_on(setting, &mut revision.memory, &mut revision.run)? {
+        match go_on(setting, &mut revision.memory, &mut revision.run, notes)? {
             Turn::Goes => {},
             Turn::Ends(end) => return Ok(end),
         }

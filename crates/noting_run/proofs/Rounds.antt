@@ -23,11 +23,13 @@ use Rattle.block_run.specs.Remembering.{Kept, Wrote}
 use Rattle.block_run.specs.Standing.{Mode, setting_in, Here, SameElse, AreSeen, leaves_block}
 use Rattle.block_run.proofs.Onward.{reads_seen, kept_seen, halted}
 use Rattle.block_run.proofs.Turning.{good_event, code_in, same_still, went, here_next, leaving, still_here}
-use Rattle.noting_run.specs.declared.notes.Noted.{Noted}
-use Rattle.noting_run.specs.Marks.{marks_of, plain_marks, HasMarked}
+use Rattle.noting_run.specs.declared.notes.Notes.{Notes}
+use Rattle.noting_run.specs.Marks.{marks_of, plain_marks}
+use Rattle.noting_run.specs.WhereOn.{HasMarkedIfOn}
 use Rattle.noting_run.specs.Runs.{AheadNoting, EndsNoting}
-use Rattle.noting_run.proofs.Adding.{marked_more, marks_more}
+use Rattle.noting_run.proofs.Adding.{marks_more}
 use Rattle.noting_run.proofs.Agreeing.{marks_agree}
+use Rattle.noting_run.proofs.IfOn.{marked_more_if_on}
 
 pub one_more : (t : Setting ℕ) (c c' c'' : State ℕ) → Steps t c c' → step t c' ≡ goes c'' → Steps t c c''
 one_more t c c' c'' s.none e = s.more e s.none
@@ -93,13 +95,13 @@ module _ (code : Code) (ok : IsAccepted code (notes_of code)) (inputs : List ℤ
       ∙ ap (λ (k : Code). plain_marks k.vars t.inputs root (run_of b ws r) x) (code_in code ok inputs m)
       ∙ ap (λ k. plain_marks code.vars k root (run_of b ws r) x) here.inputs_are
 
-  module _ (old before after : Noted) (c0 : State ℕ) (steps : Steps t c0 c)
-      (noted : HasMarked old before (marks_of (reads_of steps)))
-      (marked : HasMarked before after (plain_marks code.vars inputs root (run_of b ws r) x)) where
-    both : HasMarked old after (marks_of (reads_of steps ++ step_reads t c))
-    both = subst (HasMarked old after) (sym (marks_more (reads_of steps) (step_reads t c)))
-        (marked_more old before after (marks_of (reads_of steps)) (marks_of (step_reads t c)) noted
-        (subst (HasMarked before after) (sym marks_here) marked))
+  module _ (old before after : Notes) (c0 : State ℕ) (steps : Steps t c0 c)
+      (noted : HasMarkedIfOn old before (marks_of (reads_of steps)))
+      (marked : HasMarkedIfOn before after (plain_marks code.vars inputs root (run_of b ws r) x)) where
+    both : HasMarkedIfOn old after (marks_of (reads_of steps ++ step_reads t c))
+    both = subst (HasMarkedIfOn old after) (sym (marks_more (reads_of steps) (step_reads t c)))
+        (marked_more_if_on old before after (marks_of (reads_of steps)) (marks_of (step_reads t c)) noted
+        (subst (HasMarkedIfOn before after) (sym marks_here) marked))
 
     module _ (ws' : List ℕ) (r' : Registers) (sees' : ℕ → ℕ) (root' : ℕ → Option ℕ) (size : ℕ)
         (sized : length c.locations ≤ size) (small : PushesInt x) (same : SameElse c0 c) where
@@ -121,7 +123,7 @@ module _ (code : Code) (ok : IsAccepted code (notes_of code)) (inputs : List ℤ
                   small d stays;
               same = same_still c0 c g.next same g.same;
             };
-            noted = subst (λ rs. HasMarked old after (marks_of rs)) (sym (reads_one_more t c0 c g.next steps e)) both;
+            noted = subst (λ rs. HasMarkedIfOn old after (marks_of rs)) (sym (reads_one_more t c0 c g.next steps e)) both;
           }
 
       trapped_noting : (e : Cause) → D (stop.Traps e)
@@ -163,7 +165,7 @@ module _ (code : Code) (ok : IsAccepted code (notes_of code)) (inputs : List ℤ
           leaves = leaving code ok inputs fits m b c ws r sees root here is x there ws' r' sees' root' size sized small
               d;
         },
-        subst (λ rs. HasMarked old after (marks_of rs))
+        subst (λ rs. HasMarkedIfOn old after (marks_of rs))
             (quiet_end
             (leaving code ok inputs fits m b c ws r sees root here is x there ws' r' sees' root' size sized small d))
             both,

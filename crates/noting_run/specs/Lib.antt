@@ -1,3 +1,4 @@
 pub mod Marks
+pub mod WhereOn
 pub mod Runs
 pub mod ByMarks

@@ -1,4 +1,4 @@
--- Runs of instructions of a block, with notes of what they read.
+-- Runs of instructions of a block, with notes of what they read where notes are on.
 --   AheadNoting   some steps on, and the notes there
 --   EndsNoting    why a run ends, and the notes then: an instruction that traps has read too
 use Rattle.std.specs.Prelude.{ℕ, ℤ, List, ◌++◌, Option}
@@ -10,19 +10,20 @@ use Rattle.block_run.specs.declared.registers.Registers.{Registers}
 use Rattle.block_run.specs.declared.registers.Stop.{Stop}
 use Rattle.block_run.specs.declared.registers.Stop.TheVariants as stop
 use Rattle.block_run.specs.Standing.{Mode, setting_in, Ahead, IsTrapped, IsLeaving}
-use Rattle.noting_run.specs.declared.notes.Noted.{Noted}
-use Rattle.noting_run.specs.Marks.{marks_of, HasMarked}
+use Rattle.noting_run.specs.declared.notes.Notes.{Notes}
+use Rattle.noting_run.specs.Marks.{marks_of}
+use Rattle.noting_run.specs.WhereOn.{HasMarkedIfOn}
 
 pub record AheadNoting (code : Code) (inputs : List ℤ) (m : Mode) (b : CodeBlock) (c : State ℕ) (ws : List ℕ) (r : Registers)
-    (seen : ℕ → ℕ) (root : ℕ → Option ℕ) (old new : Noted) : Type 0 where
+    (seen : ℕ → ℕ) (root : ℕ → Option ℕ) (old new : Notes) : Type 0 where
   pub ahead : Ahead code inputs m b c ws r seen root
-  pub noted : HasMarked old new (marks_of (reads_of ahead.steps))
+  pub noted : HasMarkedIfOn old new (marks_of (reads_of ahead.steps))
 
 abbrev pub EndsNoting : (code : Code) (inputs : List ℤ) (m : Mode) (b : CodeBlock) (c : State ℕ) → Stop → List ℕ
-    → Registers → (ℕ → ℕ) → (ℕ → Option ℕ) → (old new : Noted) → Type 0
+    → Registers → (ℕ → ℕ) → (ℕ → Option ℕ) → (old new : Notes) → Type 0
 EndsNoting code inputs m b c stop.Goes ws r seen root old new = ⊥
 EndsNoting code inputs m b c (stop.Traps e) ws r seen root old new =
     (t : IsTrapped code inputs m b c e ws r seen root)
-    × HasMarked old new (marks_of (reads_of t.steps ++ step_reads (setting_in code inputs m) t.before))
+    × HasMarkedIfOn old new (marks_of (reads_of t.steps ++ step_reads (setting_in code inputs m) t.before))
 EndsNoting code inputs m b c stop.Leaves ws r seen root old new =
-    (l : IsLeaving code inputs m b c ws r seen root) × HasMarked old new (marks_of (reads_of l.ahead.steps))
+    (l : IsLeaving code inputs m b c ws r seen root) × HasMarkedIfOn old new (marks_of (reads_of l.ahead.steps))

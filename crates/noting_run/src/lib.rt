@@ -1,4 +1,5 @@
-//! Instructions of one block in a row, with notes of what they read of the snapshot and the input.
+//! Instructions of one block of a leg in a row, with notes, where they are on, of what these read
+//! of the snapshot and the input.
 #![tactic(auto)]
 
 ghost use Rattle.noting_run.specs.ByMarks.{AgreesByMarks};
@@ -8,9 +9,9 @@ mod marking;
 mod notes;
 mod reading;
 
-pub use block::run_block_noting;
+pub use block::run_leg_block;
 pub use marking::note;
-pub use notes::Noted;
+pub use notes::{Noted, Notes};
 
 /// A snapshot and an input have what was read of others exactly where they agree with these on what
 /// is noted.

@@ -22,10 +22,11 @@ ghost use Rattle.rev_vm.specs.Values.{fork_group, joiner_group, runner_group};
 use crate::beginning::begun;
 use crate::end::{Broken, Stopped, break_off, stop};
 use crate::fork::AtFork;
+use crate::instructions::run_plain;
 use crate::join::AtJoin;
 use crate::runner::Runner;
 use crate::spares::Spares;
-use leg_run::{CodeSetting, LegEnd, Meeting, Revision, Run, run};
+use leg_run::{CodeSetting, LegEnd, Meeting, Revision, Run};
 use rev_num::{Cause, Items};
 use std::alloc::{AllocError, Global};
 use version_map::{CodeTrap, Finish, Snapshot, Written};
@@ -170,7 +171,7 @@ pub fn run_leg<P: Snapshot>(
         (λ b. P.group b.snapshot ≡ runner_group runner) }
 {
     let mut revision = begun(alloc, setting, runner, spares)?;
-    match run(setting, &mut *revision) {
+    match run_plain(setting, &mut *revision) {
         Err(_) => Err(break_off(revision)),
         Ok(LegEnd::Fork(block)) => Ok(Event::Fork(AtFork { revision, block })),
         Ok(LegEnd::Join { is_try, on }) => {

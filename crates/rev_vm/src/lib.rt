@@ -6,6 +6,7 @@ mod end;
 mod fork;
 mod frame;
 mod fresh;
+mod instructions;
 mod join;
 mod laws;
 mod leg;

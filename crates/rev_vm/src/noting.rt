@@ -22,10 +22,11 @@ ghost use Rattle.rev_vm.specs.Values.{fork_group, joiner_group, runner_group};
 use crate::beginning::begun;
 use crate::end::{Broken, break_off};
 use crate::fork::AtFork;
+use crate::instructions::run_noting;
 use crate::leg::{Event, at_join, own_trap, stop_at};
 use crate::runner::Runner;
 use crate::spares::Spares;
-use leg_run::{CodeSetting, LegEnd, Noted, run_noting};
+use leg_run::{CodeSetting, LegEnd, Noted};
 use std::alloc::Global;
 use version_map::{Finish, Snapshot};
 
@@ -75,7 +76,7 @@ pub fn run_leg_noting<P: Snapshot>(
         (λ b. P.group b.snapshot ≡ runner_group runner) }
 {
     let mut revision = begun(alloc, setting, runner, spares)?;
-    match run_noting(setting, &mut *revision, noted) {
+    match run_noting(alloc, setting, &mut *revision, noted) {
         Err(_) => Err(break_off(revision)),
         Ok(LegEnd::Fork(block)) => Ok(Event::Fork(AtFork { revision, block })),
         Ok(LegEnd::Join { is_try, on }) => {

@@ -1,21 +1,26 @@
--- Answers of run: each round leads by steps to a state with a smaller clock, so the last one ends the leg.
+-- Answers of run: each noted round leads on with a smaller clock, so all reads of the leg are noted.
 use Rattle.std.proofs.Common.{◌∙◌, refl, subst}
 use Rattle.rev_code.specs.Step as s
 use Rattle.version_map.specs.Deltas.{at}
 use Rattle.version_map.specs.Overlay.{under}
-use Rattle.leg_run.specs.Ends.{RoundTo}
+use Rattle.block_run.specs.Area.{count}
+use Rattle.noting_run.specs.Runs.{reads_of}
+use Rattle.noting_run.proofs.IfOn.{none_marked_if_on, places_still}
+use Rattle.leg_run.specs.Noting.{RoundTo, marks_of}
 use Rattle.leg_run.specs.Standing.{state_of}
-use Rattle.leg_run.proofs.Rounding.{ends_leg, round_less, round_on}
+use Rattle.leg_run.proofs.NotedLegs.{leg_noted, round_on_noting}
+use Rattle.leg_run.proofs.Rounding.{ends_leg, round_less}
 use Rattle.leg_run.proofs.legs.run.Goals as goal
 
 pub loop-end-init : goal.loop-end-init
 loop-end-init g c = record {
   ahead = (
-    state_of c.args.setting.now.code c.args.revision.now.run
+    (state_of c.args.setting.now.code c.args.revision.now.run
         (under c.args.revision.now.memory.delta (g.P.Snapshot.base c.args.revision.now.memory.snapshot))
-        (at c.args.revision.now.memory.first.roots),
+        (at c.args.revision.now.memory.first.roots)),
     s.none,
     c.requires.stands,
+    none_marked_if_on c.args.notes.now,
   );
   size = refl;
   group = refl;
@@ -25,18 +30,20 @@ pub loop-end-preserved : goal.loop-end-preserved
 loop-end-preserved g c =
     let a = c.loop-end.invariant.ahead in
     record {
-      ahead = round_on c.args.setting.now.code c.args.setting.now.faultless c.args.setting.now.inputs.items
-          c.args.setting.now.share c.loop-end.revision.run c.go_on.new.run
-          (under c.loop-end.revision.memory.delta (g.P.Snapshot.base c.loop-end.revision.memory.snapshot))
-          (under c.go_on.new.memory.delta (g.P.Snapshot.base c.go_on.new.memory.snapshot))
-          (at c.loop-end.revision.memory.first.roots) (at c.go_on.new.memory.first.roots) a.0 a.2
-          (state_of c.args.setting.now.code c.args.revision.now.run
+      ahead = round_on_noting c.args.setting.now.code c.args.setting.now.faultless c.args.setting.now.inputs.items
+          c.args.setting.now.share (state_of c.args.setting.now.code c.args.revision.now.run
           (under c.args.revision.now.memory.delta (g.P.Snapshot.base c.args.revision.now.memory.snapshot))
           (at c.args.revision.now.memory.first.roots))
-          a.1 (subst (λ t.
-          RoundTo c.args.setting.now.code c.args.setting.now.inputs.items c.args.setting.now.share a.0 t c.go_on.new.run
+          c.loop-end.revision.run c.go_on.new.run
+          (under c.loop-end.revision.memory.delta (g.P.Snapshot.base c.loop-end.revision.memory.snapshot))
           (under c.go_on.new.memory.delta (g.P.Snapshot.base c.go_on.new.memory.snapshot))
-          (at c.go_on.new.memory.first.roots))
+          (at c.loop-end.revision.memory.first.roots) (at c.go_on.new.memory.first.roots) c.args.notes.now
+          c.loop-end.notes c.go_on.new.notes a
+          (subst (λ t.
+          RoundTo c.args.setting.now.code c.args.setting.now.inputs.items c.args.setting.now.share a.0 t
+          c.go_on.new.run
+          (under c.go_on.new.memory.delta (g.P.Snapshot.base c.go_on.new.memory.snapshot))
+          (at c.go_on.new.memory.first.roots) c.loop-end.notes c.go_on.new.notes)
           c.in-Goes.is (c.in_ok-go_on.ensures.rounds a.0 a.2));
       size = c.in_ok-go_on.ensures.size ∙ c.loop-end.invariant.size;
       group = c.in_ok-go_on.ensures.group ∙ c.loop-end.invariant.group;
@@ -50,26 +57,55 @@ loop-end-smaller g c =
     (under c.loop-end.revision.memory.delta (g.P.Snapshot.base c.loop-end.revision.memory.snapshot))
     (under c.go_on.new.memory.delta (g.P.Snapshot.base c.go_on.new.memory.snapshot))
     (at c.loop-end.revision.memory.first.roots) (at c.go_on.new.memory.first.roots) a.0 a.2
-    (subst (λ t.
-    RoundTo c.args.setting.now.code c.args.setting.now.inputs.items c.args.setting.now.share a.0 t c.go_on.new.run
+    c.loop-end.notes c.go_on.new.notes (subst (λ t.
+    RoundTo c.args.setting.now.code c.args.setting.now.inputs.items c.args.setting.now.share a.0 t
+    c.go_on.new.run
     (under c.go_on.new.memory.delta (g.P.Snapshot.base c.go_on.new.memory.snapshot))
-    (at c.go_on.new.memory.first.roots))
+    (at c.go_on.new.memory.first.roots) c.loop-end.notes c.go_on.new.notes)
     c.in-Goes.is (c.in_ok-go_on.ensures.rounds a.0 a.2))
 
 pub go_on-requires-clause-stands : goal.go_on-requires-clause-stands
 go_on-requires-clause-stands g c = let a = c.loop-end.invariant.ahead in (a.0, a.2)
+
+pub go_on-requires-clause-places : goal.go_on-requires-clause-places
+go_on-requires-clause-places g c =
+    let a = c.loop-end.invariant.ahead in
+    places_still (count c.args.setting.now.code.vars) (count c.args.setting.now.code.vars) c.args.setting.now.inputs.items
+    c.args.notes.now c.loop-end.notes (marks_of (reads_of a.1)) refl a.3 c.requires.places
 
 pub returns-in-Ends-clause-leg : goal.returns-in-Ends-clause-leg
 returns-in-Ends-clause-leg g c =
     let a = c.loop-end.invariant.ahead in
     ends_leg c.args.setting.now.code c.args.setting.now.faultless c.args.setting.now.inputs.items
     c.args.setting.now.share c.go_on.new.run
-    (under c.go_on.new.memory.delta (g.P.Snapshot.base c.go_on.new.memory.snapshot)) (at c.go_on.new.memory.first.roots)
+    (under c.go_on.new.memory.delta (g.P.Snapshot.base c.go_on.new.memory.snapshot))
+    (at c.go_on.new.memory.first.roots)
     (state_of c.args.setting.now.code c.args.revision.now.run
     (under c.args.revision.now.memory.delta (g.P.Snapshot.base c.args.revision.now.memory.snapshot))
     (at c.args.revision.now.memory.first.roots))
-    a.0 a.1 c.in-Ends.end (subst
-    (λ t. RoundTo c.args.setting.now.code c.args.setting.now.inputs.items c.args.setting.now.share a.0 t c.go_on.new.run
+    a.0 a.1 c.in-Ends.end
+    c.loop-end.notes c.go_on.new.notes (subst (λ t.
+    RoundTo c.args.setting.now.code c.args.setting.now.inputs.items c.args.setting.now.share a.0 t
+    c.go_on.new.run
     (under c.go_on.new.memory.delta (g.P.Snapshot.base c.go_on.new.memory.snapshot))
-    (at c.go_on.new.memory.first.roots))
+    (at c.go_on.new.memory.first.roots) c.loop-end.notes c.go_on.new.notes)
+    c.in-Ends.is (c.in_ok-go_on.ensures.rounds a.0 a.2))
+
+pub returns-in-Ends-clause-noted : goal.returns-in-Ends-clause-noted
+returns-in-Ends-clause-noted g c =
+    let a = c.loop-end.invariant.ahead in
+    leg_noted c.args.setting.now.code c.args.setting.now.faultless c.args.setting.now.inputs.items
+    c.args.setting.now.share (state_of c.args.setting.now.code c.args.revision.now.run
+    (under c.args.revision.now.memory.delta (g.P.Snapshot.base c.args.revision.now.memory.snapshot))
+    (at c.args.revision.now.memory.first.roots))
+    c.loop-end.revision.run c.go_on.new.run
+    (under c.loop-end.revision.memory.delta (g.P.Snapshot.base c.loop-end.revision.memory.snapshot))
+    (under c.go_on.new.memory.delta (g.P.Snapshot.base c.go_on.new.memory.snapshot))
+    (at c.loop-end.revision.memory.first.roots) (at c.go_on.new.memory.first.roots) c.args.notes.now
+    c.loop-end.notes c.go_on.new.notes a c.in-Ends.end
+    (subst (λ t.
+    RoundTo c.args.setting.now.code c.args.setting.now.inputs.items c.args.setting.now.share a.0 t
+    c.go_on.new.run
+    (under c.go_on.new.memory.delta (g.P.Snapshot.base c.go_on.new.memory.snapshot))
+    (at c.go_on.new.memory.first.roots) c.loop-end.notes c.go_on.new.notes)
     c.in-Ends.is (c.in_ok-go_on.ensures.rounds a.0 a.2))

@@ -1,24 +1,20 @@
--- Loops of run: steps lead from the first state to one where the revision stands; size and group stay.
+-- Loops of run: noted steps lead from the first state to where the revision stands; size and group stay.
 use Rattle.std.proofs.Common.{◌≡◌}
-use Rattle.rev_code.specs.State.{State}
-use Rattle.rev_code.specs.Step.{Steps}
-use Rattle.rev_code.specs.Funs.{setting}
 use Rattle.version_map.specs.Deltas.{at}
 use Rattle.version_map.specs.Overlay.{under}
 use Rattle.code_machine.specs.Leg.{clock}
-use Rattle.leg_run.specs.Standing.{Stands, state_of}
+use Rattle.leg_run.specs.Standing.{state_of}
+use Rattle.leg_run.proofs.NotedLegs.{AheadTo}
 use Rattle.leg_run.proofs.legs.run.Given as goal
 
 abbrev pub invariant-loop-end : goal.invariant-loop-end
 invariant-loop-end g l = record {
-  ahead : (c : State _) × Steps (setting l.setting.code l.setting.inputs.items l.setting.share)
+  ahead : AheadTo l.setting.code l.setting.inputs.items l.setting.share
       (state_of l.setting.code l.initial.revision.run
       (under l.initial.revision.memory.delta (g.P.Snapshot.base l.initial.revision.memory.snapshot))
       (at l.initial.revision.memory.first.roots))
-      c
-      × Stands l.setting.code l.setting.inputs.items l.setting.share l.revision.run
-      (under l.revision.memory.delta (g.P.Snapshot.base l.revision.memory.snapshot)) (at l.revision.memory.first.roots)
-      c;
+      l.revision.run (under l.revision.memory.delta (g.P.Snapshot.base l.revision.memory.snapshot))
+      (at l.revision.memory.first.roots) l.initial.notes l.notes;
   size : g.P.Snapshot.size l.revision.memory.snapshot ≡ g.P.Snapshot.size l.initial.revision.memory.snapshot;
   group : g.P.Snapshot.group l.revision.memory.snapshot ≡ g.P.Snapshot.group l.initial.revision.memory.snapshot;
 }
