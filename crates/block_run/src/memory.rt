@@ -1,7 +1,6 @@
 //! What a revision reads and writes.
 
-ghost use Rattle.std.specs.Prelude.{◌≡◌, ◌<◌, ◌≤◌, ◌+◌, ◌++◌, IfOk, Option, option_to_list};
-ghost use Rattle.std.specs.Prelude.{length, vec_capacity, vec_len};
+ghost use Rattle.std.specs.Prelude.{◌≡◌, ◌≢◌, ◌<◌, ◌≤◌, [], ◌∷◌, IfOk, None};
 ghost use Rattle.version_map.specs.declared.snapshot.Collapsed.{Collapsed};
 ghost use Rattle.version_map.specs.declared.snapshot.How.TheVariants as how;
 ghost use Rattle.version_map.specs.Ascending.{IsAscending};
@@ -104,10 +103,12 @@ impl<P: Snapshot> Memory<P> {
         self.snapshot.fork(alloc, &mut self.delta)
     }
 
-    /// What was written at a location, if anything.
-    fn written_at(&mut self, location: u32) -> Option<Written>
-        requires { location < P.size self.old.snapshot }
-        ensures value { option_to_list result ≡ written_there location
+    /// What was written at a location that was.
+    #[inline(always)]
+    fn written_at(&mut self, location: u32) -> Written
+        requires inside { location < P.size self.old.snapshot }
+        requires some { at self.old.first.roots location ≢ None }
+        ensures value { result ∷ [] ≡ written_there location
             (under self.old.delta (P.base self.old.snapshot) location)
             (at self.old.first.roots location) }
         ensures kept { Kept (P.size self.old.snapshot)
@@ -119,39 +120,31 @@ impl<P: Snapshot> Memory<P> {
         ensures answered { (c : Collapsed) → P.answered self.old.snapshot c
             → P.answered self.new.snapshot c }
     {
-        match self.first.get(location) {
-            None => None,
-            Some(root) => {
-                let value = self.read(location);
-                Some(Written {
-                    location,
-                    value,
-                    root,
-                })
-            },
+        let root = self.first.word(location);
+        let value = self.read(location);
+        Written {
+            location,
+            value,
+            root,
         }
     }
 
-    /// No fewer than the locations that were written: 64 for each row of 64 of which one was.
+    /// No fewer than the locations that were written. It counts the bits of each row of 64 locations
+    /// of which one was written.
     fn room(&self) -> usize
         ensures { written_count (at self.now.first.roots) (P.size self.now.snapshot) ≤ result }
     {
-        let count = self.delta.locations();
-        let mut room: u32 = 0;
-        let mut location: u32 = 0;
-        while location < count {
-            let row = u32::min(64, count - location);
-            if !self.first.starts_empty_row(location) {
-                room += row;
-            }
-            location += row;
+        let mut room = 0;
+        let mut from = 0;
+        while let Some(row) = self.first.next_row(from) {
+            room += self.first.mask_row(row).count_ones() as usize;
+            from = row + 1;
         }
-        room as usize
+        room
     }
 
     /// An empty list with room for the locations that were written, so that `list_written` takes no
-    /// memory. It looks at rows of 64 locations, and has room for a whole row where one of the row
-    /// was written.
+    /// memory.
     pub fn room_for_written(&self, alloc: Global) -> Result<Vec<Written>, AllocError>
         ensures { IfOk result (λ r. HasRoom r (at self.now.first.roots)
             (P.size self.now.snapshot)) }
@@ -161,8 +154,7 @@ impl<P: Snapshot> Memory<P> {
 
     /// The locations that were written, in ascending order, each with its word and the word that
     /// was there when the revision was forked. The list that is given is empty and has room for
-    /// them, and is the one that comes back. It passes 64 locations at once where none of them was
-    /// written.
+    /// them, and is the one that comes back. It goes from one written location to the next.
     pub fn list_written(&mut self, room: Vec<Written>) -> Vec<Written>
         requires { HasRoom room (at self.old.first.roots) (P.size self.old.snapshot) }
         ensures written { result.items ≡ written_below
@@ -179,16 +171,10 @@ impl<P: Snapshot> Memory<P> {
             → P.answered self.new.snapshot c }
     {
         let mut written = room;
-        let count = self.delta.locations();
-        let mut location = 0;
-        while location < count {
-            if self.first.starts_empty_row(location) {
-                location += u32::min(64, count - location);
-            } else {
-                let found = self.written_at(location);
-                push_found(&mut written, found);
-                location += 1;
-            }
+        let mut from = 0;
+        while let Some(location) = self.first.next(from) {
+            written.push_reserved(self.written_at(location));
+            from = location + 1;
         }
         written
     }
@@ -210,17 +196,5 @@ impl<P: Snapshot> Memory<P> {
     {
         let room = self.room_for_written(alloc)?;
         Ok(self.list_written(room))
-    }
-}
-
-/// Lists what was written at one more location, if anything, for which there is room.
-fn push_found(written: &mut Vec<Written>, found: Option<Written>)
-    requires { vec_len written.old + length (option_to_list found) ≤ vec_capacity written.old }
-    ensures items { written.new.items ≡ written.old.items ++ option_to_list found }
-    ensures room { vec_capacity written.new ≡ vec_capacity written.old }
-{
-    match found {
-        None => {},
-        Some(w) => written.push_reserved(w),
     }
 }

@@ -1,6 +1,6 @@
 -- A segment is laid down word by word.
 use Rattle.std.proofs.Common.{◌≡◌, ◌≢◌, ℕ, ◌+◌, ◌-◌, ◌*◌, ◌/◌, ◌%◌, ◌<◌, ◌≤◌, Bool, cond, List, ◌∷◌, slice_index, sym}
-use Rattle.std.proofs.Common.{ap, ◌∙◌, subst, arith, eq-eqb, ne_eqb, Option, None, Some}
+use Rattle.std.proofs.Common.{ap, refl, ◌∙◌, subst, arith, eq-eqb, ne_eqb, Option, None, Some, []}
 use mathlib.Core.Option as m
 use mathlib.Core.Logic.{dite}
 use native.Mathlib.Decide.{ℕ_discrete}
@@ -10,7 +10,6 @@ use Rattle.version_map.specs.declared.delta.Delta.{Delta}
 use Rattle.std.specs.Int.{bit_at}
 use Rattle.std.proofs.lemmas.Nat.Bits.{bit_at-zero}
 use Rattle.version_map.specs.Deltas.{at, mask_of}
-use Rattle.version_map.specs.Masks.{bit_in, chosen}
 use Rattle.version_map.proofs.Bits.{chosen_zero}
 use Rattle.segment_store.specs.Entry.{Put}
 use Rattle.segment_store.specs.declared.board.View.{View}
@@ -34,6 +33,32 @@ none_some {A} w o p q = subst is_none (sym p ∙ q) tt where
   is_none (Some x) = ⊥
 
 module _ (segment parent masks : ℕ) (d : Delta) where
+  -- the parent alone
+  pub filling_starts : (made : List Put) → made ≡ []
+      → Filling segment parent masks d 0 0 (record { at = segment + 1; word = parent } ∷ made)
+  filling_starts made none = record {
+    parent_is = look_here made (segment + 1) (segment + 1) parent refl;
+    mask_is = λ j lt. absurd (omega arith);
+    value_is = λ j w lt e. absurd (omega arith);
+    none_is = λ j z. look_else made (segment + 1) (segment + (2 + masks + j)) parent (λ q. omega arith)
+        ∙ ap (λ (ps : List Put). look ps (segment + (2 + masks + j))) none;
+  }
+
+  -- a mask word more
+  pub filling_mask : (k : ℕ) (made new : List Put) → k < masks → Filling segment parent masks d k 0 made
+      → look new (segment + (2 + k)) ≡ m.some (slice_index (mask_of d) k)
+      → ((j : ℕ) → j ≢ segment + (2 + k) → look new j ≡ look made j)
+      → Filling segment parent masks d (k + 1) 0 new
+  filling_mask k made new low f here others = record {
+    parent_is = others (segment + 1) (λ q. omega arith) ∙ f.parent_is;
+    mask_is = λ j lt. dite (ℕ_discrete j k)
+        (λ is. ap (λ (n : ℕ). look new (segment + (2 + n))) is
+        ∙ (here ∙ ap (λ (n : ℕ). m.some (slice_index (mask_of d) n)) (sym is)))
+        (λ ne. others (segment + (2 + j)) (λ q. ne (omega arith)) ∙ f.mask_is j (omega arith));
+    value_is = λ j w lt e. absurd (omega arith);
+    none_is = λ j z. others (segment + (2 + masks + j)) (λ q. omega arith) ∙ f.none_is j z;
+  }
+
   pub filling_value : (l w : ℕ) (made : List Put) → Filling segment parent masks d masks l made
       → at d l ≡ Some w
       → Filling segment parent masks d masks (l + 1)
@@ -89,17 +114,6 @@ module _ (segment parent masks : ℕ) (d : Delta) where
       subst (λ (z : ℕ). Filling segment parent masks d masks (l + 1) (record { at = z; word = w } ∷ made)) (sym is)
       (filling_value l w made f is_some)
 
--- what a row of the mask says of a location of the row
-pub in_a_row : (d : Delta) (row k bits w : ℕ) → k < 64 → bits ≡ slice_index (mask_of d) row
-    → at d (64 * row + k) ≡ chosen (bit_in (mask_of d) (64 * row + k)) w
-    → at d (64 * row + k) ≡ chosen (bit_at bits k) w
-in_a_row d row k bits w lt is here =
-    let at_row : (64 * row + k) / 64 ≡ row = omega arith in
-    let at_bit : (64 * row + k) % 64 ≡ k = omega arith in
-    here
-    ∙ ((λ i. chosen (bit_at (slice_index (mask_of d) (at_row i)) (at_bit i)) w)
-    ∙ ap (λ (z : ℕ). chosen (bit_at z k) w) (sym is))
-
 pub empty_row : (d : Delta) (row l : ℕ) → slice_index (mask_of d) row ≡ 0 → 64 * row ≤ l → l < 64 * row + 64
     → at d l ≡ None
 empty_row d row l zero lo hi =
@@ -107,9 +121,6 @@ empty_row d row l zero lo hi =
     chosen_zero _ _
     (ap (λ (z : ℕ). bit_at (slice_index (mask_of d) z) (l % 64)) same
     ∙ (ap (λ (z : ℕ). bit_at z (l % 64)) zero ∙ bit_at-zero (l % 64)))
-
-pub beyond : (d : Delta) (l : ℕ) → d.count ≤ l → at d l ≡ None
-beyond d l le = chosen_zero _ _ (d.clean l le)
 
 -- a part more
 pub fills_more : (s t u : Seat (Unit {0}) View) → Becomes s t (filled s.me.0 t.me.0.made)
@@ -132,3 +143,22 @@ puts_more s t u i w a b = let made : u.me.0.made ≡ record { at = i; word = w }
       ),
       sym made,
     )
+
+-- one word, as looks at the words that were put tell it
+pub put_look : (s u : Seat (Unit {0}) View) (i w : ℕ) → Becomes s u (puts s.me.0 i w)
+    → Becomes s u (filled s.me.0 u.me.0.made) × (look u.me.0.made i ≡ m.some w)
+    × ((j : ℕ) → j ≢ i → look u.me.0.made j ≡ look s.me.0.made j)
+put_look s u i w b = let p = puts_more s s u i w (refl, refl, refl) b in (
+  p.0,
+  subst (λ (ps : List Put). look ps i ≡ m.some w) p.1 (look_here s.me.0.made i i w refl),
+  λ j ne. subst (λ (ps : List Put). look ps j ≡ look s.me.0.made j) p.1
+      (look_else s.me.0.made i j w (λ q. ne (sym q))),
+)
+
+-- another one in its place
+pub put_again : (s t u : Seat (Unit {0}) View) (i w x : ℕ) → Becomes s t (puts s.me.0 i w)
+    → Becomes t u (puts t.me.0 i x)
+    → Becomes s u (filled s.me.0 u.me.0.made) × (look u.me.0.made i ≡ m.some x)
+    × ((j : ℕ) → j ≢ i → look u.me.0.made j ≡ look s.me.0.made j)
+put_again s t u i w x a b = let p = put_look s t i w a in let q = put_look t u i x b in
+    (fills_more s t u p.0 q.0, q.1, λ j ne. q.2 j ne ∙ p.2 j ne)

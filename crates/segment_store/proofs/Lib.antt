@@ -6,6 +6,7 @@ pub mod Cuts
 pub mod Closes
 pub mod Walk
 pub mod Taken
+pub mod Missing
 pub mod Fills
 pub mod Looks
 pub mod Forks

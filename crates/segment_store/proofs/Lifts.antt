@@ -129,6 +129,13 @@ module _ (words stride masks : ℕ) (some_words : 0 < stride) where
       (λ k sh. header_ties words stride masks r.fit.0 r.fit.1 s r.kept k sh id v at h j x
       (omega arith) (omega arith))))))
 
+  -- to put the word that stands there already changes no word
+  pub adopt : (slots id : ℕ) (me : M) (i : ℕ) → 0 < me.0.build → me.0.build < i
+      → i < me.0.build + stride → i < words
+      → Allows R slots id me i (λ n. n) (st.adopted (step slots i 0 0 m.none) me)
+  adopt slots id me i h lo hi inside s r homes at small =
+      put slots id me i (get_or s.words i 0) h lo hi inside s r homes at small
+
   pub publish : (slots id : ℕ) (me : M) (c : ℕ) → 0 < c → c ≡ me.0.build → me.0.extra ≡ 0
       → (d : Delta) × IsLaid c (st.first_of me.0.chain) stride masks d me.0.made
       → Allows R slots id me c (λ _. 2) (λ _. st.published (step slots c 2 0 m.none) me 2)

@@ -171,6 +171,10 @@ claimed st m r m' = (r ≡ 0 → m' ≡ (claims m.0 st.word, m.1))
 abbrev pub wrote : Then
 wrote st m r m' = m' ≡ (puts m.0 st.word st.first, m.1)
 
+-- a word that stands in the segment that it builds counts as put
+abbrev pub adopted : Then
+adopted st m r m' = m' ≡ (puts m.0 st.word r, m.1)
+
 abbrev pub published : Then
 published st m r m' = (m' ≡ (publishes m.0, m.1)) × (length m.0.chain ≤ 1099511627776)
 

@@ -1,6 +1,6 @@
 //! What each step tells.
 ghost use Rattle.segment_store.specs.Rule.{Rule};
-ghost use Rattle.segment_store.specs.Store.{idle, looked, saw, found, claimed, wrote, published};
+ghost use Rattle.segment_store.specs.Store.{idle, looked, saw, found, claimed, wrote, adopted, published};
 ghost use Rattle.segment_store.specs.Store.{shared, released, tallied, hands_left, hands_right};
 ghost use Rattle.segment_store.specs.Store.{parts_left, gathers};
 
@@ -44,6 +44,12 @@ pub struct Write;
 
 impl Play<(), View> for Write {
     ghost then = { wrote };
+}
+
+pub struct Adopt;
+
+impl Play<(), View> for Adopt {
+    ghost then = { adopted };
 }
 
 pub struct Publish;

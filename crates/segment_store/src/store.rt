@@ -17,6 +17,7 @@ ghost use Rattle.segment_store.specs.Own.{IsOwn};
 
 mod closing;
 mod copies;
+mod filling;
 mod rows;
 mod steps;
 mod walks;

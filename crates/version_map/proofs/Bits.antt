@@ -2,18 +2,18 @@
 --   rows_over        each location has a mask word
 --   bit_set          a location's bit after its mask word was written
 --   bit_else         the other locations' bits then
---   row_is_unset     the bits of a row that is 0
---   row_is_zero      a mask word none of whose bits is set is 0
+--   one_or_zero      no bit is both
+--   chosen_some      a value is there only where the bit is 1
+--   not_chosen       and none only where it is 0
 --   mask_after       the mask that lies behind the words, after one of its words and a word
 --   has_row          the mask behind the words has a row that the cells have
 --   bit_else_after   the other locations' bits then
 --   word_else_after  the other locations' words then
-use Rattle.std.proofs.Common.{◌≡◌, ◌≢◌, ℕ, ◌+◌, ◌-◌, ◌/◌, ◌%◌, ◌<◌, ◌≤◌, ◌*◌, ◌^◌, List, length}
+use Rattle.std.proofs.Common.{◌≡◌, ◌≢◌, ℕ, ◌+◌, ◌/◌, ◌%◌, ◌<◌, ◌≤◌, List, length}
 use Rattle.std.proofs.Common.{get_or, set, sym, ap, ◌∙◌, arith, get_or-set_same, get_or-set_other}
-use Rattle.std.proofs.Common.{None, Some, Option, drop, subst}
+use Rattle.std.proofs.Common.{None, Some, Option, drop, subst, Bool, cond, ne_eqb}
 use Rattle.std.proofs.lemmas.List.{drop-set-lt, drop-set-add, get_or-drop, length-drop}
 use Rattle.std.specs.Int.{bit_at}
-use Rattle.std.proofs.lemmas.Nat.Bits.{bit_at-zero, bit_at-lt, same_from_bits_below}
 use mathlib.Core.Logic.{dite}
 use native.Mathlib.Decide.{ℕ_discrete}
 use Rattle.version_map.specs.Masks.{rows, bit_in, chosen}
@@ -65,11 +65,14 @@ chosen_one b w x e q = (λ i. chosen (e i) (q i))
 pub chosen_zero : (b w : ℕ) → b ≡ 0 → chosen b w ≡ None
 chosen_zero b w e = ap (λ (z : ℕ). chosen z w) e
 
-pub row_is_unset : (mask : List ℕ) (l k : ℕ) → l % 64 ≡ 0 → get_or mask (l / 64) 0 ≡ 0 → l ≤ k
-    → k < l + 64 → bit_in mask k ≡ 0
-row_is_unset mask l k first zero low high = let same : k / 64 ≡ l / 64 = omega arith in
-    ap (λ (z : ℕ). bit_at (get_or mask z 0) (k % 64)) same
-    ∙ (ap (λ (z : ℕ). bit_at z (k % 64)) zero ∙ bit_at-zero (k % 64))
+pub one_or_zero : (b : ℕ) → b ≡ 1 → b ≡ 0 → ⊥
+one_or_zero b one none = omega arith
+
+-- a value is there only where the bit is 1
+pub chosen_some : (b w : ℕ) → chosen b w ≢ None → chosen b w ≡ Some w
+chosen_some b w some = dite (ℕ_discrete b 1)
+    (λ one. ap (λ (z : ℕ). chosen z w) one)
+    (λ ne. absurd (some (ap (λ (t : Bool). cond t (Some w) None) (ne_eqb b 1 ne))))
 
 abbrev IsNone : Option ℕ → Type 0
 IsNone None = ⊥
@@ -79,20 +82,3 @@ pub not_chosen : (b w : ℕ) → b < 2 → chosen b w ≡ None → b ≡ 0
 not_chosen b w h e = dite (ℕ_discrete b 1)
     (λ one. absurd (subst IsNone (sym (ap (λ (z : ℕ). chosen z w) one) ∙ e) tt))
     (λ ne. omega arith)
-
-pub row_is_zero : (mask : List ℕ) (row : ℕ) → get_or mask row 0 < 2 ^ 64
-    → ((l : ℕ) → bit_in mask l ≡ 0) → get_or mask row 0 ≡ 0
-row_is_zero mask row fits none = same_from_bits_below 64 (get_or mask row 0) 0 fits (omega arith)
-    (λ i h. let l : ℕ = row * 64 + i in
-    let at_row : l / 64 ≡ row = omega arith in let at_bit : l % 64 ≡ i = omega arith in
-    subst (λ (k : ℕ). bit_at (get_or mask k 0) i ≡ 0) at_row
-    (subst (λ (b : ℕ). bit_at (get_or mask (l / 64) 0) b ≡ 0) at_bit (none l))
-    ∙ sym (bit_at-zero i))
-
-pub no_bits : (mask : List ℕ) (words : ℕ → ℕ) (n : ℕ)
-    → ((l : ℕ) → l < n → chosen (bit_in mask l) (words l) ≡ None)
-    → ((l : ℕ) → n ≤ l → bit_in mask l ≡ 0) → (l : ℕ) → bit_in mask l ≡ 0
-no_bits mask words n inside beyond l = dite (ℕ_discrete (n - l) 0)
-    (λ e. beyond l (omega arith))
-    (λ ne. not_chosen (bit_in mask l) (words l) (bit_at-lt (get_or mask (l / 64) 0) (l % 64))
-    (inside l (omega arith)))

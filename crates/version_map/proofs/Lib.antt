@@ -5,3 +5,6 @@ pub mod RowSteps
 pub mod RowParts
 pub mod Following
 pub mod WholeRows
+pub mod NextBits
+pub mod Summaries
+pub mod Nexts

@@ -58,7 +58,7 @@ module _ (n row k : ℕ) (cells words items : List ℕ) (within : 64 * row + 64 
   over : row < rows n
   over = omega arith
 
-  row_mask : drop n items ≡ set (drop n cells) row ones
+  pub row_mask : drop n items ≡ set (drop n cells) row ones
   row_mask = ap (drop n) is
       ∙ (drop-put_mid (64 * row) k before words n (omega arith) room many ∙ drop-set-add n cells row ones)
 

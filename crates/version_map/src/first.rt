@@ -1,7 +1,10 @@
 //! The words that were there when a revision was forked.
 
-ghost use Rattle.std.specs.Prelude.{◌≡◌, ◌≢◌, ℕ, ◌+◌, ◌*◌, ◌<◌, ◌≤◌, Some, IfOk, MatchBool};
-ghost use Rattle.version_map.specs.Deltas.{at, locations, HasRow, IsEmpty, StartsEmptyRow};
+ghost use Rattle.std.specs.Prelude.{◌≡◌, ◌≢◌, ℕ, ◌+◌, ◌*◌, ◌<◌, ◌≤◌, Some, None, IfOk};
+ghost use Rattle.std.specs.Prelude.{MatchBool, MatchOption, slice_index};
+ghost use Rattle.version_map.specs.Deltas.{at, locations, HasRow, IsEmpty};
+ghost use Rattle.version_map.specs.Deltas.{AreEmpty, AreEmptyRows, IsNext, IsNextRow, mask_of};
+ghost use Rattle.version_map.specs.Masks.{rows};
 
 use crate::delta::Delta;
 use std::alloc::{AllocError, Global};
@@ -32,13 +35,14 @@ impl First {
         self.roots.get(location)
     }
 
-    /// Whether a row of 64 locations begins at this one, and none of them has a word.
-    pub fn starts_empty_row(&self, location: u32) -> bool
-        requires { location < locations self.now.roots }
-        ensures { MatchBool result (StartsEmptyRow self.now.roots location)
-            (¬ StartsEmptyRow self.now.roots location) }
+    /// The word of a location that has one.
+    #[inline(always)]
+    pub fn word(&self, location: u32) -> u64
+        requires inside { location < locations self.now.roots }
+        requires some { at self.now.roots location ≢ None }
+        ensures { at self.now.roots location ≡ Some result }
     {
-        self.roots.starts_empty_row(location)
+        self.roots.word(location)
     }
 
     /// Whether each of the 64 locations from `64 * row` on has a word.
@@ -47,6 +51,36 @@ impl First {
         ensures { MatchBool result (HasRow self.now.roots row) (¬ HasRow self.now.roots row) }
     {
         self.roots.has_row(row)
+    }
+
+    /// The least location from this one on that has a word, if one has.
+    #[inline(always)]
+    pub fn next(&self, from: u32) -> Option<u32>
+        ensures { MatchOption result
+            (AreEmpty self.now.roots from (locations self.now.roots))
+            (IsNext self.now.roots from) }
+    {
+        self.roots.next(from)
+    }
+
+    /// The least row of 64 locations from this one on in which some location has a word, if there
+    /// is one.
+    #[inline(always)]
+    pub fn next_row(&self, from: usize) -> Option<usize>
+        ensures { MatchOption result
+            (AreEmptyRows self.now.roots from (rows (locations self.now.roots)))
+            (IsNextRow self.now.roots from) }
+    {
+        self.roots.next_row(from)
+    }
+
+    /// The bits of 64 locations from `64 * row` on, the lowest first, 1 where a location has a
+    /// word.
+    pub fn mask_row(&self, row: usize) -> u64
+        requires { row < rows (locations self.now.roots) }
+        ensures { result ≡ slice_index (mask_of self.now.roots) row }
+    {
+        self.roots.mask_row(row)
     }
 
     /// Gives the location a word.

@@ -7,6 +7,7 @@ mod eights;
 mod end;
 mod first;
 mod joining;
+mod one_word;
 mod snapshot;
 mod whole;
 
@@ -14,5 +15,6 @@ pub use delta::{Delta, mask_rows};
 pub use end::{CodeTrap, EndValue, Finish, Written};
 pub use first::First;
 pub use joining::{MergeBy, MergeTrap, compose};
+pub use one_word::next_bit;
 pub use snapshot::{Collapsed, How, Snapshot, collapse_all};
 pub use whole::Whole;

@@ -1,69 +1,15 @@
-//! What a seat does with a row of 64 locations, of a segment and of a delta.
-ghost use Rattle.std.specs.Prelude.{◌≡◌, ℕ, ◌+◌, ◌-◌, ◌*◌, ◌/◌, ◌<◌, ◌≤◌, ◌^◌, vec_len, Option, None};
+//! How a delta takes in the values of a segment, by rows of 64 locations.
+ghost use Rattle.std.specs.Prelude.{◌≡◌, ℕ, ◌+◌, ◌*◌, ◌<◌, ◌≤◌};
 ghost use Rattle.std.specs.Prelude.{MatchBool, length, slice_index};
-ghost use Rattle.version_map.specs.Deltas.{at, locations, mask_of};
-ghost use Rattle.segment_store.specs.Base.{filled};
-ghost use Rattle.segment_store.specs.Filling.{Filling, IsWhole};
-ghost use Rattle.segment_store.specs.Same.{IsSameSeat, Becomes, IsWord};
+ghost use Rattle.version_map.specs.Deltas.{at, locations};
+ghost use Rattle.segment_store.specs.Filling.{IsWhole};
+ghost use Rattle.segment_store.specs.Same.{IsSameSeat, IsWord};
 
 use crate::store::{Place, Store};
-use version_map::Delta;
+use version_map::{Delta, next_bit};
 
 impl Store {
     ghost use Rattle.segment_store.specs.Names.{IsSeatOf, IsDeltaOf, IsTakenIn};
-
-    // Lays down each value that the delta has in a row of its mask. A row of 0 is passed over.
-    pub(super) fn fill_row(&self, seat: &mut Place, segment: usize, row: usize, delta: &Delta)
-        requires own { IsSeatOf self.now seat.old × IsDeltaOf self.now delta.now }
-        requires built { (0 < segment) × (segment ≡ seat.old.me.0.build)
-            × (segment + self.now.stride ≤ self.now.words) × (row < self.now.masks) }
-        ensures view { Becomes seat.old seat.new (filled seat.old.me.0 seat.new.me.0.made) }
-        ensures laid { (parent : ℕ)
-            → Filling segment parent self.now.masks delta.now self.now.masks (64 * row)
-            seat.old.me.0.made
-            → Filling segment parent self.now.masks delta.now self.now.masks (64 * row + 64)
-            seat.new.me.0.made }
-    {
-        let bits = delta.mask_row(row);
-        if bits == 0 {
-            return;
-        }
-        let words = delta.row_words(row);
-        let first = segment + (2 + self.masks + 64 * row);
-        for k in 0..words.len() {
-            if bits >> k & 1 == 1 {
-                self.put(seat, segment, first + k, words[k]);
-            }
-        }
-    }
-
-    // What `into` has at the location once it has taken the segment's value, whose mask word is
-    // `bits`.
-    fn taken(
-        &self,
-        seat: &mut Place,
-        segment: usize,
-        l: usize,
-        bits: u64,
-        old: Option<u64>,
-    ) -> Option<u64>
-        requires own { IsSeatOf self.now seat.old × (l < vec_len self.now.initial)
-            × (segment + self.now.stride ≤ self.now.words) }
-        requires bits { IsWord seat.old (segment + (2 + l / 64)) bits }
-        ensures same { IsSameSeat seat.old seat.new }
-        ensures value { IsTakenIn self.now segment l seat.old.me.0.chain old result }
-        ensures none { result ≡ None → old ≡ None }
-    {
-        match old {
-            Some(word) => Some(word),
-            None => {
-                if bits >> (l % 64) & 1 != 1 {
-                    return None;
-                }
-                Some(self.word(seat, segment + (2 + self.masks + l)))
-            },
-        }
-    }
 
     // Reads 64 words from this one on.
     fn read_row(&self, seat: &mut Place, from: usize, words: &mut [u64])
@@ -104,7 +50,8 @@ impl Store {
         into.set_row(row, &words);
     }
 
-    // Copies the values of one row of the mask, which is `bits`, where `into` has none.
+    // Copies the values of one row of the mask, which is `bits`, where `into` has none. It goes from
+    // bit to bit of those that `into` lacks.
     fn absorb_cells(
         &self,
         seat: &mut Place,
@@ -125,12 +72,16 @@ impl Store {
             → IsTakenIn self.now segment l seat.old.me.0.chain (at into.old l) (at into.new l) }
     {
         let first = 64 * row;
-        let end = self.initial.len().min(first + 64);
-        for l in first..end {
-            match self.taken(seat, segment, l, bits, into.get(l as u32)) {
-                Some(word) => into.set(l as u32, word),
-                None => {},
+        let missing = bits & !into.mask_row(row);
+        let mut from = 0;
+        while let Some(k) = next_bit(missing, from) {
+            let l = first + k;
+            if l >= self.initial.len() {
+                return;
             }
+            let word = self.word(seat, segment + (2 + self.masks + l));
+            into.set(l as u32, word);
+            from = k + 1;
         }
     }
 

@@ -10,7 +10,8 @@ ghost use Rattle.segment_store.specs.Same.{IsSameSeat, Becomes, IsWord};
 
 use crate::board::View;
 use crate::plays::{
-    Claim, Find, Gather, HandOn, Look, Part, Publish, Release, See, Share, Tally, Witness, Write,
+    Adopt, Claim, Find, Gather, HandOn, Look, Part, Publish, Release, See, Share, Tally, Witness,
+    Write,
 };
 use crate::store::{Place, Store};
 
@@ -80,6 +81,16 @@ impl Store {
         ensures { Becomes seat.old seat.new (puts seat.old.me.0 i x) }
     {
         self.table.shared.store::<Write>(seat, i, x);
+    }
+
+    // The word that stands at a place of the segment that the seat builds. It counts as put.
+    pub(super) fn adopt(&self, seat: &mut Place, segment: usize, i: usize) -> u64
+        requires own { IsSeatOf self.now seat.old × (i < self.now.words) }
+        requires inside { (0 < segment) × (segment ≡ seat.old.me.0.build) × (segment < i)
+            × (i < segment + self.now.stride) }
+        ensures { Becomes seat.old seat.new (puts seat.old.me.0 i result) }
+    {
+        self.table.shared.load::<Adopt>(seat, i)
     }
 
     pub(super) fn publish(&self, seat: &mut Place, segment: usize)

@@ -4,8 +4,7 @@ ghost use Rattle.std.specs.Prelude.{vec_len, List, IfOk, IfErr, None, IfNone, If
 ghost use mathlib.Core.Option.{some};
 ghost use Rattle.version_map.specs.Deltas.{at, locations};
 ghost use Rattle.segment_store.specs.Store.{first_of, idle, notes, claims};
-ghost use Rattle.segment_store.specs.Base.{value, IsLaid};
-ghost use Rattle.segment_store.specs.Base.{filled, logged};
+ghost use Rattle.segment_store.specs.Base.{value, logged};
 ghost use Rattle.segment_store.specs.Same.{IsSameSeat, Becomes, IsWord};
 ghost use Rattle.segment_store.specs.Own.{root_in, IsOwn, IsComplete};
 
@@ -74,26 +73,6 @@ impl Store {
             return segment;
         }
         self.claim_between(seat, self.stride, begin)
-    }
-
-    // Lays down the parent, the mask, and each value that the delta has.
-    pub(super) fn fill(&self, seat: &mut Place, segment: usize, parent: usize, delta: &Delta)
-        requires own { IsSeatOf self.now seat.old × IsDeltaOf self.now delta.now }
-        requires built { (0 < segment) × (segment ≡ seat.old.me.0.build)
-            × (segment + self.now.stride ≤ self.now.words) × (seat.old.me.0.made ≡ []) }
-        ensures view { Becomes seat.old seat.new (filled seat.old.me.0 seat.new.me.0.made) }
-        ensures laid { IsLaid segment parent self.now.stride self.now.masks delta.now
-            seat.new.me.0.made }
-    {
-        self.put(seat, segment, segment + 1, parent as u64);
-        let mut k = 0;
-        while k < self.masks {
-            self.put(seat, segment, segment + (2 + k), delta.mask_row(k));
-            k += 1;
-        }
-        for row in 0..self.masks {
-            self.fill_row(seat, segment, row, delta);
-        }
     }
 
     // Gives the delta the words of its own where it has none.

@@ -1,4 +1,4 @@
--- Loops of Memory::list_written: what was written below the location is listed, and the memory shows what it did.
+-- Loops of Memory::list_written: what was written below the place reached is listed, and the memory shows what it did.
 use Rattle.std.proofs.Common.{◌≡◌, ◌≤◌, ◌-◌, vec_capacity}
 use Rattle.version_map.specs.declared.snapshot.Collapsed.{Collapsed}
 use Rattle.version_map.specs.Deltas.{at}
@@ -8,10 +8,10 @@ use Rattle.block_run.proofs.memory.Memory.list_written.Given as goal
 
 abbrev pub invariant-loop-location : goal.invariant-loop-location
 invariant-loop-location g l = record {
-  within : l.location ≤ l.count;
+  within : l.from ≤ g.P.Snapshot.size l.initial.self.snapshot;
   written : l.written.items
       ≡ written_below (under l.initial.self.delta (g.P.Snapshot.base l.initial.self.snapshot))
-      (at l.initial.self.first.roots) l.location;
+      (at l.initial.self.first.roots) l.from;
   kept : Kept (g.P.Snapshot.size l.initial.self.snapshot)
       (under l.initial.self.delta (g.P.Snapshot.base l.initial.self.snapshot))
       (under l.self.delta (g.P.Snapshot.base l.self.snapshot))
@@ -24,4 +24,4 @@ invariant-loop-location g l = record {
 }
 
 abbrev pub decreases-loop-location : goal.decreases-loop-location
-decreases-loop-location g l = l.count - l.location
+decreases-loop-location g l = g.P.Snapshot.size l.initial.self.snapshot - l.from

@@ -1,37 +1,39 @@
--- Answers of Memory::room: of an empty row nothing was written, and of another one no more than its locations.
-use Rattle.std.proofs.Common.{◌+◌, ◌≤◌, arith}
-use Rattle.version_map.specs.Deltas.{at}
-use Rattle.block_run.proofs.Rooms.{count_row, count_unwritten, none_in_row}
-use Rattle.block_run.proofs.memory.Memory.room.Goals.{then-not-starts_empty_row, else-not-starts_empty_row}
+-- Answers of Memory::room: of rows of 0 nothing was written, and of another one no more than it has bits.
+use Rattle.std.proofs.Common.{arith}
+use Rattle.std.proofs.lemmas.Nat.{ones-le}
+use Rattle.block_run.proofs.Rooms.{count_more, count_all}
 use Rattle.block_run.proofs.memory.Memory.room.Goals as goal
 
-pub loop-location-preserved : goal.loop-location-preserved
-loop-location-preserved g c =
-    let inv = c.loop-location.invariant in
-    let l = c.loop-location.location in
-    let test = c.loop-location-test.true in
-    let step = c.min-row.ensures in
-    let sized = c.args.self.now.roots in
-    let within : l + c.min-row.result ≤ c.locations-count.result = omega (arith, test, step) in
-    let few = inv.few in
-    let room = inv.room in
-    elim c.if-not-starts_empty_row.branch [
-      | then-not-starts_empty_row w ↦
-          let more = w.room-is in
-          let row = count_row (at c.args.self.now.first.roots) l c.min-row.result in
-          record {
-            within = within;
-            few = omega (arith, few, more);
-            room = omega (arith, room, more, row);
-          }
-      | else-not-starts_empty_row w ↦
-          let same = w.room-is in
-          let row = count_unwritten (at c.args.self.now.first.roots) l c.min-row.result
-          (λ k low high. none_in_row c.args.self.now.first.roots l w.if-not-starts_empty_row.ensures k low
-          (omega (arith, step, high))) in
-          record {
-            within = within;
-            few = omega (arith, few, same);
-            room = omega (arith, room, same, row);
-          }
-    ]
+pub loop-row-smaller : goal.loop-row-smaller
+loop-row-smaller g c =
+    let low = c.in-Some.ensures.0 in
+    let within = c.in-Some.ensures.1 in omega (arith, low, within)
+
+pub overflow_add-room : goal.overflow_add-room
+overflow_add-room g c =
+    let inv = c.loop-row.invariant in
+    let few = inv.few in let many = inv.within in let size = c.args.self.now.first.roots.sized.1 in
+    let ones = ones-le 64 c.mask_row.result c.mask_row.type_inv in omega (arith, few, many, size, ones)
+
+pub overflow_add-from : goal.overflow_add-from
+overflow_add-from g c =
+    let within = c.in-Some.ensures.1 in
+    let size = c.args.self.now.first.roots.sized.1 in omega (arith, within, size)
+
+pub loop-row-preserved : goal.loop-row-preserved
+loop-row-preserved g c =
+    let inv = c.loop-row.invariant in
+    let next = c.in-Some.ensures in
+    let low = next.0 in let within = next.1 in let few = inv.few in
+    let ones = ones-le 64 c.mask_row.result c.mask_row.type_inv in
+    record {
+      few = omega (arith, few, low, ones);
+      within = omega (arith, within);
+      room = count_more c.args.self.now.first.roots c.loop-row.from c.in-Some.row c.mask_row.result c.loop-row.room low
+          next.3 c.mask_row.ensures inv.room;
+    }
+
+pub returns : goal.returns
+returns g c =
+    count_all c.args.self.now.first.roots c.loop-row.from _ c.loop-row.room c.args.self.now.roots c.in_default.ensures
+    c.loop-row.invariant.room
