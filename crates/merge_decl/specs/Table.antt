@@ -1,6 +1,6 @@
 -- Tables from names, as lists of their entries in the order in which they came.
 use Rattle.std.specs.declared.alloc.Global.{Global}
-use Rattle.std.specs.Prelude.{◌≡◌, ℕ, Vec, map, Option, Some, None, List, [], ◌∷◌, ◌++◌, if◌then◌else◌, is_some}
+use Rattle.std.specs.Prelude.{◌≡◌, ℕ, ◌+◌, ◌*◌, ◌<◌, ◌≤◌, Vec, map, Option, Some, None, List, [], ◌∷◌, ◌++◌, if◌then◌else◌, is_some, length, slice_index}
 use Rattle.std.specs.BTreeMap.{BTreeMap, get_by}
 use Rattle.std.specs.declared.cmp.Ordering.{Ordering}
 use Rattle.std.specs.Ordering.{nat_cmp}
@@ -32,7 +32,28 @@ IsOnce (e ∷ es) = (find e.0 es ≡ None) × IsOnce es
 abbrev pub against : Name → Vec ℕ Global → Ordering
 against name key = slice_cmp nat_cmp name key.items
 
--- the map finds what the table has, and the table has each name once
-pub record IsIndexed {V : Type 0} (index : BTreeMap (Vec ℕ Global) V) (t : Table V) : Type 0 where
-  pub finds : (name : Name) → get_by (against name) index ≡ find name t
+-- the bytes of a name as digits of a number, the last one the highest, and 1 above them all
+abbrev pub number : Name → ℕ
+number [] = 1
+number (b ∷ bs) = b + 256 * number bs
+
+abbrev pub AreBytes : Name → Type 0
+AreBytes name = (i : ℕ) → slice_index name i < 256
+
+-- how many bytes a name has at most whose number is below 2 ^ 64
+abbrev pub most_short : ℕ
+most_short = 7
+
+-- by their numbers the map finds what the table has at short names
+pub record IsShortIndex {V : Type 0} (short : BTreeMap ℕ V) (t : Table V) : Type 0 where
+  pub finds : (name : Name) → AreBytes name → length name ≤ most_short → get_by (nat_cmp (number name)) short ≡ find name t
+
+-- by their bytes the map finds what the table has at the others
+pub record IsLongIndex {V : Type 0} (long : BTreeMap (Vec ℕ Global) V) (t : Table V) : Type 0 where
+  pub finds : (name : Name) → most_short < length name → get_by (against name) long ≡ find name t
+
+-- the maps find what the table has, and the table has each name once
+pub record IsIndexed {V : Type 0} (short : BTreeMap ℕ V) (long : BTreeMap (Vec ℕ Global) V) (t : Table V) : Type 0 where
+  pub of_short : IsShortIndex short t
+  pub of_long : IsLongIndex long t
   pub once : IsOnce t

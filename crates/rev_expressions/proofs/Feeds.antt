@@ -2,14 +2,14 @@
 use Rattle.std.proofs.Common.{◌≡◌, ℕ, zero, suc, ◌+◌, ◌-◌, ◌<◌, ◌≤◌, ◌==◌, if◌then◌else◌, ltb, cond, Bool, true, false, List, [], ◌∷◌, ◌++◌, take, length, get_or, refl, sym, ap, ◌∙◌, subst, arith}
 use Rattle.std.proofs.lemmas.List.{length-take}
 use Rattle.std.proofs.Math.Seq.{take-suc}
-use Rattle.std.proofs.lemmas.Bool.{ltb-true, ltb-false}
+use Rattle.std.proofs.lemmas.Bool.{ltb-true, ltb-false, lt-ltb, le-ltb}
 use Rattle.std.proofs.lemmas.List.Sorted.{IsNonDecreasingBy-from_default}
-use Rattle.std.proofs.lemmas.List.{take_all}
+use Rattle.std.proofs.lemmas.List.{take_all, get_or_default}
 use Rattle.std.proofs.lemmas.List.Sums.{count_by_more_no, count_by_more_yes, sum_by-cons}
 use Rattle.std.specs.List.{count_by}
 use Rattle.std.specs.List.Sorted.{IsNonDecreasingBy, IsPartitionPoint}
 use Rattle.rev_syntax.specs.Places.{line_of}
-use Rattle.rev_expressions.specs.Source.{feeds_from}
+use Rattle.rev_expressions.specs.Source.{IsEdge, feeds_from}
 
 -- a list whose first i elements pass, and no others
 module _ (p : ℕ → Bool) (fs : List ℕ) (i : ℕ) (within : i ≤ length fs)
@@ -174,3 +174,35 @@ line_by_table at bs fs i e le parts =
     let whole : at - 0 ≡ at = omega arith in
     ap (λ n. 1 + n) (sym (part_is_count (λ f. ltb f at) fs i le parts) ∙ ap (count_by (λ f. ltb f at)) e
     ∙ feeds_counted at 0 bs ∙ ap (λ n. count_by (λ b. b == 10) (take n bs)) whole)
+
+-- in places that rise, by the two beside it
+edge_parts : (fs : List ℕ) (i at : ℕ) → IsNonDecreasingBy (λ f. f) fs → IsEdge fs i at
+    → IsPartitionPoint (λ y. ltb y at ≡ true) (λ y. ltb y at ≡ false) fs i
+edge_parts fs i at up e = (
+  λ k d low high.
+      let within : i ≤ length fs = e.within in
+      let last : get_or fs (i - 1) d < at =
+      subst (λ (x : ℕ). x < at) (get_or_default fs (i - 1) 0 d (omega arith)) (e.before (omega arith)) in
+      let below : get_or fs k d ≤ get_or fs (i - 1) d = up k (i - 1) d (omega arith) (omega arith) in
+      lt-ltb (get_or fs k d) at (omega arith),
+  λ k d low high.
+      let next : at ≤ get_or fs i d =
+      subst (λ (x : ℕ). at ≤ x) (get_or_default fs i 0 d (omega arith)) (e.behind (omega arith)) in
+      let above : get_or fs i d ≤ get_or fs k d = up i k d low high in
+      le-ltb (get_or fs k d) at (omega arith),
+)
+
+-- the line of a place, by how many places of the table stand before it, as the two beside say
+pub line_by_edge : (at : ℕ) (bs fs : List ℕ) (i : ℕ) → fs ≡ feeds_from 0 bs → IsEdge fs i at → 1 + i ≡ line_of bs at
+line_by_edge at bs fs i e edge =
+    line_by_table at bs fs i e edge.within
+    (edge_parts fs i at (subst (IsNonDecreasingBy (λ f. f)) (sym e) (feeds_sorted bs)) edge)
+
+-- and they are few, where the text is
+pub few_before : (at : ℕ) (bs fs : List ℕ) (i : ℕ) → fs ≡ feeds_from 0 bs → IsEdge fs i at → length bs < 4294967295
+    → i < 4294967295
+few_before at bs fs i e edge small =
+    let within : i ≤ length fs = edge.within in
+    let table : length fs ≡ length (feeds_from 0 bs) = ap length e in
+    let few_feeds : length (feeds_from 0 bs) ≤ length bs = feeds_few 0 bs in
+    omega arith

@@ -1,5 +1,5 @@
 -- The parser of the grammar, as functions over tokens.
-use Rattle.std.specs.Prelude.{◌≡◌, ℕ, Bool, true, false, List, [], Option, Some, None}
+use Rattle.std.specs.Prelude.{◌≡◌, ◌||◌, ℕ, Bool, true, false, List, [], Option, Some, None}
 use Rattle.rev_syntax.specs.declared.token.Token.{Token}
 use Rattle.rev_syntax.specs.declared.tree.BinaryOp.{BinaryOp}
 use Rattle.rev_syntax.specs.Trees.{PlacedName, Expression, placed, cell, apply, pick}
@@ -7,7 +7,8 @@ use Rattle.rev_syntax.specs.View.{expressions_of}
 use Rattle.token_grammar.specs.Outcome.{Outcome, Parser, Read, and_then, after, next}
 use Rattle.token_grammar.specs.Reader.{begins, below, inside_of, is_next, parser, read, taken}
 use Rattle.rev_expressions.specs.declared.expression.Rank.{Rank}
-use Rattle.rev_expressions.specs.Grammar.{alphabet, Rule, Inner, Value, rank_sign, operand, links_by, expr}
+use Rattle.rev_expressions.specs.declared.expression.Rank.TheVariants as r
+use Rattle.rev_expressions.specs.Grammar.{alphabet, Rule, Inner, Value, rank_sign, operand, links_by, joined, expr}
 use Rattle.rev_syntax.specs.declared.token.Fixed.{Fixed}
 use Rattle.rev_expressions.specs.Classes as class
 use Rattle.rev_expressions.specs.Declarations.{inner}
@@ -47,6 +48,46 @@ expr_begins ts = begins alphabet (expr []) ts
 -- the links of a chain of this rank
 abbrev pub links : List ℕ → Rank → Rule (List (BinaryOp × Expression))
 links bytes rank = links_by rank (rank_sign rank) (operand bytes rank)
+
+-- whether an operator of this rank or of a tighter one comes
+abbrev pub operator_begins : Rank → List Token → Bool
+operator_begins r.Product ts = begins alphabet (rank_sign r.Product) ts
+operator_begins r.Sum ts = begins alphabet (rank_sign r.Product) ts || begins alphabet (rank_sign r.Sum) ts
+operator_begins r.Compare ts =
+    begins alphabet (rank_sign r.Product) ts || begins alphabet (rank_sign r.Sum) ts || begins alphabet (rank_sign r.Compare) ts
+operator_begins r.And ts =
+    begins alphabet (rank_sign r.Product) ts || begins alphabet (rank_sign r.Sum) ts || begins alphabet (rank_sign r.Compare) ts
+    || begins alphabet (rank_sign r.And) ts
+operator_begins r.Or ts =
+    begins alphabet (rank_sign r.Product) ts || begins alphabet (rank_sign r.Sum) ts || begins alphabet (rank_sign r.Compare) ts
+    || begins alphabet (rank_sign r.And) ts || begins alphabet (rank_sign r.Or) ts
+
+-- a chain of this rank, behind its first operand
+abbrev pub chain_behind : List ℕ → ℕ → Rank → Expression → Parser Token Expression
+chain_behind bytes n rank first ts = and_then (parse bytes n (links bytes rank) ts) (λ ls rest. Read (joined first ls) rest)
+
+-- the chains up to one of this rank, each of which is the first operand of the next, behind the first operand of them all
+abbrev pub product_behind : List ℕ → ℕ → Expression → Parser Token Expression
+product_behind bytes n first ts = chain_behind bytes n r.Product first ts
+
+abbrev pub sum_behind : List ℕ → ℕ → Expression → Parser Token Expression
+sum_behind bytes n first ts = and_then (product_behind bytes n first ts) (λ e rest. chain_behind bytes n r.Sum e rest)
+
+abbrev pub comparison_behind : List ℕ → ℕ → Expression → Parser Token Expression
+comparison_behind bytes n first ts = and_then (sum_behind bytes n first ts) (λ e rest. chain_behind bytes n r.Compare e rest)
+
+abbrev pub conjunction_behind : List ℕ → ℕ → Expression → Parser Token Expression
+conjunction_behind bytes n first ts = and_then (comparison_behind bytes n first ts) (λ e rest. chain_behind bytes n r.And e rest)
+
+abbrev pub expr_behind : List ℕ → ℕ → Expression → Parser Token Expression
+expr_behind bytes n first ts = and_then (conjunction_behind bytes n first ts) (λ e rest. chain_behind bytes n r.Or e rest)
+
+abbrev pub ranked_behind : List ℕ → ℕ → Rank → Expression → Parser Token Expression
+ranked_behind bytes n r.Product first ts = product_behind bytes n first ts
+ranked_behind bytes n r.Sum first ts = sum_behind bytes n first ts
+ranked_behind bytes n r.Compare first ts = comparison_behind bytes n first ts
+ranked_behind bytes n r.And first ts = conjunction_behind bytes n first ts
+ranked_behind bytes n r.Or first ts = expr_behind bytes n first ts
 
 -- what follows a name, at that name
 abbrev pub of_name : PlacedName → Outcome Token (PlacedName → Expression) → Outcome Token Expression

@@ -111,7 +111,7 @@ fn is_sign(kind: TokenKind, sign: Fixed) -> bool
     ensures { result ≡ is_same (fixed sign) (class_of kind) }
 {
     match kind {
-        TokenKind::Fixed(found) => sign.spelling() == found.spelling(),
+        TokenKind::Fixed(found) => sign == found,
         _ => false,
     }
 }

@@ -3,6 +3,8 @@ ghost use Rattle.std.specs.Prelude.{◌≡◌, ◌++◌, [], ◌∷◌, IfOk, On
 ghost use Rattle.rev_expressions.specs.Grammar as spec;
 ghost use Rattle.rev_expressions.specs.Parse.{parse, inside, IsSign, links, of_name};
 ghost use Rattle.rev_expressions.specs.Parse.{of_parts, cell_of, apply_of, expr_begins};
+ghost use Rattle.rev_expressions.specs.Parse.{chain_behind, operator_begins, ranked_behind};
+ghost use Rattle.token_grammar.specs.Reader.{begins};
 ghost use Rattle.rev_expressions.specs.Lists.{more_behind};
 ghost use Rattle.rev_expressions.specs.Parses.{Parses, ParsesBy};
 ghost use Rattle.rev_syntax.specs.Trees as t;
@@ -43,6 +45,78 @@ fn sign(cursor: &Cursor<'_>, rank: Rank) -> Option<BinaryOp>
         (Rank::Product, TokenKind::Fixed(Fixed::Slash)) => Some(BinaryOp::Div),
         (Rank::Product, TokenKind::Fixed(Fixed::Percent)) => Some(BinaryOp::Rem),
         _ => None,
+    }
+}
+
+/// Whether an operator of products comes.
+#[tactic(auto, unfolding(crate::specs::Grammar::rank_sign))]
+fn product_comes(cursor: &Cursor<'_>) -> bool
+    ensures { result ≡ begins spec.alphabet (spec.rank_sign Rank.Product) cursor.now.rest.now }
+{
+    let Some(token) = cursor.peek() else {
+        return false;
+    };
+    matches!(
+        token.kind,
+        TokenKind::Fixed(Fixed::Star)
+            | TokenKind::Fixed(Fixed::Slash)
+            | TokenKind::Fixed(Fixed::Percent)
+    )
+}
+
+/// Whether an operator of sums comes.
+#[tactic(auto, unfolding(crate::specs::Grammar::rank_sign))]
+fn sum_comes(cursor: &Cursor<'_>) -> bool
+    ensures { result ≡ begins spec.alphabet (spec.rank_sign Rank.Sum) cursor.now.rest.now }
+{
+    let Some(token) = cursor.peek() else {
+        return false;
+    };
+    matches!(
+        token.kind,
+        TokenKind::Fixed(Fixed::Plus) | TokenKind::Fixed(Fixed::Minus)
+    )
+}
+
+/// Whether an operator of comparisons comes.
+#[tactic(auto, unfolding(crate::specs::Grammar::rank_sign))]
+fn comparison_comes(cursor: &Cursor<'_>) -> bool
+    ensures { result ≡ begins spec.alphabet (spec.rank_sign Rank.Compare) cursor.now.rest.now }
+{
+    let Some(token) = cursor.peek() else {
+        return false;
+    };
+    matches!(
+        token.kind,
+        TokenKind::Fixed(Fixed::Equal)
+            | TokenKind::Fixed(Fixed::NotEqual)
+            | TokenKind::Fixed(Fixed::Less)
+            | TokenKind::Fixed(Fixed::LessEqual)
+            | TokenKind::Fixed(Fixed::Greater)
+            | TokenKind::Fixed(Fixed::GreaterEqual)
+    )
+}
+
+/// Whether an operator of this rank or of a tighter one comes.
+#[tactic(auto, unfolding(crate::specs::Grammar::rank_sign))]
+fn operator_comes(cursor: &Cursor<'_>, rank: Rank) -> bool
+    ensures { result ≡ operator_begins rank cursor.now.rest.now }
+{
+    let tight = product_comes(cursor);
+    match rank {
+        Rank::Product => tight,
+        Rank::Sum => tight || sum_comes(cursor),
+        Rank::Compare => tight || sum_comes(cursor) || comparison_comes(cursor),
+        Rank::And => {
+            tight || sum_comes(cursor) || comparison_comes(cursor) || cursor.is_at(Fixed::And)
+        }
+        Rank::Or => {
+            tight
+                || sum_comes(cursor)
+                || comparison_comes(cursor)
+                || cursor.is_at(Fixed::And)
+                || cursor.is_at(Fixed::Or)
+        }
     }
 }
 
@@ -179,7 +253,7 @@ pub fn expr(source: &Source<'_>, cursor: &mut Cursor<'_>, levels: u32) -> Result
 
 /// An expression whose chains are of this rank or bind tighter.
 #[cycle(expr)]
-#[tactic(auto, using(crate::proofs::Turns::ranked_is))]
+#[tactic(auto, using(crate::proofs::Chains::ranked_is_behind, crate::proofs::Chains::none_behind))]
 fn ranked(
     source: &Source<'_>,
     cursor: &mut Cursor<'_>,
@@ -189,7 +263,76 @@ fn ranked(
     ensures { Parses (λ b. spec.ranked b rank)
         source.now levels cursor.old view.expression result cursor.new }
 {
-    let first = operand(source, cursor, levels, rank)?;
+    let first = unary(source, cursor, levels)?;
+    if !operator_comes(cursor, rank) {
+        return Ok(first);
+    }
+    chains(source, cursor, levels, rank, first)
+}
+
+/// The chains of this rank and of those that bind tighter, behind the first operand of them all.
+/// Each chain is the first operand of the next.
+#[cycle(expr)]
+#[tactic(auto, using(crate::proofs::Chains::chain_none))]
+fn chains(
+    source: &Source<'_>,
+    cursor: &mut Cursor<'_>,
+    levels: u32,
+    rank: Rank,
+    first: Expr,
+) -> Result<Expr, Fault>
+    ensures { ParsesBy (λ b n ts. ranked_behind b n rank (view.expression first) ts)
+        source.now levels cursor.old view.expression result cursor.new }
+{
+    match rank {
+        Rank::Product => chain(source, cursor, levels, Rank::Product, first),
+        Rank::Sum => {
+            let product = chains(source, cursor, levels, Rank::Product, first)?;
+            if !operator_comes(cursor, Rank::Sum) {
+                return Ok(product);
+            }
+            chain(source, cursor, levels, Rank::Sum, product)
+        }
+        Rank::Compare => {
+            let sum = chains(source, cursor, levels, Rank::Sum, first)?;
+            if !operator_comes(cursor, Rank::Compare) {
+                return Ok(sum);
+            }
+            chain(source, cursor, levels, Rank::Compare, sum)
+        }
+        Rank::And => {
+            let comparison = chains(source, cursor, levels, Rank::Compare, first)?;
+            if !operator_comes(cursor, Rank::And) {
+                return Ok(comparison);
+            }
+            chain(source, cursor, levels, Rank::And, comparison)
+        }
+        Rank::Or => {
+            let conjunction = chains(source, cursor, levels, Rank::And, first)?;
+            if !operator_comes(cursor, Rank::Or) {
+                return Ok(conjunction);
+            }
+            chain(source, cursor, levels, Rank::Or, conjunction)
+        }
+    }
+}
+
+/// A chain of this rank behind its first operand.
+#[cycle(expr)]
+#[tactic(auto, using(crate::proofs::Chains::chain_stop))]
+fn chain(
+    source: &Source<'_>,
+    cursor: &mut Cursor<'_>,
+    levels: u32,
+    rank: Rank,
+    first: Expr,
+) -> Result<Expr, Fault>
+    ensures { ParsesBy (λ b n ts. chain_behind b n rank (view.expression first) ts)
+        source.now levels cursor.old view.expression result cursor.new }
+{
+    let Some(_) = sign(cursor, rank) else {
+        return Ok(first);
+    };
     let rest = links(source, cursor, levels, rank)?;
     Ok(joined(source.alloc, first, rest)?)
 }
@@ -211,7 +354,7 @@ fn links(
     ensures { Parses (λ b. links b rank)
         source.now levels cursor.old (λ ls. map view.link ls.items) result cursor.new }
 {
-    let mut found = Vec::new(source.alloc);
+    let mut found = Vec::with_capacity(source.alloc, 1)?;
     for _turn in 0..cursor.left() {
         let Some(op) = sign(cursor, rank) else {
             return Ok(found);
@@ -512,11 +655,11 @@ fn some_arguments(
     ensures { Parses (λ b. spec.listing (spec.expr b))
         source.now levels cursor.old (λ es. map view.expression es.items) result cursor.new }
 {
-    let mut args = Vec::new(source.alloc);
     if !begins_expr(cursor) {
-        return Ok(args);
+        return Ok(Vec::new(source.alloc));
     }
     let first = ranked(source, cursor, levels, Rank::Or)?;
+    let mut args = Vec::with_capacity(source.alloc, 1)?;
     push(&mut args, first)?;
     more_arguments(source, cursor, levels, args)
 }

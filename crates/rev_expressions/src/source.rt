@@ -1,6 +1,6 @@
 // The text that is parsed.
-ghost use Rattle.std.specs.Prelude.{◌≡◌, ◌<◌, ◌^◌, ◌-◌, IfOk, length};
-ghost use Rattle.rev_expressions.specs.Source.{feeds_from, text_of, word_of};
+ghost use Rattle.std.specs.Prelude.{◌≡◌, ◌<◌, ◌^◌, ◌-◌, IfOk, IfSome, IsTrue, length};
+ghost use Rattle.rev_expressions.specs.Source.{IsEdge, feeds_from, text_of, word_of};
 ghost use Rattle.rev_syntax.specs.Places.{line_of};
 ghost use Rattle.rev_syntax.specs.Trees.{text};
 ghost use Rattle.rev_syntax.specs.View.{print_item, placed_name};
@@ -32,6 +32,34 @@ fn feeds_of(alloc: Global, bytes: &[u8]) -> Result<Vec<u32>, AllocError>
     Ok(feeds)
 }
 
+/// Says yes only where so many of the places stand before `at`, by the last of these and the one
+/// behind it.
+fn is_edge(feeds: &[u32], count: usize, at: u32) -> bool
+    ensures { IsTrue result → IsEdge feeds.now count at }
+{
+    if count > feeds.len() {
+        return false;
+    }
+    if count > 0 && at <= feeds[count - 1] {
+        return false;
+    }
+    count == feeds.len() || at <= feeds[count]
+}
+
+/// How many of the places stand before `at`, if these are so many or one more.
+fn edge_near(feeds: &[u32], count: usize, at: u32) -> Option<usize>
+    ensures { IfSome result (λ n. IsEdge feeds.now n at) }
+{
+    if is_edge(feeds, count, at) {
+        return Some(count);
+    }
+    let more = count.saturating_add(1);
+    if is_edge(feeds, more, at) {
+        return Some(more);
+    }
+    None
+}
+
 impl<'a> Source<'a> {
     /// A text, whose line feeds are counted once here.
     pub fn new(alloc: Global, bytes: &'a [u8]) -> Result<Source<'a>, AllocError>
@@ -52,6 +80,16 @@ impl<'a> Source<'a> {
     {
         let before = self.feeds.partition_point(|feed| *feed < at);
         1 + before as u32
+    }
+
+    /// The line of a place, counted from 1. It is found soonest where it is `near` or the next line.
+    pub fn line_near(&self, near: u32, at: u32) -> u32
+        ensures { result ≡ line_of self.now.bytes.now at }
+    {
+        match edge_near(&self.feeds, near.saturating_sub(1) as usize, at) {
+            Some(before) => 1 + before as u32,
+            None => self.line(at),
+        }
     }
 
     /// The name that a token is.

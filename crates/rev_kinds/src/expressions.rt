@@ -4,6 +4,7 @@ ghost use Rattle.std.specs.Prelude.{◌≡◌, map, option_map, slice_get};
 ghost use Rattle.std.specs.Option.{option_copied};
 ghost use Rattle.rev_syntax.specs.View.{parameter, links, right_side, expression_form};
 ghost use Rattle.rev_syntax.specs.View.{expression, expressions, placed_name};
+ghost use Rattle.merge_decl.specs.FunRules.{count};
 ghost use Rattle.rev_kinds.specs.Kinds as kind;
 ghost use Rattle.rev_kinds.specs.Walk as rule;
 
@@ -198,18 +199,35 @@ impl<'a> Checker<'_, 'a> {
         found
     }
 
-    /// A name after `call` or `rfork`, with its arguments.
+    /// A name after `call` or `rfork`, which means this procedure if it means one, with its arguments.
     #[tactic(auto, using(merge_decl::proofs::Appends::count_expressions))]
+    fn call_of(
+        &self,
+        locals: &Locals,
+        name: &Name,
+        proc: Option<Callee<'a>>,
+        args: &[Expr],
+    ) -> Option<TypeFault>
+        ensures { result
+            ≡ rule.both
+            (rule.callee_use (placed_name name.now) (count (expressions args.now))
+            (option_map rule.callee proc.entry))
+            (rule.args_by (rule.names_of self.now) locals.now
+            (rule.params_of (option_map rule.callee proc.entry)) 0 None (expressions args.now)) }
+    {
+        first(
+            callee_use(name, args.len(), proc),
+            self.args(locals, params_of(proc), args),
+        )
+    }
+
+    /// A name after `call` or `rfork`, with its arguments.
     pub fn call(&self, locals: &Locals, name: &Name, args: &[Expr]) -> Option<TypeFault>
         ensures { result
             ≡ rule.call_by (rule.names_of self.now) locals.now (placed_name name.now)
             (expressions args.now) }
     {
-        let proc = self.proc(name);
-        first(
-            callee_use(name, args.len(), proc),
-            self.args(locals, params_of(proc), args),
-        )
+        self.call_of(locals, name, self.proc(name), args)
     }
 
     /// A right side.
@@ -223,7 +241,10 @@ impl<'a> Checker<'_, 'a> {
             Rhs::Plain(e) => self.expression(locals, e),
             Rhs::Call { name, args, .. } => {
                 let proc = self.proc(name);
-                let fault = first(result_use(name.at, proc), self.call(locals, name, args));
+                let fault = first(
+                    result_use(name.at, proc),
+                    self.call_of(locals, name, proc, args),
+                );
                 Seen::new(result_of(proc), fault)
             }
             Rhs::Fork { name, args, .. } => {

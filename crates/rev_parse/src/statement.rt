@@ -233,11 +233,11 @@ fn items(source: &Source<'_>, cursor: &mut Cursor<'_>, levels: u32) -> Result<Ve
     ensures { Parses (λ b. spec.listing (st.item b))
         source.now levels cursor.old (λ xs. map view.print_item xs.items) result cursor.new }
 {
-    let mut found = Vec::new(source.alloc);
     if !begins_item(cursor) {
-        return Ok(found);
+        return Ok(Vec::new(source.alloc));
     }
     let first = item(source, cursor, levels)?;
+    let mut found = Vec::with_capacity(source.alloc, 1)?;
     push_item(&mut found, first)?;
     more_items(source, cursor, levels, found)
 }
@@ -345,25 +345,36 @@ fn statements(source: &Source<'_>, cursor: &mut Cursor<'_>, levels: u32) -> Resu
     ensures { ParsesBy (λ b n ts. more_of b n (st.statement b) (length ts) [] ts)
         source.now levels cursor.old (λ xs. map view.stmt xs.items) result cursor.new }
 {
-    let mut found = Vec::new(source.alloc);
+    if !begins_statement(cursor) {
+        return Ok(Vec::new(source.alloc));
+    }
+    let mut found = Vec::with_capacity(source.alloc, 1)?;
+    let mut near = 0;
     for _turn in 0..cursor.left() {
         if !begins_statement(cursor) {
             return Ok(found);
         }
-        let stmt = statement(source, cursor, levels)?;
+        let stmt = statement(source, cursor, levels, near)?;
+        near = stmt.line;
         push_stmt(&mut found, stmt)?;
     }
     Ok(found)
 }
 
+/// A statement. Its line is found soonest where it is `near` or the next one.
 #[cycle(stmt)]
-fn statement(source: &Source<'_>, cursor: &mut Cursor<'_>, levels: u32) -> Result<Stmt, Fault>
+fn statement(
+    source: &Source<'_>,
+    cursor: &mut Cursor<'_>,
+    levels: u32,
+    near: u32,
+) -> Result<Stmt, Fault>
     ensures { Parses st.statement source.now levels cursor.old view.stmt result cursor.new }
 {
     let Some(token) = cursor.peek() else {
         return Err(Fault::Unexpected);
     };
-    let line = source.line(token.start);
+    let line = source.line_near(near, token.start);
     let form = form_at(source, cursor, levels, token)?;
     Ok(form::stmt(token.start, line, form))
 }
@@ -467,9 +478,9 @@ fn if_form(source: &Source<'_>, cursor: &mut Cursor<'_>, levels: u32) -> Result<
     ensures { Parses st.if_form source.now levels cursor.old view.statement_form result cursor.new }
 {
     let first = arm(source, cursor, levels)?;
-    let mut arms = Vec::new(source.alloc);
-    push_arm(&mut arms, first)?;
-    let (arms, last) = else_parts(source, cursor, levels, arms)?;
+    let mut tests = Vec::with_capacity(source.alloc, 1)?;
+    push_arm(&mut tests, first)?;
+    let (arms, last) = else_parts(source, cursor, levels, tests)?;
     Ok(form::if_form(arms, last))
 }
 

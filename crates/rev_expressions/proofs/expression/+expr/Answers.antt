@@ -4,12 +4,17 @@ use Rattle.std.proofs.lemmas.Grind.{common_steps}
 use Rattle.std.proofs.lemmas.List.{map-append}
 use Rattle.rev_syntax.specs.Trees.{placed, unary as unary_expression}
 use Rattle.rev_syntax.specs.View as view
-use Rattle.token_grammar.specs.Outcome.{Read, next}
+use Rattle.token_grammar.specs.Outcome.{Outcome, Read, and_then, next}
 use Rattle.token_grammar.specs.Reader.{is_next}
 use Rattle.rev_syntax.specs.declared.token.Fixed.TheVariants as s
 use Rattle.rev_syntax.specs.declared.token.TokenKind.TheVariants as k
 use Rattle.rev_expressions.specs.Grammar as spec
-use Rattle.rev_expressions.specs.Parse.{IsSign, cell_of, apply_of, expr_begins}
+use Rattle.rev_expressions.specs.Parse.{IsSign, cell_of, apply_of, chain_behind, expr_begins, ranked_behind}
+use Rattle.rev_expressions.specs.declared.expression.Rank.{Rank}
+use Rattle.rev_expressions.specs.declared.expression.Rank.TheVariants as r
+use Rattle.rev_syntax.specs.Trees.{Expression}
+use Rattle.rev_syntax.specs.declared.token.Token.{Token}
+use Rattle.rev_expressions.proofs.Chains.{chain_none}
 use Rattle.rev_expressions.proofs.Turns.{links_are, links_go}
 use Rattle.rev_expressions.proofs.Lists.{comma_go}
 use Rattle.rev_expressions.proofs.Expressions.{operand_go, index_go, index_only, arguments_go, parens_go, parts_go, bracketed_no, bracketed_yes, choice_no, choice_yes, named_index, named_arguments, named_alone, named_end, unary_minus, unary_bang, unary_else, unary_end, primary_name, primary_input, primary_pick, primary_parens, listing_no, listing_yes, sign_is}
@@ -317,3 +322,47 @@ links-returns-then-is_single t c =
     (sign_is c.args.source.now.bytes.now c.args.levels c.args.rank c.loop-turn.cursor.rest.now ∙ s.1) in
     let start = links_are c.args.source.now.bytes.now c.args.levels c.args.rank c.args.cursor.now.rest.now in
     grind (arith, common_steps, h, start)
+
+pub chains-returns-then-not-operator_comes : goal.chains-returns-then-not-operator_comes
+chains-returns-then-not-operator_comes t c =
+    ap (λ (rank : Rank). ranked_behind c.args.source.now.bytes.now c.args.levels rank (view.expression c.args.first)
+    c.args.cursor.now.rest.now)
+    c.in-Sum.is
+    ∙ ap (λ (o : Outcome Token Expression).
+    and_then o (λ e rest. chain_behind c.args.source.now.bytes.now c.args.levels r.Sum e rest))
+    c.in_ok-product-in-Sum.ensures
+    ∙ chain_none c.args.source.now.bytes.now c.args.levels r.Sum (view.expression c.in_ok-product-in-Sum.product)
+    c.chains.new.cursor.rest.now (sym c.if-not-operator_comes.ensures)
+
+pub chains-returns-then-not-operator_comes-2 : goal.chains-returns-then-not-operator_comes-2
+chains-returns-then-not-operator_comes-2 t c =
+    ap (λ (rank : Rank). ranked_behind c.args.source.now.bytes.now c.args.levels rank (view.expression c.args.first)
+    c.args.cursor.now.rest.now)
+    c.in-Compare.is
+    ∙ ap (λ (o : Outcome Token Expression).
+    and_then o (λ e rest. chain_behind c.args.source.now.bytes.now c.args.levels r.Compare e rest))
+    c.in_ok-sum-in-Compare.ensures
+    ∙ chain_none c.args.source.now.bytes.now c.args.levels r.Compare (view.expression c.in_ok-sum-in-Compare.sum)
+    c.chains-in-Compare.new.cursor.rest.now (sym c.if-not-operator_comes-2.ensures)
+
+pub chains-returns-then-not-operator_comes-3 : goal.chains-returns-then-not-operator_comes-3
+chains-returns-then-not-operator_comes-3 t c =
+    ap (λ (rank : Rank). ranked_behind c.args.source.now.bytes.now c.args.levels rank (view.expression c.args.first)
+    c.args.cursor.now.rest.now)
+    c.in-And.is
+    ∙ ap (λ (o : Outcome Token Expression).
+    and_then o (λ e rest. chain_behind c.args.source.now.bytes.now c.args.levels r.And e rest))
+    c.in_ok-comparison-in-And.ensures
+    ∙ chain_none c.args.source.now.bytes.now c.args.levels r.And (view.expression c.in_ok-comparison-in-And.comparison)
+    c.chains-in-And.new.cursor.rest.now (sym c.if-not-operator_comes-3.ensures)
+
+pub chains-returns-then-not-operator_comes-4 : goal.chains-returns-then-not-operator_comes-4
+chains-returns-then-not-operator_comes-4 t c =
+    ap (λ (rank : Rank). ranked_behind c.args.source.now.bytes.now c.args.levels rank (view.expression c.args.first)
+    c.args.cursor.now.rest.now)
+    c.in-Or.is
+    ∙ ap (λ (o : Outcome Token Expression).
+    and_then o (λ e rest. chain_behind c.args.source.now.bytes.now c.args.levels r.Or e rest))
+    c.in_ok-conjunction-in-Or.ensures
+    ∙ chain_none c.args.source.now.bytes.now c.args.levels r.Or (view.expression c.in_ok-conjunction-in-Or.conjunction)
+    c.chains-in-Or.new.cursor.rest.now (sym c.if-not-operator_comes-4.ensures)

@@ -10,20 +10,20 @@ use Rattle.rev_expressions.proofs.expression.+expr.Given as goal
 
 -- how loosely a rank binds, with room for the calls in between
 abbrev pub looseness : Rank → ℕ
-looseness r.Or = 12
-looseness r.And = 9
-looseness r.Compare = 6
-looseness r.Sum = 3
+looseness r.Or = 20
+looseness r.And = 15
+looseness r.Compare = 10
+looseness r.Sum = 5
 looseness r.Product = 0
 
 abbrev pub decreases-arguments : goal.decreases-arguments
-decreases-arguments l = 40 * l.levels + 28
+decreases-arguments l = 40 * l.levels + 33
 
 abbrev pub decreases-some_arguments : goal.decreases-some_arguments
-decreases-some_arguments l = 40 * l.levels + 27
+decreases-some_arguments l = 40 * l.levels + 32
 
 abbrev pub decreases-more_arguments : goal.decreases-more_arguments
-decreases-more_arguments l = 40 * l.levels + 26
+decreases-more_arguments l = 40 * l.levels + 31
 
 abbrev pub decreases-bracketed : goal.decreases-bracketed
 decreases-bracketed l = 40 * l.levels + 1
@@ -56,7 +56,13 @@ abbrev pub decreases-unary : goal.decreases-unary
 decreases-unary l = 40 * l.levels + 3
 
 abbrev pub decreases-ranked : goal.decreases-ranked
-decreases-ranked l = 40 * l.levels + looseness l.rank + 7
+decreases-ranked l = 40 * l.levels + looseness l.rank + 9
+
+abbrev pub decreases-chains : goal.decreases-chains
+decreases-chains l = 40 * l.levels + looseness l.rank + 8
+
+abbrev pub decreases-chain : goal.decreases-chain
+decreases-chain l = 40 * l.levels + looseness l.rank + 7
 
 abbrev pub decreases-links : goal.decreases-links
 decreases-links l = 40 * l.levels + looseness l.rank + 6

@@ -1,5 +1,5 @@
 -- Answers of stmt: the first token decides on the form, and a part that is refused refuses the whole.
-use Rattle.std.proofs.Common.{◌≡◌, ◌+◌, ◌-◌, ◌∙◌, true, false, Some, None, map, option_map, arith, rules}
+use Rattle.std.proofs.Common.{◌≡◌, ◌+◌, ◌-◌, ◌∙◌, true, false, Some, None, [], length, map, option_map, arith, rules}
 use Rattle.std.proofs.lemmas.Grind.{common_steps}
 use Rattle.std.proofs.lemmas.List.{map-append}
 use Rattle.rev_syntax.specs.View as view
@@ -47,6 +47,14 @@ statements-returns-in_err-stmt t c =
 
 pub statements-returns-then-not-begins_statement : goal.statements-returns-then-not-begins_statement
 statements-returns-then-not-begins_statement t c =
+    let e : begins spec.alphabet (st.statement c.args.source.now.bytes.now) c.args.cursor.now.rest.now ≡ false =
+    rule.begins_statement c.args.source.now.bytes.now c.args.levels c.args.cursor.now.rest.now ∙ search rules in
+    let h = all_stop c.args.source.now.bytes.now c.args.levels (st.statement c.args.source.now.bytes.now)
+    (length c.args.cursor.now.rest.now) [] c.args.cursor.now.rest.now e in
+    grind (arith, common_steps, h)
+
+pub statements-returns-then-not-begins_statement-2 : goal.statements-returns-then-not-begins_statement-2
+statements-returns-then-not-begins_statement-2 t c =
     let e : begins spec.alphabet (st.statement c.args.source.now.bytes.now) c.loop-turn.cursor.rest.now ≡ false =
     rule.begins_statement c.args.source.now.bytes.now c.args.levels c.loop-turn.cursor.rest.now ∙ search rules in
     let h = all_stop c.args.source.now.bytes.now c.args.levels (st.statement c.args.source.now.bytes.now)

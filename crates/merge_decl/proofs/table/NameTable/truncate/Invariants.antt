@@ -5,7 +5,7 @@ use Rattle.merge_decl.proofs.table.NameTable.truncate.Given as goal
 
 abbrev pub invariant-loop-self : goal.invariant-loop-self
 invariant-loop-self g l =
-    IsIndexed l.self-inside.index (rows l.self-inside.entries.items)
+    IsIndexed l.self-inside.short l.self-inside.long (rows l.self-inside.entries.items)
     × (take l.len (rows l.self-inside.entries.items) ≡ take l.len (rows l.initial.self-inside.entries.items))
 
 abbrev pub decreases-loop-self : goal.decreases-loop-self
