@@ -12,7 +12,7 @@ use Rattle.hub_core.specs.declared.status.Status.TheVariants.{Ready, Out, Waitin
 use Rattle.hub_core.proofs.Forkers.{one_forker, one_more, as_many}
 use Rattle.hub_core.specs.Hub.{Values, EndsAre, end_of, Statuses, Fits, AllFit, Tied, Forks, Joins, EndsLeg, WasTrapped, Meets, all_ended}
 use Rattle.hub_core.proofs.Replay.{replay_more, still}
-use Rattle.revision_machine.proofs.Lists.{put_other, put_here, put_length, at_front, at_length}
+use Rattle.revision_machine.proofs.Lists.{put_other, put_here, put_length, put_twice, at_front, at_length}
 
 module _ (N : Numbered) (V : Values N) where
   abbrev S : Type 0
@@ -255,6 +255,35 @@ module _ (N : Numbered) (V : Values N) where
           forked = as_many N w (put_number w k (h.0, Plain p.last)) k fs
               (leg_is w k h.0 p.state (Goes p.last) h.1 p.goes) t.forked (put_length w k (h.0, Plain p.last));
         }
+
+    -- an end, and then the join of it by a revision that is out too, are two entries
+    pub settled : (schedule : List ℕ) (hub : Statuses N V) (fs : List ℕ) → T schedule hub fs
+        → (m k : ℕ) (a : V.AtJoin) (e : V.End) → at_number hub m ≡ Some Out → at_number hub k ≡ Some Out
+        → EndsLeg N V main schedule m e → Joins N V main schedule k a → V.on a ≡ m
+        → T ((schedule ++ m ∷ []) ++ k ∷ []) (put_number hub m Gone) fs
+        × (state_after N main ((schedule ++ m ∷ []) ++ k ∷ []) k ≡ Some (V.joined a e))
+        × Meets N V main (schedule ++ m ∷ []) k a e
+    settled schedule hub fs t m k a e out_m out_k p q on =
+        let apart : k ≢ m = λ is.
+        let same : q.state ≡ p.state =
+        some_inj (sym q.stands ∙ (ap (state_after N main schedule) is ∙ p.stands)) in
+        let clash : Wants (V.on a) ≡ Goes p.last = sym q.comes.0 ∙ (ap N.next same ∙ p.goes) in cc in
+        let over : Statuses N V = put_number hub m (Over e) in
+        let first : T (schedule ++ m ∷ []) over fs = ended schedule hub fs t m e out_m p in
+        let here : at_number over k ≡ Some Out = put_other hub m k (Over e) apart ∙ out_k in
+        let there : at_number over (V.on a) ≡ Some (Over e) =
+        ap (at_number over) on ∙ put_here hub m Out (Over e) out_m in
+        let joins : Joins N V main (schedule ++ m ∷ []) k a = record {
+          state = q.state;
+          stands = pass_now schedule (m ∷ []) over fs first k q.state ((λ is. apart (sym is)), tt) q.stands;
+          comes = q.comes;
+        } in
+        let second = joined (schedule ++ m ∷ []) over fs first k a e here joins there in (
+          subst (λ h. T ((schedule ++ m ∷ []) ++ k ∷ []) h fs)
+              (ap (λ i. put_number over i Gone) on ∙ put_twice hub m (Over e) Gone) second.0,
+          second.1,
+          meets (schedule ++ m ∷ []) over fs first k a e here joins there,
+        )
 
     -- the end of a joiner that its join trapped is no entry
     pub handed_in : (schedule : List ℕ) (hub : Statuses N V) (fs : List ℕ) → T schedule hub fs → (k : ℕ) (e : V.End)

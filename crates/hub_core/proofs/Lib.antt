@@ -9,4 +9,5 @@ pub mod Passes
 pub mod Outs
 pub mod Keeps
 pub mod Turns
+pub mod Worlds
 pub mod Begins

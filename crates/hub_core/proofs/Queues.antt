@@ -9,7 +9,7 @@ use Rattle.revision_machine.proofs.Numbers.{none_some}
 use Rattle.hub_core.specs.declared.status.Status.{Status}
 use Rattle.hub_core.specs.declared.status.Status.TheVariants.{Ready, Out, Waiting, Over, Gone}
 use Rattle.hub_core.specs.HubMachine.{HubMachine}
-use Rattle.revision_machine.proofs.Lists.{put_other, put_here, put_length, at_length}
+use Rattle.revision_machine.proofs.Lists.{put_other, put_here, put_length, put_twice, at_length}
 use Rattle.hub_core.specs.declared.run_queue.Chain.{Chain}
 use Rattle.hub_core.specs.declared.run_queue.RunQueue.{RunQueue}
 use Rattle.hub_core.specs.Counts.{total, is_at, times, flag}
@@ -524,6 +524,13 @@ module _ {L R A E : Type 0} (d : HubMachine L R A E) where
       (h.ready_are n ∙ ap (λ o. flag (is_ready d slots o)) e) (λ j apart. refl)
       (λ m. h.waits_are m n ∙ ap (λ o. flag (waits_for d slots m o)) e) (λ m j apart. refl)
       (refl, omega arith) refl) is
+
+  -- the end of a revision is joined at once
+  pub queue_gone : {slots : Slots} {q q' : RunQueue} (n : ℕ) (i : E) → Queued d slots q
+      → at_number slots n ≡ Some Out → EndsOne q q' n → Queued d (put_number slots n Gone) q'
+  queue_gone {slots} {q} {q'} n i h e ends =
+      subst (λ l. Queued d l q') (put_twice slots n (Over i) Gone)
+      (queue_join n (queue_end n i h e ends) (put_here slots n Out (Over i) e) refl)
 
   -- one revision more
   pub queue_add : {slots : Slots} {q q' : RunQueue} {n : ℕ} (c : R) → Queued d slots q → n ≡ length slots

@@ -2,7 +2,7 @@
 use Rattle.std.proofs.Common.{◌≡◌, inl, inr, ℕ, zero, suc, ◌<◌, Bool, true, false, MatchBool, List, [], ◌∷◌, ◌++◌, length, sym, refl, ap, ◌∙◌, subst, arith, Option, Some, None}
 use mathlib.Core.Logic.{dite}
 use native.Mathlib.Decide.{ℕ_discrete}
-use Rattle.revision_machine.specs.Numbered.{at_number, put_number}
+use Rattle.revision_machine.specs.Numbered.{Goes, Wants, at_number, put_number}
 use Rattle.revision_machine.proofs.Paths.{some_inj}
 use Rattle.revision_machine.proofs.Numbers.{none_some}
 use Rattle.hub_core.specs.declared.status.Status.{Status}
@@ -150,7 +150,7 @@ module _ {L R A E : Type 0} (d : HubMachine L R A E) (ends : E → L → Type 0)
   some_start None h log slots fs f = absurd f
   some_start (Some s) h log slots fs f = (s, refl)
 
-  tied_of : (v : View L) (t : Value) (s : L) → InHand d ends v t → v.start ≡ Some s → t.state ≡ All
+  pub tied_of : (v : View L) (t : Value) (s : L) → InHand d ends v t → v.start ≡ Some s → t.state ≡ All
       → Ties s v.log t.revisions.slots.items t.revisions.forkers.items
   tied_of v t s h e n =
       subst
@@ -396,6 +396,51 @@ module _ {L R A E : Type 0} (d : HubMachine L R A E) (ends : E → L → Type 0)
       (next.0 ∙ told.hand.holds.schedule, next.1, next.2, next.3, next.4)
       (outs_in t.revisions.slots.items w.out k (Over e) told.hand.holds.outs out refl) after
       (group_put w.group t.revisions.slots.items k (Over e) told.hand.holds.grouped tt)
+
+  -- who is at its end is not at a join
+  pub joiner_apart : (v w : View L) (t : Value) (m k : ℕ) (a : A) (e : E) → Told d ends v w t → t.state ≡ All
+      → HasEnd d ends v m e → HasJoin d ends v k a → (k ≡ m → ⊥)
+  joiner_apart v w t m k a e told none p q is =
+      let s : L = p.0 in
+      let one : q.0 ≡ s = some_inj (sym q.2 ∙ p.2) in
+      let now = now_of v w t s m p.1 p.4.state told none p.2 p.3 p.4.stands in
+      let then_now =
+      now_of v w t s k q.1 q.4.state told none p.2 q.3
+      (subst (λ z. state_after (numbered d) z q.1 k ≡ Some q.4.state) one q.4.stands) in
+      let same : q.4.state ≡ p.4.state =
+      some_inj (sym then_now ∙ (ap (state_after (numbered d) s w.log) is ∙ now)) in
+      let clash : Wants (d.on a) ≡ Goes p.4.last = sym q.4.comes.0 ∙ (ap d.next same ∙ p.4.goes) in
+      absurd cc
+
+  -- the end of m, and then the join of it by k
+  pub settled : (v w : View L) (t t' : Value) (m k : ℕ) (a : A) (e : E) → Told d ends v w t → t.state ≡ All
+      → HasEnd d ends v m e → HasJoin d ends v k a → d.on a ≡ m
+      → Next t' ((t.schedule.items ++ m ∷ []) ++ k ∷ []) (put_number t.revisions.slots.items m Gone)
+      t.revisions.forkers.items All
+      → InHand d ends (commits k (hands_in m (commits m w))) t'
+      × HasState d ends (commits k (hands_in m (commits m w))) k (d.joined a e)
+  settled v w t t' m k a e told none p q on next =
+      let s : L = p.0 in
+      let one : q.0 ≡ s = some_inj (sym q.2 ∙ p.2) in
+      let out = its_out v w t m p.1 told p.3 in
+      let other = its_out v w t k q.1 told q.3 in
+      let now = now_of v w t s m p.1 p.4.state told none p.2 p.3 p.4.stands in
+      let then_now =
+      now_of v w t s k q.1 q.4.state told none p.2 q.3
+      (subst (λ z. state_after (numbered d) z q.1 k ≡ Some q.4.state) one q.4.stands) in
+      let tie = tied_of w t s told.hand (told.start ∙ p.2) none in
+      let after =
+      hub.settled (numbered d) (values d ends) s w.log t.revisions.slots.items t.revisions.forkers.items tie m k a e
+      out other record { state = p.4.state; last = p.4.last; stands = now; goes = p.4.goes; is_end = p.4.is_end }
+      record { state = q.4.state; stands = then_now; comes = q.4.comes } on in (
+        left_hand v w (commits k (hands_in m (commits m w))) t t' s m ((w.log ++ m ∷ []) ++ k ∷ [])
+            (put_number t.revisions.slots.items m Gone) t.revisions.forkers.items told none p.2 out
+            (refl, refl, refl, refl, refl, refl, refl)
+            (next.0 ∙ ap (λ l. (l ++ m ∷ []) ++ k ∷ []) told.hand.holds.schedule, next.1, next.2, next.3, next.4)
+            (outs_in t.revisions.slots.items w.out m Gone told.hand.holds.outs out refl) after.0
+            (group_put w.group t.revisions.slots.items m Gone told.hand.holds.grouped tt),
+        (s, (w.log ++ m ∷ []) ++ k ∷ [], told.start ∙ p.2, inl (refl, refl), after.1),
+      )
 
   -- want of memory, where nothing was entered
   pub halts : (w : View L) (t t' : Value) → InHand d ends w t → t.state ≡ All

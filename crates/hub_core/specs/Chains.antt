@@ -1,12 +1,13 @@
 -- Lists of numbers through links, and what a call makes of the lists of a run queue.
 --   IsChain, IsList             a list of numbers, by its first, its last and the links
 --   IsKept                      the lists without a number stay
+--   is_first                    a number is the first of a list
 --   HasLists                    the list of what is ready, and of each number those that wait for it
 --   IsNowhere, IsOnce           a number stands in no list; each stands at most once in all of them
 --   KeepsLists                  a call that changes none
 --   Adds, Takes, Waits, Wakes   what a call makes of the lists
 --   AddsOne, DelaysOne, EndsOne what it makes of the whole queue
-use Rattle.std.specs.Prelude.{◌≡◌, ◌≢◌, ◌<◌, ◌≤◌, ◌+◌, ℕ, zero, suc, List, [], ◌∷◌, ◌++◌, length, cond, ◌==◌, Option, Some, None}
+use Rattle.std.specs.Prelude.{◌≡◌, ◌≢◌, ◌<◌, ◌≤◌, ◌+◌, ℕ, zero, suc, Bool, false, List, [], ◌∷◌, ◌++◌, length, cond, ◌==◌, Option, Some, None}
 use Rattle.revision_machine.specs.Numbered.{at_number}
 use Rattle.hub_core.specs.declared.run_queue.Chain.{Chain}
 use Rattle.hub_core.specs.declared.run_queue.RunQueue.{RunQueue}
@@ -31,6 +32,11 @@ abbrev pub IsKept : List ℕ → List ℕ → ℕ → Type 0
 IsKept links links' k =
     (list : Option Chain) (ns : List ℕ) → times k ns ≡ 0 → IsList links list ns
     → IsList links' list ns
+
+-- the number is the first of a list
+abbrev pub is_first : Option Chain → ℕ → Bool
+is_first None n = false
+is_first (Some chain) n = chain.first == n
 
 -- those that wait for a number
 abbrev pub chain_at : List (Option Chain) → ℕ → Option Chain

@@ -7,16 +7,23 @@
 --   HasFork, HasJoin, HasEnd, HasTrap   what is handed in is the event of that revision's leg
 --   KeepsOthers, KeepsAll               the other passes, or all, are as they were, and so is a halt that it knew of
 --   LacksPass                           it has no pass of a revision
-use Rattle.std.specs.Prelude.{◌≡◌, ◌≢◌, ℕ, ◌<◌, List, [], ◌∷◌, ◌++◌, Option, Some}
+--   HasCurrent v                        each pass has had no entry since, and seats have its revision
+--   HasWorld v                          what the hub kept when the seat gave its turn back
+--   Owes v m k l                        the joiner k has taken in the end of m, is in this state, and neither is an entry yet
+use Rattle.std.specs.Prelude.{◌≡◌, ◌≢◌, ℕ, ◌<◌, ◌≤◌, List, [], ◌∷◌, ◌++◌, Option, Some}
 use Rattle.atomic_table.specs.Seated.{TableId}
 use Rattle.atomic_table.specs.Table.{Me}
 use Rattle.atomic_table.specs.declared.shared.Seat.{Seat}
+use Rattle.revision_machine.specs.Numbered.{at_number}
+use Rattle.hub_core.specs.declared.status.Status.{Status}
+use Rattle.hub_core.specs.declared.status.Status.TheVariants.{Out}
+use Rattle.hub_core.specs.Counts.{times}
 use Rattle.hub_core.specs.Replay.{state_after}
-use Rattle.hub_core.specs.Hub.{Forks, Joins, EndsLeg, WasTrapped}
+use Rattle.hub_core.specs.Hub.{Tied, Forks, Joins, EndsLeg, WasTrapped}
 use Rattle.hub_core.specs.HubMachine.{HubMachine, numbered, values}
 use Rattle.hub_core.specs.declared.state.HubState.TheVariants.{All}
 use Rattle.hub_core.specs.declared.view.View.{View}
-use Rattle.hub_core.specs.Passes.{IsPass, AreStartsOf}
+use Rattle.hub_core.specs.Passes.{IsPass, AreStartsOf, Fresh, named}
 
 module _ {S L : Type 0} where
   abbrev pub IsIdle : Me S (View L) → Type 0
@@ -72,6 +79,9 @@ module _ {L : Type 0} where
   abbrev pub LacksPass : View L → ℕ → Type 0
   LacksPass v k = (at : List ℕ) → IsPass v.passes k at → ⊥
 
+  abbrev pub HasCurrent : View L → Type 0
+  HasCurrent v = Fresh v.log v.passes × ((k : ℕ) → named k v.passes ≤ times k v.out)
+
   -- in its last turn the seat added this entry to the schedule, or none
   abbrev pub AddsEntry : View L → ℕ → Type 0
   AddsEntry w k = w.log ≡ w.found ++ k ∷ []
@@ -105,3 +115,22 @@ module _ {L R A E : Type 0} (d : HubMachine L R A E) (ends : E → L → Type 0)
   abbrev pub ForkedAs : View L → ℕ → ℕ → R → Type 0
   ForkedAs v k n c =
       HasPass v k (λ start at. state_after (numbered d) start at n ≡ Some (d.runs c))
+
+  -- the hub kept these when the seat gave its turn back: each of its passes was one of then, and its revision out
+  pub record HasWorld (v : View L) : Type 0 where
+    pub start : L
+    pub begun : v.start ≡ Some start
+    pub slots : List (Status R A E)
+    pub forkers : List ℕ
+    pub tied : Tied (numbered d) (values d ends) start v.log slots forkers
+    pub fresh : Fresh v.log v.passes
+    pub out : (k : ℕ) (at : List ℕ) → IsPass v.passes k at → at_number slots k ≡ Some Out
+
+  -- the seat has m at its end, and k at its join of m, which is in this state after it
+  pub record Owes (v : View L) (m k : ℕ) (l : L) : Type 0 where
+    pub joiner : A
+    pub last : E
+    pub ended : HasEnd v m last
+    pub joins : HasJoin v k joiner
+    pub on : d.on joiner ≡ m
+    pub state : l ≡ d.joined joiner last

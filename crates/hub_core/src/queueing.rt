@@ -3,7 +3,7 @@
 ghost use Rattle.std.specs.Prelude.{◌≡◌, ◌<◌, ◌≤◌, ◌+◌, ◌^◌, ℕ, [], length, true, None};
 ghost use Rattle.std.specs.Prelude.{Option, vec_len, vec_capacity};
 ghost use Rattle.hub_core.specs.Chains.{IsAsLong, KeepsLists, Adds, Takes, Waits, Wakes, EndsOne};
-ghost use Rattle.hub_core.specs.Chains.{IsWithin, chain_at};
+ghost use Rattle.hub_core.specs.Chains.{IsWithin, chain_at, is_first};
 ghost use Rattle.hub_core.specs.Marks.{counted, first_in, mark_of, told_many, told_first};
 ghost use Rattle.hub_core.specs.declared.run_queue.Chain.{Chain};
 
@@ -99,10 +99,21 @@ impl RunQueue {
         self.many = self.many.saturating_add(1);
     }
 
+    /// Whether this number is the first of those that are ready.
+    pub fn comes_first(&self, number: u32) -> bool
+        ensures { result ≡ is_first self.now.ready number }
+    {
+        match self.ready {
+            None => false,
+            Some(chain) => chain.first == number,
+        }
+    }
+
     /// The first number that is ready, which is then ready no more.
     pub fn take(&mut self) -> Option<u32>
         requires { IsWithin self.old.ready (length self.old.links.items) }
         ensures lists { Takes self.old self.new result }
+        ensures first { first_in self.old.ready ≡ result }
         ensures same { (self.new.unfinished ≡ self.old.unfinished) × IsAsLong self.old self.new }
     {
         let chain = self.ready?;

@@ -216,6 +216,21 @@ impl<R, A, E> Revisions<R, A, E> {
         self.put_back(number, Status::Over(end));
     }
 
+    /// A revision that a seat had has ended, and was joined. What waits for its end is ready.
+    pub fn end_joined(&mut self, number: u32)
+        requires out { at_number self.old.slots.items number ≡ Some Out }
+        requires within { (number < length self.old.queue.waiters.items)
+            × IsWithin (chain_at self.old.queue.waiters.items number)
+            (length self.old.queue.links.items) }
+        requires some { 0 < self.old.queue.unfinished }
+        ensures now { self.new.slots.items ≡ put_number self.old.slots.items number Gone }
+        ensures queue { EndsOne self.old.queue self.new.queue number }
+        ensures forkers { self.new.forkers.items ≡ self.old.forkers.items }
+    {
+        self.queue.end(number);
+        self.put_back(number, Status::Gone);
+    }
+
     /// The end of a revision that has ended, which is joined by this; or none, where it was before.
     pub fn join(&mut self, number: u32) -> Option<E>
         requires { ended_here (at_number self.old.slots.items number) ≡ true }

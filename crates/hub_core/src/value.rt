@@ -42,6 +42,22 @@ impl<R, A, E> Turn<R, A, E> {
         self.schedule.push(of).is_ok()
     }
 
+    /// Two more entries, where there is memory for both.
+    pub fn enter_two(&mut self, first: u32, second: u32) -> bool
+        ensures schedule { MatchBool result
+            (self.new.schedule.items ≡ (self.old.schedule.items ++ first ∷ []) ++ second ∷ [])
+            (self.new.schedule.items ≡ self.old.schedule.items) }
+        ensures same { (self.new.revisions ≡ self.old.revisions)
+            × (self.new.state ≡ self.old.state) }
+    {
+        if self.schedule.try_reserve(2).is_err() {
+            return false;
+        }
+        append(&mut self.schedule, first);
+        append(&mut self.schedule, second);
+        true
+    }
+
     /// One more entry, and one more revision, and its number. The runner comes back for want of
     /// memory, and where no number is left.
     pub fn grow(&mut self, of: u32, child: R) -> Result<u32, R>

@@ -30,7 +30,7 @@ memory_halts : NoMemory ≡ All → ⊥
 memory_halts e = cc
 
 -- where no halt is known now, none was
-awake : (now was : HubState) → (was ≢ All → now ≡ was) → now ≡ All → was ≡ All
+pub awake : (now was : HubState) → (was ≢ All → now ≡ was) → now ≡ All → was ≡ All
 awake now All keeps free = refl
 awake now Twice keeps free = sym (keeps twice_halts) ∙ free
 awake now NoMemory keeps free = sym (keeps memory_halts) ∙ free
@@ -58,7 +58,7 @@ module _ {L : Type 0} where
       (λ e. e)
       (λ ne. alone (awake w.halt v.halt keeps.3 free) j at (keeps.2 j at ne p))
 
-  all_in : (v w : View L) (k : ℕ) → KeepsOthers v w k → LacksPass w k → IsAlone v k → HasHandedIn w
+  pub all_in : (v w : View L) (k : ℕ) → KeepsOthers v w k → LacksPass w k → IsAlone v k → HasHandedIn w
   all_in v w k keeps lacks alone free j at p = dite (ℕ_discrete j k)
       (λ e. lacks at (subst (λ i. IsPass w.passes i at) e p))
       (λ ne. ne (alone (awake w.halt v.halt keeps.3 free) j at (keeps.2 j at ne p)))

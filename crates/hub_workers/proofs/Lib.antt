@@ -1,3 +1,4 @@
 pub mod Events
 pub mod Handed
+pub mod Owing
 pub mod Rows

@@ -4,8 +4,9 @@
 --   Comes        where the leg of a state leads
 --   IsSettled    what a joiner is in the state after its join
 --   IsEndBy      an end of a state, made by a join or by a leg
+--   EndsHere     an end of a state, or of the state to which its leg leads
 --   IsSameHand   a hand of the same group, for the same runs
-use Rattle.std.specs.Prelude.{◌≡◌, ℕ, Bool, true, false, List, Some}
+use Rattle.std.specs.Prelude.{◌≡◌, ◌⊎◌, ℕ, Bool, true, false, List, Some}
 use Rattle.revision_machine.specs.Numbered.{Bears, Goes}
 use Rattle.hub_core.specs.Replay.{state_after}
 use Rattle.hub_core.specs.Hub.{Stands, IsEnd, Meets}
@@ -46,6 +47,10 @@ module _ {L R A E : Type 0} (d : HubMachine L R A E) (ends : E → L → Type 0)
   module _ (by_join : E → Bool) where
     abbrev pub IsEndBy : Bool → E → L → Type 0
     IsEndBy b e l = IsEnd (numbered d) (values d ends) e l × (by_join e ≡ b)
+
+    -- the joiner has ended by its join in this state, or by the leg behind it
+    abbrev pub EndsHere : E → L → Type 0
+    EndsHere e l = IsEndBy true e l ⊎ ((last : L) × (d.next l ≡ Goes last) × IsEndBy false e last)
 
     abbrev pub Comes : {F : Type 0} → (F → ℕ → L) → (F → L) → L → Event F A E → Type 0
     Comes forker child l (event.Fork f) = d.next l ≡ Bears (forker f) (child f)

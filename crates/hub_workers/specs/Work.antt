@@ -4,14 +4,18 @@
 --   HasClaimed     the seat has a joiner that has taken an end in
 --   HasStopped     the seat has a joiner that an end has stopped
 --   HasAnswer      the seat has a joiner whose join came out so
+--   HasReached     a revision has this state in a world to which a schedule leads from the run's start
+--   StaysFor       a joiner stays with the seat, which has its joinee
+--   IsOwing        a joiner has taken in the end of its joinee, and the seat has both
 --   HasNext        the seat has the revision that the thread goes on with
-use Rattle.std.specs.Prelude.{◌≡◌, ℕ, List, [], Some, true, false}
+use Rattle.std.specs.Prelude.{◌≡◌, ◌≢◌, ℕ, List, [], Some, true, false}
 use Rattle.revision_machine.specs.Numbered.{Bears}
-use Rattle.hub_core.specs.HubMachine.{HubMachine}
+use Rattle.hub_core.specs.HubMachine.{HubMachine, numbered}
 use Rattle.turn_hub.specs.declared.answers.JoinAnswer.{JoinAnswer}
 use Rattle.turn_hub.specs.declared.answers.JoinAnswer.TheVariants as join
 use Rattle.hub_core.specs.declared.view.View.{View}
-use Rattle.hub_core.specs.Seats.{HasState, HasJoin}
+use Rattle.hub_core.specs.Replay.{state_after}
+use Rattle.hub_core.specs.Seats.{HasState, HasJoin, HasWorld, Owes}
 use Rattle.hub_core.specs.Views.{sees}
 use Rattle.turn_hub.specs.Answers.{HasMet}
 use Rattle.hub_workers.specs.declared.next.Next.{Next}
@@ -47,6 +51,23 @@ module _ {L R A E : Type 0} (d : HubMachine L R A E) (ends : E → L → Type 0)
   HasOutlived v k a =
       (e : E) × (d.is_try a ≡ true) × (d.trapped e ≡ true) × HasState d ends v k (d.joined a e)
 
+  abbrev pub HasReached : View L → ℕ → L → Type 0
+  HasReached v k l =
+      (start : L) × (schedule : List ℕ) × (v.start ≡ Some start)
+      × (state_after (numbered d) start schedule k ≡ Some l)
+
+  -- the joiner k of n, which the seat has too
+  pub record StaysFor (v : View L) (n k : ℕ) (a : A) : Type 0 where
+    pub joins : HasJoin d ends v k a
+    pub on : d.on a ≡ n
+    pub apart : k ≢ n
+    pub group : d.joiner_group a ≡ v.group
+    pub world : HasWorld d ends v
+
+  pub record IsOwing (v : View L) (m k : ℕ) (l : L) : Type 0 where
+    pub owes : Owes d ends v m k l
+    pub reached : HasReached v k l
+
   module _ {C S : Type 0} (claimed : C → A → E → Type 0) (stopped : S → A → E → Type 0)
       (group : C → List ℕ) (halted : S → List ℕ) where
     abbrev pub HasAnswer : View L → ℕ → JoinAnswer A C S → Type 0
@@ -61,4 +82,7 @@ module _ {L R A E : Type 0} (d : HubMachine L R A E) (ends : E → L → Type 0)
     HasNext v (next.Run n r) = HasState d ends v n (d.runs r) × (d.runner_group r ≡ v.group)
     HasNext v (next.Retry n a) = HasJoin d ends v n a × (d.joiner_group a ≡ v.group)
     HasNext v (next.Came n r) = HasAnswer v n r
+    HasNext v (next.Joinee n r k a) =
+        HasState d ends v n (d.runs r) × (d.runner_group r ≡ v.group) × StaysFor v n k a
+    HasNext v (next.Owing k r m) = IsOwing v m k (d.runs r) × (d.runner_group r ≡ v.group)
     HasNext v next.Nothing = Unit {0}

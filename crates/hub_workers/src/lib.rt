@@ -7,6 +7,7 @@ mod legs;
 mod next;
 mod running;
 mod scout;
+mod staying;
 mod threads;
 mod vectors;
 mod worker;

@@ -22,6 +22,19 @@ pub enum Next<R, A, C, S> {
         number: u32,
         answer: JoinAnswer<A, C, S>,
     },
+    /// The joinee of a joiner that stays with the thread.
+    Joinee {
+        number: u32,
+        runner: R,
+        joiner: u32,
+        at: A,
+    },
+    /// A joiner that has taken in the end of its joinee. Neither is an entry yet.
+    Owing {
+        number: u32,
+        runner: R,
+        joinee: u32,
+    },
     /// Nothing.
     Nothing,
 }

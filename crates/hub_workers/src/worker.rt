@@ -10,11 +10,12 @@ use crate::gate::Gate;
 use crate::legs::{Event, Legs, Settled};
 use crate::next::{Next, after_end, after_joiner};
 use crate::scout::{Scout, pass_on};
+use crate::staying::{step_joinee, step_owing};
 use std::sync::Wait;
 use turn_hub::{HubSeat, JoinAnswer, JoinStep, Taken, TurnHub};
 
 // Enters want of memory.
-fn halt<L: Legs, W: Wait>(rt: &W, hub: &TurnHub<L>, seat: &mut HubSeat<L>)
+pub(crate) fn halt<L: Legs, W: Wait>(rt: &W, hub: &TurnHub<L>, seat: &mut HubSeat<L>)
     requires { IsSeatOf hub.now seat.old }
     ensures own { IsSeatOf hub.now seat.new }
     ensures same { IsSameSeat (view_of seat.old) (view_of seat.new) }
@@ -24,7 +25,7 @@ fn halt<L: Legs, W: Wait>(rt: &W, hub: &TurnHub<L>, seat: &mut HubSeat<L>)
 }
 
 // Hands in an end, and takes what is ready: first what waited for that end, which has joined.
-fn hand_in<L: Legs, W: Wait>(
+pub(crate) fn hand_in<L: Legs, W: Wait>(
     rt: &W,
     hub: &TurnHub<L>,
     bell: &Bell,
@@ -123,9 +124,9 @@ fn come<L: Legs, W: Wait>(
     }
 }
 
-// A joiner joins. Where it waits, the thread takes what is ready: first its joinee, where that was
-// forked last.
-fn join<L: Legs, W: Wait>(
+// A joiner joins. Where its joinee has not ended, the thread takes what is ready: first its joinee,
+// where that was forked last, and then the joiner stays with it.
+pub(crate) fn join<L: Legs, W: Wait>(
     rt: &W,
     hub: &TurnHub<L>,
     bell: &Bell,
@@ -151,6 +152,19 @@ fn join<L: Legs, W: Wait>(
             after_joiner(onward)
         },
         JoinStep::Came(answer) => come(rt, hub, bell, seat, hand, number, answer),
+        JoinStep::Joinee {
+            number: joinee,
+            runner,
+            at,
+        } => {
+            pass_on(hub, bell);
+            Next::Joinee {
+                number: joinee,
+                runner,
+                joiner: number,
+                at,
+            }
+        },
     }
 }
 
@@ -258,6 +272,21 @@ fn drive<L: Legs, G: Gate, W: Wait>(
             Next::Retry { number, at } => next = join(rt, hub, bell, seat, hand, number, at),
             Next::Came { number, answer } => {
                 next = come(rt, hub, bell, seat, hand, number, answer);
+            },
+            Next::Joinee {
+                number,
+                runner,
+                joiner,
+                at,
+            } => {
+                next = step_joinee(rt, hub, bell, gate, seat, hand, number, runner, joiner, at);
+            },
+            Next::Owing {
+                number,
+                runner,
+                joinee,
+            } => {
+                next = step_owing(rt, hub, bell, gate, seat, hand, number, runner, joinee);
             },
             Next::Nothing => return,
         }

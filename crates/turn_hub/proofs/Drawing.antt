@@ -1,5 +1,6 @@
 -- What is ready is drawn in a turn, and a joiner that was drawn joins in it.
-use Rattle.std.proofs.Common.{◌≡◌, ⊎_elim, ℕ, ◌≤◌, Bool, true, false, List, [], ◌∷◌, ◌++◌, refl, sym, ap, ◌∙◌, subst, arith, Some}
+use Rattle.std.proofs.Common.{◌≡◌, ⊎_elim, ℕ, ◌≤◌, Bool, true, false, cond, List, [], ◌∷◌, ◌++◌, refl, sym, ap, ◌∙◌, subst, arith, eq-eqb, Option, Some, None}
+use Rattle.std.proofs.lemmas.Bool.{eqb-true}
 use mathlib.Core.Logic.{dite}
 use native.Mathlib.Decide.{ℕ_discrete}
 use Rattle.revision_machine.specs.Numbered.{at_number, put_number}
@@ -10,7 +11,12 @@ use Rattle.revision_machine.proofs.Lists.{put_other}
 use Rattle.hub_core.specs.declared.value.Turn.{Turn}
 use Rattle.hub_core.specs.declared.state.HubState.TheVariants.{All}
 use Rattle.hub_core.specs.Counts.{times}
-use Rattle.hub_core.specs.Found.{ended_here, is_ready}
+use Rattle.hub_core.specs.declared.run_queue.Chain.{Chain}
+use Rattle.hub_core.specs.Chains.{is_first}
+use Rattle.hub_core.specs.Marks.{first_in}
+use Rattle.hub_core.specs.Found.{ended_here, has_runner, is_ready}
+use Rattle.revision_machine.proofs.Paths.{some_inj}
+use Rattle.revision_machine.proofs.Numbers.{none_some}
 use Rattle.hub_core.proofs.Lists.{is_at_same, is_at_other}
 use Rattle.hub_core.proofs.Slots.{no_more}
 use Rattle.hub_core.specs.declared.view.View.{View}
@@ -21,14 +27,16 @@ use Rattle.turn_hub.specs.declared.answers.Onward.TheVariants as onward
 use Rattle.turn_hub.specs.declared.answers.JoinAnswer.{JoinAnswer}
 use Rattle.turn_hub.specs.declared.answers.EndStep.{EndStep}
 use Rattle.turn_hub.specs.declared.answers.EndStep.TheVariants as ending
-use Rattle.hub_core.specs.Passes.{named, Pass, left, IsPass, Fresh}
+use Rattle.hub_core.specs.Passes.{named, Pass, left, IsPass}
+use Rattle.hub_core.specs.Seats.{HasCurrent, HasWorld}
 use Rattle.hub_core.specs.Views.{commits, hands_in, ends_in, draws, rests, sees}
 use Rattle.hub_core.specs.Rule.{done, said_of, says, InHand, Told}
-use Rattle.turn_hub.specs.Drawn.{IsDrawn}
-use Rattle.turn_hub.specs.Answers.{IsSameTurn, IsOneTurn, OnwardSays, Retried, HasCome, JoinSays, CameOn, EndStepSays, EndedOn}
-use Rattle.hub_core.proofs.Passes.{count_gone, count_other, left_pass, since_more, since_now}
-use Rattle.hub_core.proofs.Turns.{all_ended, out_here}
-use Rattle.turn_hub.proofs.Says.{says_put, onward_over, ends_said, ended_says}
+use Rattle.turn_hub.specs.Drawn.{IsFirst, IsDrawn}
+use Rattle.turn_hub.specs.Answers.{IsSameTurn, IsOneTurn, OnwardSays, Ran, Retried, HasCome, TookJoinee, Forked, IsHalted, JoinSays, CameOn, EndStepSays, EndedOn}
+use Rattle.hub_core.proofs.Passes.{count_gone, count_other, left_pass, since_more}
+use Rattle.hub_core.proofs.Turns.{all_ended, out_here, still_out}
+use Rattle.hub_core.proofs.Worlds.{current_in, current_draw, told_current}
+use Rattle.turn_hub.proofs.Says.{says_put, onward_over, ends_said, ended_says, ran_after}
 
 module _ {L : Type 0} where
   pub turn_rests : (v w x : View L) → IsSameTurn v w → x ≡ rests w → IsSameTurn v x
@@ -38,28 +46,14 @@ module _ {L : Type 0} where
   pub rested : (v w : View L) → IsSameTurn v w → IsSameTurn (rests v) w
   rested v w h = record { said = h.said; entered = h.entered; found = h.found; log = h.log; saw = h.saw; halt = h.halt }
 
+  pub halted_found : (v w x : View L) → IsOneTurn w x → IsHalted v (sees w.said w.found x) → IsHalted v x
+  halted_found v w x same h =
+      subst (λ (z : List Said × List ℕ). IsHalted v (sees z.0 z.1 x)) (λ i. (sym same.said i, sym same.found i)) h
+
   pub one_turn : (v w x : View L) → IsSameTurn v w → IsOneTurn w x → IsOneTurn v x
   one_turn v w x h g = record { said = g.said ∙ h.said; entered = g.entered ∙ h.entered; found = g.found ∙ h.found }
 
-  -- no pass has had an entry since, and the revision of each is out
-  abbrev pub Passes : View L → Type 0
-  Passes v = Fresh v.log v.passes × ((k : ℕ) → named k v.passes ≤ times k v.out)
-
-  passes_in : (k : ℕ) (v : View L) → Passes v → Passes (hands_in k v)
-  passes_in k v h = (
-    (λ j at p. h.0 j at (left_pass k v.passes j at p).0),
-    λ j. let m = h.1 j in dite (ℕ_discrete j k)
-        (λ e.
-        let a : named j (left k v.passes) ≡ 0 =
-        ap (λ i. named i (left k v.passes)) e ∙ count_gone (λ (p : Pass). p.0) k v.passes in
-        omega arith)
-        (λ ne.
-        let a = count_other (λ (p : Pass). p.0) k j v.passes ne in
-        let b = count_other (λ (x : ℕ). x) k j v.out ne in
-        omega arith),
-  )
-
-  passes_end : (k : ℕ) (v : View L) → Passes v → Passes (hands_in k (commits k v))
+  passes_end : (k : ℕ) (v : View L) → HasCurrent v → HasCurrent (hands_in k (commits k v))
   passes_end k v h = (
     (λ j at p. let q = left_pass k ((k, v.log ++ k ∷ []) ∷ left k v.passes) j at p in ⊎_elim
         (λ (r : (k ≡ j) × (v.log ++ k ∷ [] ≡ at)). absurd (q.1 (sym r.0)))
@@ -79,16 +73,9 @@ module _ {L : Type 0} where
         omega arith),
   )
 
-  passes_by : (b : Bool) (k : ℕ) (v : View L) → Passes v → Passes (ends_in b k v)
-  passes_by true k v h = passes_in k v h
+  passes_by : (b : Bool) (k : ℕ) (v : View L) → HasCurrent v → HasCurrent (ends_in b k v)
+  passes_by true k v h = current_in k v h
   passes_by false k v h = passes_end k v h
-
-  passes_draw : (n : ℕ) (v : View L) → Passes v → Passes (draws n v)
-  passes_draw n v h = (
-    (λ k at p. ⊎_elim (λ (q : (n ≡ k) × (v.log ≡ at)). since_now v.log k at q.1)
-        (λ (q : IsPass v.passes k at). h.0 k at q) p),
-    λ k. let m = h.1 k in omega arith,
-  )
 
 module _ {L R A E : Type 0} (d : HubMachine L R A E) (ends : E → L → Type 0) where
   abbrev V : Type 0
@@ -97,11 +84,9 @@ module _ {L R A E : Type 0} (d : HubMachine L R A E) (ends : E → L → Type 0)
   abbrev Value : Type 0
   Value = Turn R A E
 
-  pub passes_after : {v w u : V} (t : Value) (k : ℕ) (b : Bool) → Told d ends v w t → u ≡ ends_in b k w → Passes u
-  passes_after {w} t k b told is =
-      let before : Passes w =
-      subst (λ ps. Fresh w.log ps × ((j : ℕ) → named j ps ≤ times j w.out)) (sym told.passes) (told.fresh, told.mine) in
-      subst Passes (sym is) (passes_by b k w before)
+  pub passes_after : {v w u : V} (t : Value) (k : ℕ) (b : Bool) → Told d ends v w t → u ≡ ends_in b k w
+      → HasCurrent u
+  passes_after {w} t k b told is = subst HasCurrent (sym is) (passes_by b k w (told_current d ends told))
 
   -- the value in hand does not rest on what the seat found
   pub seen : (v : V) (t : Value) (said : List Said) (found : List ℕ) → InHand d ends v t
@@ -135,30 +120,90 @@ module _ {L R A E : Type 0} (d : HubMachine L R A E) (ends : E → L → Type 0)
       (λ e. no_more (sym (ap ended_here is) ∙ (ap (λ i. ended_here (at_number slots i)) (sym e) ∙ ended))))
       ∙ ended)
 
+  -- what a seat knows in its turn, as if it had taken the turn when a revision was out with it
+  pub told_again : (v : V) (t : Value) (k : ℕ) → InHand d ends v t → t.state ≡ All → v.entered ≡ All → HasCurrent v
+      → at_number t.revisions.slots.items k ≡ Some Out
+      → Told d ends v (sees (says d ends t.revisions.slots.items) v.log v) t
+  told_again v t k hand none free current out = record {
+    hand = seen v t (says d ends t.revisions.slots.items) v.log hand;
+    parts = refl;
+    start = refl;
+    group = refl;
+    passes = refl;
+    turns = refl;
+    fresh = current.0;
+    mine = current.1;
+    over = λ o. absurd (all_ended t.revisions.slots.items k Out
+        (ap (λ z. done z t.revisions.slots.items) (sym none) ∙ o) out);
+    said = refl;
+    entered = free ∙ sym none;
+    found = refl;
+    known = λ n. hand.halt;
+  }
+
   -- it is told as if the seat had taken the turn when it was drawn
   pub told_drawn : (v w : V) (t t' : Value) (n : ℕ) (a : A) → InHand d ends w t' → IsDrawn d v w t t' n a
-      → t'.state ≡ All → v.entered ≡ All → Passes v
+      → t'.state ≡ All → v.entered ≡ All → HasCurrent v
       → Told d ends w (sees (says d ends t'.revisions.slots.items) w.log w) t'
-  told_drawn v w t t' n a hand drawn none free passes =
-      let p : Passes w = subst Passes (sym drawn.view) (passes_draw n v passes) in
+  told_drawn v w t t' n a hand drawn none free current =
       let one = is_at_same n in
       let here : times n w.out ≡ times n (draws n v).out = ap (λ y. times n y.out) drawn.view in
-      let out = out_here d ends w t' n hand (omega arith) in record {
-        hand = seen w t' (says d ends t'.revisions.slots.items) w.log hand;
-        parts = refl;
-        start = refl;
-        group = refl;
-        passes = refl;
-        turns = refl;
-        fresh = p.0;
-        mine = p.1;
-        over = λ o. absurd (all_ended t'.revisions.slots.items n Out
-            (ap (λ z. done z t'.revisions.slots.items) (sym none) ∙ o) out);
-        said = refl;
-        entered = ap (λ y. y.entered) drawn.view ∙ (free ∙ sym none);
-        found = refl;
-        known = λ n. hand.halt;
+      told_again w t' n hand none (ap (λ y. y.entered) drawn.view ∙ free)
+      (subst HasCurrent (sym drawn.view) (current_draw n v current)) (out_here d ends w t' n hand (omega arith))
+
+  -- the first that is ready, and before its leg
+  first_flag : (o : Option Chain) (n : ℕ) → first_in o ≡ Some n → is_first o n ≡ true
+  first_flag None n e = none_some e
+  first_flag (Some chain) n e = eq-eqb chain.first n (some_inj e)
+
+  first_once : (o : Option Chain) (n m : ℕ) → is_first o n ≡ true → is_first o m ≡ true → n ≡ m
+  first_once None n m a b = no_more a
+  first_once (Some chain) n m a b = sym (eqb-true chain.first n a) ∙ eqb-true chain.first m b
+
+  no_first : (o : Option Chain) (n : ℕ) → first_in o ≡ None → is_first o n ≡ false
+  no_first None n e = refl
+  no_first (Some chain) n e = none_some (sym e)
+
+  pub both_of : (a b : Bool) → cond a b false ≡ true → (a ≡ true) × (b ≡ true)
+  both_of true b e = (refl, e)
+  both_of false b e = no_more e
+
+  pub is_first_drawn : (t : Value) (n : ℕ) (r : R) → IsFirst t (onward.Run n r)
+      → is_first t.revisions.queue.ready n ≡ true
+  is_first_drawn t n r f = first_flag t.revisions.queue.ready n f.0
+
+  -- what is handed out then is a runner
+  pub is_runner : (t : Value) (n : Onward R A) (m : ℕ) → IsFirst t n → is_first t.revisions.queue.ready m ≡ true
+      → has_runner (at_number t.revisions.slots.items m) ≡ true → (k : ℕ) × (r : R) × (n ≡ onward.Run k r)
+  is_runner t (onward.Run n r) m f first runner = (n, r, refl)
+  is_runner t (onward.Retry n a) m f first runner =
+      let is : n ≡ m = first_once t.revisions.queue.ready n m (first_flag t.revisions.queue.ready n f.0) first in
+      no_more (sym (ap has_runner (ap (at_number t.revisions.slots.items) (sym is) ∙ f.1)) ∙ runner)
+  is_runner t onward.Nothing m f first runner =
+      no_more (sym (no_first t.revisions.queue.ready m f) ∙ first)
+
+  pub took_joinee : {v w x : V} (t : Value) (a : A) (n m : ℕ) (r : R) → Told d ends v w t
+      → is_first t.revisions.queue.ready m ≡ true → has_runner (at_number t.revisions.slots.items m) ≡ true
+      → m ≡ d.on a → is_first t.revisions.queue.ready n ≡ true → IsSameTurn w x
+      → Ran d ends (says d ends t.revisions.slots.items) w x n r → HasWorld d ends x
+      → TookJoinee d ends v x a n r
+  took_joinee {v} {w} {x} t a n m r told first runner on is same ran world =
+      let one : n ≡ m = first_once t.revisions.queue.ready n m is first in record {
+        joinee = one ∙ on;
+        lacked = λ at p.
+            no_more (sym (ap has_runner (still_out d ends n at told p))
+            ∙ (ap (λ i. has_runner (at_number t.revisions.slots.items i)) one ∙ runner));
+        ran = ran_after d ends t n r told same ran;
+        entry = same.log ∙ (sym told.found ∙ sym same.found);
+        world = world;
       }
+
+  -- of a fork in a turn in which nothing else was done
+  pub forked_found : (v w x : V) (k : ℕ) (c : R) (n : ℕ) → IsOneTurn w x
+      → Forked d ends v (sees w.said w.found x) k c n → Forked d ends v x k c n
+  forked_found v w x k c n same h =
+      subst (λ (z : List Said × List ℕ). Forked d ends v (sees z.0 z.1 x) k c n)
+      (λ i. (sym same.said i, sym same.found i)) h
 
   module _ {C S : Type 0} (claimed : C → A → E → Type 0) (stopped : S → A → E → Type 0) (group : C → List ℕ)
       (halted : S → List ℕ) where

@@ -1,4 +1,5 @@
 pub mod Says
 pub mod Drawing
+pub mod Settling
 pub mod Rows
 pub mod Closes

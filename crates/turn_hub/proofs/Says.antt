@@ -16,7 +16,8 @@ use Rattle.turn_hub.specs.declared.answers.Onward.{Onward}
 use Rattle.turn_hub.specs.declared.answers.Onward.TheVariants as onward
 use Rattle.turn_hub.specs.declared.answers.JoinAnswer.{JoinAnswer}
 use Rattle.turn_hub.specs.declared.answers.JoinAnswer.TheVariants as join
-use Rattle.hub_core.proofs.Turns.{Next, group_at, drawn, drawn_again, forked, joined, meeting, keeps_halt, told_halt, keeps_draw, keeps_commit, keeps_in, keeps_end, lacks_in, lacks_end}
+use Rattle.hub_core.proofs.Turns.{Next, group_at, drawn, drawn_again, forked, joined, meeting, keeps_halt, told_halt, has_pass, keeps_draw, keeps_commit, keeps_in, keeps_end, lacks_in, lacks_end}
+use Rattle.hub_core.proofs.Worlds.{world_now, current_commit, told_current}
 use Rattle.hub_core.specs.declared.view.Said.{Said}
 use Rattle.hub_core.specs.declared.view.Said.TheVariants as mark
 use Rattle.hub_core.specs.Views.{ended_said, ready_said, all_said, or_no_memory, commits, hands_in, ends_in, draws, stops, rests}
@@ -288,6 +289,8 @@ module _ {L R A E : Type 0} (d : HubMachine L R A E) (ends : E → L → Type 0)
             (forked d ends v w t t' k c told none p group next).1;
         child = subst (λ m. ForkedAs d ends (rests (commits k w)) k m c) (sym number)
             (forked d ends v w t t' k c told none event group next).2;
+        world = world_now d ends (commits k w) t' (forked d ends v w t t' k c told none event group next).0 next.3
+            (current_commit k w (has_pass d ends k event.1 told event.3) (told_current d ends told));
       }
 
   pub took_in : {v w x : V} (t t' : Value) (k : ℕ) (a : A) (e : E) → Told d ends v w t → t.state ≡ All

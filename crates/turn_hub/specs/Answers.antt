@@ -5,10 +5,12 @@
 --   HasMet       the joiner and the end that it takes in, in the world of the schedule so far
 --   JoinSays     of `join`
 --   EndedSays    of `end`
---   JoinedOn     of `join_or_take`: what `join` tells, and then what is handed out
+--   JoinedOn     of `join_or_take`: what `join` tells, and then what is handed out, or the joinee
+--   Settled      of `settle`: what `end` tells of a joinee, and then what `join` tells of its joiner
+--   ForkedBehind, HaltedBehind  of `fork_behind`: the same, and then what `fork` tells
 --   EndedOn      of `end_and_take`: what `end` tells, and then what is handed out, or how the join of what waited came out
 --   IsHalted     a halt was entered, before the call or by it
-use Rattle.std.specs.Prelude.{◌≡◌, ℕ, Bool, true, false, Some, List, length, cond, MatchBool}
+use Rattle.std.specs.Prelude.{◌≡◌, ◌⊎◌, ℕ, Bool, true, false, Some, List, length, cond, MatchBool}
 use Rattle.revision_machine.specs.Numbered.{at_number, put_number}
 use Rattle.hub_core.specs.Hub.{Meets}
 use Rattle.hub_core.specs.HubMachine.{HubMachine, numbered, values}
@@ -28,7 +30,7 @@ use Rattle.turn_hub.specs.declared.answers.JoinStep.TheVariants as step
 use Rattle.turn_hub.specs.declared.answers.EndStep.{EndStep}
 use Rattle.turn_hub.specs.declared.answers.EndStep.TheVariants as ending
 use Rattle.hub_core.specs.Views.{ended_said, ready_said, all_said, or_no_memory, sees}
-use Rattle.hub_core.specs.Seats.{HasState, HasFork, HasJoin, ForkedAs, KeepsAll, KeepsOthers, LacksPass, AddsEntry, AddsNone}
+use Rattle.hub_core.specs.Seats.{HasState, HasFork, HasJoin, ForkedAs, HasWorld, KeepsAll, KeepsOthers, LacksPass, AddsEntry, AddsNone}
 
 module _ {L : Type 0} where
   -- nothing was entered before this turn
@@ -120,6 +122,7 @@ module _ {L R A E : Type 0} (d : HubMachine L R A E) (ends : E → L → Type 0)
     pub next : n ≡ length w.said
     pub forker : (p : HasFork d ends v k c) → HasState d ends w k (p.4.forker n)
     pub child : ForkedAs d ends w k n c
+    pub world : HasWorld d ends w
 
   -- a joiner that has taken an end in, by one entry, is in this state
   pub record TookIn (v w : View L) (k : ℕ) (l : L) : Type 0 where
@@ -141,6 +144,14 @@ module _ {L R A E : Type 0} (d : HubMachine L R A E) (ends : E → L → Type 0)
     pub waited : Waited v between k a
     pub same : IsSameTurn between w
     pub onward : OnwardSays (put_number w.said k (mark.Waits (d.on a))) between w next
+
+  -- the joinee n was ready, and this seat has its pass. No entry is made, and the joiner's pass is kept
+  pub record TookJoinee (v w : View L) (a : A) (n : ℕ) (r : R) : Type 0 where
+    pub joinee : n ≡ d.on a
+    pub lacked : LacksPass v n
+    pub ran : Ran w.said v w n r
+    pub entry : AddsNone w
+    pub world : HasWorld d ends w
 
   -- the last entry
   pub record MetTwice (v w : View L) (k : ℕ) (a : A) : Type 0 where
@@ -185,6 +196,7 @@ module _ {L R A E : Type 0} (d : HubMachine L R A E) (ends : E → L → Type 0)
     abbrev pub JoinedOn : View L → View L → ℕ → A → JoinStep R A C S → Type 0
     JoinedOn v w k a (step.Came r) = HasCome r × JoinSays v w k a r
     JoinedOn v w k a (step.Waits next) = WaitedOn v w k a next
+    JoinedOn v w k a (step.Joinee n r b) = (b ≡ a) × TookJoinee v w a n r
 
     -- how an end is taken in
     abbrev pub TakesIn : A → E → JoinAnswer A C S → Type 0
@@ -203,6 +215,27 @@ module _ {L R A E : Type 0} (d : HubMachine L R A E) (ends : E → L → Type 0)
     pub keeps : KeepsOthers v w k
     pub gone : LacksPass w k
     pub entry : MatchBool by_join (AddsNone w) (AddsEntry w k)
+
+  -- the end of the joinee m, and then the join of it by k, which is in this state then: two entries, told as if the seat had taken the turn between the two
+  pub record Settled (v w : View L) (m k : ℕ) (l : L) : Type 0 where
+    pub between : View L
+    pub ended : EndedSays v between m false
+    pub turn : IsOneTurn between w
+    pub took : TookIn between (sees w.said between.log w) k l
+
+  -- the same, and then the fork of k: three entries
+  pub record ForkedBehind (v w : View L) (m k : ℕ) (l : L) (c : R) (n : ℕ) : Type 0 where
+    pub between : View L
+    pub settled : Settled v between m k l
+    pub turn : IsOneTurn between w
+    pub forked : Forked between (sees (put_number w.said m mark.Joined) between.log w) k c n
+
+  -- a halt was entered, before the two entries or behind them
+  abbrev pub HaltedBehind : View L → View L → ℕ → ℕ → L → Type 0
+  HaltedBehind v w m k l =
+      IsHalted v w
+      ⊎ ((between : View L) × Settled v between m k l × IsOneTurn between w
+      × IsHalted between (sees w.said between.log w))
 
   module _ {C S : Type 0} (claimed : C → A → E → Type 0) (stopped : S → A → E → Type 0) (group : C → List ℕ) (halted : S → List ℕ) where
     -- the joiner n is handed out, and joins in the same turn: this is what `join` tells of it had the seat taken the turn between the two

@@ -43,13 +43,16 @@ pub enum JoinAnswer<A, C, S> {
     OutOfMemory(A),
 }
 
-/// How a join came out, and what the seat goes on with where the joiner waits.
+/// How a join came out, and what the seat goes on with where the joinee has not ended.
 #[derive(Drop)]
 pub enum JoinStep<R, A, C, S> {
     /// The joiner does not wait.
     Came(JoinAnswer<A, C, S>),
     /// The joinee has not ended, and the hub keeps the joiner.
     Waits(Onward<R, A>),
+    /// The joinee `number` was the first that was ready, and before its leg. The seat has taken it,
+    /// and the joiner stays with the seat.
+    Joinee { number: u32, runner: R, at: A },
 }
 
 /// What a seat that has handed in an end goes on with.

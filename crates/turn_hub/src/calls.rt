@@ -2,7 +2,7 @@
 ghost use Rattle.std.specs.Prelude.{◌≡◌, ◌<◌, Some, IfOk, IfErr, OnOk, MatchBool};
 
 use crate::answers::{EndStep, JoinAnswer, JoinStep, Onward, Taken};
-use crate::ended::has_ended;
+use crate::ended::{comes_next, has_ended};
 use crate::hub::TurnHub;
 use crate::seat::HubSeat;
 use hub_core::Revision;
@@ -55,22 +55,12 @@ impl<L: Revision> TurnHub<L> {
         ensures err { IfErr result (λ c. (c ≡ child) × IsHalted seat.old.place.me.0
             seat.new.place.me.0) }
     {
-        let mut turn = self.enter(rt, &mut seat.place, &mut seat.patience);
+        let turn = self.enter(rt, &mut seat.place, &mut seat.patience);
         if turn.halted().is_some() {
             self.put_home_halted(&mut seat.place, turn);
             return Err(child);
         }
-        match turn.grow(of, child) {
-            Ok(number) => {
-                self.commit(&mut seat.place, of);
-                self.put_home(&mut seat.place, turn);
-                Ok(number)
-            },
-            Err(child) => {
-                self.put_home_halted(&mut seat.place, turn);
-                Err(child)
-            },
-        }
+        self.fork_in(&mut seat.place, turn, of, child)
     }
 
     /// Hands in a joiner, the revision `of`. Where its joinee has ended, it comes back with the
@@ -113,7 +103,9 @@ impl<L: Revision> TurnHub<L> {
         }
     }
 
-    /// The same. Where the joiner waits, the seat takes what is ready in the same turn.
+    /// The same, but in the same turn the seat also takes what is ready where the joinee has not
+    /// ended. Where its joinee comes first and is before its leg, it takes that, and the joiner
+    /// comes back. Else the hub keeps the joiner.
     pub fn join_or_take<W: Wait>(
         &self,
         rt: &W,
@@ -135,9 +127,15 @@ impl<L: Revision> TurnHub<L> {
             self.put_home_halted(&mut seat.place, turn);
             return JoinStep::Came(JoinAnswer::OutOfMemory(at));
         }
-        let ended = has_ended::<L>(turn.revisions.slots.as_slice(), L::on(&at));
+        let on = L::on(&at);
+        let ended = has_ended::<L>(turn.revisions.slots.as_slice(), on);
         if ended {
             return JoinStep::Came(self.join_in(&mut seat.place, turn, of, at));
+        }
+        let next = comes_next::<L>(&turn.revisions, on);
+        if next {
+            let (number, runner) = self.take_runner(&mut seat.place, turn);
+            return JoinStep::Joinee { number, runner, at };
         }
         match self.keep_in(&mut seat.place, &mut *turn, of, at) {
             Ok(()) => JoinStep::Waits(self.take_next(&mut seat.place, turn)),

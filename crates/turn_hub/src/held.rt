@@ -1,7 +1,7 @@
 //! What a seat does in the turn that it has.
-ghost use Rattle.std.specs.Prelude.{◌≡◌, ◌≤◌, ℕ, List, true, false, IfErr, OnOk, MatchBool};
+ghost use Rattle.std.specs.Prelude.{◌≡◌, ◌≤◌, ℕ, List, true, false, IfOk, IfErr, OnOk, MatchBool};
 ghost use Rattle.revision_machine.specs.Numbered.{at_number, put_number};
-ghost use Rattle.hub_core.specs.declared.status.Status.TheVariants.{Waiting, Over};
+ghost use Rattle.hub_core.specs.declared.status.Status.TheVariants.{Waiting, Over, Gone};
 
 use crate::answers::{EndStep, JoinAnswer, Onward};
 use crate::hub::TurnHub;
@@ -11,15 +11,17 @@ use hub_core::{HubState, Revision, Said, Status, Turn, View, empty};
 
 impl<L: Revision> TurnHub<L> {
     ghost use Rattle.hub_core.specs.declared.state.HubState.TheVariants.{All};
-    ghost use Rattle.hub_core.specs.Found.{ended_here};
+    ghost use Rattle.hub_core.specs.Found.{ended_here, has_runner};
+    ghost use Rattle.hub_core.specs.Chains.{is_first};
     ghost use Rattle.hub_core.specs.Counts.{times};
     ghost use Rattle.turn_hub.specs.Answers.{OnwardSays, JoinSays, HasCome, IsSameTurn};
-    ghost use Rattle.turn_hub.specs.Answers.{IsOneTurn, EndStepSays};
-    ghost use Rattle.turn_hub.specs.Drawn.{IsDrawnHere};
+    ghost use Rattle.turn_hub.specs.Answers.{IsOneTurn, EndStepSays, Ran, Forked, IsHalted};
+    ghost use Rattle.turn_hub.specs.Drawn.{IsDrawnHere, IsFirst};
     ghost use Rattle.hub_core.specs.Passes.{named, Fresh};
     ghost use Rattle.hub_core.specs.Rule.{InHand, IsOpen, Told, says};
-    ghost use Rattle.hub_core.specs.Seats.{HasJoin, HasEnd, HasTrap, IsResting};
-    ghost use Rattle.hub_core.specs.Views.{hands_in, ends_in, sees};
+    ghost use Rattle.hub_core.specs.Seats.{HasFork, HasJoin, HasEnd, HasTrap, IsResting};
+    ghost use Rattle.hub_core.specs.Seats.{HasCurrent, HasWorld, HasState, Owes};
+    ghost use Rattle.hub_core.specs.Views.{commits, hands_in, ends_in, sees};
 
     // Takes the first that is ready out of the value.
     fn draw_next(
@@ -38,6 +40,8 @@ impl<L: Revision> TurnHub<L> {
         ensures hand { InHand L.machine L.ends place.new.me.0 turn.new }
         ensures state { turn.new.state ≡ turn.old.state }
         ensures turn { IsSameTurn place.old.me.0 place.new.me.0 }
+        ensures first { IsFirst turn.old result }
+        ensures current { HasCurrent place.old.me.0 → HasCurrent place.new.me.0 }
         ensures drawn { IsDrawnHere L.machine place.old.me.0 place.new.me.0
             turn.old turn.new result }
         ensures answer { OnwardSays L.machine L.ends
@@ -76,6 +80,8 @@ impl<L: Revision> TurnHub<L> {
         ensures own { place.new.table_id ≡ place.old.table_id }
         ensures rests { IsResting place.old.me place.new.me }
         ensures turn { IsSameTurn place.old.me.0 place.new.me.0 }
+        ensures first { IsFirst turn.value result }
+        ensures world { HasCurrent place.old.me.0 → HasWorld L.machine L.ends place.new.me.0 }
         ensures answer { OnwardSays L.machine L.ends
             (says L.machine L.ends turn.value.revisions.slots.items)
             place.old.me.0 place.new.me.0 result }
@@ -83,6 +89,36 @@ impl<L: Revision> TurnHub<L> {
         let next = self.draw_next(place, &mut *turn);
         self.put_home(place, turn);
         next
+    }
+
+    // Takes the first that is ready, which is before its leg, and gives the turn back.
+    pub(crate) fn take_runner(
+        &self,
+        place: &mut Place<L>,
+        turn: Box<Turn<L::Runner, L::AtJoin, L::End>>,
+    ) -> (u32, L::Runner)
+        requires own { (place.old.table_id ≡ self.now.turn.shared.table_id)
+            × IsOpen L.machine L.ends place.old.me }
+        requires hand { InHand L.machine L.ends place.old.me.0 turn.value }
+        requires free { (turn.value.state ≡ All) × (place.old.me.0.entered ≡ All) }
+        requires first { (on : ℕ) × (is_first turn.value.revisions.queue.ready on ≡ true)
+            × (has_runner (at_number turn.value.revisions.slots.items on) ≡ true) }
+        ensures own { place.new.table_id ≡ place.old.table_id }
+        ensures rests { IsResting place.old.me place.new.me }
+        ensures turn { IsSameTurn place.old.me.0 place.new.me.0 }
+        ensures first { is_first turn.value.revisions.queue.ready result.0 ≡ true }
+        ensures world { HasCurrent place.old.me.0 → HasWorld L.machine L.ends place.new.me.0 }
+        ensures answer { Ran L.machine L.ends
+            (says L.machine L.ends turn.value.revisions.slots.items)
+            place.old.me.0 place.new.me.0 result.0 result.1 }
+    {
+        match self.take_next(place, turn) {
+            Onward::Run { number, runner } => (number, runner),
+            other => {
+                empty(Some(other));
+                unreachable!()
+            },
+        }
     }
 
     // The same, but a joiner joins, since its joinee has ended.
@@ -117,6 +153,47 @@ impl<L: Revision> TurnHub<L> {
             Onward::Nothing => {
                 self.put_home(place, turn);
                 EndStep::Nothing
+            },
+        }
+    }
+
+    // The fork of a revision that this seat has, and the turn is given back. The child comes back
+    // for want of memory. What it tells is told as `join_in` tells it.
+    pub(crate) fn fork_in(
+        &self,
+        place: &mut Place<L>,
+        mut turn: Box<Turn<L::Runner, L::AtJoin, L::End>>,
+        of: u32,
+        child: L::Runner,
+    ) -> Result<u32, L::Runner>
+        requires own { (place.old.table_id ≡ self.now.turn.shared.table_id)
+            × IsOpen L.machine L.ends place.old.me }
+        requires told { (v : View L.State) × (said : List Said) × (found : List ℕ)
+            × Told L.machine L.ends v (sees said found place.old.me.0) turn.value
+            × HasFork L.machine L.ends v of child }
+        requires free { turn.value.state ≡ All }
+        requires group { L.machine.runner_group child ≡ place.old.me.0.group }
+        ensures own { place.new.table_id ≡ place.old.table_id }
+        ensures rests { IsResting place.old.me place.new.me }
+        ensures turn { IsOneTurn place.old.me.0 place.new.me.0 }
+        ensures ok { IfOk result (λ n. (v : View L.State) (said : List Said) (found : List ℕ)
+            → Told L.machine L.ends v (sees said found place.old.me.0) turn.value
+            → HasFork L.machine L.ends v of child
+            → Forked L.machine L.ends v (sees said found place.new.me.0) of child n) }
+        ensures err { IfErr result (λ c. (c ≡ child)
+            × ((v : View L.State) (said : List Said) (found : List ℕ)
+            → Told L.machine L.ends v (sees said found place.old.me.0) turn.value
+            → IsHalted v (sees said found place.new.me.0))) }
+    {
+        match turn.grow(of, child) {
+            Ok(number) => {
+                self.commit(place, of);
+                self.put_home(place, turn);
+                Ok(number)
+            },
+            Err(child) => {
+                self.put_home_halted(place, turn);
+                Err(child)
             },
         }
     }
@@ -242,5 +319,43 @@ impl<L: Revision> TurnHub<L> {
         self.commit(place, of);
         self.hand_in(place, of);
         Ok(())
+    }
+
+    // The end of the joinee and the join of it by `of`, both of which this seat has: two entries,
+    // or for want of memory none.
+    pub(crate) fn settle_in(
+        &self,
+        place: &mut Place<L>,
+        turn: &mut Turn<L::Runner, L::AtJoin, L::End>,
+        joinee: u32,
+        of: u32,
+    ) -> bool
+        requires own { (place.old.table_id ≡ self.now.turn.shared.table_id)
+            × IsOpen L.machine L.ends place.old.me }
+        requires told { (v : View L.State) × (l : L.State)
+            × Told L.machine L.ends v place.old.me.0 turn.old × Owes L.machine L.ends v joinee of l }
+        requires free { turn.old.state ≡ All }
+        ensures own { (place.new.table_id ≡ place.old.table_id)
+            × IsOpen L.machine L.ends place.new.me }
+        ensures hand { InHand L.machine L.ends place.new.me.0 turn.new }
+        ensures state { turn.new.state ≡ turn.old.state }
+        ensures done { result ≡ true
+            → (place.new.me.0 ≡ commits of (hands_in joinee (commits joinee place.old.me.0)))
+            × (turn.new.revisions.slots.items
+            ≡ put_number turn.old.revisions.slots.items joinee Gone) }
+        ensures joined { result ≡ true → (v : View L.State) (l : L.State)
+            → Told L.machine L.ends v place.old.me.0 turn.old
+            → Owes L.machine L.ends v joinee of l
+            → HasState L.machine L.ends place.new.me.0 of l }
+        ensures none { result ≡ false → place.new.me.0 ≡ place.old.me.0 }
+    {
+        if !turn.enter_two(joinee, of) {
+            return false;
+        }
+        turn.revisions.end_joined(joinee);
+        self.commit(place, joinee);
+        self.hand_in(place, joinee);
+        self.commit(place, of);
+        true
     }
 }

@@ -1,11 +1,13 @@
 -- Answers of TurnHub::draw_next: what the queue gives is ready or waits in its slot, so it may be drawn.
-use Rattle.std.proofs.Common.{rules, true, ◌≡◌, refl, Some, ap, ◌∙◌}
+use Rattle.std.proofs.Common.{rules, true, ◌≡◌, refl, Some, sym, ap, ◌∙◌, subst}
 use Rattle.revision_machine.specs.Numbered.{at_number}
 use Rattle.hub_core.specs.declared.value.Turn.{Turn}
 use Rattle.hub_core.specs.Found.{is_ready}
 use Rattle.hub_core.proofs.Queues.{ready_within, queue_in, queue_ready, queue_take, queue_idle, queue_none}
 use Rattle.hub_core.specs.Rule.{is_out}
+use Rattle.hub_core.specs.Seats.{HasCurrent}
 use Rattle.hub_core.proofs.Turns.{drawn, drawn_again, moved_hand, same_hand}
+use Rattle.hub_core.proofs.Worlds.{current_draw}
 use Rattle.turn_hub.proofs.Says.{ran, retried, none_now, draws_turn, same_turn}
 use Rattle.turn_hub.proofs.Drawing.{still_ended}
 use Rattle.turn_hub.proofs.hub.TurnHub.draw_next.Goals as goal
@@ -129,3 +131,22 @@ returns-in-Waiting-clause-turn g c = draws_turn _ _ _ (ap (λ m. m.0) c.draw-in-
 
 pub returns-in_default-clause-turn : goal.returns-in_default-clause-turn
 returns-in_default-clause-turn g c = same_turn _
+
+pub returns-in-Ready-clause-first : goal.returns-in-Ready-clause-first
+returns-in-Ready-clause-first g c = (c.in-Some.ensures.first, c.swap.ensures.was ∙ ap Some c.in-Ready.is)
+
+pub returns-in-Waiting-clause-first : goal.returns-in-Waiting-clause-first
+returns-in-Waiting-clause-first g c = (c.in-Some.ensures.first, c.swap.ensures.was ∙ ap Some c.in-Waiting.is)
+
+pub returns-in_default-clause-first : goal.returns-in_default-clause-first
+returns-in_default-clause-first g c = c.in_default.ensures.first
+
+pub returns-in-Ready-clause-current : goal.returns-in-Ready-clause-current
+returns-in-Ready-clause-current g c = λ h.
+    subst HasCurrent (sym (ap (λ m. m.0) c.draw.ensures.after))
+    (current_draw c.in-Some.number c.args.place.now.me.0 h)
+
+pub returns-in-Waiting-clause-current : goal.returns-in-Waiting-clause-current
+returns-in-Waiting-clause-current g c = λ h.
+    subst HasCurrent (sym (ap (λ m. m.0) c.draw-in-Waiting.ensures.after))
+    (current_draw c.in-Some.number c.args.place.now.me.0 h)

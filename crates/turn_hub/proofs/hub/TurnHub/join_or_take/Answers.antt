@@ -1,12 +1,14 @@
 -- Answers of TurnHub::join_or_take: by the joinee's slot the joiner joins, or waits while the seat takes the next.
-use Rattle.std.proofs.Common.{rules, ◌≡◌, refl, false, sym, ap, ◌∙◌}
+use Rattle.std.proofs.Common.{rules, ◌≡◌, refl, true, false, cond, sym, ap, ◌∙◌}
 use Rattle.revision_machine.specs.Numbered.{at_number}
 use Rattle.hub_core.specs.declared.state.HubState.TheVariants.{All}
-use Rattle.hub_core.specs.Found.{ended_here}
+use Rattle.hub_core.specs.Chains.{is_first}
+use Rattle.hub_core.specs.Found.{ended_here, has_runner}
 use Rattle.hub_core.specs.Views.{rests, stops, or_no_memory}
 use Rattle.hub_core.proofs.Turns.{told_at}
 use Rattle.turn_hub.proofs.Says.{waited_on, now_halted, halted_turn, turn_over}
-use Rattle.turn_hub.proofs.Drawing.{same_found}
+use Rattle.hub_core.proofs.Worlds.{told_current}
+use Rattle.turn_hub.proofs.Drawing.{same_found, both_of, took_joinee}
 use Rattle.turn_hub.proofs.hub.TurnHub.join_or_take.Goals as goal
 
 pub join_in-requires-clause-told : goal.join_in-requires-clause-told
@@ -111,3 +113,35 @@ pub returns-then-is_some-clause-turn : goal.returns-then-is_some-clause-turn
 returns-then-is_some-clause-turn g c =
     halted_turn c.args.seat.now.place.me.0 c.enter-turn.new.place.me.0 c.put_home_halted.new.place.me.0
     c.enter-turn.ensures.told.turns (ap (λ m. m.0) c.put_home_halted.ensures.rests)
+
+pub take_runner-number-requires-clause-first : goal.take_runner-number-requires-clause-first
+take_runner-number-requires-clause-first g c =
+    let both : cond (is_first c.enter-turn.result.value.revisions.queue.ready c.on-on.result)
+    (has_runner (at_number c.enter-turn.result.value.revisions.slots.items c.on-on.result)) false
+    ≡ true = search rules in
+    let parts = both_of g.L.Revision.machine g.L.Revision.ends _ _ both in
+    (c.on-on.result, parts.0, parts.1)
+
+pub take_runner-number-requires-clause-free : goal.take_runner-number-requires-clause-free
+take_runner-number-requires-clause-free g c =
+    let opened : c.enter-turn.result.value.state ≡ All = search rules in
+    (opened, c.enter-turn.ensures.told.entered ∙ opened)
+
+pub returns-then-next-clause-answer : goal.returns-then-next-clause-answer
+returns-then-next-clause-answer g c =
+    let both : cond (is_first c.enter-turn.result.value.revisions.queue.ready c.on-on.result)
+    (has_runner (at_number c.enter-turn.result.value.revisions.slots.items c.on-on.result)) false
+    ≡ true = search rules in
+    let first = both_of g.L.Revision.machine g.L.Revision.ends _ _ both in
+    let told = c.enter-turn.ensures.told in (
+      refl,
+      took_joinee g.L.Revision.machine g.L.Revision.ends c.enter-turn.result.value c.args.at _ c.on-on.result _ told
+          first.0 first.1 c.on-on.ensures c.take_runner-number.ensures.first c.take_runner-number.ensures.turn
+          c.take_runner-number.ensures.answer
+          (c.take_runner-number.ensures.world (told_current g.L.Revision.machine g.L.Revision.ends told)),
+    )
+
+pub returns-then-next-clause-turn : goal.returns-then-next-clause-turn
+returns-then-next-clause-turn g c =
+    turn_over c.args.seat.now.place.me.0 c.enter-turn.new.place.me.0 c.take_runner-number.new.place.me.0
+    c.enter-turn.ensures.told.turns c.take_runner-number.ensures.rests.3

@@ -1,6 +1,9 @@
 -- Answers of TurnHub::take_next: what was drawn from the turn is still drawn when the turn is home and the seat idle.
-use Rattle.std.proofs.Common.{ap, ◌∙◌, subst}
+use Rattle.std.proofs.Common.{sym, ap, ◌∙◌, subst}
 use Rattle.hub_core.specs.Rule.{says}
+use Rattle.hub_core.specs.Seats.{HasWorld}
+use Rattle.hub_core.proofs.Worlds.{world_now}
+use Rattle.turn_hub.specs.Drawn.{IsFirst}
 use Rattle.turn_hub.specs.Answers.{OnwardSays}
 use Rattle.turn_hub.proofs.Drawing.{turn_rests, onward_rests}
 use Rattle.turn_hub.proofs.Says.{rested_turn}
@@ -28,3 +31,14 @@ returns-clause-answer g c =
     c.deref_mut.ensures.value
     (onward_rests g.L.Revision.machine g.L.Revision.ends _ _ _ _ c.draw_next-next.ensures.answer
     (ap (λ m. m.0) c.put_home.ensures.rests))
+
+pub returns-clause-first : goal.returns-clause-first
+returns-clause-first g c =
+    subst (λ t. IsFirst t c.draw_next-next.result) c.deref_mut.ensures.value c.draw_next-next.ensures.first
+
+pub returns-clause-world : goal.returns-clause-world
+returns-clause-world g c = λ h.
+    subst (HasWorld g.L.Revision.machine g.L.Revision.ends) (sym (ap (λ m. m.0) c.put_home.ensures.rests))
+    (world_now _ _ _ _ c.draw_next-next.ensures.hand
+    (c.draw_next-next.ensures.state ∙ (ap (λ t. t.state) c.deref_mut.ensures.value ∙ c.requires.free.0))
+    (c.draw_next-next.ensures.current h))

@@ -1,0 +1,75 @@
+-- Answers of fork_owing: behind both entries the split is the fork of the joiner's leg, told of one turn.
+use Rattle.std.proofs.Common.{rules, ◌≡◌, sym, ap, ◌∙◌, subst}
+use Rattle.revision_machine.specs.Numbered.{Bears}
+use Rattle.hub_core.specs.Seats.{HasState}
+use Rattle.hub_workers.proofs.Events.{hand_on, hand_after}
+use Rattle.hub_workers.proofs.Owing.{behind_state, behind_same, behind_alone, halted_same, halted_in}
+use Rattle.hub_workers.proofs.staying.fork_owing.Goals as goal
+
+pub fork_behind-requires-clause-event : goal.fork_behind-requires-clause-event
+fork_behind-requires-clause-event g c = (
+  c.requires.event.0,
+  g.L.Legs.forker c.args.at,
+  c.requires.event.1,
+  c.requires.event.2 ∙ ap (Bears (g.L.Legs.forker c.args.at)) (sym c.in-Ok.ensures.child),
+)
+
+pub returns-in-Ok-fork_behind-clause-next : goal.returns-in-Ok-fork_behind-clause-next
+returns-in-Ok-fork_behind-clause-next g c =
+    let l = c.requires.event.0 in
+    let f = c.in-Ok-fork_behind.ensures.ok l c.requires.event.1 in
+    let same =
+    behind_same g.L.Revision.machine g.L.Revision.ends c.args.seat.now.place.me.0 c.fork_behind.new.seat.place.me.0
+    c.args.joinee c.args.number c.in-Ok-fork_behind.child l c.in-Ok.child f in (
+      subst (HasState g.L.Revision.machine g.L.Revision.ends c.fork_behind.new.seat.place.me.0 c.args.number)
+          (sym (c.told-runner.ensures.state ∙ c.in-Ok.ensures.parent c.in-Ok-fork_behind.child))
+          (behind_state g.L.Revision.machine g.L.Revision.ends c.args.seat.now.place.me.0
+          c.fork_behind.new.seat.place.me.0 c.args.joinee c.args.number c.in-Ok-fork_behind.child l c.in-Ok.child
+          (g.L.Legs.forker c.args.at) f
+          (c.requires.event.2 ∙ ap (Bears (g.L.Legs.forker c.args.at)) (sym c.in-Ok.ensures.child))),
+      c.told-runner.ensures.group ∙ (c.in-Ok.ensures.parent_group ∙ (sym c.requires.hand.0 ∙ sym same.1)),
+    )
+
+pub returns-in-Ok-fork_behind-clause-same : goal.returns-in-Ok-fork_behind-clause-same
+returns-in-Ok-fork_behind-clause-same g c =
+    let l = c.requires.event.0 in
+    behind_same g.L.Revision.machine g.L.Revision.ends c.args.seat.now.place.me.0 c.fork_behind.new.seat.place.me.0
+    c.args.joinee c.args.number c.in-Ok-fork_behind.child l c.in-Ok.child
+    (c.in-Ok-fork_behind.ensures.ok l c.requires.event.1)
+
+pub returns-in-Ok-fork_behind-clause-hand : goal.returns-in-Ok-fork_behind-clause-hand
+returns-in-Ok-fork_behind-clause-hand g c =
+    let l = c.requires.event.0 in
+    hand_after g.L.Legs.begins g.L.Legs.hand_group c.args.seat.now.place.me.0 c.fork_behind.new.seat.place.me.0
+    c.args.hand.now c.split.new.hand c.requires.hand c.split.ensures.hand
+    (behind_same g.L.Revision.machine g.L.Revision.ends c.args.seat.now.place.me.0 c.fork_behind.new.seat.place.me.0
+    c.args.joinee c.args.number c.in-Ok-fork_behind.child l c.in-Ok.child
+    (c.in-Ok-fork_behind.ensures.ok l c.requires.event.1))
+
+pub returns-in-Ok-fork_behind-clause-only : goal.returns-in-Ok-fork_behind-clause-only
+returns-in-Ok-fork_behind-clause-only g c = λ pair.
+    let l = c.requires.event.0 in
+    behind_alone g.L.Revision.machine g.L.Revision.ends c.args.seat.now.place.me.0 c.fork_behind.new.seat.place.me.0
+    c.args.joinee c.args.number c.in-Ok-fork_behind.child l c.in-Ok.child
+    (c.in-Ok-fork_behind.ensures.ok l c.requires.event.1) pair
+
+pub returns-in-Err-clause-same : goal.returns-in-Err-clause-same
+returns-in-Err-clause-same g c =
+    halted_same g.L.Revision.machine g.L.Revision.ends c.args.seat.now.place.me.0 c.fork_behind.new.seat.place.me.0
+    c.args.joinee c.args.number c.requires.event.0 (c.in-Err.ensures.err.1 c.requires.event.0 c.requires.event.1)
+
+pub returns-in-Err-clause-hand : goal.returns-in-Err-clause-hand
+returns-in-Err-clause-hand g c =
+    let same = halted_same g.L.Revision.machine g.L.Revision.ends c.args.seat.now.place.me.0 c.fork_behind.new.seat.place.me.0
+    c.args.joinee c.args.number c.requires.event.0 (c.in-Err.ensures.err.1 c.requires.event.0 c.requires.event.1) in
+    let one = hand_on g.L.Legs.begins g.L.Legs.hand_group c.args.seat.now.place.me.0 c.args.hand.now c.split.new.hand
+    c.requires.hand c.split.ensures.hand in
+    let two = hand_on g.L.Legs.begins g.L.Legs.hand_group c.args.seat.now.place.me.0 c.split.new.hand c.give_up_runner.new.hand
+    one c.give_up_runner.ensures in
+    hand_after g.L.Legs.begins g.L.Legs.hand_group c.args.seat.now.place.me.0 c.fork_behind.new.seat.place.me.0
+    c.give_up_runner.new.hand c.give_up_parent.new.hand two c.give_up_parent.ensures same
+
+pub returns-in-Err-clause-only : goal.returns-in-Err-clause-only
+returns-in-Err-clause-only g c = λ pair.
+    halted_in g.L.Revision.machine g.L.Revision.ends c.args.seat.now.place.me.0 c.fork_behind.new.seat.place.me.0
+    c.args.joinee c.args.number c.requires.event.0 (c.in-Err.ensures.err.1 c.requires.event.0 c.requires.event.1)
