@@ -23,7 +23,7 @@ use Rattle.revision_calculus.proofs.Joining.{join_forks}
 use Rattle.revision_calculus.proofs.Meets.{counts, handles, spends_forks, main_holds_none}
 use Rattle.revision_calculus.proofs.Shapes.{shape_kept, main_shaped}
 use Rattle.revision_calculus.proofs.StepKinds.{kind_kept, main_kinded}
-use Rattle.joined_ends.proofs.Joining.{join_same}
+use Rattle.determinacy.proofs.Joining.{join_same}
 use Rattle.audit_rules.specs.Audited.{Telling, Tells, YesIsTrue, TraceIsYes, OneComputed, OneVerdict}
 use Rattle.trace_diagram.specs.declared.diagram.Part.{Part}
 use Rattle.audit_rules.specs.Parts.{places, changes, end_at, part_of, told_phase, told, changes_fit, takes_in, takes, event_of, joins_of, joined_by, calculus_parts, IsApart}

@@ -18,7 +18,7 @@ use Rattle.revision_calculus.specs.State.{Location, Phase, running, joining, don
 use Rattle.revision_calculus.specs.Kinded.{IsOf, IsOfIfAny, location_kinds, LocationsAre, LocationIs}
 use Rattle.revision_calculus.specs.Kept.{IsFaultBelow, IsTrapBelow}
 use Rattle.revision_calculus.proofs.LocationKinds.{zero_is}
-use Rattle.joined_ends.specs.Ends.{SameWrite, AllSame}
+use Rattle.determinacy.specs.Ends.{SameWrite, AllSame}
 use Rattle.trace_diagram.specs.declared.diagram.Part.{Part}
 use Rattle.trace_diagram.specs.declared.diagram.Change.{Change}
 use Rattle.trace_diagram.specs.declared.diagram.PartEnd.{PartEnd}

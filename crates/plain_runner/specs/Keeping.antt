@@ -1,8 +1,8 @@
 -- The rules of the language, and that they keep the conditions of the laws.
 use Rattle.revision_machine.specs.Rules.{Rules, Keeps}
 use Rattle.revision_calculus.specs.State.{Local}
-use Rattle.calculus_rules.specs.Rules.{rules_of}
-use Rattle.calculus_rules.specs.Meets as meets
+use Rattle.determinacy.specs.Rules.{rules_of}
+use Rattle.determinacy.specs.Meets as meets
 use Rattle.plain_runner.specs.declared.language.PlainLanguage.{PlainLanguage}
 use Rattle.plain_runner.specs.Views.{setting_of}
 

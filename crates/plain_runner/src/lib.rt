@@ -2,7 +2,7 @@
 //! orders.
 //!
 //! [`PlainLanguage`] is a typed program as a language of `revision_machine`, with the local states
-//! of `revision_steps` and the rules of `calculus_rules`; [`run_plain`] is the outcome of its
+//! of `revision_steps` and the rules of `determinacy`; [`run_plain`] is the outcome of its
 //! complete runs.
 #![tactic(auto)]
 

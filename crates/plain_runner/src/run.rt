@@ -9,7 +9,7 @@ ghost use Rattle.revision_machine.specs.StepOutcomes.{IsEnd};
 ghost use Rattle.revision_machine.specs.TwoOrders.{Orders};
 ghost use Rattle.revision_calculus.specs.Calculus.{calculus, main as main_of};
 ghost use Rattle.revision_calculus.specs.Complete.{HasOutcome, start_of};
-ghost use Rattle.calculus_rules.specs.Rules.{rules_of};
+ghost use Rattle.determinacy.specs.Rules.{rules_of};
 ghost use Rattle.plain_runner.specs.Views.{StepAnswers, setting_of};
 
 use crate::language::PlainLanguage;

@@ -7,8 +7,8 @@ use Rattle.rev_num.specs.declared.value.Value.{Value}
 use Rattle.revision_calculus.specs.Program.{Setting}
 use Rattle.revision_calculus.specs.State.{Location, Local}
 use Rattle.revision_calculus.specs.Join.{join}
-use Rattle.joined_ends.specs.Ends.{SameWrite, AllSame}
-use Rattle.joined_ends.proofs.Joining.{join_same}
+use Rattle.determinacy.specs.Ends.{SameWrite, AllSame}
+use Rattle.determinacy.proofs.Joining.{join_same}
 use Rattle.revision_alone.specs.declared.ends.AloneWrite.{AloneWrite}
 use Rattle.revision_alone.specs.declared.ends.AloneEnd.{AloneEnd}
 use Rattle.revision_alone.specs.Alone.{write_of, writes_from, untold, told, told_at, behind, told_from, told_state, JoinsEnd}

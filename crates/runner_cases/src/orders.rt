@@ -3,7 +3,7 @@
 ghost use Rattle.std.specs.Prelude.{IfOk};
 ghost use Rattle.revision_machine.specs.Rules.{IsWithin};
 ghost use Rattle.revision_machine.specs.States.{global_of};
-ghost use Rattle.calculus_rules.specs.Rules.{rules_of};
+ghost use Rattle.determinacy.specs.Rules.{rules_of};
 ghost use Rattle.plain_runner.specs.Views.{setting_of};
 
 use case_tables::typed_of;

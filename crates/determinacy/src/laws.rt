@@ -5,7 +5,7 @@ ghost use Rattle.revision_machine.specs.Rules.{AreRoomy, IsFirst, IsRoomy, Keeps
 ghost use Rattle.revision_calculus.specs.Program.{Setting};
 ghost use Rattle.revision_calculus.specs.State.{Local};
 ghost use Rattle.revision_calculus.specs.Calculus.{main};
-ghost use Rattle.calculus_rules.specs.Rules.{rules_of, most_fuel, IsSmall};
+ghost use Rattle.determinacy.specs.Rules.{rules_of, most_fuel, IsSmall};
 
 /// The rules of each program, with its inputs and share.
 ///

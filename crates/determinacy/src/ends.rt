@@ -1,9 +1,8 @@
 //! What a join of the calculus sees of the revision that is joined.
 //!
 //! The law is an empty function.
-#![tactic(auto)]
 
-ghost use Rattle.joined_ends.specs.Ends.{JoinIsByTheEnd};
+ghost use Rattle.determinacy.specs.Ends.{JoinIsByTheEnd};
 
 /// A join depends on the joined revision by its end alone: what it wrote and from which root, its
 /// text, its fuel and its phase.

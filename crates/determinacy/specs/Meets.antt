@@ -15,7 +15,7 @@ use Rattle.revision_calculus.proofs.Moves.{Moved}
 use Rattle.revision_calculus.proofs.Events.{ForkOk, WantOk, ended_phase}
 use Rattle.revision_calculus.proofs.Joining.{JoinOk}
 use Rattle.revision_calculus.proofs.Meets.{event, joins_ok, counts, handles, main_holds_none}
-use Rattle.calculus_rules.specs.Rules.{ends, weight, most_fuel, rules_of, IsSmall}
+use Rattle.determinacy.specs.Rules.{ends, weight, most_fuel, rules_of, IsSmall}
 
 -- the weight of the calculus' own bound on steps, with 29 for each unit of fuel and 28 for each fork
 abbrev inner : Local → ℕ
