@@ -1,12 +1,11 @@
 //! Outcomes and traces of whole runs.
 
 use case_tables::typed_of;
-use plain_runner::run_plain;
+use plain_runner::{run_plain, trace_of};
 use rev_num::Outcome;
 use std::alloc::{AllocError, Global};
 use std::test::Fail;
 use trace_diagram::print_trace;
-use trace_making::trace_of;
 
 /// The most fuel that a fork gives.
 const SHARE: u64 = 1000;

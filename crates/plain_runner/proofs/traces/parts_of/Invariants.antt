@@ -1,8 +1,8 @@
 -- Loops of parts_of: the parts so far and those of the revisions left are all parts, in whatever order.
 use Rattle.std.proofs.Common.{◌++◌, length}
 use Rattle.std.specs.List.Sorted.{IsPermutation}
-use Rattle.trace_making.specs.Made.{parts_by}
-use Rattle.trace_making.proofs.traces.parts_of.Given as goal
+use Rattle.plain_runner.specs.Made.{parts_by}
+use Rattle.plain_runner.proofs.traces.parts_of.Given as goal
 
 abbrev pub invariant-loop-revision : goal.invariant-loop-revision
 invariant-loop-revision l =

@@ -5,9 +5,9 @@ ghost use Rattle.std.specs.List.Sorted.{IsPermutation};
 ghost use Rattle.rev_num.specs.Limits.{most_fuel};
 ghost use Rattle.rev_syntax.specs.View.{program as whole};
 ghost use Rattle.audit_rules.specs.Traced.{HasTrace};
-ghost use Rattle.trace_making.specs.Made.{parts_by};
+ghost use Rattle.plain_runner.specs.Made.{parts_by};
 
-use plain_runner::PlainLanguage;
+use crate::language::PlainLanguage;
 use rev_num::{Bytes, Items};
 use rev_types::Typed;
 use revision_machine::{GlobalState, Revision};

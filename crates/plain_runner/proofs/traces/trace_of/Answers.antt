@@ -6,8 +6,8 @@ use Rattle.revision_machine.specs.StepOutcomes.{IsEnd}
 use Rattle.revision_calculus.specs.Calculus.{main, calculus}
 use Rattle.plain_runner.specs.Views.{setting_of}
 use Rattle.audit_rules.specs.Traced.{HasTrace}
-use Rattle.trace_making.proofs.Making.{trace_made, none_made}
-use Rattle.trace_making.proofs.traces.trace_of.Goals as goal
+use Rattle.plain_runner.proofs.Making.{trace_made, none_made}
+use Rattle.plain_runner.proofs.traces.trace_of.Goals as goal
 
 pub returns : goal.returns
 returns c =

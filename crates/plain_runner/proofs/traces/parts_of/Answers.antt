@@ -1,6 +1,6 @@
 -- Answers of parts_of: the part of the revision popped last joins the others, in whatever order.
-use Rattle.trace_making.proofs.Making.{popped_more}
-use Rattle.trace_making.proofs.traces.parts_of.Goals as goal
+use Rattle.plain_runner.proofs.Making.{popped_more}
+use Rattle.plain_runner.proofs.traces.parts_of.Goals as goal
 
 pub loop-revision-preserved : goal.loop-revision-preserved
 loop-revision-preserved c =

@@ -18,7 +18,7 @@ use Rattle.audit_rules.specs.Parts.{places, part_of}
 use Rattle.audit_rules.specs.Traces.{part_at, paths_of, IsPartOf, IsTrace}
 use Rattle.audit_rules.specs.Traced.{IsTraceAt, HasTrace}
 use Rattle.trace_parts.specs.Made.{part_by, is_sooner}
-use Rattle.trace_making.specs.Made.{parts_by}
+use Rattle.plain_runner.specs.Made.{parts_by}
 use Rattle.trace_parts.proofs.InOrder.{AreOnce, distinct_once, once_moved, same_at, in_order}
 
 pub parts_append : (ps : List (List ℕ)) (xs : List (Revision Local)) (x : Revision Local)
