@@ -1,3 +1,5 @@
+pub mod Fits
+pub mod ToldEnds
 pub mod Accepted
 pub mod Finding
 pub mod Slots

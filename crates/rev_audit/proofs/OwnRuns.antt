@@ -8,7 +8,7 @@ use Rattle.revision_calculus.specs.Program.{Setting}
 use Rattle.revision_calculus.specs.State.{Local}
 use Rattle.revision_calculus.specs.Step.{next}
 use Rattle.revision_calculus.specs.Calculus.{calculus}
-use Rattle.revision_alone.specs.declared.alone.LocalState.{LocalState}
+use Rattle.rev_audit.specs.declared.alone.LocalState.{LocalState}
 use Rattle.trace_diagram.specs.declared.diagram.Part.{Part}
 use Rattle.audit_rules.specs.Audited.{Computed, Alone, by_move, by_fork, by_join, Passes, at_first, then_by, Computes, ends, at_twice, at_missing, of_fork}
 use Rattle.audit_rules.specs.Parts.{calculus_parts}

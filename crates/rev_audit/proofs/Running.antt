@@ -12,9 +12,9 @@ use Rattle.revision_calculus.specs.Held.{weight}
 use Rattle.revision_calculus.proofs.Events.{joins_phase}
 use Rattle.revision_calculus.proofs.Meets.{counts, spends_weight}
 use Rattle.revision_state.specs.Phases.{awaited}
-use Rattle.revision_alone.specs.declared.alone.LocalState.{LocalState}
-use Rattle.revision_alone.specs.declared.ends.AloneEnd.{AloneEnd}
-use Rattle.revision_alone.specs.Alone.{JoinsAwaited, JoinsEnd}
+use Rattle.rev_audit.specs.declared.alone.LocalState.{LocalState}
+use Rattle.rev_audit.specs.declared.ends.AloneEnd.{AloneEnd}
+use Rattle.rev_audit.specs.Alone.{JoinsAwaited, JoinsEnd}
 use Rattle.trace_diagram.specs.declared.diagram.Part.{Part}
 use Rattle.audit_rules.specs.Audited.{Computed, made, joined_twice, missing, taken}
 use Rattle.audit_rules.specs.Parts.{OwnFits, calculus_parts, joined_by, part_of, places, takes}

@@ -11,8 +11,8 @@ use Rattle.merge_decl.specs.Table.{Table, added, find}
 use Rattle.merge_decl.proofs.Tables.{or_else, find-added}
 use Rattle.revision_calculus.specs.State.{Location}
 use Rattle.revision_calculus.specs.Kinded.{LocationsAre}
-use Rattle.revision_alone.specs.declared.ends.AloneWrite.{AloneWrite}
-use Rattle.revision_alone.specs.Alone.{write_of, writes_from}
+use Rattle.rev_audit.specs.declared.ends.AloneWrite.{AloneWrite}
+use Rattle.rev_audit.specs.Alone.{write_of, writes_from}
 use Rattle.revision_machine.proofs.Paths.{some_inj}
 use Rattle.trace_diagram.specs.declared.diagram.Change.{Change}
 use Rattle.audit_rules.specs.Parts.{IsApart, change_at, changes_fit, is_changed, is_known, kind_fits, location_of, number_of, told_locations}

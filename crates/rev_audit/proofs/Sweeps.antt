@@ -19,7 +19,7 @@ use Rattle.revision_calculus.specs.Step.{next}
 use Rattle.revision_calculus.specs.Calculus.{main, calculus}
 use Rattle.revision_calculus.specs.Kinded.{IsAccepted}
 use Rattle.revision_calculus.proofs.Meets.{counts}
-use Rattle.revision_alone.specs.declared.alone.LocalState.{LocalState}
+use Rattle.rev_audit.specs.declared.alone.LocalState.{LocalState}
 use Rattle.trace_diagram.specs.Shown.{shown_part}
 use Rattle.trace_diagram.specs.declared.diagram.Part.{Part}
 use Rattle.audit_rules.specs.Audited.{Computed, absent, made, joined_twice, missing, of_main, of_fork, of_none, of_run, Computes, goes}

@@ -11,8 +11,8 @@ use Rattle.revision_calculus.specs.State.{Local, Phase}
 use Rattle.revision_calculus.specs.Calculus.{calculus}
 use Rattle.revision_calculus.specs.Kinded.{IsAccepted, location_kinds}
 use Rattle.revision_steps.specs.Ends.{phase_of}
-use Rattle.revision_alone.specs.declared.ends.AloneEnd.{AloneEnd}
-use Rattle.revision_alone.specs.Alone.{IsEndOf, JoinsEnd}
+use Rattle.rev_audit.specs.declared.ends.AloneEnd.{AloneEnd}
+use Rattle.rev_audit.specs.Alone.{IsEndOf, JoinsEnd}
 use Rattle.trace_diagram.specs.declared.diagram.Change.{Change}
 use Rattle.trace_diagram.specs.declared.diagram.Part.{Part}
 use Rattle.audit_rules.specs.Audited.{taken}

@@ -7,9 +7,9 @@ use Rattle.rev_num.specs.Value.{kind_of, same_kind}
 use Rattle.revision_calculus.specs.Program.{Setting}
 use Rattle.revision_calculus.specs.State.{Location}
 use Rattle.revision_calculus.specs.Kinded.{IsAccepted, LocationsAre, location_kinds}
-use Rattle.revision_alone.specs.declared.ends.AloneWrite.{AloneWrite}
-use Rattle.revision_alone.specs.declared.ends.AloneEnd.{AloneEnd}
-use Rattle.revision_alone.specs.Alone.{writes_from}
+use Rattle.rev_audit.specs.declared.ends.AloneWrite.{AloneWrite}
+use Rattle.rev_audit.specs.declared.ends.AloneEnd.{AloneEnd}
+use Rattle.rev_audit.specs.Alone.{writes_from}
 use Rattle.revision_steps.specs.Ends.{phase_of}
 use Rattle.revision_machine.proofs.Paths.{some_inj}
 use Rattle.trace_diagram.specs.declared.diagram.Change.{Change}

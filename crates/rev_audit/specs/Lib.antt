@@ -1,3 +1,4 @@
+pub mod Alone
 pub mod Tables
 pub mod Told
 pub mod Own

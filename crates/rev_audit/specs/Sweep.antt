@@ -8,7 +8,7 @@ use Rattle.revision_calculus.specs.Program.{Setting}
 use Rattle.revision_calculus.specs.State.{Local}
 use Rattle.revision_calculus.specs.Step.{next}
 use Rattle.revision_calculus.specs.Calculus.{main, calculus}
-use Rattle.revision_alone.specs.declared.alone.LocalState.{LocalState}
+use Rattle.rev_audit.specs.declared.alone.LocalState.{LocalState}
 use Rattle.trace_diagram.specs.declared.diagram.Part.{Part}
 use Rattle.audit_rules.specs.Audited as theory
 use Rattle.audit_rules.specs.Audited.{Computed}

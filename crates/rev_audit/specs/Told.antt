@@ -5,9 +5,9 @@ use Rattle.std.specs.Prelude.{◌≡◌, ◌⊎◌, ◌+◌, ℕ, suc, Bool, tru
 use Rattle.revision_calculus.specs.Program.{Setting}
 use Rattle.revision_calculus.specs.Kinded.{location_kinds}
 use Rattle.revision_steps.specs.Ends.{phase_of}
-use Rattle.revision_alone.specs.declared.ends.AloneWrite.{AloneWrite}
-use Rattle.revision_alone.specs.declared.ends.AloneEnd.{AloneEnd}
-use Rattle.revision_alone.specs.Alone.{writes_from}
+use Rattle.rev_audit.specs.declared.ends.AloneWrite.{AloneWrite}
+use Rattle.rev_audit.specs.declared.ends.AloneEnd.{AloneEnd}
+use Rattle.rev_audit.specs.Alone.{writes_from}
 use Rattle.trace_diagram.specs.declared.diagram.Change.{Change}
 use Rattle.trace_diagram.specs.declared.diagram.Part.{Part}
 use Rattle.audit_rules.specs.Parts.{change_at, changes_fit, places, told_locations, told_phase}

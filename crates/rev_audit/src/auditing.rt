@@ -9,6 +9,7 @@ ghost use Rattle.audit_rules.specs.Traces.{InPostOrder};
 ghost use Rattle.audit_rules.specs.Verdicts.{Audits};
 ghost use Rattle.rev_audit.specs.Sweep.{IsAhead, IsBehind, IsSwept};
 
+use crate::alone::LocalState;
 use crate::run::run_alone;
 use crate::starts::Starts;
 use crate::stated::Stated;
@@ -16,7 +17,6 @@ use crate::sweep::{Difference, first_difference};
 use audit_rules::Verdict;
 use rev_num::Path;
 use rev_types::Typed;
-use revision_alone::LocalState;
 use std::alloc::{AllocError, Global};
 use trace_diagram::Trace;
 

@@ -9,11 +9,12 @@ ghost use Rattle.audit_rules.specs.Traces.{InPostOrder, part_at};
 ghost use Rattle.rev_audit.specs.Own.{IsJoinee, JoinedBefore, TakesOrNot};
 ghost use Rattle.rev_audit.specs.Tables.{IsSetOf};
 
+use crate::alone::LocalState;
+use crate::ends::AloneEnd;
 use crate::path_table::PathTable;
 use crate::stated::Stated;
 use crate::told::told_end;
 use rev_num::Path;
-use revision_alone::{AloneEnd, LocalState};
 use std::alloc::{AllocError, Global};
 
 /// What comes of a join.

@@ -7,12 +7,12 @@ ghost use Rattle.audit_rules.specs.Traces.{InPostOrder};
 ghost use Rattle.audit_rules.specs.Verdicts.{computed_part};
 ghost use Rattle.rev_audit.specs.Own.{BeginsAt, ComesTo, IsUnderWay, StopsAt};
 
+use crate::alone::{Alone, LocalState, join_alone, step_alone};
 use crate::joinee::{Joinee, joinee_of};
 use crate::path_table::PathTable;
 use crate::stated::Stated;
 use audit_rules::Computed;
 use rev_num::Path;
-use revision_alone::{Alone, LocalState, join_alone, step_alone};
 use std::alloc::{AllocError, Global};
 use trace_parts::part_of;
 

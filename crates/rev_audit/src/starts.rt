@@ -8,9 +8,9 @@ ghost use Rattle.audit_rules.specs.Traces.{InPostOrder};
 ghost use Rattle.rev_audit.specs.Own.{BeginsAt};
 ghost use Rattle.rev_audit.specs.Sweep.{Grows, Holds, IsKept, IsStarts, sooner_of};
 
+use crate::alone::{LocalState, first_alone};
 use crate::stated::Stated;
 use rev_num::Path;
-use revision_alone::{LocalState, first_alone};
 use std::alloc::{AllocError, Global};
 
 /// Where the revisions with a stated part begin, by the numbers of their parts, and the first in

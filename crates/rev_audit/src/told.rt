@@ -12,9 +12,9 @@ ghost use Rattle.rev_audit.specs.Told.{AreSlots, Enters, ToldBy, slots_from, wit
 ghost use Rattle.rev_audit.specs.Told.{write_to};
 ghost use Rattle.rev_audit.specs.Told.{written_in};
 
+use crate::ends::{AloneEnd, AloneWrite};
 use crate::stated::Stated;
 use rev_num::{Cause, Trap, same_kind};
-use revision_alone::{AloneEnd, AloneWrite};
 use revision_data::Location;
 use std::alloc::{AllocError, Global};
 use trace_diagram::{Change, Part, PartEnd};

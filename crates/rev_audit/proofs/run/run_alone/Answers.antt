@@ -4,7 +4,7 @@ use Rattle.revision_machine.specs.Machine.{Joins, Ended}
 use Rattle.revision_calculus.specs.Step.{next}
 use Rattle.revision_state.specs.Phases.{awaited}
 use Rattle.revision_state.specs.Views.{given}
-use Rattle.revision_alone.specs.Alone.{JoinsAwaited}
+use Rattle.rev_audit.specs.Alone.{JoinsAwaited}
 use Rattle.audit_rules.specs.Audited.{made, joined_twice, missing}
 use Rattle.audit_rules.specs.Parts.{joined_by}
 use Rattle.audit_rules.specs.Traces.{paths_of}

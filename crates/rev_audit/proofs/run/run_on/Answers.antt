@@ -5,7 +5,7 @@ use Rattle.revision_machine.specs.Machine.{Moves, Forks}
 use Rattle.revision_calculus.specs.Held.{weight}
 use Rattle.revision_calculus.specs.Step.{next}
 use Rattle.revision_state.specs.Views.{given}
-use Rattle.revision_alone.specs.Alone.{NamesChild, alone_event}
+use Rattle.rev_audit.specs.Alone.{NamesChild, alone_event}
 use Rattle.rev_audit.proofs.Accepted.{accepted}
 use Rattle.rev_audit.proofs.Running.{few_there, on_fork, on_move, under_there}
 use Rattle.rev_audit.proofs.run.run_on.Goals as goal

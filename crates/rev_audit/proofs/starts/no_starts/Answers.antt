@@ -1,7 +1,7 @@
 -- Answers of no_starts: each turn adds one that is none, and after so many turns there are as many as the count.
 use Rattle.std.proofs.Common.{◌≡◌, ℕ, ◌++◌, ◌∷◌, [], Option, None, replicate, ap, ◌∙◌, arith}
 use Rattle.std.proofs.lemmas.List.{replicate_more}
-use Rattle.revision_alone.specs.declared.alone.LocalState.{LocalState}
+use Rattle.rev_audit.specs.declared.alone.LocalState.{LocalState}
 use Rattle.rev_audit.proofs.starts.no_starts.Goals as goal
 
 pub loop-k-preserved : goal.loop-k-preserved

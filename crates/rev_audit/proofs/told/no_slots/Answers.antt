@@ -1,7 +1,7 @@
 -- Answers of no_slots: each turn adds a slot without a write, and after so many turns there are as many as the count.
 use Rattle.std.proofs.Common.{◌≡◌, ℕ, ◌++◌, ◌∷◌, [], Option, None, replicate, ap, ◌∙◌, arith}
 use Rattle.std.proofs.lemmas.List.{replicate_more}
-use Rattle.revision_alone.specs.declared.ends.AloneWrite.{AloneWrite}
+use Rattle.rev_audit.specs.declared.ends.AloneWrite.{AloneWrite}
 use Rattle.rev_audit.proofs.told.no_slots.Goals as goal
 
 pub loop-n-preserved : goal.loop-n-preserved

@@ -1,8 +1,8 @@
 -- Answers of told_locations: the location of this number goes behind the others, and later writes tell the rest.
 use Rattle.std.proofs.Common.{◌+◌, ◌-◌, ◌++◌, ◌∷◌, [], sym, ap, ◌∙◌, arith, append_assoc}
-use Rattle.revision_alone.specs.Alone.{behind, told_from}
-use Rattle.revision_alone.proofs.Told.{told_more}
-use Rattle.revision_alone.proofs.ends.told_locations.Goals as goal
+use Rattle.rev_audit.specs.Alone.{behind, told_from}
+use Rattle.rev_audit.proofs.ToldEnds.{told_more}
+use Rattle.rev_audit.proofs.ends.told_locations.Goals as goal
 
 pub loop-number-preserved : goal.loop-number-preserved
 loop-number-preserved c =

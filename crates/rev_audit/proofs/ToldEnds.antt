@@ -9,9 +9,9 @@ use Rattle.revision_calculus.specs.State.{Location, Local}
 use Rattle.revision_calculus.specs.Join.{join}
 use Rattle.determinacy.specs.Ends.{SameWrite, AllSame}
 use Rattle.determinacy.proofs.Joining.{join_same}
-use Rattle.revision_alone.specs.declared.ends.AloneWrite.{AloneWrite}
-use Rattle.revision_alone.specs.declared.ends.AloneEnd.{AloneEnd}
-use Rattle.revision_alone.specs.Alone.{write_of, writes_from, untold, told, told_at, behind, told_from, told_state, JoinsEnd}
+use Rattle.rev_audit.specs.declared.ends.AloneWrite.{AloneWrite}
+use Rattle.rev_audit.specs.declared.ends.AloneEnd.{AloneEnd}
+use Rattle.rev_audit.specs.Alone.{write_of, writes_from, untold, told, told_at, behind, told_from, told_state, JoinsEnd}
 
 -- ---- writes
 

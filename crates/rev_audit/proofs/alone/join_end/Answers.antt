@@ -3,9 +3,9 @@ use Rattle.std.proofs.Common.{ap, length, ◌∙◌}
 use Rattle.revision_machine.proofs.Splits.{one_ok}
 use Rattle.revision_calculus.specs.Join.{join}
 use Rattle.revision_state.specs.Views.{given}
-use Rattle.revision_alone.specs.Alone.{told_state}
-use Rattle.revision_alone.proofs.Told.{joins_told}
-use Rattle.revision_alone.proofs.alone.join_end.Goals as goal
+use Rattle.rev_audit.specs.Alone.{told_state}
+use Rattle.rev_audit.proofs.ToldEnds.{joins_told}
+use Rattle.rev_audit.proofs.alone.join_end.Goals as goal
 
 pub returns : goal.returns
 returns c =

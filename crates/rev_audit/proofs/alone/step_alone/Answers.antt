@@ -1,9 +1,9 @@
 -- Answers of step_alone: the answer, whichever of the four it is, fits the phase of the revision.
 use Rattle.std.proofs.Common.{rules}
 use Rattle.revision_state.specs.Views.{given}
-use Rattle.revision_alone.proofs.Fits.{fits}
-use Rattle.revision_alone.proofs.alone.step_alone.Goals as goal
-use Rattle.revision_alone.proofs.alone.step_alone.Goals.{in-Moved, in-Forked+in_ok-child-in-Forked, in-Joins, in-Ended}
+use Rattle.rev_audit.proofs.Fits.{fits}
+use Rattle.rev_audit.proofs.alone.step_alone.Goals as goal
+use Rattle.rev_audit.proofs.alone.step_alone.Goals.{in-Moved, in-Forked+in_ok-child-in-Forked, in-Joins, in-Ended}
 
 pub returns-clause-phase : goal.returns-clause-phase
 returns-clause-phase c =

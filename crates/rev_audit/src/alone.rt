@@ -5,7 +5,7 @@ ghost use Rattle.revision_calculus.specs.Calculus.{main};
 ghost use Rattle.revision_calculus.specs.Step.{next};
 ghost use Rattle.revision_state.specs.Phases.{awaited};
 ghost use Rattle.revision_state.specs.Views.{given};
-ghost use Rattle.revision_alone.specs.Alone.{
+ghost use Rattle.rev_audit.specs.Alone.{
   FitsPhase,
   JoinsAwaited,
   JoinsEnd,
@@ -111,7 +111,7 @@ pub fn join_alone<'a>(
 }
 
 /// Lets the revision at `path` join the one at `on`, which ended so.
-#[tactic(auto, using(crate::proofs::Told::joins_told))]
+#[tactic(auto, using(crate::proofs::ToldEnds::joins_told))]
 fn join_end<'a>(
     alloc: Global,
     setting: &Setting<'a>,

@@ -1,7 +1,7 @@
 //! What is told of a revision that has ended, and its locations by that.
 
 ghost use Rattle.std.specs.Prelude.{◌≡◌, IfOk};
-ghost use Rattle.revision_alone.specs.Alone as spec;
+ghost use Rattle.rev_audit.specs.Alone as spec;
 
 use rev_num::{Trap, Value};
 use revision_data::Location;
@@ -83,7 +83,7 @@ fn behind(number: usize, written: &[AloneWrite]) -> &[AloneWrite]
 }
 
 /// So many locations with these writes.
-#[tactic(auto, using(crate::proofs::Told::told_more, crate::proofs::Told::told_all))]
+#[tactic(auto, using(crate::proofs::ToldEnds::told_more, crate::proofs::ToldEnds::told_all))]
 fn told_locations(
     alloc: Global,
     count: usize,

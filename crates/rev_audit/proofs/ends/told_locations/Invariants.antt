@@ -1,7 +1,7 @@
 -- Loops of told_locations: the locations so far, with those that the writes left tell, are all locations.
 use Rattle.std.proofs.Common.{◌≡◌, ◌++◌, ◌-◌}
-use Rattle.revision_alone.specs.Alone.{told_from}
-use Rattle.revision_alone.proofs.ends.told_locations.Given as goal
+use Rattle.rev_audit.specs.Alone.{told_from}
+use Rattle.rev_audit.proofs.ends.told_locations.Given as goal
 
 abbrev pub invariant-loop-number : goal.invariant-loop-number
 invariant-loop-number l =

@@ -12,10 +12,10 @@ use Rattle.revision_calculus.specs.Program.{Setting}
 use Rattle.revision_calculus.specs.State.{Location, Phase, running, joining, done, trapped, Local}
 use Rattle.revision_calculus.specs.Join.{join}
 use Rattle.revision_steps.specs.Ends.{phase_of, ended_with}
-use Rattle.revision_alone.specs.declared.alone.Alone.{Alone}
-use Rattle.revision_alone.specs.declared.alone.Alone.TheVariants.{Moved, Forked, Wants, Ended}
-use Rattle.revision_alone.specs.declared.ends.AloneWrite.{AloneWrite}
-use Rattle.revision_alone.specs.declared.ends.AloneEnd.{AloneEnd}
+use Rattle.rev_audit.specs.declared.alone.Alone.{Alone}
+use Rattle.rev_audit.specs.declared.alone.Alone.TheVariants.{Moved, Forked, Wants, Ended}
+use Rattle.rev_audit.specs.declared.ends.AloneWrite.{AloneWrite}
+use Rattle.rev_audit.specs.declared.ends.AloneEnd.{AloneEnd}
 
 -- ---- steps
 

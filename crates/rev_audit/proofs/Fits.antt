@@ -6,9 +6,9 @@ use Rattle.revision_calculus.specs.Program.{Setting}
 use Rattle.revision_calculus.specs.State.{Phase, running, joining, done, trapped, Local}
 use Rattle.revision_calculus.specs.Step.{next, by_phase}
 use Rattle.revision_calculus.proofs.Events.{IsOwn, running_own}
-use Rattle.revision_alone.specs.declared.alone.Alone.{Alone}
-use Rattle.revision_alone.specs.declared.alone.Alone.TheVariants.{Moved, Forked, Wants, Ended}
-use Rattle.revision_alone.specs.Alone.{alone_event, FitsPhase}
+use Rattle.rev_audit.specs.declared.alone.Alone.{Alone}
+use Rattle.rev_audit.specs.declared.alone.Alone.TheVariants.{Moved, Forked, Wants, Ended}
+use Rattle.rev_audit.specs.Alone.{alone_event, FitsPhase}
 
 pub fits : (s : Setting) (r : Path) (l new : Local) (a : Alone) → alone_event a new ≡ next s r l → FitsPhase l.phase a
 fits s r l new a e = go l.phase refl a e
