@@ -1,2 +1,4 @@
+pub mod Numbering
+pub mod Variables
 pub mod Fitting
 pub mod Parts

@@ -15,9 +15,10 @@ ghost use Rattle.emit_code.specs.Naming.{numbers_of};
 ghost use Rattle.emit_program.specs.Fitting.{BodyFits, DeclarationFits, DeclarationsFit};
 ghost use Rattle.emit_program.specs.Parts.{body_block_of, layouts_in, prints_of, texts_in};
 
+use crate::listed::Listed;
 use crate::params::{params_kinds, params_locals, params_scope};
+use crate::statements::list_block;
 use emit_code::{Body, NameNumbers, emit_block, put};
-use emit_tables::{Listed, list_block};
 use merge_decl::NameTable;
 use rev_code::{BlockClass, CodeBlock, Instr};
 use rev_kinds::Checker;

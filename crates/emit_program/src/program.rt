@@ -4,9 +4,12 @@ ghost use Rattle.std.specs.Prelude.{◌≡◌, IfOk};
 ghost use Rattle.rev_syntax.specs.View.{program as whole};
 ghost use Rattle.code_generation.specs.Generated.{code_of};
 
+use crate::blocks::value_blocks;
 use crate::bodies::emit_bodies;
+use crate::listed::Listed;
+use crate::numbers::name_numbers;
 use crate::values::emit_values;
-use emit_tables::{Listed, code_vars, name_numbers, value_blocks};
+use crate::variables::code_vars;
 use rev_code::Code;
 use rev_kinds::Checker;
 use rev_num::Items;

@@ -8,7 +8,7 @@ use Rattle.rev_types.specs.Tables.{shared_table, proc_table, fun_table}
 use Rattle.rev_types.proofs.Named.{outer_names}
 use Rattle.code_generation.specs.Generated.{value_blocks}
 use Rattle.emit_code.specs.Naming.{numbers_of}
-use Rattle.emit_tables.specs.Numbering.{merges_from}
+use Rattle.emit_program.specs.Numbering.{merges_from}
 use Rattle.emit_program.specs.Fitting.{DeclarationsFit}
 use Rattle.emit_program.proofs.Fits.{typed_fits}
 use Rattle.emit_program.proofs.Whole.{whole_code, declarations_by, main_by, layouts_by}

@@ -3,10 +3,10 @@ use Rattle.std.proofs.Common.{◌∙◌, [], map, refl, ap, sym, arith}
 use Rattle.std.proofs.lemmas.List.{at_drop_all}
 use Rattle.emit_code.specs.declared.known.NameNumbers.{NameNumbers}
 use Rattle.rev_syntax.specs.View.{declaration, program as whole}
-use Rattle.emit_tables.proofs.Numbered.{numbered, vars_counted, values_counted, procs_counted}
+use Rattle.emit_program.proofs.Numbered.{numbered, vars_counted, values_counted, procs_counted}
 use Rattle.emit_code.specs.Naming.{numbers_of}
-use Rattle.emit_tables.specs.Numbering.{with_declarations, var_total, value_total, proc_total}
-use Rattle.emit_tables.proofs.numbers.name_numbers.Goals as goal
+use Rattle.emit_program.specs.Numbering.{with_declarations, var_total, value_total, proc_total}
+use Rattle.emit_program.proofs.numbers.name_numbers.Goals as goal
 
 pub loop-d-init : goal.loop-d-init
 loop-d-init c =

@@ -2,9 +2,9 @@
 use Rattle.std.proofs.Common.{◌++◌, map, ap, arith}
 use Rattle.std.proofs.lemmas.List.{at_drop_all}
 use Rattle.rev_syntax.specs.View.{declaration}
-use Rattle.emit_tables.specs.Numbering.{merges_from, value_total}
-use Rattle.emit_tables.proofs.Numbered.{values_counted}
-use Rattle.emit_tables.proofs.blocks.value_blocks.Goals as goal
+use Rattle.emit_program.specs.Numbering.{merges_from, value_total}
+use Rattle.emit_program.proofs.Numbered.{values_counted}
+use Rattle.emit_program.proofs.blocks.value_blocks.Goals as goal
 
 pub loop-d-init : goal.loop-d-init
 loop-d-init c =

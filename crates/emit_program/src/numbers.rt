@@ -6,8 +6,8 @@ ghost use Rattle.rev_types.specs.Layout.{variables};
 ghost use Rattle.rev_types.specs.Limits.{funs, procs};
 ghost use Rattle.code_generation.specs.Numbers.{numbers};
 ghost use Rattle.emit_code.specs.Naming.{numbers_of};
-ghost use Rattle.emit_tables.specs.Numbering.{HasRoom, entered, proc_count, value_count};
-ghost use Rattle.emit_tables.specs.Numbering.{var_count, with_declaration};
+ghost use Rattle.emit_program.specs.Numbering.{HasRoom, entered, proc_count, value_count};
+ghost use Rattle.emit_program.specs.Numbering.{var_count, with_declaration};
 
 use emit_code::{NameNumbers, Numbered};
 use merge_decl::NameTable;

@@ -5,8 +5,8 @@ use Rattle.std.proofs.lemmas.List.{drop_more}
 use Rattle.rev_syntax.specs.View.{declaration}
 use Rattle.merge_decl.proofs.Appends.{appends}
 use Rattle.rev_types.specs.declared.tables.SharedInfo.{SharedInfo}
-use Rattle.emit_tables.specs.Variables.{var_in, vars_in}
-use Rattle.emit_tables.proofs.variables.vars_of_rows.Goals as goal
+use Rattle.emit_program.specs.Variables.{var_in, vars_in}
+use Rattle.emit_program.proofs.variables.vars_of_rows.Goals as goal
 
 pub loop-info-preserved : goal.loop-info-preserved
 loop-info-preserved c =

@@ -6,8 +6,8 @@ use Rattle.rev_types.specs.Limits.{funs}
 use Rattle.code_generation.specs.Numbers.{merge_number}
 use Rattle.code_generation.specs.Generated.{merge_entry}
 use Rattle.emit_code.specs.Naming.{or_next}
-use Rattle.emit_tables.specs.Numbering.{merges_from}
-use Rattle.emit_tables.specs.Variables.{entry_in}
+use Rattle.emit_program.specs.Numbering.{merges_from}
+use Rattle.emit_program.specs.Variables.{entry_in}
 
 one_later : (o : Option ℕ) (b f m : ℕ) → or_next (b + 1 + f) o ≡ b + 1 + m → or_next (b + (1 + f)) o ≡ b + suc m
 one_later o b f m h =

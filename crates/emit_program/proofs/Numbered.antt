@@ -11,7 +11,7 @@ use Rattle.rev_types.specs.Scopes.{proc_named}
 use Rattle.code_generation.specs.Numbers.{var_number, fun_number, proc_number, has_result, numbers}
 use Rattle.emit_code.specs.declared.known.NameNumbers.{NameNumbers}
 use Rattle.emit_code.specs.Naming.{or_next, number_in, gives_in, numbers_of}
-use Rattle.emit_tables.specs.Numbering.{with_declaration, with_declarations, var_total, value_total, proc_total}
+use Rattle.emit_program.specs.Numbering.{with_declaration, with_declarations, var_total, value_total, proc_total}
 
 -- ---- one more name
 

@@ -1,8 +1,8 @@
 -- Loops of name_numbers: the numbers with the declarations left added are all, and there is room for those.
 use Rattle.std.proofs.Common.{◌≡◌, drop, map}
 use Rattle.rev_syntax.specs.View.{declaration}
-use Rattle.emit_tables.specs.Numbering.{with_declarations, var_total, value_total, proc_total, HasRoom}
-use Rattle.emit_tables.proofs.numbers.name_numbers.Given as goal
+use Rattle.emit_program.specs.Numbering.{with_declarations, var_total, value_total, proc_total, HasRoom}
+use Rattle.emit_program.proofs.numbers.name_numbers.Given as goal
 
 abbrev pub invariant-loop-d : goal.invariant-loop-d
 invariant-loop-d l = record {

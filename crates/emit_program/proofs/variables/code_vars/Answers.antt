@@ -4,9 +4,9 @@ use Rattle.std.proofs.lemmas.Result.{IfOk-weaker}
 use Rattle.rev_syntax.specs.View.{declaration, program as whole}
 use Rattle.rev_types.specs.Layout.{variables}
 use Rattle.code_generation.specs.Generated.{var_of}
-use Rattle.emit_tables.specs.Variables.{vars_in}
-use Rattle.emit_tables.proofs.Vars.{vars_are}
-use Rattle.emit_tables.proofs.variables.code_vars.Goals as goal
+use Rattle.emit_program.specs.Variables.{vars_in}
+use Rattle.emit_program.proofs.Vars.{vars_are}
+use Rattle.emit_program.proofs.variables.code_vars.Goals as goal
 
 pub returns : goal.returns
 returns c =

@@ -3,7 +3,7 @@ use Rattle.std.proofs.Common.{◌≡◌, ◌<◌, ◌^◌, ◌+◌, ◌++◌, dr
 use Rattle.rev_syntax.specs.View.{print_item}
 use Rattle.rev_kinds.specs.Walk.{names_of}
 use Rattle.code_generation.specs.Prints.{items_texts, layout_of}
-use Rattle.emit_tables.proofs.prints.list_items.Given as goal
+use Rattle.emit_program.proofs.prints.list_items.Given as goal
 
 abbrev pub invariant-loop-item : goal.invariant-loop-item
 invariant-loop-item l = record {

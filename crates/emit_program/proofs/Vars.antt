@@ -6,9 +6,9 @@ use Rattle.rev_types.specs.Limits.{funs}
 use Rattle.rev_types.specs.Layout.{variable_behind, variables_behind, merge_of}
 use Rattle.code_generation.specs.Generated.{var_of}
 use Rattle.code_generation.proofs.Naming.{get_right}
-use Rattle.emit_tables.specs.Numbering.{merges_from}
-use Rattle.emit_tables.specs.Variables.{var_in, vars_in}
-use Rattle.emit_tables.proofs.Merges.{entry_is}
+use Rattle.emit_program.specs.Numbering.{merges_from}
+use Rattle.emit_program.specs.Variables.{var_in, vars_in}
+use Rattle.emit_program.proofs.Merges.{entry_is}
 
 -- the declaration behind others
 stands : (before es : List Declaration) (e : Declaration) → slice_get (before ++ e ∷ es) (length before) ≡ Some e

@@ -7,8 +7,8 @@ ghost use Rattle.rev_types.specs.Layout.{variables};
 ghost use Rattle.rev_types.specs.Limits.{funs};
 ghost use Rattle.revision_calculus.specs.Program.{constant_value, first_value};
 ghost use Rattle.code_generation.specs.Generated.{value_word, var_of};
-ghost use Rattle.emit_tables.specs.Numbering.{merges_from};
-ghost use Rattle.emit_tables.specs.Variables.{entry_in, var_in, vars_in};
+ghost use Rattle.emit_program.specs.Numbering.{merges_from};
+ghost use Rattle.emit_program.specs.Variables.{entry_in, var_in, vars_in};
 
 use crate::blocks::ValueBlocks;
 use rev_code::CodeVar;

@@ -1,8 +1,8 @@
 -- Loops of value_blocks: the merges so far with those left are all, and so with the count, which is small.
 use Rattle.std.proofs.Common.{◌≡◌, ◌<◌, ◌+◌, ◌^◌, ◌++◌, drop, map}
 use Rattle.rev_syntax.specs.View.{declaration}
-use Rattle.emit_tables.specs.Numbering.{merges_from, value_total}
-use Rattle.emit_tables.proofs.blocks.value_blocks.Given as goal
+use Rattle.emit_program.specs.Numbering.{merges_from, value_total}
+use Rattle.emit_program.proofs.blocks.value_blocks.Given as goal
 
 abbrev pub invariant-loop-d : goal.invariant-loop-d
 invariant-loop-d l = record {

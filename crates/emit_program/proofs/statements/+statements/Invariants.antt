@@ -3,7 +3,7 @@ use Rattle.std.proofs.Common.{◌≡◌, ◌≤◌, ◌<◌, ◌^◌, ◌+◌, �
 use Rattle.rev_syntax.specs.View.{stmts, arms}
 use Rattle.rev_kinds.specs.Walk.{names_of}
 use Rattle.code_generation.specs.Prints.{statements_kinds, statements_texts, statements_layouts, arms_kinds, arms_texts, arms_layouts}
-use Rattle.emit_tables.proofs.statements.+statements.Given as goal
+use Rattle.emit_program.proofs.statements.+statements.Given as goal
 
 abbrev pub invariant-list_block-loop-s : goal.invariant-list_block-loop-s
 invariant-list_block-loop-s l = record {
