@@ -2,7 +2,7 @@
 use Rattle.std.proofs.Common.{◌≡◌, ◌∙◌, ℕ, zero, suc, ◌+◌, ◌<◌, ◌≤◌, List, [], ◌∷◌, ◌++◌, append_assoc, append-nil, length, drop, get_or, replicate, Some, refl, sym, ap, arith}
 use Rattle.std.proofs.lemmas.List.{drop_all, drop_more}
 use Rattle.rev_report.specs.Outcome.{place_of}
-use Rattle.world_traces.specs.Parts.{cell_places}
+use Rattle.code_traces.specs.Parts.{cell_places}
 
 module _ {A B : Type 0} (F : List A → List B) (f : A → List B) (step : (x : A) (xs : List A) → F (x ∷ xs) ≡ f x ++ F xs)
     (xs : List A) (n : ℕ) where

@@ -24,8 +24,8 @@ use Rattle.trace_parts.specs.Made.{is_sooner}
 use Rattle.trace_parts.proofs.InOrder.{AreOnce, contains_among, among_contains, distinct_once, in_order, once_moved}
 use Rattle.world_notes.specs.declared.noted.Noted.{Noted}
 use Rattle.world_notes.specs.Notes.{IsNoted, AreNoted}
-use Rattle.world_traces.specs.Parts.{change_of, end_at, event_of, part_in, path_in, places}
-use Rattle.world_traces.specs.Traces.{IsListing, IsPartOf}
+use Rattle.code_traces.specs.Parts.{change_of, end_at, event_of, part_in, path_in, places}
+use Rattle.code_traces.specs.Traces.{IsListing, IsPartOf}
 use Rattle.code_traces.specs.Made.{AreOver, noted_part, parts_by, world_parts}
 
 -- ---- one revision

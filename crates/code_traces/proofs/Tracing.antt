@@ -27,11 +27,11 @@ use Rattle.code_world.specs.Endings.{HasLeft, HasNoLeg}
 use Rattle.code_world.specs.Tables.{IsTable, IsWorld}
 use Rattle.code_world.proofs.Worlds.{world_live, world_twice}
 use Rattle.generated_blocks.proofs.Accepted.{code_accepted}
-use Rattle.world_traces.specs.Traces.{run_of}
+use Rattle.code_traces.specs.Traces.{run_of}
 use Rattle.world_notes.specs.declared.noted.Noted.{Noted}
 use Rattle.world_notes.specs.Notes.{AreNoted, NotesOf}
-use Rattle.world_traces.specs.Traces.{AgreeOnTrace, HaveOneTrace, IsListing, IsTraceOf}
-use Rattle.world_traces.proofs.Worlds.{one_trace, traces_agree}
+use Rattle.code_traces.specs.Traces.{AgreeOnTrace, HaveOneTrace, IsListing, IsTraceOf}
+use Rattle.code_traces.proofs.Worlds.{one_trace, traces_agree}
 use Rattle.code_traces.specs.Made.{AreOver, HaveEnded}
 use Rattle.code_traces.specs.Traced.{HasTrace, IsNotedAfter, IsTraceIn, TracesAreOfPrograms}
 

@@ -10,7 +10,7 @@ ghost use Rattle.rev_vm.specs.Starts.{run_under};
 ghost use Rattle.revision_machine.specs.Laws.{IsDistinct};
 ghost use Rattle.revision_machine.specs.Numbered.{Entries, paths_of};
 ghost use Rattle.world_notes.specs.Notes.{AreNoted};
-ghost use Rattle.world_traces.specs.Traces.{IsListing};
+ghost use Rattle.code_traces.specs.Traces.{IsListing};
 ghost use Rattle.code_traces.specs.Made.{AreOver, HaveEnded, noted_part, world_parts};
 
 use crate::parts::part_of;

@@ -6,8 +6,8 @@ ghost use Rattle.code_rules.specs.Shapes.{kind_or_int};
 ghost use Rattle.code_world.specs.Endings.{Names};
 ghost use Rattle.leg_run.specs.Standing.{listed_as};
 ghost use Rattle.rev_vm.specs.States.{entry_as, phase_as};
-ghost use Rattle.world_traces.specs.Parts as spec;
-ghost use Rattle.world_traces.specs.Parts.{path_in};
+ghost use Rattle.code_traces.specs.Parts as spec;
+ghost use Rattle.code_traces.specs.Parts.{path_in};
 ghost use Rattle.code_traces.specs.Made.{noted_part};
 
 use code_runs::{path_of, value_of};

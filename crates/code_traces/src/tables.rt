@@ -2,7 +2,7 @@
 
 ghost use Rattle.std.specs.Prelude.{◌≡◌, ◌++◌, IfOk, OnOk, None, Some, replicate};
 ghost use Rattle.code_soundness.specs.Typed.{location_kinds};
-ghost use Rattle.world_traces.specs.Parts.{cell_places, places, variable_places};
+ghost use Rattle.code_traces.specs.Parts.{cell_places, places, variable_places};
 
 use rev_code::CodeVar;
 use rev_num::{Bytes, ValueKind};

@@ -1,7 +1,7 @@
 -- Answers of trace_of: the parts are those of the world in some order, and putting them in order lists them.
 use Rattle.std.proofs.Common.{subst, sym}
 use Rattle.rev_vm.specs.Starts.{run_under}
-use Rattle.world_traces.specs.Traces.{IsListing}
+use Rattle.code_traces.specs.Traces.{IsListing}
 use Rattle.code_traces.proofs.Making.{in_order_listed}
 use Rattle.code_traces.proofs.listing.trace_of.Goals as goal
 

@@ -1,7 +1,7 @@
 -- Answers of changes_of: each written location appends its change, and at the end no location is left.
 use Rattle.std.proofs.Common.{◌∙◌, ◌++◌, [], ◌∷◌, ap, arith, map, refl}
 use Rattle.rev_vm.specs.States.{entry_as}
-use Rattle.world_traces.specs.Parts.{change_of, path_in}
+use Rattle.code_traces.specs.Parts.{change_of, path_in}
 use Rattle.code_traces.proofs.Loops.{read_done, all_done}
 use Rattle.code_traces.proofs.parts.changes_of.Goals as goal
 

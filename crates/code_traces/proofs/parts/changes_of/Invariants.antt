@@ -3,7 +3,7 @@ use Rattle.std.proofs.Common.{◌≡◌, ◌++◌, List, drop, map}
 use Rattle.rev_num.specs.Path.{Path}
 use Rattle.code_world.specs.Endings.{Names}
 use Rattle.rev_vm.specs.States.{entry_as}
-use Rattle.world_traces.specs.Parts.{change_of, path_in}
+use Rattle.code_traces.specs.Parts.{change_of, path_in}
 use Rattle.code_traces.proofs.parts.changes_of.Given as goal
 
 -- the later ones are still to come

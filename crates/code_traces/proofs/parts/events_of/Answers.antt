@@ -1,7 +1,7 @@
 -- Answers of events_of: each fork or join appends its event, and at the end none is left.
 use Rattle.std.proofs.Common.{◌∙◌, ◌++◌, [], ◌∷◌, ap, arith, map, refl}
 use Rattle.leg_run.specs.Standing.{listed_as}
-use Rattle.world_traces.specs.Parts.{event_of, path_in}
+use Rattle.code_traces.specs.Parts.{event_of, path_in}
 use Rattle.code_traces.proofs.Loops.{read_done, all_done}
 use Rattle.code_traces.proofs.parts.events_of.Goals as goal
 

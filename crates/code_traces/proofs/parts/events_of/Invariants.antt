@@ -3,7 +3,7 @@ use Rattle.std.proofs.Common.{◌≡◌, ◌++◌, List, drop, map}
 use Rattle.rev_num.specs.Path.{Path}
 use Rattle.code_world.specs.Endings.{Names}
 use Rattle.leg_run.specs.Standing.{listed_as}
-use Rattle.world_traces.specs.Parts.{event_of, path_in}
+use Rattle.code_traces.specs.Parts.{event_of, path_in}
 use Rattle.code_traces.proofs.parts.events_of.Given as goal
 
 -- the later ones are still to come

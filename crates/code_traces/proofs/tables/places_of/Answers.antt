@@ -1,6 +1,6 @@
 -- Answers of places_of: each variable appends the places of its cells, and at the end no variable is left.
 use Rattle.std.proofs.Common.{refl, ap, ◌++◌}
-use Rattle.world_traces.specs.Parts.{places, variable_places}
+use Rattle.code_traces.specs.Parts.{places, variable_places}
 use Rattle.code_traces.proofs.Loops.{one_done, all_done}
 use Rattle.code_traces.proofs.tables.places_of.Goals as goal
 

@@ -29,7 +29,7 @@ use Rattle.rev_code.specs.declared.code.LayoutItem.TheVariants as item
 use Rattle.code_machine.specs.Local.{IsVerified, Local}
 use Rattle.code_machine.specs.Machines.{numbered, start_in}
 use Rattle.code_machine.specs.Worlds.{replay}
-use Rattle.world_traces.specs.Traces.{IsTraceOf, IsTheOnly}
+use Rattle.code_traces.specs.Traces.{IsTraceOf, IsTheOnly}
 use Rattle.code_machine.specs.Rows.{block, procedure, run_of, idle, fork_into, rest_of_it, sum, add_one, most_int}
 
 -- ---- codes

@@ -1,7 +1,7 @@
 -- Answers of world_laws: three lemmas, that each world has a trace, that main ends it, and that two agree.
-use Rattle.world_traces.proofs.Last.{ends_in_main}
-use Rattle.world_traces.proofs.Worlds.{has_trace, one_trace}
-use Rattle.world_traces.proofs.world_laws.Goals as goal
+use Rattle.code_traces.proofs.Last.{ends_in_main}
+use Rattle.code_traces.proofs.Worlds.{has_trace, one_trace}
+use Rattle.code_traces.proofs.laws.world_laws.Goals as goal
 
 pub returns-clause-each : goal.returns-clause-each
 returns-clause-each c = λ g ok n m fuel. has_trace g ok n m fuel

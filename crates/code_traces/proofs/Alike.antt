@@ -14,9 +14,9 @@ use Rattle.program_meaning.specs.Related.{run_of}
 use Rattle.program_meaning.specs.Agreement.{compared, PhaseAgrees, read, AgreesBy}
 use Rattle.audit_rules.specs.Parts as calculus_parts
 use Rattle.audit_rules.specs.Parts.{place_at, cause_place, part_of}
-use Rattle.world_traces.specs.Parts.{places, event_of, origin_at, end_at, change_of, part_by, path_in, part_in}
-use Rattle.world_traces.proofs.Readings.{part_read}
-use Rattle.world_traces.proofs.Places.{same_places}
+use Rattle.code_traces.specs.Parts.{places, event_of, origin_at, end_at, change_of, part_by, path_in, part_in}
+use Rattle.code_traces.proofs.Readings.{part_read}
+use Rattle.code_traces.proofs.Places.{same_places}
 use Rattle.program_meaning.proofs.Ends.{value_back}
 
 -- ---- by paths

@@ -15,7 +15,7 @@ use Rattle.code_rules.specs.Tables.{blocks_well, lines_well, is_name, has_cells,
 use Rattle.code_soundness.specs.Typed.{location_kinds}
 use Rattle.code_soundness.proofs.Accepting.{no_fault_accepted}
 use Rattle.code_machine.specs.Outcome.{value_at, show_cells, show_variable, show_all}
-use Rattle.world_traces.specs.Parts.{cell_places, variable_places, places, EachHasPlace, ShownByPlaces}
+use Rattle.code_traces.specs.Parts.{cell_places, variable_places, places, EachHasPlace, ShownByPlaces}
 
 -- ---- one for each location
 

@@ -6,8 +6,8 @@ use Rattle.std.specs.Prelude.{not}
 use Rattle.rev_num.specs.Path.{Path, same}
 use Rattle.rev_num.proofs.PostOrder.{same_refl}
 use Rattle.revision_machine.specs.Laws.{IsIn, IsDistinct}
-use Rattle.world_traces.proofs.Listings.{the_listing}
-use Rattle.world_traces.proofs.rows.worked_traces.Goals as goal
+use Rattle.code_traces.proofs.Listings.{the_listing}
+use Rattle.code_traces.proofs.rows.worked_traces.Goals as goal
 
 -- ---- lists of different paths
 

@@ -2,14 +2,9 @@
 //! program.
 //!
 //! Each law is a function that does nothing.
-#![tactic(auto)]
 
-mod rows;
-
-ghost use Rattle.world_traces.specs.Parts.{EachHasPlace, ShownByPlaces};
-ghost use Rattle.world_traces.specs.Traces.{EachHasTrace, EndsInMain, OneTrace, TracesAgree};
-
-pub use rows::worked_traces;
+ghost use Rattle.code_traces.specs.Parts.{EachHasPlace, ShownByPlaces};
+ghost use Rattle.code_traces.specs.Traces.{EachHasTrace, EndsInMain, OneTrace, TracesAgree};
 
 /// The places of the locations, in their order: each location of verified code has one, and it is
 /// the name under which an outcome shows its value.

@@ -23,9 +23,9 @@ use Rattle.audit_rules.specs.Traces as calculus_trace
 use Rattle.audit_rules.specs.Traces.{part_at, InPostOrder, IsTrace}
 use Rattle.code_machine.specs.Local.{CodeRun, Local}
 use Rattle.code_machine.specs.Machines.{numbered}
-use Rattle.world_traces.specs.Parts.{part_in}
-use Rattle.world_traces.specs.Traces.{IsListing, IsTheOnly}
-use Rattle.world_traces.proofs.Lists.{same_list, sorted, sorted_only, sorted_all, sorted_order}
+use Rattle.code_traces.specs.Parts.{part_in}
+use Rattle.code_traces.specs.Traces.{IsListing, IsTheOnly}
+use Rattle.code_traces.proofs.Lists.{same_list, sorted, sorted_only, sorted_all, sorted_order}
 use Rattle.audit_rules.proofs.Traced.{found}
 use Rattle.revision_machine.proofs.Schedules as schedules
 

@@ -29,11 +29,11 @@ use Rattle.code_machine.proofs.Outcomes.{ended}
 use Rattle.program_meaning.specs.Related.{run_of}
 use Rattle.program_meaning.specs.Agreement.{read, AgreesBy}
 use Rattle.program_meaning.proofs.Schedules.{ends_agree}
-use Rattle.world_traces.specs.Parts.{part_by, part_in}
-use Rattle.world_traces.specs.Traces.{IsTheOnly, IsTraceOf, HaveOneTrace, AgreeOnTrace}
-use Rattle.world_traces.proofs.Readings.{numbered_part}
-use Rattle.world_traces.proofs.Alike.{same_part}
-use Rattle.world_traces.proofs.Listings.{Lists, one_listing, listing, listed, the_listing, world_lists, the_trace}
+use Rattle.code_traces.specs.Parts.{part_by, part_in}
+use Rattle.code_traces.specs.Traces.{IsTheOnly, IsTraceOf, HaveOneTrace, AgreeOnTrace}
+use Rattle.code_traces.proofs.Readings.{numbered_part}
+use Rattle.code_traces.proofs.Alike.{same_part}
+use Rattle.code_traces.proofs.Listings.{Lists, one_listing, listing, listed, the_listing, world_lists, the_trace}
 
 -- ---- verified code
 

@@ -12,7 +12,7 @@ use Rattle.code_generation.specs.Generated.{var_of}
 use Rattle.program_meaning.specs.Related.{run_of}
 use Rattle.audit_rules.specs.Parts as calculus_parts
 use Rattle.audit_rules.proofs.Apart.{place}
-use Rattle.world_traces.specs.Parts.{cell_places, variable_places, places}
+use Rattle.code_traces.specs.Parts.{cell_places, variable_places, places}
 
 cells_named : (name : Name) (base cell count : ℕ)
     → cell_places name cell count ≡ map (λ x. place_of x.name x.cell) (show_cells name [] base cell count)

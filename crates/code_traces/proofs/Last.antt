@@ -11,8 +11,8 @@ use Rattle.revision_machine.proofs.Schedules.{schedule_law}
 use Rattle.audit_rules.specs.Traces.{InPostOrder}
 use Rattle.code_machine.specs.Machines.{numbered, start_in}
 use Rattle.code_machine.proofs.Meeting.{named_counts}
-use Rattle.world_traces.specs.Parts.{part_in}
-use Rattle.world_traces.specs.Traces.{EndsInMain}
+use Rattle.code_traces.specs.Parts.{part_in}
+use Rattle.code_traces.specs.Traces.{EndsInMain}
 
 -- nothing comes behind the empty path
 main_last : (ps : List Part) → InPostOrder ps → (p : Part) → Among ps p → p.path ≡ [] → MainIsLast ps

@@ -1,6 +1,6 @@
 //! Worked traces, as theorems by computation.
 
-ghost use Rattle.world_traces.specs.Rows as row;
+ghost use Rattle.code_traces.specs.Rows as row;
 
 /// Codes without a fault, schedules of theirs, and the traces of the worlds after these with their
 /// lines.

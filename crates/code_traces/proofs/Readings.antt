@@ -12,7 +12,7 @@ use Rattle.code_machine.specs.Renamed.{renamed_handle, renamed_word, renamed_loc
 use Rattle.code_machine.specs.Outcome.{value_of}
 use Rattle.code_machine.proofs.Naming.{AllFixed, local_fixed}
 use Rattle.audit_rules.specs.Parts.{place_at, cause_place}
-use Rattle.world_traces.specs.Parts.{places, event_of, origin_at, end_at, change_of, part_by, path_in, part_in}
+use Rattle.code_traces.specs.Parts.{places, event_of, origin_at, end_at, change_of, part_by, path_in, part_in}
 
 module _ {H K : Type 0} (f : H → K) (path : K → Path) where
   abbrev through : H → Path

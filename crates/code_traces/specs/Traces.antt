@@ -23,7 +23,7 @@ use Rattle.code_machine.specs.Machines.{numbered}
 use Rattle.code_machine.specs.Starts.{FromEachStart}
 pub use Rattle.program_meaning.specs.Related.{run_of}
 use Rattle.program_meaning.specs.Laws.{FromStart}
-use Rattle.world_traces.specs.Parts.{part_in}
+use Rattle.code_traces.specs.Parts.{part_in}
 
 -- ---- the trace of a world
 

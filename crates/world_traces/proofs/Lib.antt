@@ -1,8 +1,0 @@
-pub mod Lists
-pub mod Readings
-pub mod Places
-pub mod Alike
-pub mod Listings
-pub mod Worlds
-pub mod Names
-pub mod Last
