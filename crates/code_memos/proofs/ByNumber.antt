@@ -19,9 +19,9 @@ use Rattle.revision_machine.specs.Simulation.{Agrees, EntryAgrees}
 use Rattle.revision_machine.proofs.Paths.{at_here}
 use Rattle.revision_machine.proofs.Schedules.{complete_schedule_agrees}
 use Rattle.revision_machine.proofs.Schedules as schedules
-use Rattle.revision_births.specs.Births as births
-use Rattle.revision_births.specs.Births.{Born}
-use Rattle.revision_births.proofs.Births.{one_birth, runs_then}
+use Rattle.code_memos.specs.Births as births
+use Rattle.code_memos.specs.Births.{Born}
+use Rattle.code_memos.proofs.Births.{one_birth, runs_then}
 use Rattle.code_reads.specs.Reads.{reach_reads}
 use Rattle.code_reads.specs.Legs.{leg_reads}
 use Rattle.code_machine.specs.Local.{CodeRun, IsVerified, under, Local, at_work, end_of}

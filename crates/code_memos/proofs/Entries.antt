@@ -12,8 +12,8 @@ use Rattle.code_machine.specs.Local.{CodeRun, under, at_work, end_of}
 use Rattle.code_machine.specs.Leg.{clock}
 use Rattle.code_machine.specs.Machines.{machine, IsMain}
 use Rattle.code_machine.proofs.Meeting.{counts}
-use Rattle.revision_births.specs.Births.{Born}
-use Rattle.revision_births.proofs.Births.{one_birth}
+use Rattle.code_memos.specs.Births.{Born}
+use Rattle.code_memos.proofs.Births.{one_birth}
 use Rattle.code_memos.specs.Leaf.{Fresh, IsFresh, Known, IsKnown}
 use Rattle.code_memos.specs.Memo.{first, IsLeaf, IsEntry, IsAmong, OneEntry, OneMemo}
 use Rattle.code_memos.proofs.Leaving.{one_body}

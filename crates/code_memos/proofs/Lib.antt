@@ -1,3 +1,7 @@
+pub mod Witness
+pub mod Births
+pub mod Leaves
+pub mod News
 pub mod Leaving
 pub mod Reading
 pub mod Adopting

@@ -16,7 +16,7 @@ use Rattle.revision_machine.specs.Schedules.{Matches}
 use Rattle.revision_machine.specs.Simulation.{Agrees, EntryAgrees}
 use Rattle.revision_machine.proofs.Numbers.{globe_there}
 use Rattle.revision_machine.proofs.Schedules.{schedule_agrees}
-use Rattle.revision_births.specs.Births.{Born}
+use Rattle.code_memos.specs.Births.{Born}
 use Rattle.code_machine.specs.Local.{CodeRun, IsVerified, Phase, running, done, trapped, Local, at_work}
 use Rattle.code_machine.specs.Machines.{machine, numbered, IsMain, start_in}
 use Rattle.code_machine.specs.Renamed.{renamed_one, renamed_as, renamed_location, renamed_phase, renamed_word, IsNumbered}

@@ -23,9 +23,9 @@ use Rattle.step_forms.proofs.Forms.{holds_of_reach}
 use Rattle.version_map.specs.Composing.{Composition, composed}
 use Rattle.revision_machine.specs.Machine.{Moves, Forks, Joins, Ended}
 use Rattle.revision_machine.specs.Laws.{local_of}
-use Rattle.revision_births.specs.Births as births
-use Rattle.revision_births.specs.Births.{Born}
-use Rattle.revision_births.proofs.News.{IsNew, new_born}
+use Rattle.code_memos.specs.Births as births
+use Rattle.code_memos.specs.Births.{Born}
+use Rattle.code_memos.proofs.News.{IsNew, new_born}
 use Rattle.code_machine.specs.Local.{CodeRun, IsVerified, under, Trap, Phase, running, done, trapped, Local, at_work, has_ended, End, end_of}
 use Rattle.code_machine.specs.Leg.{leg, clock}
 use Rattle.code_machine.specs.Joining.{merges, mains, absorb, inherit, join_in, join_end}

@@ -15,7 +15,7 @@ use Rattle.revision_machine.specs.Machine.{Entry, Plain, Global, start, Complete
 use Rattle.revision_machine.specs.Laws.{local_of, IsIn, IsDistinct}
 use Rattle.revision_machine.specs.Numbered as numbers
 use Rattle.revision_machine.specs.Numbered.{Entries, World, Both, Listing, at_number, number_of, paths_of, begin, Replays}
-use Rattle.revision_births.specs.Births.{Born}
+use Rattle.code_memos.specs.Births.{Born}
 use Rattle.code_reads.specs.Legs.{leg_reads}
 use Rattle.code_machine.specs.Local.{CodeRun, IsVerified, Local, at_work, end_of}
 use Rattle.code_machine.specs.Leg.{leg}

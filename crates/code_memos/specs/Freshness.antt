@@ -10,7 +10,7 @@ use Rattle.rev_code.specs.State.{State}
 use Rattle.revision_machine.specs.Machine.{Entry, Plain, Live, Revisions, Reached}
 use Rattle.revision_machine.specs.Laws.{local_of}
 use Rattle.revision_machine.specs.Numbered.{Entries, Listing, at_number, paths_of, begin, Replays}
-use Rattle.revision_births.specs.Births.{Born}
+use Rattle.code_memos.specs.Births.{Born}
 use Rattle.code_machine.specs.Local.{CodeRun, IsVerified, Local, running, at_work}
 use Rattle.code_machine.specs.Machines.{machine, numbered, IsMain, start_in}
 use Rattle.code_machine.specs.Renamed.{IsNumbered}

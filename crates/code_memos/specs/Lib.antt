@@ -1,3 +1,4 @@
+pub mod Births
 pub mod Renaming
 pub mod Leaf
 pub mod Laws

@@ -9,7 +9,7 @@ use Rattle.rev_num.specs.Path.{Path}
 use Rattle.rev_code.specs.State.{State}
 use Rattle.revision_machine.specs.Machine.{Global, Twice, Live, Revisions, start, Complete}
 use Rattle.revision_machine.specs.Laws.{IsIn, IsDistinct}
-use Rattle.revision_births.specs.Births.{Born}
+use Rattle.code_memos.specs.Births.{Born}
 use Rattle.code_machine.specs.Local.{CodeRun, IsVerified, under, Local, at_work}
 use Rattle.code_machine.specs.Leg.{leg, clock}
 use Rattle.code_machine.specs.Machines.{machine, IsMain, start_in}

@@ -1,6 +1,8 @@
-//! What is kept of the leaf revisions of a run, and for which revisions of another run it is valid.
-//! Each law is an empty function.
+//! What is kept of the leaf revisions of a run, and for which revisions of another run it is valid;
+//! and with what each revision begins. Each law is an empty function.
 #![tactic(auto)]
+
+mod birth;
 
 ghost use Rattle.code_memos.specs.ByNumber.{AdoptByNumber, CountedByNumber};
 ghost use Rattle.code_memos.specs.ByNumber.{LeafHasEntry, RecordedByNumber};
@@ -9,6 +11,8 @@ ghost use Rattle.code_memos.specs.Laws.{EndsAreRenamed, LegsAreRenamed, ValidIsT
 ghost use Rattle.code_memos.specs.Memo.{OneEntry, OneMemo};
 ghost use Rattle.code_memos.specs.Recording.{CountedIsReused, RecordedIsMemo, ReusedIsOne};
 ghost use Rattle.code_memos.specs.Worlds.{ValidIsTheLeg};
+
+pub use birth::birth_laws;
 
 /// What a leg comes to, what it reads, and what a revision leaves that it ends, are the same
 /// whatever a handle is.

@@ -8,9 +8,9 @@ use Rattle.revision_machine.specs.Numbered as numbers
 use Rattle.revision_machine.specs.Numbered.{Numbered, Wish, Goes, Bears, Wants, Stops, Entries, World, Both, Listing, at_number, put_number, leg_at, leg_of, join_number, join_stopped}
 use Rattle.revision_machine.proofs.Lists.{at_below, at_put, below_at, put_here, put_length}
 use Rattle.revision_machine.proofs.Paths.{at_here}
-use Rattle.revision_births.specs.Births as births
-use Rattle.revision_births.specs.Births.{Born}
-use Rattle.revision_births.proofs.Births.{runs_then}
+use Rattle.code_memos.specs.Births as births
+use Rattle.code_memos.specs.Births.{Born}
+use Rattle.code_memos.proofs.Births.{runs_then}
 use Rattle.code_machine.specs.Local.{CodeRun, IsVerified, Local, at_work}
 use Rattle.code_machine.specs.Leg.{leg}
 use Rattle.code_machine.specs.Machines.{event_of, machine, numbered, IsMain}

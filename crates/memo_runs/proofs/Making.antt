@@ -5,7 +5,7 @@ use Rattle.rev_num.specs.Path.{Path}
 use Rattle.rev_num.specs.Limits.{most_fuel}
 use Rattle.rev_num.proofs.Options.{none_some}
 use Rattle.rev_code.specs.State.{State, Listed}
-use Rattle.revision_births.specs.Births.{Born}
+use Rattle.code_memos.specs.Births.{Born}
 use Rattle.revision_machine.specs.Machine.{Entry, Plain, Joined}
 use Rattle.revision_machine.specs.Laws.{local_of}
 use Rattle.revision_machine.specs.Numbered as numbers

@@ -4,7 +4,7 @@ use Rattle.std.specs.Prelude.{slice_get}
 use Rattle.rev_num.specs.Path.{Path}
 use Rattle.rev_num.proofs.Options.{some_eq}
 use Rattle.rev_code.specs.declared.code.CodeBlock.{CodeBlock}
-use Rattle.revision_births.specs.Births.{Born}
+use Rattle.code_memos.specs.Births.{Born}
 use Rattle.revision_machine.specs.Machine.{Global, Twice, Live, start, Complete}
 use Rattle.revision_machine.specs.Laws.{IsDistinct}
 use Rattle.revision_machine.proofs.Ends.{unique_end}

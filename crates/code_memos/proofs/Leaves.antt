@@ -7,9 +7,9 @@ use Rattle.revision_machine.specs.Conditions.{Counts, IsKept}
 use Rattle.revision_machine.specs.Laws.{local_of, KeptLaw}
 use Rattle.revision_machine.proofs.Kept.{kept_law}
 use Rattle.revision_machine.proofs.Standing.{standing_law}
-use Rattle.revision_births.specs.Births.{LeavesEnd}
-use Rattle.revision_births.proofs.Witness.{with_birth, Both, W, plain_entry, plain_option, plain_map, plain, lift, start_same, final_same, moves_count, forks_count, joins_count}
-use Rattle.revision_births.proofs.Births.{of_born}
+use Rattle.code_memos.specs.Births.{LeavesEnd}
+use Rattle.code_memos.proofs.Witness.{with_birth, Both, W, plain_entry, plain_option, plain_map, plain, lift, start_same, final_same, moves_count, forks_count, joins_count}
+use Rattle.code_memos.proofs.Births.{of_born}
 
 module _ (M : Machine) (main : M.Local) where
   -- one that its first event ends has not begun, or has ended

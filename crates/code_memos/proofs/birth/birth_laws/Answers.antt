@@ -1,8 +1,8 @@
 -- Answers of birth_laws: four lemmas on a lawful machine, of which three use that its steps count the forks.
-use Rattle.revision_births.proofs.Births.{one_birth, born_stand}
-use Rattle.revision_births.proofs.Leaves.{leaves_end}
-use Rattle.revision_births.proofs.News.{new_is_born}
-use Rattle.revision_births.proofs.birth_laws.Goals as goal
+use Rattle.code_memos.proofs.Births.{one_birth, born_stand}
+use Rattle.code_memos.proofs.Leaves.{leaves_end}
+use Rattle.code_memos.proofs.News.{new_is_born}
+use Rattle.code_memos.proofs.birth.birth_laws.Goals as goal
 
 pub returns : goal.returns
 returns g c = record {

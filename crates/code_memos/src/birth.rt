@@ -1,7 +1,6 @@
 //! With what local state each revision begins, whatever the schedule.
-#![tactic(auto)]
 
-ghost use Rattle.revision_births.specs.Births.{BornStand, LeavesEnd, NewIsBorn, OneBirth};
+ghost use Rattle.code_memos.specs.Births.{BornStand, LeavesEnd, NewIsBorn, OneBirth};
 
 use revision_machine::LawfulMachine;
 

@@ -11,8 +11,8 @@ use Rattle.revision_machine.proofs.Way.{put_two, Role, Way, writes, twice, way, 
 use Rattle.revision_machine.proofs.Diamond.{two_here, two_there, two_other}
 use Rattle.revision_machine.proofs.Forker.{fresh_of, keeps_forked, start_forked}
 use Rattle.revision_machine.proofs.Ends.{along, strip}
-use Rattle.revision_births.specs.Births.{IsForkedIn, Born, first, forked, OneBirth, BornStand}
-use Rattle.revision_births.proofs.Witness.{with_birth, Both, W, plain_entry, plain_option, plain_map, plain, lift, start_same, final_same, counts_same}
+use Rattle.code_memos.specs.Births.{IsForkedIn, Born, first, forked, OneBirth, BornStand}
+use Rattle.code_memos.proofs.Witness.{with_birth, Both, W, plain_entry, plain_option, plain_map, plain, lift, start_same, final_same, counts_same}
 
 -- ---- one more step
 

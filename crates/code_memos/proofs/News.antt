@@ -8,9 +8,9 @@ use Rattle.revision_machine.proofs.Ends.{along}
 use Rattle.revision_machine.proofs.Paths.{some_inj, decide_same}
 use Rattle.revision_machine.proofs.Way.{put_two, Role, Way, writes, twice, way, Place, own, new, marks, place}
 use Rattle.revision_machine.proofs.Diamond.{two_here, two_there, two_other}
-use Rattle.revision_births.specs.Births as births
-use Rattle.revision_births.specs.Births.{Born, NewIsBorn}
-use Rattle.revision_births.proofs.Births.{runs_then}
+use Rattle.code_memos.specs.Births as births
+use Rattle.code_memos.specs.Births.{Born, NewIsBorn}
+use Rattle.code_memos.proofs.Births.{runs_then}
 
 -- as IsNewAtBirth, where this holds of each revision of a reached state
 pub record IsNew (M : Machine) (P : Path → M.Local → Type 0) (N : M.Local → Type 0) : Type 0 where
