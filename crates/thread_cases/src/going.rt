@@ -1,7 +1,7 @@
 //! Revisions that go on, and those that have ended.
 ghost use Rattle.std.specs.Prelude.{◌≡◌, true, false};
-ghost use Rattle.hub_cases.specs.Tree.{after_fork, child_of, goes_on, is_early, joined, outlived};
-ghost use Rattle.hub_cases.specs.Tree.{outlives, root};
+ghost use Rattle.thread_cases.specs.Tree.{after_fork, child_of, goes_on, is_early, joined, outlived};
+ghost use Rattle.thread_cases.specs.Tree.{outlives, root};
 
 use crate::node::{Node, Way};
 

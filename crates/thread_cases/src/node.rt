@@ -1,6 +1,6 @@
 //! A tree of revisions: what one of them is, and its next event.
 ghost use Rattle.std.specs.Prelude.{◌≡◌};
-ghost use Rattle.hub_cases.specs.Tree.{root, child_of, after_fork, joinee, outlived, joined, ended};
+ghost use Rattle.thread_cases.specs.Tree.{root, child_of, after_fork, joinee, outlived, joined, ended};
 
 /// What the leaves and the other revisions of a tree do.
 #[derive(Clone, Copy, PartialEq, Eq, Debug)]

@@ -1,9 +1,9 @@
 -- The tree as a machine, whose joiners and ends are the revisions themselves.
 use Rattle.std.specs.Prelude.{[]}
 use Rattle.hub_core.specs.HubMachine.{HubMachine}
-use Rattle.hub_cases.specs.declared.going.Going.{Going}
-use Rattle.hub_cases.specs.declared.node.Node.{Node}
-use Rattle.hub_cases.specs.Tree.{next, forks_at, joined, joinee, outlives}
+use Rattle.thread_cases.specs.declared.going.Going.{Going}
+use Rattle.thread_cases.specs.declared.node.Node.{Node}
+use Rattle.thread_cases.specs.Tree.{next, forks_at, joined, joinee, outlives}
 
 abbrev pub tree : HubMachine Node Going Node Node
 tree = record {

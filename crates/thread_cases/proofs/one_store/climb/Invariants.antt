@@ -1,6 +1,6 @@
 -- Loops of climb: each fork and its release leave hold, delta and what was gathered a part of the store.
-use Rattle.segment_cases.specs.Parts.{IsPart}
-use Rattle.segment_cases.proofs.one_store.climb.Given as goal
+use Rattle.thread_cases.specs.Parts.{IsPart}
+use Rattle.thread_cases.proofs.one_store.climb.Given as goal
 
 abbrev pub invariant-loop-location : goal.invariant-loop-location
 invariant-loop-location l = IsPart l.fn.store l.part.hold l.part.delta l.part.all

@@ -3,11 +3,11 @@
 --   goes_on, is_early   it has not ended, or not forked both children
 use Rattle.std.specs.Prelude.{◌≡◌, ℕ, ◌+◌, ◌-◌, ◌^◌, ◌==◌, min, Bool, true, false, cond}
 use Rattle.revision_machine.specs.Numbered.{Wish, Bears, Wants, Goes, Stops}
-use Rattle.hub_cases.specs.declared.node.Node.{Node}
-use Rattle.hub_cases.specs.declared.node.Way.{Way}
-use Rattle.hub_cases.specs.declared.node.Way.TheVariants.{Adds, Again, Traps, Tries}
-use Rattle.hub_cases.specs.declared.node.Stage.{Stage}
-use Rattle.hub_cases.specs.declared.node.Stage.TheVariants.{Begins, Forked, JoinsFirst, JoinsSecond, Ends, Over}
+use Rattle.thread_cases.specs.declared.node.Node.{Node}
+use Rattle.thread_cases.specs.declared.node.Way.{Way}
+use Rattle.thread_cases.specs.declared.node.Way.TheVariants.{Adds, Again, Traps, Tries}
+use Rattle.thread_cases.specs.declared.node.Stage.{Stage}
+use Rattle.thread_cases.specs.declared.node.Stage.TheVariants.{Begins, Forked, JoinsFirst, JoinsSecond, Ends, Over}
 
 abbrev pub node : Way → ℕ → Stage → ℕ → ℕ → ℕ → Bool → Bool → Node
 node way depth stage first second leaves trapped by_join = record {

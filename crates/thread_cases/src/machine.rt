@@ -1,7 +1,7 @@
 //! The tree as a machine of revisions.
 ghost use Rattle.std.specs.Prelude.{◌≡◌, []};
-ghost use Rattle.hub_cases.specs.Tree.{is_end, joined};
-ghost use Rattle.hub_cases.specs.Machine.{tree};
+ghost use Rattle.thread_cases.specs.Tree.{is_end, joined};
+ghost use Rattle.thread_cases.specs.Machine.{tree};
 
 use crate::going::{Done, Going, claimed, stopped};
 use crate::node::{Node, Way};

@@ -2,7 +2,7 @@ ghost use Rattle.std.specs.Prelude.{◌≡◌, ◌≤◌, vec_len};
 ghost use Rattle.std.specs.Thread.{IsSync};
 ghost use Rattle.segment_store.specs.Names.{IsOf, IsSeatOf};
 ghost use Rattle.version_map.specs.Deltas.{locations};
-ghost use Rattle.segment_cases.specs.Parts.{IsPart};
+ghost use Rattle.thread_cases.specs.Parts.{IsPart};
 
 use segment_store::{Hold, Spent, Store};
 use std::alloc::Global;

@@ -1,8 +1,8 @@
 //! How the revisions of a tree run.
 ghost use Rattle.std.specs.Prelude.{[]};
 ghost use Rattle.hub_workers.specs.Legs.{Comes};
-ghost use Rattle.hub_cases.specs.Machine.{tree};
-ghost use Rattle.hub_cases.specs.Tree.{after_fork, child_of, is_end};
+ghost use Rattle.thread_cases.specs.Machine.{tree};
+ghost use Rattle.thread_cases.specs.Tree.{after_fork, child_of, is_end};
 
 use crate::going::{Done, Forking, Going, outlived};
 use crate::machine::Tree;
