@@ -16,7 +16,7 @@ use Rattle.generated_blocks.proofs.Accepted.{code_accepted}
 use Rattle.program_meaning.specs.Related.{run_of}
 use Rattle.program_meaning.specs.Agreement.{AgreesBy}
 use Rattle.program_meaning.proofs.Schedules.{agrees}
-use Rattle.main_texts.specs.Texts.{NeverJoinsTwice}
+use Rattle.code_machine_laws.specs.Texts.{NeverJoinsTwice}
 
 module _ (s : Setting) (well : IsAccepted s.program) (fuel : ℕ) (never : NeverTwice s fuel) (n : ℕ)
     (m : IsMain (run_of s) n) (ns : List ℕ) (w : World (code.Local ℕ))

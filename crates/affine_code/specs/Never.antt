@@ -7,7 +7,7 @@ use Rattle.revision_calculus.specs.Kinded.{IsAccepted}
 use Rattle.rev_affine.specs.Affine.{IsAffine}
 use Rattle.rev_affine.specs.Laws.{NeverTwice}
 use Rattle.program_meaning.specs.Related.{run_of}
-use Rattle.main_texts.specs.Texts.{NeverJoinsTwice}
+use Rattle.code_machine_laws.specs.Texts.{NeverJoinsTwice}
 
 abbrev pub CodeOfNever : Type 0
 CodeOfNever =

@@ -1,3 +1,5 @@
+pub mod Growing
+pub mod Ending
 pub mod Mains
 pub mod Outcomes
 pub mod Keeping

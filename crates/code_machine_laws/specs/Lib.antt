@@ -1,3 +1,4 @@
+pub mod Texts
 pub mod Outcomes
 pub mod Instance
 pub mod Run

@@ -16,7 +16,7 @@ use Rattle.code_machine.specs.Local.{CodeRun}
 use Rattle.code_machine_laws.specs.Outcomes.{HasOutcome as HasCodeOutcome}
 use Rattle.code_machine_laws.proofs.Outcomes.{each_has_one}
 use Rattle.generated_blocks.proofs.Accepted.{code_accepted}
-use Rattle.main_texts.specs.Texts.{NeverJoinsTwice, said}
+use Rattle.code_machine_laws.specs.Texts.{NeverJoinsTwice, said}
 use Rattle.affine_code.specs.Never.{AffineCode}
 use Rattle.rev_affine.specs.Affine.{IsAffine}
 use Rattle.program_meaning.proofs.Outcomes.{of_program}

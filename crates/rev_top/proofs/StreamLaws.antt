@@ -15,7 +15,7 @@ use Rattle.rev_syntax.specs.Trees.{ProgramTree}
 use Rattle.rev_affine.specs.Affine.{IsAffine}
 use Rattle.revision_calculus.specs.Complete.{HasOutcome}
 use Rattle.revision_calculus.proofs.Outcomes.{one_outcome}
-use Rattle.main_texts.specs.Texts.{said}
+use Rattle.code_machine_laws.specs.Texts.{said}
 use Rattle.rev_top.specs.Affine.{KeepsAffine}
 use Rattle.rev_top.specs.Answer.{Answer, Given, RunsTo, SaysAs, Streams, reads_of, setting, source_limit}
 use Rattle.rev_top.specs.Delivery.{Delivered, all_written, err_failed, no_room_at_err, no_room_at_out, out_failed}

@@ -7,7 +7,7 @@ use Rattle.rev_words.specs.declared.Words.{Words}
 use Rattle.rev_syntax.specs.Trees.{ProgramTree}
 use Rattle.rev_affine.specs.Affine.{IsAffine}
 use Rattle.revision_calculus.specs.Complete.{HasOutcome}
-use Rattle.main_texts.specs.Texts.{said}
+use Rattle.code_machine_laws.specs.Texts.{said}
 use Rattle.thread_runs.specs.declared.ran.Ran.{Ran}
 use Rattle.rev_top.specs.Answer.{setting}
 use Rattle.rev_top.specs.Rans.{Happened}

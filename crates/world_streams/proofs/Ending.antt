@@ -17,8 +17,8 @@ use Rattle.code_machine_laws.proofs.Reaching.{main_stands}
 use Rattle.world_runs.specs.Finish.{HasFinished}
 use Rattle.code_runs.specs.Completed.{IsAfter}
 use Rattle.step_forms.specs.Forms.{Grows}
-use Rattle.main_texts.specs.Texts.{MainSays, NeverJoinsTwice, said}
-use Rattle.main_texts.proofs.Ending.{first_parts, over_is_all, twice_is_told}
+use Rattle.code_machine_laws.specs.Texts.{MainSays, NeverJoinsTwice, said}
+use Rattle.code_machine_laws.proofs.Ending.{first_parts, over_is_all, twice_is_told}
 use Rattle.world_streams.specs.declared.fault.StreamFault.{StreamFault}
 use Rattle.world_streams.specs.declared.fault.StreamFault.TheVariants as fault
 use Rattle.world_streams.specs.Streamed.{PutsPart, Streamed}

@@ -31,8 +31,8 @@ use Rattle.world_runs.proofs.Making.{makes}
 use Rattle.world_streams.proofs.Putting.{grows_by, grows_length}
 use Rattle.step_forms.specs.Forms.{Grows, Says}
 use Rattle.step_forms.proofs.Texts.{grows_same}
-use Rattle.main_texts.specs.Texts.{HasSaid, as_it_is, at_join, MainSays}
-use Rattle.main_texts.proofs.Growing.{legs_say, plain_same, said_running, said_stopped}
+use Rattle.code_machine_laws.specs.Texts.{HasSaid, as_it_is, at_join, MainSays}
+use Rattle.code_machine_laws.proofs.Growing.{legs_say, plain_same, said_running, said_stopped}
 
 abbrev pub first_text : Table → List ℕ
 first_text t = slot_text (at_number t.slots.items 0)

@@ -6,7 +6,7 @@ use Rattle.rev_io.specs.Stream.{Stream, Rose, Took, TookSome}
 use Rattle.rev_num.specs.declared.outcome.Outcome.{Outcome}
 use Rattle.code_machine.specs.Local.{CodeRun}
 use Rattle.code_machine_laws.specs.Outcomes.{HasOutcome}
-use Rattle.main_texts.specs.Texts.{said}
+use Rattle.code_machine_laws.specs.Texts.{said}
 use Rattle.world_streams.specs.declared.fault.StreamFault.{StreamFault}
 use Rattle.world_streams.specs.declared.fault.StreamFault.TheVariants as fault
 

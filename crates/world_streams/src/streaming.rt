@@ -3,7 +3,7 @@
 ghost use Rattle.std.specs.Prelude.{◌≤◌};
 ghost use Rattle.rev_num.specs.Limits.{most_fuel};
 ghost use Rattle.world_streams.specs.Streamed.{Streamed};
-ghost use Rattle.main_texts.specs.Texts.{NeverJoinsTwice};
+ghost use Rattle.code_machine_laws.specs.Texts.{NeverJoinsTwice};
 
 use crate::fault::StreamFault;
 use crate::run::stream;

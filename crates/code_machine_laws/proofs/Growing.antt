@@ -22,7 +22,7 @@ use Rattle.code_machine_laws.specs.Reached.{IsReached}
 use Rattle.code_machine_laws.proofs.Reaching.{joinees}
 use Rattle.step_forms.specs.Forms.{Grows, Says}
 use Rattle.step_forms.proofs.Texts.{grows_on, grows_same, reach_says}
-use Rattle.main_texts.specs.Texts.{HasSaid, as_it_is, at_join, LegsSay}
+use Rattle.code_machine_laws.specs.Texts.{HasSaid, as_it_is, at_join, LegsSay}
 
 pub plain_same : {L : Type 0} (o : Option (Path × Entry L)) (r q : Path) (l k : L) → o ≡ Some (r, Plain l)
     → o ≡ Some (q, Plain k) → (r ≡ q) × (l ≡ k)

@@ -23,8 +23,8 @@ use Rattle.code_machine_laws.specs.Reached.{IsReached, most_fuel}
 use Rattle.code_machine_laws.proofs.Reaching.{legs_reached, main_stands}
 use Rattle.step_forms.specs.Forms.{Grows}
 use Rattle.step_forms.proofs.Texts.{grows_on, grows_same}
-use Rattle.main_texts.specs.Texts.{said, HasSaid, as_it_is, FirstParts, OverIsAll, TwiceIsTold}
-use Rattle.main_texts.proofs.Growing.{listing_same, other_said, own_said, plain_same, said_stopped}
+use Rattle.code_machine_laws.specs.Texts.{said, HasSaid, as_it_is, FirstParts, OverIsAll, TwiceIsTold}
+use Rattle.code_machine_laws.proofs.Growing.{listing_same, other_said, own_said, plain_same, said_stopped}
 
 -- ---- from a world to the end
 

@@ -1,9 +1,8 @@
 //! The text of `main` along the legs of verified code.
 //!
 //! The laws are empty functions.
-#![tactic(auto)]
 
-ghost use Rattle.main_texts.specs.Texts.{FirstParts, LegsSay, OverIsAll, TwiceIsTold};
+ghost use Rattle.code_machine_laws.specs.Texts.{FirstParts, LegsSay, OverIsAll, TwiceIsTold};
 
 /// Of verified code, with whatever inputs, share and fuel:
 ///
