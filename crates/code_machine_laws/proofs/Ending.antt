@@ -21,8 +21,8 @@ use Rattle.code_machine.proofs.Starting.{entry_bound}
 use Rattle.code_machine_laws.specs.Outcomes.{HasOutcome, IsCompleteRun}
 use Rattle.code_machine_laws.specs.Reached.{IsReached, most_fuel}
 use Rattle.code_machine_laws.proofs.Reaching.{legs_reached, main_stands}
-use Rattle.step_forms.specs.Forms.{Grows}
-use Rattle.step_forms.proofs.Texts.{grows_on, grows_same}
+use Rattle.code_machine_laws.specs.Forms.{Grows}
+use Rattle.code_machine_laws.proofs.StepTexts.{grows_on, grows_same}
 use Rattle.code_machine_laws.specs.Texts.{said, HasSaid, as_it_is, FirstParts, OverIsAll, TwiceIsTold}
 use Rattle.code_machine_laws.proofs.Growing.{listing_same, other_said, own_said, plain_same, said_stopped}
 

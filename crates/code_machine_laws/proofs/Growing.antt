@@ -20,8 +20,8 @@ use Rattle.code_machine.proofs.Changes.{LegOf, went, bore, took, twice, leg_ways
 use Rattle.code_machine.proofs.Typing.{goes_act, bears_act, wants_act}
 use Rattle.code_machine_laws.specs.Reached.{IsReached}
 use Rattle.code_machine_laws.proofs.Reaching.{joinees}
-use Rattle.step_forms.specs.Forms.{Grows, Says}
-use Rattle.step_forms.proofs.Texts.{grows_on, grows_same, reach_says}
+use Rattle.code_machine_laws.specs.Forms.{Grows, Says}
+use Rattle.code_machine_laws.proofs.StepTexts.{grows_on, grows_same, reach_says}
 use Rattle.code_machine_laws.specs.Texts.{HasSaid, as_it_is, at_join, LegsSay}
 
 pub plain_same : {L : Type 0} (o : Option (Path × Entry L)) (r q : Path) (l k : L) → o ≡ Some (r, Plain l)

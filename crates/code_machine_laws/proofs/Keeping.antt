@@ -3,8 +3,8 @@ use Rattle.std.proofs.Common.{◌≡◌, ◌∙◌, ℕ, zero, suc, ◌≤◌, B
 use Rattle.rev_code.specs.Words.{Word}
 use Rattle.rev_code.specs.State.{Location, State, Setting, written_at}
 use Rattle.rev_code.specs.Step.{Comes, goes, traps, forks, joins, ends, stuck}
-use Rattle.step_forms.specs.Forms.{ComesTo, to_next, to_write, to_payment, to_trap, to_fork, to_join, to_end, to_nothing}
-use Rattle.step_forms.proofs.Forms.{holds_of_reach}
+use Rattle.code_machine_laws.specs.Forms.{ComesTo, to_next, to_write, to_payment, to_trap, to_fork, to_join, to_end, to_nothing}
+use Rattle.code_machine_laws.proofs.Forms.{holds_of_reach}
 use Rattle.version_map.specs.Composing.{Entry, Composition, composed}
 pub use Rattle.code_machine.proofs.Legs.{accepted, no_longer}
 use Rattle.code_machine.specs.Local.{CodeRun, Phase, running, done, trapped, Trap, Local, End, end_of}

@@ -1,3 +1,5 @@
+pub mod Forms
+pub mod StepTexts
 pub mod Growing
 pub mod Ending
 pub mod Mains

@@ -1,3 +1,4 @@
+pub mod Forms
 pub mod Texts
 pub mod Outcomes
 pub mod Instance

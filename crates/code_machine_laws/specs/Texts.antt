@@ -19,7 +19,7 @@ use Rattle.code_machine.specs.Leg.{leg}
 use Rattle.code_machine.specs.Machines.{numbered, IsMain, start_in}
 use Rattle.code_machine_laws.specs.Outcomes.{HasOutcome}
 use Rattle.code_machine_laws.specs.Reached.{IsReached, most_fuel}
-use Rattle.step_forms.specs.Forms.{Grows}
+use Rattle.code_machine_laws.specs.Forms.{Grows}
 
 abbrev pub said : Outcome → List ℕ
 said (o.Done text values) = text

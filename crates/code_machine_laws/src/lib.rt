@@ -1,5 +1,5 @@
-//! Each verified code has one outcome; whose a trap is; what holds of each world of code that a legal
-//! schedule reaches; and what `main` has printed there.
+//! What a step of code comes to; each verified code has one outcome; whose a trap is; what holds of
+//! each world of code that a legal schedule reaches; and what `main` has printed there.
 //!
 //! Each law is an empty function.
 #![tactic(auto)]
@@ -7,6 +7,7 @@
 mod code_outcome;
 mod laws;
 mod run;
+mod steps;
 mod texts;
 mod theory;
 mod traps;
@@ -14,6 +15,7 @@ mod traps;
 pub use code_outcome::code_outcome_law;
 pub use laws::reached_laws;
 pub use run::VerifiedRun;
+pub use steps::{step_law, text_law};
 pub use texts::text_laws;
 pub use theory::starts;
 pub use traps::trap_laws;

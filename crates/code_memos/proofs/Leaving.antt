@@ -7,8 +7,8 @@ use Rattle.rev_code.specs.Words.{Word}
 use Rattle.rev_code.specs.State.{Location, Setting, State, written_at}
 use Rattle.rev_code.specs.Step.{Comes, goes, traps, forks, joins, ends, stuck, reach}
 use Rattle.rev_code.specs.Events.{start}
-use Rattle.step_forms.specs.Forms.{ComesTo, to_next, to_write, to_payment, to_trap, to_fork, to_join, to_end, to_nothing}
-use Rattle.step_forms.proofs.Forms.{holds_of_reach}
+use Rattle.code_machine_laws.specs.Forms.{ComesTo, to_next, to_write, to_payment, to_trap, to_fork, to_join, to_end, to_nothing}
+use Rattle.code_machine_laws.proofs.Forms.{holds_of_reach}
 use Rattle.code_reads.specs.Reads.{reach_reads}
 use Rattle.code_reads.specs.Moved.{over, moved, moved_comes, AllAgree}
 use Rattle.code_reads.specs.Laws.{with_inputs}

@@ -5,8 +5,8 @@ use Rattle.rev_num.specs.Path.{Path, same}
 use Rattle.rev_num.proofs.PostOrder.{same_refl, same-eq}
 use Rattle.rev_code.specs.State.{State, Setting}
 use Rattle.rev_code.specs.Step.{Comes, goes, traps, forks, joins, ends, stuck}
-use Rattle.step_forms.specs.Forms.{ComesTo, to_next, to_write, to_payment, to_trap, to_fork, to_join, to_end, to_nothing}
-use Rattle.step_forms.proofs.Forms.{holds_of_reach}
+use Rattle.code_machine_laws.specs.Forms.{ComesTo, to_next, to_write, to_payment, to_trap, to_fork, to_join, to_end, to_nothing}
+use Rattle.code_machine_laws.proofs.Forms.{holds_of_reach}
 use Rattle.revision_machine.specs.Machine.{Moves, Ended, Entry, Live, Revisions, start, Complete}
 use Rattle.revision_machine.specs.Laws.{local_of, IsIn, IsDistinct}
 use Rattle.code_machine.specs.Local.{CodeRun, IsVerified, under, Local, at_work}

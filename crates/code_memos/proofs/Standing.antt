@@ -18,8 +18,8 @@ use Rattle.code_soundness.proofs.Accepting.{no_fault_accepted}
 use Rattle.code_soundness.proofs.Evaluating.{block_well}
 use Rattle.code_soundness.proofs.Lists.{and_parts}
 use Rattle.code_soundness.proofs.Reaching.{main_bare}
-use Rattle.step_forms.specs.Forms.{ComesTo, to_next, to_write, to_payment, to_trap, to_fork, to_join, to_end, to_nothing}
-use Rattle.step_forms.proofs.Forms.{holds_of_reach}
+use Rattle.code_machine_laws.specs.Forms.{ComesTo, to_next, to_write, to_payment, to_trap, to_fork, to_join, to_end, to_nothing}
+use Rattle.code_machine_laws.proofs.Forms.{holds_of_reach}
 use Rattle.version_map.specs.Composing.{Composition, composed}
 use Rattle.revision_machine.specs.Machine.{Moves, Forks, Joins, Ended}
 use Rattle.revision_machine.specs.Laws.{local_of}

@@ -9,8 +9,8 @@ use Rattle.rev_code.specs.Words.{Word, rev}
 use Rattle.rev_code.specs.State.{State, Setting}
 use Rattle.rev_code.specs.Step as r
 use Rattle.rev_code.specs.Step.{Comes, goes, traps, forks, joins, ends, stuck, step, only, is_procedure}
-use Rattle.step_forms.specs.Forms.{ComesTo, to_next, to_write, to_payment, to_trap, to_fork, to_join, to_end, to_nothing}
-use Rattle.step_forms.proofs.Forms.{step_form}
+use Rattle.code_machine_laws.specs.Forms.{ComesTo, to_next, to_write, to_payment, to_trap, to_fork, to_join, to_end, to_nothing}
+use Rattle.code_machine_laws.proofs.Forms.{step_form}
 
 pub record IsJoining {H : Type 0} (c c' : State H) (h : H) : Type 0 where
   pub same : c' ≡ c

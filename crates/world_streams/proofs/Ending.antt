@@ -16,7 +16,7 @@ use Rattle.code_machine_laws.specs.Reached.{IsReached, most_fuel}
 use Rattle.code_machine_laws.proofs.Reaching.{main_stands}
 use Rattle.world_runs.specs.Finish.{HasFinished}
 use Rattle.code_runs.specs.Completed.{IsAfter}
-use Rattle.step_forms.specs.Forms.{Grows}
+use Rattle.code_machine_laws.specs.Forms.{Grows}
 use Rattle.code_machine_laws.specs.Texts.{MainSays, NeverJoinsTwice, said}
 use Rattle.code_machine_laws.proofs.Ending.{first_parts, over_is_all, twice_is_told}
 use Rattle.world_streams.specs.declared.fault.StreamFault.{StreamFault}

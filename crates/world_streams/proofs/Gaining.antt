@@ -29,8 +29,8 @@ use Rattle.code_machine_laws.proofs.Reaching.{legs_reached, main_stands}
 use Rattle.world_runs.specs.Made.{HasMade, made_of}
 use Rattle.world_runs.proofs.Making.{makes}
 use Rattle.world_streams.proofs.Putting.{grows_by, grows_length}
-use Rattle.step_forms.specs.Forms.{Grows, Says}
-use Rattle.step_forms.proofs.Texts.{grows_same}
+use Rattle.code_machine_laws.specs.Forms.{Grows, Says}
+use Rattle.code_machine_laws.proofs.StepTexts.{grows_same}
 use Rattle.code_machine_laws.specs.Texts.{HasSaid, as_it_is, at_join, MainSays}
 use Rattle.code_machine_laws.proofs.Growing.{legs_say, plain_same, said_running, said_stopped}
 

@@ -3,7 +3,7 @@ use Rattle.std.proofs.Common.{◌≡◌, ◌∙◌, inl, inr, ℕ, zero, suc, �
 use Rattle.std.proofs.lemmas.Grind.{common_steps}
 use Rattle.std.proofs.Math.Seq.{take-length}
 use Rattle.rev_io.specs.Stream.{Stream, Rose, Took, TookSome}
-use Rattle.step_forms.specs.Forms.{Grows}
+use Rattle.code_machine_laws.specs.Forms.{Grows}
 
 -- ---- lists
 

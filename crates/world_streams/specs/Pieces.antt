@@ -4,7 +4,7 @@
 --   RisesGoBehind    a count that rose behind a piece has risen
 use Rattle.std.specs.Prelude.{ℕ, ◌≡◌, ◌++◌, List}
 use Rattle.rev_io.specs.Stream.{Stream, Rose, Took, TookSome}
-use Rattle.step_forms.specs.Forms.{Grows}
+use Rattle.code_machine_laws.specs.Forms.{Grows}
 
 abbrev pub PartsAreLonger : Type 0
 PartsAreLonger =

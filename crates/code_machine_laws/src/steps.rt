@@ -1,9 +1,8 @@
 //! What a step of code comes to, whatever its instruction.
 //!
 //! The laws are empty functions.
-#![tactic(auto)]
 
-ghost use Rattle.step_forms.specs.Forms.{ReachesSay, StepsHaveForms};
+ghost use Rattle.code_machine_laws.specs.Forms.{ReachesSay, StepsHaveForms};
 
 /// Each step of each state comes to one of eight forms, whatever a handle is: to a next state by
 /// its frames, its stack and more text behind its own, by a write to one location, or by a payment;

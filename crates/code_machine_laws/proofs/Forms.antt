@@ -17,7 +17,7 @@ use Rattle.rev_code.specs.Variables.{Place, scalar, array, cell_at}
 use Rattle.rev_code.specs.Printing.{line_of, printed_kinds}
 use Rattle.rev_code.specs.Step as r
 use Rattle.rev_code.specs.Step.{Comes, goes, traps, forks, joins, ends, stuck, act, act_at, act_in, step, only, is_fun, is_procedure, onward, reach}
-use Rattle.step_forms.specs.Forms.{Grows, ComesTo, to_next, to_write, to_payment, to_trap, to_fork, to_join, to_end, to_nothing}
+use Rattle.code_machine_laws.specs.Forms.{Grows, ComesTo, to_next, to_write, to_payment, to_trap, to_fork, to_join, to_end, to_nothing}
 
 module _ {H : Type 0} (s : Setting H) (c : State H) where
   abbrev Up : Comes H → Type 0

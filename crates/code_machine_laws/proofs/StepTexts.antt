@@ -2,8 +2,8 @@
 use Rattle.std.proofs.Common.{◌≡◌, ◌∙◌, ℕ, List, [], ◌++◌, sym, ap, append-nil, append_assoc}
 use Rattle.rev_code.specs.State.{State, Setting}
 use Rattle.rev_code.specs.Step.{Comes, goes, traps, forks, joins, ends, stuck, reach}
-use Rattle.step_forms.specs.Forms.{Grows, Says, ComesTo, to_next, to_write, to_payment, to_trap, to_fork, to_join, to_end, to_nothing}
-use Rattle.step_forms.proofs.Forms.{holds_of_reach}
+use Rattle.code_machine_laws.specs.Forms.{Grows, Says, ComesTo, to_next, to_write, to_payment, to_trap, to_fork, to_join, to_end, to_nothing}
+use Rattle.code_machine_laws.proofs.Forms.{holds_of_reach}
 
 pub grows_none : (a : List ℕ) → Grows a a
 grows_none a = ([], sym (append-nil a))
