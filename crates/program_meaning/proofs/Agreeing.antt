@@ -19,8 +19,8 @@ use Rattle.rev_code.specs.State.{Location, Frame, Listed, forked, joined, State}
 use Rattle.rev_code.specs.Variables.{Place, scalar}
 use Rattle.rev_code.specs.Step.{goes, stuck, into_scalar, act_at, act_in, step}
 use Rattle.expression_meaning.specs.States.{IsShared}
-use Rattle.statement_run.specs.Steps.{Takes, Few, nowhere, takes}
-use Rattle.statement_run.specs.Laws.{tables}
+use Rattle.program_meaning.specs.Steps.{Takes, Few, nowhere, takes}
+use Rattle.program_meaning.specs.StatementLaws.{tables}
 use Rattle.code_machine.specs.Local as code
 use Rattle.code_machine.specs.Local.{running, done, trapped, under, handles}
 use Rattle.code_machine.specs.Renamed.{renamed_handle, renamed_word, renamed_written, renamed_location, renamed_frame, renamed_one, renamed_phase, renamed, IsNumbered}

@@ -29,11 +29,11 @@ use Rattle.version_map.specs.Composing.{Composition, composed}
 use Rattle.code_generation.specs.Generated.{code_of}
 use Rattle.expression_meaning.specs.Agrees.{word}
 use Rattle.expression_meaning.specs.States.{location_word, entry, IsShared, AtJoin}
-use Rattle.statement_run.specs.Steps.{Few}
-use Rattle.statement_run.specs.Laws.{tables, IsPast}
-use Rattle.statement_run.proofs.Calls.{give_phase}
-use Rattle.statement_run.proofs.Starts.{linked}
-use Rattle.statement_run.proofs.Joins.{goes_on_behind}
+use Rattle.program_meaning.specs.Steps.{Few}
+use Rattle.program_meaning.specs.StatementLaws.{tables, IsPast}
+use Rattle.program_meaning.proofs.Calls.{give_phase}
+use Rattle.program_meaning.proofs.Starts.{linked}
+use Rattle.program_meaning.proofs.BehindJoins.{goes_on_behind}
 use Rattle.program_meaning.specs.Composes as rule
 use Rattle.program_meaning.specs.Composes.{mains_of, with_new, as_join}
 use Rattle.program_meaning.proofs.RuleComposing.{composes}

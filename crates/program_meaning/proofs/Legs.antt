@@ -19,11 +19,11 @@ use Rattle.rev_code.specs.State.{State}
 use Rattle.rev_code.specs.Step as r
 use Rattle.rev_code.specs.Step.{Comes, goes, traps, forks, joins, ends, stuck, step, Steps}
 use Rattle.expression_meaning.specs.States.{StandsAt}
-use Rattle.statement_run.specs.Steps.{Walks, nowhere, DidMove, DidFork, Did}
-use Rattle.statement_run.specs.Laws.{tables}
-use Rattle.statement_run.proofs.Resume.{goes_on}
-use Rattle.statement_run.proofs.Starts.{linked}
-use Rattle.statement_run.proofs.Forms.{step_runs}
+use Rattle.program_meaning.specs.Steps.{Walks, nowhere, DidMove, DidFork, Did}
+use Rattle.program_meaning.specs.StatementLaws.{tables}
+use Rattle.program_meaning.proofs.Resume.{goes_on}
+use Rattle.program_meaning.proofs.Starts.{linked}
+use Rattle.program_meaning.proofs.Forms.{step_runs}
 use Rattle.code_machine.specs.Local.{IsVerified}
 use Rattle.code_machine.specs.Leg.{IsEvent, leg}
 use Rattle.code_machine.proofs.Legs.{leg_is}

@@ -1,3 +1,14 @@
+pub mod Linked
+pub mod Reading
+pub mod Resume
+pub mod Calls
+pub mod Prints
+pub mod Assigning
+pub mod Choosing
+pub mod Forms
+pub mod Programs
+pub mod Starts
+pub mod BehindJoins
 pub mod RuleComposing
 pub mod Merging
 pub mod Composing

@@ -17,8 +17,8 @@ use Rattle.revision_calculus.specs.Kinded.{IsAccepted}
 use Rattle.revision_calculus.proofs.Meets.{counts, handles, main_holds_none}
 use Rattle.revision_calculus.proofs.StepKinds.{main_kinded}
 use Rattle.rev_code.specs.Step as r
-use Rattle.statement_run.specs.Steps.{nowhere}
-use Rattle.statement_run.proofs.Starts.{main_stands}
+use Rattle.program_meaning.specs.Steps.{nowhere}
+use Rattle.program_meaning.proofs.Starts.{main_stands}
 use Rattle.code_machine.specs.Local as code
 use Rattle.code_machine.specs.Local.{IsVerified}
 use Rattle.code_machine.specs.Machines.{machine, numbered, IsMain, start_in}

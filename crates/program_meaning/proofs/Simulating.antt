@@ -19,7 +19,7 @@ use Rattle.rev_code.specs.declared.code.CodeBlock.{CodeBlock}
 use Rattle.rev_code.specs.State.{State}
 use Rattle.rev_code.specs.Step.{Comes, goes, traps, forks, joins, ends, stuck}
 use Rattle.rev_code.specs.Events as events
-use Rattle.statement_run.specs.Laws.{tables}
+use Rattle.program_meaning.specs.StatementLaws.{tables}
 use Rattle.code_machine.specs.Local as code
 use Rattle.code_machine.specs.Local.{IsVerified, running, done, trapped, at_work, has_ended, end_of}
 use Rattle.code_machine.specs.Leg.{leg}

@@ -15,7 +15,7 @@ use Rattle.rev_code.specs.State.{State}
 use Rattle.rev_code.specs.Variables.{Place, scalar}
 use Rattle.rev_code.specs.Step.{goes, stuck, into_local, into_scalar, pop, act, act_at, act_in, step}
 use Rattle.expression_meaning.specs.Places.{Tables}
-use Rattle.statement_run.specs.Steps.{Takes, Few, nowhere, takes}
+use Rattle.program_meaning.specs.Steps.{Takes, Few, nowhere, takes}
 
 -- all but place, stack and locals
 abbrev pub Keeps : State Path → State Path → Type 0

@@ -8,7 +8,7 @@ use Rattle.revision_calculus.specs.Join.{join}
 use Rattle.revision_calculus.specs.Kinded.{IsAccepted, IsKinded}
 use Rattle.rev_code.specs.State.{State}
 use Rattle.expression_meaning.specs.States.{AtJoin}
-use Rattle.statement_run.specs.Laws.{tables}
+use Rattle.program_meaning.specs.StatementLaws.{tables}
 use Rattle.code_machine.specs.Local as code
 use Rattle.code_machine.specs.Local.{running, end_of}
 use Rattle.code_machine.specs.Joining.{join_in}

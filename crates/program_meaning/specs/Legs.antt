@@ -23,7 +23,7 @@ use Rattle.rev_code.specs.Step.{Comes, goes, traps, forks, joins, ends, stuck}
 use Rattle.rev_code.specs.Events as events
 use Rattle.code_generation.specs.Generated.{code_of}
 use Rattle.expression_meaning.specs.States.{IsShared, AtJoin}
-use Rattle.statement_run.specs.Laws.{tables}
+use Rattle.program_meaning.specs.StatementLaws.{tables}
 use Rattle.code_machine.specs.Leg.{leg}
 use Rattle.program_meaning.specs.Related.{run_of, IsTrap, IsAtWork}
 

@@ -1,3 +1,5 @@
+pub mod Steps
+pub mod StatementLaws
 pub mod Composes
 pub mod Related
 pub mod JoinLaws

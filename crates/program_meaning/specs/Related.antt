@@ -20,8 +20,8 @@ use Rattle.rev_code.specs.State.{State}
 use Rattle.rev_code.specs.Step.{Steps}
 use Rattle.code_generation.specs.Generated.{code_of}
 use Rattle.expression_meaning.specs.States.{IsShared, StandsAt}
-use Rattle.statement_run.specs.Steps.{Few}
-use Rattle.statement_run.specs.Laws.{tables}
+use Rattle.program_meaning.specs.Steps.{Few}
+use Rattle.program_meaning.specs.StatementLaws.{tables}
 use Rattle.code_machine.specs.Local as code
 use Rattle.code_machine.specs.Local.{CodeRun, running, done, trapped}
 

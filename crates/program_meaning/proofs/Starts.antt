@@ -47,9 +47,9 @@ use Rattle.expression_meaning.proofs.Blocks.{kinds_length}
 use Rattle.expression_meaning.proofs.Funs.{program_funs}
 use Rattle.expression_meaning.specs.Places.{Tables}
 use Rattle.expression_meaning.specs.States.{location_word, IsTop, StandsAt}
-use Rattle.statement_run.specs.Laws.{tables}
-use Rattle.statement_run.proofs.Linked.{IsProc, IsLinked}
-use Rattle.statement_run.proofs.Programs.{body_begins, proc_body, main_body, main_of}
+use Rattle.program_meaning.specs.StatementLaws.{tables}
+use Rattle.program_meaning.proofs.Linked.{IsProc, IsLinked}
+use Rattle.program_meaning.proofs.Programs.{body_begins, proc_body, main_body, main_of}
 
 nothing : Unit {0}
 nothing = tt

@@ -1,10 +1,9 @@
 //! The code of a program's statements does what they do, step by step.
 //!
 //! Each law is an empty function.
-#![tactic(auto)]
 
-ghost use Rattle.statement_run.specs.Laws.{JoinersGoOn, LeftSidesTake, MainStands};
-ghost use Rattle.statement_run.specs.Laws.{StateReads, StatementsRun};
+ghost use Rattle.program_meaning.specs.StatementLaws.{JoinersGoOn, LeftSidesTake, MainStands};
+ghost use Rattle.program_meaning.specs.StatementLaws.{StateReads, StatementsRun};
 
 /// Where the code of an accepted program stands as a running revision does, a step of the calculus
 /// is matched by one instruction or more, to a related state; or the code comes to the same trap
@@ -26,7 +25,7 @@ pub fn left_side_law()
 
 /// Behind a join a joiner goes on in a related state, once its left side has what a `tryjoin`
 /// gives, where both machines have written the same.
-pub fn join_law()
+pub fn joiner_law()
     ensures { JoinersGoOn }
 {}
 

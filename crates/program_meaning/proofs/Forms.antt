@@ -33,9 +33,9 @@ use Rattle.expression_meaning.specs.Agrees.{word, at_with}
 use Rattle.expression_meaning.proofs.Words.{as_bool}
 use Rattle.expression_meaning.specs.Places.{Tables, AreNames, StatementStands, BlockStands, EndAt, Follows}
 use Rattle.expression_meaning.specs.States.{IsShared, DropAt, Behind, Stands}
-use Rattle.statement_run.proofs.Linked.{IsLinked}
-use Rattle.statement_run.proofs.Reading.{Ready, evaluates}
-use Rattle.statement_run.proofs.Resume.{one, leads, stands}
+use Rattle.program_meaning.proofs.Linked.{IsLinked}
+use Rattle.program_meaning.proofs.Reading.{Ready, evaluates}
+use Rattle.program_meaning.proofs.Resume.{one, leads, stands}
 use Rattle.rev_types.specs.Statements.{statements_return, arms_return}
 use Rattle.rev_types.proofs.Returning.{none_end}
 use Rattle.rev_types.specs.Limits.{arms_lets}
@@ -49,12 +49,12 @@ use Rattle.code_generation.proofs.Lengths.{expression_length, items_length, arms
 use Rattle.expression_meaning.proofs.Locals.{locals_within}
 use Rattle.expression_meaning.proofs.Parts.{names_later}
 use Rattle.expression_meaning.proofs.BlockPlaces.{ArmsStand}
-use Rattle.statement_run.specs.Steps.{Carries, Walks, Did}
-use Rattle.statement_run.proofs.Calls.{Comes_to, moved, did_on, walked, unwalked, then_walks, trap, after_value, joined, returned}
-use Rattle.statement_run.proofs.Calls as runs
-use Rattle.statement_run.proofs.Prints.{prints}
-use Rattle.statement_run.proofs.Assigning.{arguments_then, behind_arguments, let_runs, assign_runs, cell_runs}
-use Rattle.statement_run.proofs.Choosing.{both_parts, stands_at, arms_run, while_runs}
+use Rattle.program_meaning.specs.Steps.{Carries, Walks, Did}
+use Rattle.program_meaning.proofs.Calls.{Comes_to, moved, did_on, walked, unwalked, then_walks, trap, after_value, joined, returned}
+use Rattle.program_meaning.proofs.Calls as runs
+use Rattle.program_meaning.proofs.Prints.{prints}
+use Rattle.program_meaning.proofs.Assigning.{arguments_then, behind_arguments, let_runs, assign_runs, cell_runs}
+use Rattle.program_meaning.proofs.Choosing.{both_parts, stands_at, arms_run, while_runs}
 
 module _ (s : Setting) (g : Tables) (lk : IsLinked s g) (p : Path) where
   module _ (b : CodeBlock) (scope : Scope) (l : Local) (f : Frame) (fs : List Frame) (c : State Path)

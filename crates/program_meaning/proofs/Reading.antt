@@ -40,7 +40,7 @@ use Rattle.expression_meaning.specs.Places.{Tables, AreNames}
 use Rattle.expression_meaning.specs.States.{IsShared, IsSame, AreLocals, Below}
 use Rattle.expression_meaning.proofs.Locals.{kind-there, seen_there}
 use Rattle.expression_meaning.proofs.Parts.{names_none}
-use Rattle.statement_run.proofs.Linked.{IsLinked}
+use Rattle.program_meaning.proofs.Linked.{IsLinked}
 
 -- ---- shared variables
 

@@ -1,11 +1,11 @@
 -- Answers of reading_law: a related state is ready to be read, with its scope's locals, and reading is a lemma.
 use Rattle.std.specs.Prelude.{None}
 use Rattle.expression_meaning.proofs.Locals.{locals_within}
-use Rattle.statement_run.proofs.Reading.{Ready, reads}
-use Rattle.statement_run.proofs.Forms.{ready}
-use Rattle.statement_run.proofs.Starts.{linked}
-use Rattle.statement_run.specs.Laws.{tables}
-use Rattle.statement_run.proofs.reading_law.Goals as goal
+use Rattle.program_meaning.proofs.Reading.{Ready, reads}
+use Rattle.program_meaning.proofs.Forms.{ready}
+use Rattle.program_meaning.proofs.Starts.{linked}
+use Rattle.program_meaning.specs.StatementLaws.{tables}
+use Rattle.program_meaning.proofs.statements.reading_law.Goals as goal
 
 pub returns : goal.returns
 returns c = λ s well p l f fs c stands phase kinded scope ls next inside are.

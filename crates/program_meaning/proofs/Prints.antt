@@ -47,10 +47,10 @@ use Rattle.expression_meaning.specs.Agrees.{word, ArgsAre, at_with, pushed, Onwa
 use Rattle.expression_meaning.specs.Agrees as agrees
 use Rattle.expression_meaning.proofs.Words.{found, left_below}
 use Rattle.expression_meaning.specs.Places.{Tables, AreNames}
-use Rattle.statement_run.proofs.Linked.{IsLinked}
-use Rattle.statement_run.proofs.Reading.{Ready, evaluates}
-use Rattle.statement_run.proofs.Resume.{onward, one}
-use Rattle.statement_run.proofs.Calls.{Comes_to, did_on, trap}
+use Rattle.program_meaning.proofs.Linked.{IsLinked}
+use Rattle.program_meaning.proofs.Reading.{Ready, evaluates}
+use Rattle.program_meaning.proofs.Resume.{onward, one}
+use Rattle.program_meaning.proofs.Calls.{Comes_to, did_on, trap}
 
 -- ---- values of these kinds
 

@@ -12,10 +12,10 @@ use Rattle.rev_code.specs.Events as events
 use Rattle.expression_meaning.specs.Agrees.{at_with}
 use Rattle.expression_meaning.specs.Places.{Tables}
 use Rattle.expression_meaning.specs.States.{IsShared, Waits, Below, Behind, joined_kind, AtJoin}
-use Rattle.statement_run.specs.Steps.{Carries}
-use Rattle.statement_run.specs.Laws.{IsPast}
-use Rattle.statement_run.proofs.Linked.{IsLinked}
-use Rattle.statement_run.proofs.Resume.{Resumed, resume}
+use Rattle.program_meaning.specs.Steps.{Carries}
+use Rattle.program_meaning.specs.StatementLaws.{IsPast}
+use Rattle.program_meaning.proofs.Linked.{IsLinked}
+use Rattle.program_meaning.proofs.Resume.{Resumed, resume}
 
 module _ (s : Setting) (g : Tables) (lk : IsLinked s g) where
   carries : (left : Option Name) (done : Bool)

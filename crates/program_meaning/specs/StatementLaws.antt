@@ -31,7 +31,7 @@ use Rattle.code_generation.specs.Generated.{code_of}
 use Rattle.expression_meaning.specs.Agrees.{at_with, Reads}
 use Rattle.expression_meaning.specs.Places.{Tables, IsWithin, AreNames}
 use Rattle.expression_meaning.specs.States.{IsShared, Stands, StandsAt, Behind, AtJoin}
-use Rattle.statement_run.specs.Steps.{Carries, Walks, Few, Did}
+use Rattle.program_meaning.specs.Steps.{Carries, Walks, Few, Did}
 
 abbrev pub tables : Setting → Tables
 tables s = record {

@@ -29,9 +29,9 @@ use Rattle.expression_meaning.proofs.Words.{word_kind}
 use Rattle.expression_meaning.specs.Places.{Tables, Leads, Follows}
 use Rattle.expression_meaning.specs.States.{location_word, IsShared, AreLocals, LeftBy, Below, StandsAt, Behind}
 use Rattle.expression_meaning.proofs.Locals.{locals_set, locals_shared, written_there}
-use Rattle.statement_run.specs.Steps.{Carries, Takes, Few, nowhere, takes}
-use Rattle.statement_run.proofs.Linked.{IsLinked}
-use Rattle.statement_run.proofs.Reading.{scalar_there}
+use Rattle.program_meaning.specs.Steps.{Carries, Takes, Few, nowhere, takes}
+use Rattle.program_meaning.proofs.Linked.{IsLinked}
+use Rattle.program_meaning.proofs.Reading.{scalar_there}
 
 nothing : Unit {0}
 nothing = tt

@@ -30,9 +30,9 @@ use Rattle.code_generation.specs.Stands.{HasAt}
 use Rattle.code_generation.proofs.Standing.{around_stands}
 use Rattle.expression_meaning.specs.Agrees.{word, at_with}
 use Rattle.expression_meaning.specs.Places.{Tables, StatementStands, BlockStands, LeadsTo, Follows}
-use Rattle.statement_run.proofs.Linked.{IsLinked}
-use Rattle.statement_run.proofs.Reading.{Ready, evaluates}
-use Rattle.statement_run.proofs.Resume.{one, stands}
+use Rattle.program_meaning.proofs.Linked.{IsLinked}
+use Rattle.program_meaning.proofs.Reading.{Ready, evaluates}
+use Rattle.program_meaning.proofs.Resume.{one, stands}
 use Rattle.rev_types.specs.Statements.{statement_returns, statements_return, arms_return}
 use Rattle.revision_calculus.specs.Evaluation.{eval, on_top}
 use Rattle.revision_calculus.specs.Step.{with_answer, append, enter, select, does}
@@ -43,7 +43,7 @@ use Rattle.code_generation.specs.Prints.{statements_texts}
 use Rattle.code_generation.proofs.Lengths.{around, expression_length, statements_length}
 use Rattle.expression_meaning.proofs.Parts.{within_self}
 use Rattle.expression_meaning.proofs.BlockPlaces.{follows_before, block_follows, ArmsStand, first_arm}
-use Rattle.statement_run.proofs.Calls.{Comes_to, moved, did_on, after_value, after_then}
+use Rattle.program_meaning.proofs.Calls.{Comes_to, moved, did_on, after_value, after_then}
 
 -- where the other arms return too, so did what stands before them
 arm_before : (d : Bool) (rest : Arms) → arms_return d rest ≡ true → d ≡ true

@@ -45,9 +45,9 @@ use Rattle.expression_meaning.specs.Agrees.{word, ArgsAre, at_with, pushed}
 use Rattle.expression_meaning.proofs.Words.{as_int, word_kind}
 use Rattle.expression_meaning.specs.Places.{Tables, AreNames, StatementStands, Follows}
 use Rattle.expression_meaning.specs.States.{location_word, IsSame, AreLocals, LeftBy, Behind}
-use Rattle.statement_run.proofs.Linked.{IsLinked}
-use Rattle.statement_run.proofs.Reading.{variable, no_variable, Ready, evaluates, evaluates_all, array_there}
-use Rattle.statement_run.proofs.Resume.{one, stands}
+use Rattle.program_meaning.proofs.Linked.{IsLinked}
+use Rattle.program_meaning.proofs.Reading.{variable, no_variable, Ready, evaluates, evaluates_all, array_there}
+use Rattle.program_meaning.proofs.Resume.{one, stands}
 use Rattle.revision_calculus.specs.Evaluation.{eval, evals, set, cell_location, location_of, location_in}
 use Rattle.revision_calculus.specs.Step.{with_answer, calls, forks, joins, by_right, does}
 use Rattle.revision_calculus.proofs.ValueKinds.{expressions_small_formed}
@@ -58,8 +58,8 @@ use Rattle.code_generation.specs.Generated.{var_of}
 use Rattle.code_generation.proofs.Lengths.{around, expression_length, expressions_length, right_side_length}
 use Rattle.expression_meaning.proofs.Locals.{locals_let, locals_wait, written_there}
 use Rattle.expression_meaning.proofs.Parts.{names_none, names_after}
-use Rattle.statement_run.proofs.Calls.{Comes_to, moved, did_on, trap, after_value, after_then, after_all, gave, joined}
-use Rattle.statement_run.proofs.Calls as runs
+use Rattle.program_meaning.proofs.Calls.{Comes_to, moved, did_on, trap, after_value, after_then, after_all, gave, joined}
+use Rattle.program_meaning.proofs.Calls as runs
 
 -- a new name has its number
 found_new : (scope : Scope) (w : Name) (m : ℕ) → find w scope ≡ None → find w (added scope w m) ≡ Some m

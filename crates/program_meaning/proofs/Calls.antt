@@ -38,10 +38,10 @@ use Rattle.expression_meaning.proofs.Words.{word_kind, found, left_below}
 use Rattle.expression_meaning.specs.Places.{Tables}
 use Rattle.expression_meaning.specs.States.{entry, IsShared, Below, StandsAt, Behind, joined_kind, join_of}
 use Rattle.expression_meaning.proofs.Locals.{view_fresh}
-use Rattle.statement_run.specs.Steps.{Carries, Walks, DidMove, Did}
-use Rattle.statement_run.proofs.Linked.{IsProc, IsLinked}
-use Rattle.statement_run.proofs.Reading.{Ready}
-use Rattle.statement_run.proofs.Resume.{goes_on, onward, one, Resumed, resume}
+use Rattle.program_meaning.specs.Steps.{Carries, Walks, DidMove, Did}
+use Rattle.program_meaning.proofs.Linked.{IsProc, IsLinked}
+use Rattle.program_meaning.proofs.Reading.{Ready}
+use Rattle.program_meaning.proofs.Resume.{goes_on, onward, one, Resumed, resume}
 
 -- ---- depth
 
