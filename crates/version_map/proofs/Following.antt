@@ -1,33 +1,42 @@
--- Written locations that follow each other, one by one.
---   one_more   one more of them follows
---   breaks     they do not follow each other where one of them stands elsewhere
-use Rattle.std.proofs.Common.{◌≡◌, ◌∙◌, ap, sym, subst, ℕ, ◌+◌, ◌<◌, ◌≤◌, ◌⊎◌, inl, inr, List, length, drop, get_or, Some, arith}
+-- Written locations that follow each other, in ascending order.
+--   climbs    a location that stands n places later is n higher, or more
+--   between   eight of which the last is the first and 7 more follow each other
+use Rattle.std.proofs.Common.{◌≡◌, ◌∙◌, ap, sym, ℕ, zero, suc, ◌+◌, ◌-◌, ◌<◌, ◌≤◌, List, length, drop, get_or, Some, arith}
 use Rattle.std.specs.Prelude.{slice_get}
-use Rattle.std.proofs.Math.Nat.{eq-or-lt_of_le}
-use Rattle.std.proofs.lemmas.List.{length-drop, get_or-drop}
+use Rattle.std.proofs.lemmas.List.{get_or-drop}
 use Rattle.std.proofs.lemmas.Option.{slice_get-get_or, get_or_from_slice_get}
 use Rattle.version_map.specs.declared.end.Written.{Written}
+use Rattle.version_map.specs.Ascending.{IsAscending}
 use Rattle.version_map.specs.Following.{Follow}
 
-module _ (ws : List Written) (at first k : ℕ) (z : Written) where
-  here : (w : Written) → slice_get (drop at ws) k ≡ Some w → w.location ≡ (get_or ws (at + k) z).location
-  here w is = ap (λ (u : Written). u.location)
-      (sym (get_or_from_slice_get (drop at ws) k w z is) ∙ get_or-drop at ws k z)
+abbrev pub no_entry : Written
+no_entry = record { location = 0; value = 0; root = 0 }
 
-  at_end : (i : ℕ) (w : Written) → (get_or ws (at + k) z).location ≡ first + k → Follow (drop at ws) first k
-      → (i ≡ k) ⊎ (i < k) → slice_get (drop at ws) i ≡ Some w → w.location ≡ first + i
-  at_end i w e follow (inl same) is =
-      here w (subst (λ n. slice_get (drop at ws) n ≡ Some w) same is) ∙ (e ∙ ap (λ n. first + n) (sym same))
-  at_end i w e follow (inr less) is = follow i w less is
+abbrev pub location_at : List Written → ℕ → ℕ
+location_at ws i = (get_or ws i no_entry).location
 
-  pub one_more : (get_or ws (at + k) z).location ≡ first + k → Follow (drop at ws) first k
-      → Follow (drop at ws) first (k + 1)
-  one_more e follow i w h is = at_end i w e follow (eq-or-lt_of_le (omega (arith, h))) is
+climbs : (ws : List Written) → IsAscending ws → (i n : ℕ) → i + n < length ws
+    → location_at ws i + n ≤ location_at ws (i + n)
+climbs ws ascend i zero lt = let z : i + 0 ≡ i = omega arith in
+    let e = ap (location_at ws) z in omega (arith, e)
+climbs ws ascend i (suc n) lt =
+    let before = climbs ws ascend i n (omega (arith, lt)) in
+    let step =
+    ascend (i + n) (i + suc n) (get_or ws (i + n) no_entry) (get_or ws (i + suc n) no_entry) (omega arith)
+    (slice_get-get_or ws (i + n) no_entry (omega (arith, lt))) (slice_get-get_or ws (i + suc n) no_entry lt) in
+    omega (arith, before, step)
 
-  pub breaks : at + 8 ≤ length ws → k < 8 → ((get_or ws (at + k) z).location ≡ first + k → ⊥)
-      → Follow (drop at ws) first 8 → ⊥
-  breaks within less elsewhere follow =
-      let w = get_or (drop at ws) k z in
-      let is : slice_get (drop at ws) k ≡ Some w =
-      slice_get-get_or (drop at ws) k z (omega (arith, length-drop at ws)) in
-      elsewhere (sym (here w is) ∙ follow k w less is)
+here : (ws : List Written) (at k : ℕ) (w : Written) → slice_get (drop at ws) k ≡ Some w
+    → w.location ≡ location_at ws (at + k)
+here ws at k w is =
+    ap (λ (u : Written). u.location)
+    (sym (get_or_from_slice_get (drop at ws) k w no_entry is) ∙ get_or-drop at ws k no_entry)
+
+pub between : (ws : List Written) (at first : ℕ) → IsAscending ws → at + 8 ≤ length ws
+    → location_at ws at ≡ first → location_at ws (at + 7) ≡ first + 7 → Follow (drop at ws) first 8
+between ws at first ascend room low high k w lt is =
+    let up = climbs ws ascend at k (omega arith) in
+    let down = climbs ws ascend (at + k) (7 - k) (omega arith) in
+    let last : at + k + (7 - k) ≡ at + 7 = omega arith in
+    let there = ap (location_at ws) last in
+    let same = here ws at k w is in omega (arith, up, down, there, same, low, high, lt)

@@ -1,6 +1,7 @@
 //! Eight words, and eight written locations that follow each other.
 
 ghost use Rattle.std.specs.Prelude.{◌≡◌, ◌≤◌, ◌+◌, ◌++◌, ◌^◌, true, false, drop, length, map, take};
+ghost use Rattle.version_map.specs.Ascending.{IsAscending};
 ghost use Rattle.version_map.specs.Following.{Follow};
 
 use crate::end::Written;
@@ -41,17 +42,17 @@ pub fn eight_roots(written: &[Written], at: usize) -> [u64; 8]
     eight
 }
 
-/// Whether eight written locations follow each other, from this place and this location on.
+/// Whether eight written locations follow each other, from this place and this location on. They
+/// ascend, so the first and the last of them tell.
 pub fn follow(written: &[Written], at: usize, first: u32) -> bool
-    requires { at + 8 ≤ length written.now }
+    requires within { at + 8 ≤ length written.now }
+    requires ascending { IsAscending written.now }
     ensures run { result ≡ true → Follow (drop at written.now) first 8 }
     ensures short { result ≡ true → first + 8 ≤ 2 ^ 32 }
     ensures apart { result ≡ false → Follow (drop at written.now) first 8 → ⊥ }
 {
-    for k in 0..8usize {
-        if written[at + k].location as u64 != first as u64 + k as u64 {
-            return false;
-        }
+    if written[at].location != first || written[at + 7].location as u64 != first as u64 + 7 {
+        return false;
     }
     true
 }

@@ -2,6 +2,7 @@
 
 ghost use Rattle.std.specs.Prelude.{◌≡◌, ◌<◌, ◌≤◌, ◌+◌, ◌^◌, ℕ, Bool, true, false, All, IfErr, IfOk, IfSome, length};
 ghost use Rattle.rev_num.specs.declared.value.NumFault.{NumFault};
+ghost use Rattle.version_map.specs.Ascending.{IsAscending};
 ghost use Rattle.version_map.specs.Composing.{Merges, TrapsAtLeast, composed, entries};
 ghost use Rattle.version_map.specs.Composing.{IsComposed};
 ghost use Rattle.version_map.specs.Eights.{merged_eight};
@@ -117,6 +118,7 @@ fn compose_next<M: MergeBy>(
 ) -> Result<usize, MergeTrap>
     requires mains { length mains.now ≡ length written.now }
     requires values { length values.old ≡ length written.now }
+    requires ascending { IsAscending written.now }
     requires within { All (λ w. w.location < M.size merges.old) written.now }
     requires here { at < length written.now }
     ensures length { length values.new ≡ length values.old }
@@ -185,6 +187,7 @@ fn compose_eight<M: MergeBy>(
 ) -> bool
     requires mains { length mains.now ≡ length written.now }
     requires values { length values.old ≡ length written.now }
+    requires ascending { IsAscending written.now }
     requires within { All (λ w. w.location < M.size merges.old) written.now }
     ensures length { length values.new ≡ length values.old }
     ensures kept { result ≡ false → values.new ≡ values.old }
@@ -211,6 +214,7 @@ fn merge_row<M: MergeBy>(
     merges: &mut M,
 ) -> Option<[u64; 8]>
     requires mains { length mains.now ≡ length written.now }
+    requires ascending { IsAscending written.now }
     requires within { All (λ w. w.location < M.size merges.old) written.now }
     ensures row { IfSome result (λ eight. (at + 8 ≤ length written.now)
         × IsPart (M.merges merges.old) mains.now written.now at 8 eight) }
