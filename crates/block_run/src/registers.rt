@@ -7,7 +7,7 @@ use rev_num::Cause;
 
 /// Where a revision stands: its block, the place there, the first local of its frame and the first
 /// word behind its stack in the area of words, its fuel, and the line charged last.
-#[derive(Clone, Copy, PartialEq, Eq, Debug)]
+#[derive(Clone, Copy)]
 pub struct Registers {
     pub block: u16,
     pub at: u32,
@@ -18,7 +18,7 @@ pub struct Registers {
 }
 
 /// Why an instruction of a block traps.
-#[derive(Clone, Copy, PartialEq, Eq, Debug)]
+#[derive(Clone, Copy)]
 pub enum Fault {
     Overflow,
     ZeroDivisor,
@@ -29,7 +29,7 @@ pub enum Fault {
 
 /// What one instruction comes to. It is small, so that the loop that looks at it for each
 /// instruction need not keep it in memory.
-#[derive(Clone, Copy, PartialEq, Eq, Debug)]
+#[derive(Clone, Copy)]
 pub enum Act {
     Goes,
     Traps(Fault),
@@ -39,7 +39,7 @@ pub enum Act {
 }
 
 /// Why a run of instructions stops. No run stops with Goes.
-#[derive(Clone, Copy, PartialEq, Eq, Debug)]
+#[derive(Clone, Copy)]
 pub enum Stop {
     Goes,
     Traps(Cause),
@@ -78,7 +78,7 @@ impl Fault {
 }
 
 /// Where the locations of a shared variable lie: as many as `cells`, from `first` on.
-#[derive(Clone, Copy, PartialEq, Eq, Debug)]
+#[derive(Clone, Copy)]
 pub struct Variable {
     pub first: u32,
     pub cells: u32,

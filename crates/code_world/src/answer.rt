@@ -1,7 +1,7 @@
 //! How a leg comes out.
 
 /// How a leg comes out.
-#[derive(Clone, Copy, PartialEq, Eq, Debug)]
+#[derive(Clone, Copy)]
 pub enum LegAnswer {
     /// A fork, of a child with this number.
     Forked { child: u32 },

@@ -9,7 +9,7 @@ use crate::answer::LegAnswer;
 use leg_run::Meeting;
 
 /// How a leg comes out, and the entry that it adds to its revision's list of forks and joins.
-#[derive(Clone, Copy, PartialEq, Eq, Debug)]
+#[derive(Clone, Copy)]
 pub struct NotedLeg {
     pub answer: LegAnswer,
     /// None where the revision ends without a join, where there is no leg, and in Twice.

@@ -13,7 +13,7 @@ use version_map::{EndValue, Whole};
 
 /// Where a revision comes from: its forker, the place among its forker's forks, counted from 0, and
 /// how many forks it has made itself. `main` has 0 for its forker and its place.
-#[derive(Clone, Copy, PartialEq, Eq, Debug)]
+#[derive(Clone, Copy)]
 pub struct Birth {
     pub forker: u32,
     pub place: u32,
@@ -29,7 +29,7 @@ pub struct Table {
 }
 
 /// How far a revision is.
-#[derive(Clone, Copy, PartialEq, Eq, Debug)]
+#[derive(Clone, Copy)]
 pub enum Stage {
     Running,
     Standing { on: u32 },

@@ -22,7 +22,7 @@ use rev_num::{Cause, NumFault};
 use version_map::Snapshot;
 
 /// Where the evaluation of a block goes on.
-#[derive(Clone, Copy, PartialEq, Eq, Debug)]
+#[derive(Clone, Copy)]
 pub enum Then {
     Applies(u16),
     Gives,

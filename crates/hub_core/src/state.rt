@@ -1,7 +1,7 @@
 //! How far a hub is.
 
 /// Whether a halt was entered, and which was entered first.
-#[derive(Clone, Copy, PartialEq, Eq, Debug)]
+#[derive(Clone, Copy)]
 pub enum HubState {
     /// None.
     All,

@@ -3,21 +3,21 @@
 use rev_num::{Bytes, Cause, Items, Path, Value};
 
 /// A location, and its value. A handle is a path.
-#[derive(PartialEq, Eq, Debug, Drop)]
+#[derive(Drop)]
 pub struct Kept {
     pub location: u32,
     pub value: Value,
 }
 
 /// A position of the input, counted from 0, and the number there.
-#[derive(Clone, Copy, PartialEq, Eq, Debug)]
+#[derive(Clone, Copy)]
 pub struct Given {
     pub position: u32,
     pub number: i64,
 }
 
 /// How a leaf revision ended: by itself, since it joined nothing.
-#[derive(Clone, Copy, PartialEq, Eq, Debug)]
+#[derive(Clone, Copy)]
 pub enum LeafEnd {
     Done,
     Trapped { cause: Cause, line: u32 },
@@ -25,7 +25,7 @@ pub enum LeafEnd {
 
 /// What is kept of a leaf revision: with what it began but for its snapshot, what it read, and what
 /// it left but for the roots of its writes.
-#[derive(Debug, Drop)]
+#[derive(Drop)]
 pub struct LeafEntry {
     pub path: Path,
     pub block: u16,

@@ -8,7 +8,7 @@ use version_map::Snapshot;
 
 /// A frame that waits for a call: its block, the place behind its Call, and the first of its locals
 /// in the area of words.
-#[derive(Clone, Copy, PartialEq, Eq, Debug)]
+#[derive(Clone, Copy)]
 pub struct Waiting {
     pub block: u16,
     pub at: u32,
@@ -16,7 +16,7 @@ pub struct Waiting {
 }
 
 /// An entry of the list of forks and joins: the revision that was forked or joined, and the line.
-#[derive(Clone, Copy, PartialEq, Eq, Debug)]
+#[derive(Clone, Copy)]
 pub enum Meeting {
     Forked { revision: u64, line: u32 },
     Joined { revision: u64, line: u32 },
@@ -60,7 +60,7 @@ impl<P: Snapshot> Revision<P> {
 
 /// How a leg ends: at a fork of a child that runs this block, at a join of this revision, which may
 /// be a TryJoin, at the end, or with a trap of its own.
-#[derive(Clone, Copy, PartialEq, Eq, Debug)]
+#[derive(Clone, Copy)]
 pub enum LegEnd {
     Fork(u16),
     Join { is_try: bool, on: u64 },

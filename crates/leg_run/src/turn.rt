@@ -3,7 +3,7 @@
 use crate::revision::LegEnd;
 
 /// What an instruction that leaves its block comes to.
-#[derive(Clone, Copy, PartialEq, Eq, Debug)]
+#[derive(Clone, Copy)]
 pub enum Turn {
     Goes,
     Ends(LegEnd),

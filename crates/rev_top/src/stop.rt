@@ -9,7 +9,7 @@ use rev_words::WordsFault;
 use std::alloc::AllocError;
 
 /// Why there is no report.
-#[derive(PartialEq, Eq, Debug, Drop)]
+#[derive(Drop)]
 pub enum Stop {
     Refused(Refusal),
     OutOfMemory,

@@ -1,7 +1,7 @@
 //! The steps of holders.
 
 /// A step of a holder on a segment.
-#[derive(Clone, Copy, PartialEq, Eq, Debug)]
+#[derive(Clone, Copy)]
 pub enum SegStep {
     /// Begins to build a free segment. The holder builds none.
     Claim {
@@ -46,7 +46,7 @@ pub enum SegStep {
 }
 
 /// What a step came to.
-#[derive(Clone, Copy, PartialEq, Eq, Debug)]
+#[derive(Clone, Copy)]
 pub enum Applied {
     /// It was made.
     Done,

@@ -9,7 +9,7 @@ use std::alloc::{AllocError, Global};
 
 /// A location that a revision wrote: the word that it has there, and the word that was there when
 /// the revision was forked.
-#[derive(Clone, Copy, PartialEq, Eq, Debug)]
+#[derive(Clone, Copy)]
 pub struct Written {
     pub location: u32,
     pub value: u64,
@@ -18,7 +18,7 @@ pub struct Written {
 
 /// How a revision of running code trapped: the cause, the line of the statement, and the number of
 /// the revision that trapped first. No number means the revision itself.
-#[derive(Clone, Copy, PartialEq, Eq, Debug)]
+#[derive(Clone, Copy)]
 pub struct CodeTrap {
     pub cause: Cause,
     pub line: u32,
@@ -35,7 +35,7 @@ impl CodeTrap {
 }
 
 /// How a revision ended.
-#[derive(Clone, Copy, PartialEq, Eq, Debug)]
+#[derive(Clone, Copy)]
 pub enum Finish {
     Done,
     Trapped(CodeTrap),
@@ -43,7 +43,7 @@ pub enum Finish {
 
 /// What a revision leaves to the one that joins it: what it wrote, each location once and in
 /// ascending order, its text, the fuel that it did not use, and how it ended.
-#[derive(PartialEq, Eq, Debug, Drop)]
+#[derive(Drop)]
 pub struct EndValue {
     pub written: Items<Written>,
     pub text: Bytes,

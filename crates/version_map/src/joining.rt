@@ -68,7 +68,7 @@ pub trait MergeBy {
 }
 
 /// The least location whose merge faults, and how.
-#[derive(Clone, Copy, PartialEq, Eq, Debug)]
+#[derive(Clone, Copy)]
 pub struct MergeTrap {
     pub location: u32,
     pub fault: NumFault,

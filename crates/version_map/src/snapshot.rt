@@ -10,7 +10,7 @@ use crate::delta::Delta;
 use std::alloc::{AllocError, Global};
 
 /// How a child has its base.
-#[derive(Clone, Copy, PartialEq, Eq, Debug)]
+#[derive(Clone, Copy)]
 pub enum How {
     /// It shares what its forker reads, and the forker's delta has become a part of that.
     Shared,
@@ -19,7 +19,7 @@ pub enum How {
 }
 
 /// What a collapse came to.
-#[derive(Clone, Copy, PartialEq, Eq, Debug)]
+#[derive(Clone, Copy)]
 pub enum Collapsed {
     /// The newest part of the base went into the delta.
     Took,

@@ -19,7 +19,7 @@ use std::alloc::{AllocError, Global};
 use version_map::MergeBy;
 
 /// Why a schedule gives no world: an entry has no leg, or memory is wanting.
-#[derive(Clone, Copy, PartialEq, Eq, Debug)]
+#[derive(Clone, Copy)]
 pub enum ReplayFault {
     /// The first entry without a leg: its place, counted from 0, and its number.
     Illegal { at: usize, revision: u32 },

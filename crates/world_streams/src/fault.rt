@@ -6,7 +6,7 @@ ghost use Rattle.world_streams.specs.declared.fault.StreamFault.TheVariants as f
 use std::alloc::AllocError;
 
 /// Why a run that prints comes to no end.
-#[derive(Clone, Copy, PartialEq, Eq, Debug, Drop)]
+#[derive(Clone, Copy, Drop)]
 pub enum StreamFault {
     /// A call of the sink failed.
     Sink,
