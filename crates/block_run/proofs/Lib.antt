@@ -1,3 +1,4 @@
+-- Proofs of block_run: instructions of one block on an area of words, and the loop of funs and merges over them.
 pub mod Stacks
 pub mod Locations
 pub mod Needs

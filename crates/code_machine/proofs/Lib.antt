@@ -1,3 +1,4 @@
+-- Proofs of code_machine: verified code as a machine of revisions; its legs, schedules and outcome.
 pub mod Legs
 pub mod Renaming
 pub mod Naming

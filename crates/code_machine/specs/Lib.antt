@@ -1,3 +1,4 @@
+-- Definitions of code_machine: verified code as a machine of revisions; its legs, schedules and outcome.
 pub mod Local
 pub mod Leg
 pub mod Joining

@@ -1,3 +1,5 @@
+-- Proofs of code_runs: the outcome of code, run on one thread, also from a schedule on; revisions by number and
+-- by path.
 pub mod Naming
 pub mod Overlays
 pub mod Starting

@@ -1,3 +1,5 @@
+-- Definitions of code_runs: the outcome of code, run on one thread, also from a schedule on; revisions by number
+-- and by path.
 pub mod Births
 pub mod Revisions
 pub mod Words

@@ -1,3 +1,5 @@
+-- Proofs of code_traces: the outcome and the trace of code, by one run; and what the trace of a world of code
+-- is, which for a program's code is that of the program.
 pub mod Lists
 pub mod Readings
 pub mod Places

@@ -1,3 +1,5 @@
+-- Definitions of code_world: a world of revisions that run code, on one thread: its start, its legs, also with
+-- notes of what they read, ends that are taken over, what `main` has printed and what it left.
 pub mod Slots
 pub mod Tables
 pub mod Turns

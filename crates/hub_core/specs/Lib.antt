@@ -1,3 +1,5 @@
+-- Definitions of hub_core: what lies in a hub's slot while nobody has the turn, why it stays the replay of its
+-- schedule, and the rule of the hub's turn.
 pub mod Replay
 pub mod Forkers
 pub mod Hub

@@ -1,3 +1,4 @@
+-- Definitions of hub_workers: threads that run the revisions of a hub.
 pub mod Legs
 pub mod Nexts
 pub mod Work

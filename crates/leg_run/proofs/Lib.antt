@@ -1,3 +1,4 @@
+-- Proofs of leg_run: a running revision, and its legs from event to event.
 pub mod Decoding
 pub mod Frames
 pub mod Calling

@@ -1,3 +1,4 @@
+-- Definitions of leg_run: a running revision, and its legs from event to event.
 pub mod Standing
 pub mod Changes
 pub mod Ends

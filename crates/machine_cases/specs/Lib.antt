@@ -1,1 +1,2 @@
+-- Definitions of machine_cases: parts of the machine.
 pub mod Driving

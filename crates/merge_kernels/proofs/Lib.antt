@@ -1,3 +1,5 @@
+-- Proofs of merge_kernels: merges that are stored as closures, each beside its definition, and the plan of which
+-- merges what.
 pub mod Listed
 pub mod Equality
 pub mod Renaming

@@ -1,3 +1,5 @@
+-- Definitions of merge_kernels: merges that are stored as closures, each beside its definition, and the plan of
+-- which merges what.
 pub mod Terms
 pub mod Closing
 pub mod Named

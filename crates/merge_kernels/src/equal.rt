@@ -81,7 +81,8 @@ fn same_term(a: &Term, b: &Term) -> bool
 
 #[cycle(same)]
 fn same_link(a: &TermLink, b: &TermLink) -> bool
-    ensures { result ≡ (nat_eq (op_number a.now.op) (op_number b.now.op) && equal (term a.now.part) (term b.now.part)) }
+    ensures { result ≡ (nat_eq (op_number a.now.op) (op_number b.now.op)
+        && equal (term a.now.part) (term b.now.part)) }
 {
     op_number(a.op) == op_number(b.op) && same_term(&a.part, &b.part)
 }

@@ -1,3 +1,4 @@
+-- Proofs of rev_top: the top call with its promises.
 pub mod Accepting
 pub mod Answering
 pub mod CodeRuns

@@ -1,3 +1,4 @@
+-- Definitions of rev_top: the top call with its promises.
 pub mod Accepted
 pub mod Affine
 pub mod Answer

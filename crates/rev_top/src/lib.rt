@@ -47,7 +47,7 @@ use thread_runs::Ran;
 /// |---|---|
 /// | 0 | done |
 /// | 1 | `main` trapped |
-/// | 2 | the source is too long, or holds no program or no code that keeps all rules, or a trace that is none or not the program's; or the schedule has an entry that cannot step |
+/// | 2 | the source is too long or at fault, its trace is not the program's, or the schedule cannot step |
 /// | 3 | a revision was joined twice |
 /// | 4 | the words have no reading |
 /// | 5 | the source failed |

@@ -1,3 +1,5 @@
+-- Definitions of rev_vm: revisions that run code, from event to event: their legs, forks, joins and ends, and
+-- with what they began.
 pub mod Writes
 pub mod Rows
 pub mod Meaning

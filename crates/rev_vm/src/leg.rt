@@ -131,8 +131,9 @@ pub(crate) fn own_trap(cause: Cause, line: u32) -> Finish
 }
 
 /// Does the instructions of a leg up to its event. The first leg of a revision makes its first
-/// frame, and its tables of locations where there are no spare ones. No join makes the trap that a leg has by itself.
-/// The error is want of memory, as which a join of a number of 2^32 or more counts.
+/// frame, and its tables of locations where there are no spare ones. No join makes the trap that a
+/// leg has by itself. The error is want of memory, as which a join of a number of 2^32 or more
+/// counts.
 pub fn run_leg<P: Snapshot>(
     alloc: Global,
     runner: Runner<P>,

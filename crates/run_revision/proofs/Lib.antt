@@ -1,3 +1,4 @@
+-- Proofs of run_revision: verified code as a machine of a hub, and its revisions as those of a hub.
 pub mod Shown
 pub mod Meeting
 pub mod Standing

@@ -27,7 +27,8 @@ impl<'a, P: Snapshot> Model for CodeFork<'a, P> {
       group = fork_group f.at;
     } };
 
-    ghost invariant = { λ f. StandsAtFork (run_under f.setting.now) f.at (fork_state (run_under f.setting.now) f.at)
+    ghost invariant = { λ f. StandsAtFork (run_under f.setting.now) f.at
+        (fork_state (run_under f.setting.now) f.at)
         (arguments_at (run_under f.setting.now) (fork_state (run_under f.setting.now) f.at)) };
 }
 

@@ -33,8 +33,8 @@ pub trait Keeper<P: Snapshot> {
 }
 
 /// What a thread needs to run revisions of this setting, of a run whose `main` has this fuel: the
-/// merges of all locations, a keeper, and spare tables of locations. Contracts see what runs, the fuel, and of the keeper its
-/// group and how much it has.
+/// merges of all locations, a keeper, and spare tables of locations. Contracts see what runs, the
+/// fuel, and of the keeper its group and how much it has.
 pub struct CodeHand<'a, P: Snapshot, M: MergeBy, K: Keeper<P>> {
     pub(crate) alloc: Global,
     pub(crate) setting: &'a CodeSetting,

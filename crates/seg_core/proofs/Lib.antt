@@ -1,3 +1,4 @@
+-- Proofs of seg_core: shared segments and their counts, as plain data.
 pub mod Sums
 pub mod Counts
 pub mod Bases

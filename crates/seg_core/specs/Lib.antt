@@ -1,3 +1,4 @@
+-- Definitions of seg_core: shared segments and their counts, as plain data.
 pub mod Core
 pub mod Steps
 pub mod Shape

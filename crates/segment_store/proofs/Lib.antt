@@ -1,3 +1,4 @@
+-- Proofs of segment_store: shared segments on atomic words.
 pub mod Sums
 pub mod Frames
 pub mod Depths

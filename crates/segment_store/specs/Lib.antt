@@ -1,3 +1,4 @@
+-- Definitions of segment_store: shared segments on atomic words.
 pub mod Act
 pub mod Entry
 pub mod First

@@ -1,3 +1,4 @@
+-- Proofs of thread_runs: verified code, run by threads: its outcome and its schedule.
 pub mod Bearing
 pub mod Naming
 pub mod Firsts

@@ -1,3 +1,4 @@
+-- Proofs of version_map: deltas and snapshots, what a revision leaves, and what a joiner takes over.
 pub mod Bits
 pub mod Composing
 pub mod Faulting

@@ -1,3 +1,4 @@
+-- Definitions of version_map: deltas and snapshots, what a revision leaves, and what a joiner takes over.
 pub mod Masks
 pub mod Deltas
 pub mod Overlay

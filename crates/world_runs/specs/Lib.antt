@@ -1,3 +1,5 @@
+-- Definitions of world_runs: schedules of such a world: its replay and its run to the end, by legs that are made
+-- in some way.
 pub mod Made
 pub mod Replay
 pub mod Covers

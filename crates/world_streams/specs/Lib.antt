@@ -1,3 +1,4 @@
+-- Definitions of world_streams: runs of code on one thread that print as they run.
 pub mod Pieces
 pub mod Legs
 pub mod Runs

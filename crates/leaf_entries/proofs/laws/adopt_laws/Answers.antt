@@ -1,4 +1,4 @@
--- The laws on ends that are adopted.
+-- Answers of adopt_laws: its two clauses, on ends that are adopted, are lemmas.
 use Rattle.leaf_entries.proofs.Adopting.{adopts_so, known_fits}
 use Rattle.leaf_entries.proofs.laws.adopt_laws.Goals as goal
 

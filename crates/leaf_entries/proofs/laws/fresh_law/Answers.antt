@@ -1,4 +1,4 @@
--- The law on fresh revisions.
+-- Answers of fresh_law: its clause, with what a fresh revision begins, is a lemma.
 use Rattle.leaf_entries.proofs.Beginning.{fresh_begins}
 use Rattle.leaf_entries.proofs.laws.fresh_law.Goals as goal
 

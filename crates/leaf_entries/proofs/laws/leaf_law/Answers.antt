@@ -1,4 +1,4 @@
--- The law on leaf revisions.
+-- Answers of leaf_law: its clause, that the machine tells of the entry of a leaf revision, is a lemma.
 use Rattle.leaf_entries.proofs.Telling.{leaf_is_told}
 use Rattle.leaf_entries.proofs.laws.leaf_law.Goals as goal
 

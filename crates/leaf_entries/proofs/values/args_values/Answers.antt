@@ -1,4 +1,4 @@
--- `args_values`: one argument after another.
+-- Answers of args_values: one argument after another.
 use Rattle.code_runs.specs.Births.{path_in}
 use Rattle.leaf_entries.specs.Words.{args_of}
 use Rattle.leaf_entries.proofs.Loops.{args_done}

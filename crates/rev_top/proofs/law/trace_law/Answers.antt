@@ -1,4 +1,4 @@
--- The laws on texts with a trace behind them are lemmas.
+-- Answers of trace_law: its three clauses, on texts with a trace behind them, are lemmas.
 use Rattle.rev_top.proofs.TextLaws.{audits_own, has_form, none_begins}
 use Rattle.rev_top.proofs.law.trace_law.Goals as goal
 

@@ -18,7 +18,8 @@ returns-in_err-typed-clause-made g c =
 pub returns-clause-made : goal.returns-clause-made
 returns-clause-made g c =
     goes_on (Checks c.args.text.now) (RunsBy c.args.words.now of_order) told
-    (whole c.in_ok-typed.typed.expanded.program) c.order_program.result c.in_ok-typed.ensures c.order_program.ensures.made
+    (whole c.in_ok-typed.typed.expanded.program) c.order_program.result c.in_ok-typed.ensures
+    c.order_program.ensures.made
 
 pub returns-clause-kernels : goal.returns-clause-kernels
 returns-clause-kernels g c =

@@ -91,7 +91,8 @@ push_reserved-requires g c =
     let listed = ap length (inv.written ∙ (sym past ∙ ap (written_below seen root) e)) in
     let same = inv.room in
     let one =
-    room_for_one seen root l (g.P.Snapshot.size c.args.self.now.snapshot) (vec_capacity c.args.room) small c.requires.1 in
+    room_for_one seen root l (g.P.Snapshot.size c.args.self.now.snapshot) (vec_capacity c.args.room) small
+    c.requires.1 in
     omega (arith, there, many, listed, same, one)
 
 pub returns-clause-written : goal.returns-clause-written

@@ -1,4 +1,4 @@
--- Answers of Store::absorb_row: the row is taken in at once or by its locations, and one without a bit takes nothing in.
+-- Answers of Store::absorb_row: the row is taken in at once or by its locations, and one with no bit takes nothing in.
 use Rattle.std.proofs.Common.{subst, sym}
 use Rattle.atomic_table.specs.Table.{Me}
 use Rattle.segment_store.specs.declared.board.View.{View}

@@ -1,4 +1,4 @@
--- What proves where the legs of a `Streamer` stop for want of memory.
+-- Answers of StreamerLegs::out_of_memory: where the legs stop for want of memory the world is whole.
 use Rattle.world_streams.proofs.Legs.{stops_whole}
 use Rattle.world_streams.proofs.streamer.StreamerLegs.out_of_memory.Goals as goal
 
