@@ -8,5 +8,6 @@ pub mod MergeTerms
 pub mod ThreeValues
 pub mod OneLane
 pub mod RowChoices
+pub mod LevelRows
 pub mod RowWords
 pub mod Crossing

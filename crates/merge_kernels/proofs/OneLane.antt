@@ -1,8 +1,8 @@
 -- One lane: a sum that wraps, and whether it did.
-use Rattle.std.proofs.Common.{◌≡◌, ◌∙◌, refl, ap, sym, subst, ℕ, suc, ◌+◌, ◌-◌, ◌*◌, ◌%◌, ◌^◌, ◌<◌, ◌≤◌, Bool, true, false, cond, ◌||◌, not, List, [], ◌∷◌, map, length, replicate, Option, Some, None, Ok, Err, ℤ, pos, negsuc, ◌+ℤ◌, ◌-ℤ◌, w64, SFits, of_z, to_z, arith, bit_xor, bit_or, if◌then◌else◌}
+use Rattle.std.proofs.Common.{◌≡◌, ◌∙◌, refl, ap, sym, subst, ℕ, suc, ◌+◌, ◌-◌, ◌*◌, ◌%◌, ◌^◌, ◌<◌, ◌≤◌, Bool, true, false, cond, ◌||◌, not, List, [], ◌∷◌, map, length, replicate, Option, Some, None, Ok, Err, ℤ, pos, negsuc, ◌+ℤ◌, ◌-ℤ◌, w64, SFits, of_z, to_z, arith, bit_and, bit_xor, bit_or, ◌&&◌, if◌then◌else◌}
 use Rattle.std.proofs.lemmas.Int.{ints, to_z-of_z}
 use Rattle.std.specs.Int.Signed.{lt_z}
-use lib.Signed.{◌≤ℤ◌, ◌<ℤ◌, mag}
+use lib.Signed.{mag}
 use lib.Lanes.{zip2, mask_l, top, Each1}
 use Rattle.std.proofs.lemmas.Simd.{Each1-from_get_or, mask_l-mod}
 use Rattle.rev_num.specs.declared.value.NumFault.TheVariants.{Overflow}
@@ -30,35 +30,58 @@ fits_no : (z : ℤ) → 2 ^ 63 ≤ mag z → fits_i64 z ≡ false
 fits_no (pos n) h = grind arith
 fits_no (negsuc n) h = grind arith
 
-sum_fits : (m j : ℤ) (p q : Bool) → SFits w64 m → SFits w64 j → lt_z (added m j) m ≡ p → lt_z j (pos 0) ≡ q
-    → differ p q ≡ false
+abbrev below : ℤ → Bool
+below z = lt_z z (pos 0)
+
+-- the sign of what wraps is neither that of one number nor that of the other
+abbrev neither : (sign one other : Bool) → Bool
+neither sign one other = differ sign one && differ sign other
+
+sum_fits : (m j : ℤ) (s p q : Bool) → SFits w64 m → SFits w64 j → below (added m j) ≡ s → below m ≡ p → below j ≡ q
+    → neither s p q ≡ false
     → (added m j ≡ m +ℤ j) × (mag (m +ℤ j) < 2 ^ 63)
-sum_fits m j true true h k a b e = grind (arith, ints)
-sum_fits m j false false h k a b e = grind (arith, ints)
-sum_fits m j true false h k a b e = grind (arith, ints)
-sum_fits m j false true h k a b e = grind (arith, ints)
+sum_fits m j true true true h k a b c e = grind (arith, ints)
+sum_fits m j true true false h k a b c e = grind (arith, ints)
+sum_fits m j true false true h k a b c e = grind (arith, ints)
+sum_fits m j true false false h k a b c e = grind (arith, ints)
+sum_fits m j false true true h k a b c e = grind (arith, ints)
+sum_fits m j false true false h k a b c e = grind (arith, ints)
+sum_fits m j false false true h k a b c e = grind (arith, ints)
+sum_fits m j false false false h k a b c e = grind (arith, ints)
 
-sum_past : (m j : ℤ) (p q : Bool) → SFits w64 m → SFits w64 j → lt_z (added m j) m ≡ p → lt_z j (pos 0) ≡ q
-    → differ p q ≡ true → 2 ^ 63 ≤ mag (m +ℤ j)
-sum_past m j true true h k a b e = grind (arith, ints)
-sum_past m j false false h k a b e = grind (arith, ints)
-sum_past m j true false h k a b e = grind (arith, ints)
-sum_past m j false true h k a b e = grind (arith, ints)
+sum_past : (m j : ℤ) (s p q : Bool) → SFits w64 m → SFits w64 j → below (added m j) ≡ s → below m ≡ p → below j ≡ q
+    → neither s p q ≡ true → 2 ^ 63 ≤ mag (m +ℤ j)
+sum_past m j true true true h k a b c e = grind (arith, ints)
+sum_past m j true true false h k a b c e = grind (arith, ints)
+sum_past m j true false true h k a b c e = grind (arith, ints)
+sum_past m j true false false h k a b c e = grind (arith, ints)
+sum_past m j false true true h k a b c e = grind (arith, ints)
+sum_past m j false true false h k a b c e = grind (arith, ints)
+sum_past m j false false true h k a b c e = grind (arith, ints)
+sum_past m j false false false h k a b c e = grind (arith, ints)
 
-take_fits : (s r : ℤ) (p q : Bool) → SFits w64 s → SFits w64 r → lt_z s (taken s r) ≡ p → lt_z r (pos 0) ≡ q
-    → differ p q ≡ false
+take_fits : (s r : ℤ) (p d q : Bool) → SFits w64 s → SFits w64 r → below s ≡ p → below (taken s r) ≡ d → below r ≡ q
+    → neither p d q ≡ false
     → (taken s r ≡ s -ℤ r) × (mag (s -ℤ r) < 2 ^ 63)
-take_fits m j true true h k a b e = grind (arith, ints)
-take_fits m j false false h k a b e = grind (arith, ints)
-take_fits m j true false h k a b e = grind (arith, ints)
-take_fits m j false true h k a b e = grind (arith, ints)
+take_fits s r true true true h k a b c e = grind (arith, ints)
+take_fits s r true true false h k a b c e = grind (arith, ints)
+take_fits s r true false true h k a b c e = grind (arith, ints)
+take_fits s r true false false h k a b c e = grind (arith, ints)
+take_fits s r false true true h k a b c e = grind (arith, ints)
+take_fits s r false true false h k a b c e = grind (arith, ints)
+take_fits s r false false true h k a b c e = grind (arith, ints)
+take_fits s r false false false h k a b c e = grind (arith, ints)
 
-take_past : (s r : ℤ) (p q : Bool) → SFits w64 s → SFits w64 r → lt_z s (taken s r) ≡ p → lt_z r (pos 0) ≡ q
-    → differ p q ≡ true → 2 ^ 63 ≤ mag (s -ℤ r)
-take_past m j true true h k a b e = grind (arith, ints)
-take_past m j false false h k a b e = grind (arith, ints)
-take_past m j true false h k a b e = grind (arith, ints)
-take_past m j false true h k a b e = grind (arith, ints)
+take_past : (s r : ℤ) (p d q : Bool) → SFits w64 s → SFits w64 r → below s ≡ p → below (taken s r) ≡ d → below r ≡ q
+    → neither p d q ≡ true → 2 ^ 63 ≤ mag (s -ℤ r)
+take_past s r true true true h k a b c e = grind (arith, ints)
+take_past s r true true false h k a b c e = grind (arith, ints)
+take_past s r true false true h k a b c e = grind (arith, ints)
+take_past s r true false false h k a b c e = grind (arith, ints)
+take_past s r false true true h k a b c e = grind (arith, ints)
+take_past s r false true false h k a b c e = grind (arith, ints)
+take_past s r false false true h k a b c e = grind (arith, ints)
+take_past s r false false false h k a b c e = grind (arith, ints)
 
 checked_yes : (z : ℤ) → mag z < 2 ^ 63 → checked z ≡ Ok z
 checked_yes z h = ap (λ b. if b then Ok z else Err Overflow) (fits_yes z h)
@@ -67,26 +90,31 @@ checked_no : (z : ℤ) → 2 ^ 63 ≤ mag z → checked z ≡ Err Overflow
 checked_no z h = ap (λ b. if b then Ok z else Err Overflow) (fits_no z h)
 
 -- whether a lane is past 64 bits
+abbrev sum_left : ℤ → ℤ → Bool
+sum_left m j = neither (below (added m j)) (below m) (below j)
+
+abbrev rest_left : ℤ → ℤ → Bool
+rest_left s r = neither (below s) (below (taken s r)) (below r)
+
 abbrev past : ℤ → ℤ → ℤ → Bool
-past m j r =
-    differ (lt_z (added m j) m) (lt_z j (pos 0)) || differ (lt_z (added m j) (taken (added m j) r)) (lt_z r (pos 0))
+past m j r = sum_left m j || rest_left (added m j) r
 
 sum_fit : (m j : ℤ) → SFits w64 m → SFits w64 j → SFits w64 (added m j)
 sum_fit m j h k = grind (arith, ints)
 
 lane_by : (m j r : ℤ) → SFits w64 m → SFits w64 j → SFits w64 r → (a b : Bool)
-    → differ (lt_z (added m j) m) (lt_z j (pos 0)) ≡ a
-    → differ (lt_z (added m j) (taken (added m j) r)) (lt_z r (pos 0)) ≡ b
+    → sum_left m j ≡ a
+    → rest_left (added m j) r ≡ b
     → sum_answer m j r ≡ (if a || b then Err Overflow else Ok (taken (added m j) r))
 lane_by m j r h k l true b e f =
-    ap (λ o. then_minus o r) (checked_no (m +ℤ j) (sum_past m j _ _ h k refl refl e))
+    ap (λ o. then_minus o r) (checked_no (m +ℤ j) (sum_past m j _ _ _ h k refl refl refl e))
 lane_by m j r h k l false true e f =
-    let s = sum_fits m j _ _ h k refl refl e in
+    let s = sum_fits m j _ _ _ h k refl refl refl e in
     ap (λ o. then_minus o r) (checked_yes (m +ℤ j) s.1) ∙ ap (λ z. difference_of z r) (sym s.0)
-    ∙ checked_no (added m j -ℤ r) (take_past (added m j) r _ _ (sum_fit m j h k) l refl refl f)
+    ∙ checked_no (added m j -ℤ r) (take_past (added m j) r _ _ _ (sum_fit m j h k) l refl refl refl f)
 lane_by m j r h k l false false e f =
-    let s = sum_fits m j _ _ h k refl refl e in
-    let t = take_fits (added m j) r _ _ (sum_fit m j h k) l refl refl f in
+    let s = sum_fits m j _ _ _ h k refl refl refl e in
+    let t = take_fits (added m j) r _ _ _ (sum_fit m j h k) l refl refl refl f in
     ap (λ o. then_minus o r) (checked_yes (m +ℤ j) s.1) ∙ ap (λ z. difference_of z r) (sym s.0)
     ∙ (checked_yes (added m j -ℤ r) t.1 ∙ ap Ok (sym t.0))
 
@@ -125,28 +153,39 @@ module _ (ms js rs : List ℤ) where
   abbrev pub D : List ℕ
   D = zip2 SUB S R
 
-  abbrev pub tests : ℕ → List ℕ
-  tests n = zip2 bit_or (zip2 bit_xor (zip2 LT S M) (zip2 LT J (replicate n 0)))
-      (zip2 bit_xor (zip2 LT S D) (zip2 LT R (replicate n 0)))
+  abbrev pub signs : ℕ → List ℕ → List ℕ
+  signs n xs = zip2 LT xs (replicate n 0)
 
-top_is : (a b c d : Bool)
-    → top 63 (bit_or (bit_xor (full a) (full b)) (bit_xor (full c) (full d))) ≡ (differ a b || differ c d)
-top_is true true true true = refl
-top_is true true true false = refl
-top_is true true false true = refl
-top_is true true false false = refl
-top_is true false true true = refl
-top_is true false true false = refl
-top_is true false false true = refl
-top_is true false false false = refl
-top_is false true true true = refl
-top_is false true true false = refl
-top_is false true false true = refl
-top_is false true false false = refl
-top_is false false true true = refl
-top_is false false true false = refl
-top_is false false false true = refl
-top_is false false false false = refl
+  abbrev pub tests : ℕ → List ℕ
+  tests n = zip2 bit_or (zip2 bit_and (zip2 bit_xor (signs n S) (signs n M)) (zip2 bit_xor (signs n S) (signs n J)))
+      (zip2 bit_and (zip2 bit_xor (signs n S) (signs n D)) (zip2 bit_xor (signs n S) (signs n R)))
+
+xor_full : (a b : Bool) → bit_xor (full a) (full b) ≡ full (differ a b)
+xor_full true true = refl
+xor_full true false = refl
+xor_full false true = refl
+xor_full false false = refl
+
+and_full : (a b : Bool) → bit_and (full a) (full b) ≡ full (a && b)
+and_full true true = refl
+and_full true false = refl
+and_full false true = refl
+and_full false false = refl
+
+or_full : (a b : Bool) → top 63 (bit_or (full a) (full b)) ≡ (a || b)
+or_full true true = refl
+or_full true false = refl
+or_full false true = refl
+or_full false false = refl
+
+top_is : (s p q d r : Bool)
+    → top 63 (bit_or (bit_and (bit_xor (full s) (full p)) (bit_xor (full s) (full q)))
+    (bit_and (bit_xor (full s) (full d)) (bit_xor (full s) (full r))))
+    ≡ (neither s p q || neither s d r)
+top_is s p q d r =
+    (λ i. top 63 (bit_or (bit_and (xor_full s p i) (xor_full s q i)) (bit_and (xor_full s d i) (xor_full s r i))))
+    ∙ (λ i. top 63 (bit_or (and_full (differ s p) (differ s q) i) (and_full (differ s d) (differ s r) i)))
+    ∙ or_full (neither s p q) (neither s d r)
 
 word_back : (w : ℕ) → w < 2 ^ 64 → w ≡ of_z w64 (to_z w64 w)
 word_back w h = grind (arith, ints)
@@ -156,18 +195,22 @@ word_is m j = word_back ((of_z w64 m + of_z w64 j) % 2 ^ 64) (omega arith)
 
 -- the bit of one lane
 bit : (m j r : ℤ) → SFits w64 m → SFits w64 j → SFits w64 r
-    → top 63 (bit_or (bit_xor (LT (ADD (of_z w64 m) (of_z w64 j)) (of_z w64 m)) (LT (of_z w64 j) 0))
-    (bit_xor (LT (ADD (of_z w64 m) (of_z w64 j)) (SUB (ADD (of_z w64 m) (of_z w64 j)) (of_z w64 r)))
-    (LT (of_z w64 r) 0)))
+    → top 63 (bit_or
+    (bit_and (bit_xor (LT (ADD (of_z w64 m) (of_z w64 j)) 0) (LT (of_z w64 m) 0))
+    (bit_xor (LT (ADD (of_z w64 m) (of_z w64 j)) 0) (LT (of_z w64 j) 0)))
+    (bit_and (bit_xor (LT (ADD (of_z w64 m) (of_z w64 j)) 0) (LT (SUB (ADD (of_z w64 m) (of_z w64 j)) (of_z w64 r)) 0))
+    (bit_xor (LT (ADD (of_z w64 m) (of_z w64 j)) 0) (LT (of_z w64 r) 0))))
     ≡ past m j r
 bit m j r h k l =
     let mm : to_z w64 (of_z w64 m) ≡ m = to_z-of_z w64 m h in
     let jj : to_z w64 (of_z w64 j) ≡ j = to_z-of_z w64 j k in
     let rr : to_z w64 (of_z w64 r) ≡ r = to_z-of_z w64 r l in
-    (λ i. top 63 (bit_or (bit_xor (full (lt_z (added m j) (mm i))) (full (lt_z (jj i) (pos 0))))
-    (bit_xor (full (lt_z (added m j) (to_z w64 (SUB (word_is m j i) (of_z w64 r))))) (full (lt_z (rr i) (pos 0))))))
-    ∙ top_is (lt_z (added m j) m) (lt_z j (pos 0))
-    (lt_z (added m j) (to_z w64 (SUB (of_z w64 (added m j)) (of_z w64 r)))) (lt_z r (pos 0))
+    (λ i. top 63 (bit_or
+    (bit_and (bit_xor (full (below (added m j))) (full (below (mm i))))
+    (bit_xor (full (below (added m j))) (full (below (jj i)))))
+    (bit_and (bit_xor (full (below (added m j))) (full (below (to_z w64 (SUB (word_is m j i) (of_z w64 r))))))
+    (bit_xor (full (below (added m j))) (full (below (rr i)))))))
+    ∙ top_is (below (added m j)) (below m) (below j) (below (taken (added m j) r)) (below r)
 
 abbrev pub Told : ℕ → List ℕ → Option (List ℤ) → Type 0
 Told mask ds answer = (mask ≡ 0 → answer ≡ Some (map (to_z w64) ds)) × ((mask ≡ 0 → ⊥) → answer ≡ None)

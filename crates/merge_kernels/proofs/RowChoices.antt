@@ -39,18 +39,18 @@ have_at n [] h k below = absurd (omega arith)
 have_at n (c ∷ cs) h zero below = choice_is n c (both_true (is_choice n c) (have n cs) h).0
 have_at n (c ∷ cs) h (suc k) below = have_at n cs (both_true (is_choice n c) (have n cs) h).1 k (omega arith)
 
-taken : (n k : ℕ) (cs : List (Option ℕ)) → k < n → slice_get (take n cs) k ≡ slice_get cs k
+pub taken : (n k : ℕ) (cs : List (Option ℕ)) → k < n → slice_get (take n cs) k ≡ slice_get cs k
 taken zero k cs h = absurd (omega arith)
 taken (suc n) k [] h = refl
 taken (suc n) zero (c ∷ cs) h = refl
 taken (suc n) (suc k) (c ∷ cs) h = taken n k cs (omega arith)
 
-dropped : (i k : ℕ) (cs : List (Option ℕ)) → slice_get (drop i cs) k ≡ slice_get cs (i + k)
+pub dropped : (i k : ℕ) (cs : List (Option ℕ)) → slice_get (drop i cs) k ≡ slice_get cs (i + k)
 dropped zero k cs = let e : k ≡ 0 + k = omega arith in ap (slice_get cs) e
 dropped (suc i) k [] = refl
 dropped (suc i) k (c ∷ cs) = let e : suc (i + k) ≡ suc i + k = omega arith in dropped i k cs ∙ ap (slice_get (c ∷ cs)) e
 
-long : (n i : ℕ) (cs : List (Option ℕ)) → i + n ≤ length cs → length (take n (drop i cs)) ≡ n
+pub long : (n i : ℕ) (cs : List (Option ℕ)) → i + n ≤ length cs → length (take n (drop i cs)) ≡ n
 long zero zero cs h = refl
 long (suc n) zero [] h = absurd (omega arith)
 long (suc n) zero (c ∷ cs) h = ap suc (long n zero cs (omega arith))
@@ -114,7 +114,7 @@ none_here choices first none = by (nat_lt (length choices) (first + 8)) refl
     by true short = sym (short_is choices first (grind (arith, nat_tests, short)))
     by false long = sym (no_choice choices first (grind (arith, nat_tests, long)) none)
 
-one_choice : (choices : List (Option ℕ)) (first n : ℕ) (b : Bool) → first + 8 ≤ length choices
+pub one_choice : (choices : List (Option ℕ)) (first n : ℕ) (b : Bool) → first + 8 ≤ length choices
     → choice_at choices first ≡ Some n
     → b ≡ have n (take 8 (drop first choices)) → (if b then Some n else None) ≡ row_choice choices first
 one_choice choices first n b h some is =

@@ -2,7 +2,6 @@
 --   renamed   the expression over the three parameters m, j and r that an expression over these names
 --             means; none where it applies a fun, and where it has a form that no merge may have
 use Rattle.std.specs.Prelude.{Option, Some, None, if◌then◌else◌}
-use Rattle.rev_syntax.specs.Trees as t
 use Rattle.rev_syntax.specs.Trees.{Expression, placed, ExpressionForm, Links, int, bool, no_rev, var, cell, apply, input, inputs, pick, unary, chain, no_links, link}
 use Rattle.rev_syntax.specs.declared.tree.UnaryOp.{UnaryOp}
 use Rattle.rev_syntax.specs.declared.tree.BinaryOp.{BinaryOp}

@@ -6,7 +6,9 @@
 --   row_choice   the one choice of eight locations, from this one on
 --   has_row      whether they have one, of a kernel with a row
 --   IsRowFor     this definition was chosen for each of them
-use Rattle.std.specs.Prelude.{◌≡◌, ◌<◌, ◌+◌, ℕ, Bool, true, false, ◌&&◌, nat_eq, nat_lt, if◌then◌else◌, List, [], ◌∷◌, take, drop, length, Option, Some, None, slice_get, option_and_then}
+--   AreLike      so many locations from this one on have what the first of them has, a choice or none
+--   AreLevel     where a row of 64 locations is told of, its locations are alike
+use Rattle.std.specs.Prelude.{◌≡◌, ◌<◌, ◌≤◌, ◌+◌, ◌*◌, ℕ, Bool, true, false, ◌&&◌, nat_eq, nat_lt, if◌then◌else◌, List, [], ◌∷◌, take, drop, length, Option, Some, None, slice_get, option_and_then}
 use Rattle.rev_syntax.specs.Trees.{Expression}
 
 abbrev pub the_choice : Option (Option ℕ) → Option ℕ
@@ -54,3 +56,12 @@ has_row choices rows first = is_true (option_and_then (slice_get rows) (row_choi
 
 abbrev pub IsRowFor : List (Option ℕ) → List Expression → (first : ℕ) → Expression → Type 0
 IsRowFor choices kernels first e = (k : ℕ) → k < 8 → chosen_at choices kernels (first + k) ≡ Some e
+
+-- ---- rows of 64
+
+abbrev pub AreLike : List (Option ℕ) → (first n : ℕ) → Type 0
+AreLike choices first n =
+    (first + n ≤ length choices) × ((k : ℕ) → k < n → choice_at choices (first + k) ≡ choice_at choices first)
+
+abbrev pub AreLevel : (told : List Bool) → List (Option ℕ) → Type 0
+AreLevel told choices = (row : ℕ) → slice_get told row ≡ Some true → AreLike choices (64 * row) 64

@@ -37,8 +37,9 @@ pub fn sum_lanes(main: [i64; 8], join: [i64; 8], root: [i64; 8]) -> Option<[i64;
     let zero = i64x8::splat(0);
     let sum = m + j;
     let all = sum - r;
-    let past_sum = sum.simd_lt(m) ^ j.simd_lt(zero);
-    let past_all = sum.simd_lt(all) ^ r.simd_lt(zero);
+    let below = sum.simd_lt(zero);
+    let past_sum = (below ^ m.simd_lt(zero)) & (below ^ j.simd_lt(zero));
+    let past_all = (below ^ all.simd_lt(zero)) & (below ^ r.simd_lt(zero));
     if (past_sum | past_all).any() {
         None
     } else {

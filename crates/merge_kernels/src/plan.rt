@@ -1,8 +1,9 @@
 //! Which kernel merges which location.
 
-ghost use Rattle.std.specs.Prelude.{◌≡◌, ◌≤◌, ◌+◌, IfSome, MatchBool, None, Some, drop, is_some, length, map, option_map, take};
+ghost use Rattle.std.specs.Prelude.{◌≡◌, ◌≤◌, ◌+◌, ◌*◌, IfSome, MatchBool, None, Some, true, drop, is_some, length, map, option_map, take};
 ghost use Rattle.std.specs.Option.{option_copied};
 ghost use Rattle.merge_kernels.specs.Plans.{AreWithin, IsRowFor, choice_at, chosen_at, has_row, have, row_choice};
+ghost use Rattle.merge_kernels.specs.Plans.{AreLevel, AreLike};
 ghost use Rattle.merge_kernels.specs.Terms.{definition};
 
 use crate::finding::kernel_at;
@@ -13,8 +14,11 @@ use crate::kernel::{Kernel, RowKernel};
 #[derive(Drop)]
 pub struct KernelPlan<'k> {
     choices: Vec<Option<u32>>,
+    // For each of the first 64 rows of 64 locations whether they have one choice, or none at all.
+    level: [bool; 64],
     kernels: &'k [Kernel],
     ghost within: { AreWithin choices.items (map (λ k. definition k.def) kernels.now) },
+    ghost levels: { AreLevel level choices.items },
 }
 
 impl<'k> KernelPlan<'k> {
@@ -24,7 +28,12 @@ impl<'k> KernelPlan<'k> {
         ensures choices { result.choices ≡ choices }
         ensures kernels { result.kernels.now ≡ kernels.entry.now }
     {
-        KernelPlan { choices, kernels }
+        let level = level_rows(choices.as_slice());
+        KernelPlan {
+            choices,
+            level,
+            kernels,
+        }
     }
 
     /// The choices, by location.
@@ -60,6 +69,7 @@ impl<'k> KernelPlan<'k> {
 
     /// The row of the one kernel that was chosen for the eight locations from this one on; none
     /// where they have no one choice, and where its kernel has no row.
+    #[inline(always)]
     pub fn row(&self, first: u32) -> Option<&RowKernel>
         ensures any { is_some result ≡ has_row self.now.choices.items
             (map (λ k. is_some k.row) self.now.kernels.now) first }
@@ -80,7 +90,30 @@ impl<'k> KernelPlan<'k> {
     }
 
     /// Whether all eight locations from this one on have the choice that this one has.
+    #[inline(always)]
     fn is_one_choice(&self, first: u32, n: u32) -> bool
+        requires { choice_at self.now.choices.items first ≡ Some n }
+        ensures { MatchBool result (row_choice self.now.choices.items first ≡ Some n)
+            (row_choice self.now.choices.items first ≡ None) }
+    {
+        if self.is_in_level_row(first) {
+            return true;
+        }
+        self.have_eight(first, n)
+    }
+
+    /// Whether the eight locations from this one on are of one row, which is known to have one
+    /// choice.
+    #[inline(always)]
+    fn is_in_level_row(&self, first: u32) -> bool
+        ensures { result ≡ true → AreLike self.now.choices.items first 8 }
+    {
+        let row = first as usize / 64;
+        first % 64 <= 56 && row < 64 && self.level[row]
+    }
+
+    /// The same as `is_one_choice`, by a look at each of the eight.
+    fn have_eight(&self, first: u32, n: u32) -> bool
         requires { choice_at self.now.choices.items first ≡ Some n }
         ensures { MatchBool result (row_choice self.now.choices.items first ≡ Some n)
             (row_choice self.now.choices.items first ≡ None) }
@@ -92,6 +125,32 @@ impl<'k> KernelPlan<'k> {
         }
         all_have(&eight_choices(choices, at), n)
     }
+}
+
+/// Of each of the first 64 rows of 64 locations, whether they have one choice, or none at all.
+fn level_rows(choices: &[Option<u32>]) -> [bool; 64]
+    ensures { AreLevel result choices.now }
+{
+    let mut rows = [false; 64];
+    let count = (choices.len() / 64).min(64);
+    for row in 0..count {
+        rows[row] = is_level(choices, row);
+    }
+    rows
+}
+
+/// Whether the 64 locations of a row have one choice, or none at all.
+fn is_level(choices: &[Option<u32>], row: usize) -> bool
+    requires { 64 * row + 64 ≤ length choices.now }
+    ensures { result ≡ true → AreLike choices.now (64 * row) 64 }
+{
+    let first = 64 * row;
+    for k in 0..64usize {
+        if choices[first + k] != choices[first] {
+            return false;
+        }
+    }
+    true
 }
 
 /// The choices of eight locations.

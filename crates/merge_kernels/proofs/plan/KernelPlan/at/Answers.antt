@@ -1,5 +1,5 @@
 -- Answers of KernelPlan::at: the choice is the number of a kernel of the plan, whose definition was chosen.
-use Rattle.std.proofs.Common.{◌≡◌, ◌∙◌, ◌<◌, ap, sym, subst, Some, map, slice_get}
+use Rattle.std.proofs.Common.{◌∙◌, ◌<◌, ap, sym, subst, map, slice_get}
 use Rattle.std.specs.Prelude.{option_and_then}
 use Rattle.std.proofs.lemmas.List.{length-map}
 use Rattle.merge_kernels.specs.Terms.{definition}
