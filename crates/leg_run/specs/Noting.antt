@@ -11,7 +11,7 @@ use Rattle.noting_run.specs.ByMarks.{leg_reads}
 pub use Rattle.noting_run.specs.declared.notes.Noted.{Noted}
 pub use Rattle.noting_run.specs.declared.notes.Notes.{Notes}
 pub use Rattle.noting_run.specs.Marks.{marks_of, HasMarked}
-pub use Rattle.noting_run.specs.WhereOn.{HasMarkedIfOn, HasPlaces, HasPlacesIfOn}
+pub use Rattle.noting_run.specs.WhereOn.{HasMarkedIfOn, HasPlaces, HasPlacesIfOn, is_on}
 use Rattle.leg_run.specs.declared.revision.Run.{Run}
 use Rattle.leg_run.specs.declared.turn.Turn.{Turn}
 use Rattle.leg_run.specs.declared.turn.Turn.TheVariants as turn

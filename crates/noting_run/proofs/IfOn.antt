@@ -1,10 +1,10 @@
 -- Notes that may be off.
-use Rattle.std.proofs.Common.{◌≡◌, ◌∙◌, ℕ, ℤ, List, [], ◌++◌, refl, sym, subst}
+use Rattle.std.proofs.Common.{◌≡◌, ◌∙◌, ℕ, ℤ, true, List, [], ◌++◌, refl, sym, ap, subst}
 use Rattle.noting_run.specs.declared.notes.Noted.{Noted}
 use Rattle.noting_run.specs.declared.notes.Notes.{Notes}
 use Rattle.noting_run.specs.declared.notes.Notes.TheVariants as notes
 use Rattle.noting_run.specs.Marks.{Mark, HasMarked}
-use Rattle.noting_run.specs.WhereOn.{HasPlaces, HasPlacesIfOn, HasMarkedIfOn}
+use Rattle.noting_run.specs.WhereOn.{HasPlaces, HasPlacesIfOn, HasMarkedIfOn, is_on}
 use Rattle.noting_run.proofs.Adding.{none_marked, marked_more}
 
 -- ---- marks
@@ -22,17 +22,6 @@ marked_more_if_on (notes.On a) notes.Off z ms ns h k = absurd h
 marked_more_if_on (notes.On a) (notes.On b) notes.Off ms ns h k = absurd k
 marked_more_if_on (notes.On a) (notes.On b) (notes.On c) ms ns h k = marked_more a b c ms ns h k
 
--- what reads nothing leaves the notes
-pub unread : (x : Notes) (ms : List Mark) → ms ≡ [] → HasMarkedIfOn x x ms
-unread x ms e = subst (HasMarkedIfOn x x) (sym e) (none_marked_if_on x)
-
-pub marked_off : (x : Notes) (ms : List Mark) → x ≡ notes.Off → HasMarkedIfOn x x ms
-marked_off x ms e = let off : HasMarkedIfOn notes.Off notes.Off ms = tt in subst (λ y. HasMarkedIfOn y y ms) (sym e) off
-
-pub marked_on : (x : Notes) (old new : Noted) (ms : List Mark) → x ≡ notes.On old → HasMarked old new ms
-    → HasMarkedIfOn x (notes.On new) ms
-marked_on x old new ms e h = subst (λ y. HasMarkedIfOn y (notes.On new) ms) (sym e) h
-
 -- what is given back has the marks
 pub marked_back : (old back : Noted) (x y : Notes) (ms : List Mark) → x ≡ notes.On old
     → ((own : Noted) → y ≡ notes.On own → back ≡ own) → HasMarkedIfOn x y ms → HasMarked old back ms
@@ -42,6 +31,18 @@ marked_back old back x y ms e f h = by y f (subst (λ z. HasMarkedIfOn z y ms) e
         → HasMarked old back ms
     by notes.Off f h = absurd h
     by (notes.On own) f h = subst (λ b. HasMarked old b ms) (sym (f own refl)) h
+
+-- ---- whether they are on
+
+pub on_of : (x : Notes) (a : Noted) → x ≡ notes.On a → is_on x ≡ true
+on_of x a e = ap is_on e
+
+-- marks leave them on, or off
+pub on_still : (x y : Notes) (ms : List Mark) → HasMarkedIfOn x y ms → is_on y ≡ is_on x
+on_still notes.Off notes.Off ms h = refl
+on_still notes.Off (notes.On b) ms h = absurd h
+on_still (notes.On a) notes.Off ms h = absurd h
+on_still (notes.On a) (notes.On b) ms h = refl
 
 -- ---- places
 

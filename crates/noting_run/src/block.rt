@@ -1,17 +1,16 @@
-//! Instructions of one block of a leg in a row, with notes of what they read where notes are on.
+//! Instructions of one block in a row, with notes of what they read.
 
 ghost use Rattle.std.specs.Prelude.{◌≡◌, ◌<◌, ◌^◌, ℕ, Some, length, slice_get, take};
 ghost use Rattle.rev_code.specs.State.{State};
 ghost use Rattle.code_soundness.specs.Whole.{notes_of, IsAccepted};
 ghost use Rattle.plain_words.specs.Agreement.{AreInputs};
-ghost use Rattle.version_map.specs.Deltas.{at};
+ghost use Rattle.version_map.specs.Deltas.{at, locations};
 ghost use Rattle.version_map.specs.Overlay.{under};
 ghost use Rattle.block_run.specs.Area.{count, IsTable};
 ghost use Rattle.block_run.specs.Standing.{Here, IsRoomy, Mode};
 ghost use Rattle.noting_run.specs.Runs.{EndsNoting};
-ghost use Rattle.noting_run.specs.WhereOn.{HasPlacesIfOn};
 
-use crate::notes::Notes;
+use crate::notes::{Noted, Notes};
 use crate::reading::act_noting;
 use block_run::{Memory, Registers, Stop, Variable};
 use rev_code::{Code, CodeBlock, Instr};
@@ -26,10 +25,10 @@ fn fetch(instrs: &[Instr], at: u32) -> &Instr
     &instrs[at as usize]
 }
 
-/// Does as `run_block` does, and notes what the instructions read where notes are on. It is not made
-/// a part of its caller, whose own variables would take the registers of the processor.
+/// Does as `run_block` does, and notes what the instructions read. It is not made a part of its
+/// caller, whose own variables would take the registers of the processor.
 #[inline(never)]
-pub fn run_leg_block<P: Snapshot>(
+pub fn run_block_noting<P: Snapshot>(
     code: &Code,
     table: &[Variable],
     inputs: &[i64],
@@ -37,7 +36,7 @@ pub fn run_leg_block<P: Snapshot>(
     memory: &mut Memory<P>,
     words: &mut [u64],
     registers: &mut Registers,
-    notes: &mut Notes,
+    noted: &mut Noted,
 ) -> Stop
     requires accepted { IsAccepted code.now (notes_of code.now) }
     requires table { IsTable code.now.vars table.now }
@@ -49,13 +48,15 @@ pub fn run_leg_block<P: Snapshot>(
         × Here code.now inputs.now m b.now c words.old registers.old
         (under memory.old.delta (P.base memory.old.snapshot)) (at memory.old.first.roots) }
     requires room { IsRoomy code.now b.now registers.old (length words.old) }
-    requires places { HasPlacesIfOn (count code.now.vars) inputs.now notes.old }
+    requires locations { locations noted.old.locations ≡ count code.now.vars }
+    requires few { length inputs.now < 2 ^ 32 }
+    requires positions { locations noted.old.inputs ≡ length inputs.now }
     ensures ends { (m : Mode) (c : State ℕ)
         → Here code.now inputs.now m b.now c words.old registers.old
         (under memory.old.delta (P.base memory.old.snapshot)) (at memory.old.first.roots)
         → EndsNoting code.now inputs.now m b.now c result words.new registers.new
         (under memory.new.delta (P.base memory.new.snapshot)) (at memory.new.first.roots)
-        notes.old notes.new }
+        (Notes.On noted.old) (Notes.On noted.new) }
     ensures block { registers.new.block ≡ registers.old.block }
     ensures base { registers.new.base ≡ registers.old.base }
     ensures below { take registers.old.base words.new ≡ take registers.old.base words.old }
@@ -73,7 +74,7 @@ pub fn run_leg_block<P: Snapshot>(
     let instrs = b.instrs.as_slice();
     loop {
         let x = fetch(instrs, r.at);
-        match act_noting(code, table, inputs, b, memory, words, &mut r, x, notes) {
+        match act_noting(code, table, inputs, b, memory, words, &mut r, x, noted) {
             Stop::Goes => {},
             last => {
                 registers.at = r.at;

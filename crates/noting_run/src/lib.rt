@@ -5,11 +5,12 @@
 ghost use Rattle.noting_run.specs.ByMarks.{AgreesByMarks};
 
 mod block;
+mod leg_block;
 mod marking;
 mod notes;
 mod reading;
 
-pub use block::run_leg_block;
+pub use leg_block::run_leg_block;
 pub use marking::note;
 pub use notes::{Noted, Notes};
 

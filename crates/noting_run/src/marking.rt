@@ -9,9 +9,8 @@ ghost use Rattle.block_run.specs.Area.{IsVariable};
 ghost use Rattle.noting_run.specs.Marks as marks;
 ghost use Rattle.noting_run.specs.Marks.{HasMarked, cell_marks, if_first, place_marks};
 ghost use Rattle.noting_run.specs.Marks.{plain_marks, scalar_marks};
-ghost use Rattle.noting_run.specs.WhereOn.{HasMarkedIfOn, HasPlacesIfOn};
 
-use crate::notes::{Noted, Notes};
+use crate::notes::Noted;
 use block_run::{Memory, Registers, Variable};
 use rev_code::{Code, CodeBlock, Instr};
 use version_map::Snapshot;
@@ -189,32 +188,5 @@ pub fn note<P: Snapshot>(
         Instr::LoadInput => note_position(inputs, top(b, words, r), noted),
         Instr::CountInput => note_count(noted),
         _ => {},
-    }
-}
-
-/// Notes what an instruction reads that is about to be done, where notes are on.
-#[inline(always)]
-pub(crate) fn note_where_on<P: Snapshot>(
-    code: &Code,
-    table: &[Variable],
-    inputs: &[i64],
-    b: &CodeBlock,
-    memory: &Memory<P>,
-    words: &[u64],
-    r: &Registers,
-    x: &Instr,
-    notes: &mut Notes,
-)
-    requires table { IsTable code.now.vars table.now }
-    requires size { P.size memory.now.snapshot ≡ count code.now.vars }
-    requires operand { IsOperand code.now.vars b.now x.now }
-    requires placed { IsPlaced b.now r.now (length words.now) (taken x.now) }
-    requires places { HasPlacesIfOn (P.size memory.now.snapshot) inputs.now notes.old }
-    ensures { HasMarkedIfOn notes.old notes.new (plain_marks code.now.vars inputs.now
-        (at memory.now.first.roots) (run_of b.now words.now r.now) x.now) }
-{
-    match notes {
-        Notes::Off => {},
-        Notes::On(noted) => note(code, table, inputs, b, memory, words, r, x, noted),
     }
 }

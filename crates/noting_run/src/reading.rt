@@ -1,18 +1,17 @@
-//! One instruction, with notes of what it reads where notes are on.
+//! One instruction, with notes of what it reads.
 
-ghost use Rattle.std.specs.Prelude.{◌≡◌, ◌+◌, ◌≤◌, length};
+ghost use Rattle.std.specs.Prelude.{◌≡◌, ◌+◌, ◌<◌, ◌≤◌, ◌^◌, length};
 ghost use Rattle.plain_words.specs.Plain as p;
 ghost use Rattle.plain_words.specs.Agreement.{PushesInt};
-ghost use Rattle.version_map.specs.Deltas.{at};
+ghost use Rattle.version_map.specs.Deltas.{at, locations};
 ghost use Rattle.version_map.specs.Overlay.{under};
 ghost use Rattle.block_run.specs.Area.{count, pushes, run_of, taken, Does, IsOperand, IsPlaced};
 ghost use Rattle.block_run.specs.Area.{IsTable, StaysIn};
 ghost use Rattle.block_run.specs.Remembering.{Kept, Wrote};
-ghost use Rattle.noting_run.specs.Marks.{plain_marks};
-ghost use Rattle.noting_run.specs.WhereOn.{HasMarkedIfOn, HasPlacesIfOn};
+ghost use Rattle.noting_run.specs.Marks.{HasMarked, plain_marks};
 
-use crate::marking::note_where_on;
-use crate::notes::Notes;
+use crate::marking::note;
+use crate::notes::Noted;
 use block_run::{Memory, Registers, Stop, Variable, act};
 use rev_code::{Code, CodeBlock, Instr};
 use version_map::Snapshot;
@@ -54,7 +53,7 @@ fn act_or_stop<P: Snapshot>(
     act(code, table, inputs, b, memory, words, r, x).stop()
 }
 
-/// Notes what an instruction reads, where notes are on, and does it.
+/// Notes what an instruction reads, and does it.
 #[inline(always)]
 fn note_and_act<P: Snapshot>(
     code: &Code,
@@ -65,15 +64,17 @@ fn note_and_act<P: Snapshot>(
     words: &mut [u64],
     r: &mut Registers,
     x: &Instr,
-    notes: &mut Notes,
+    noted: &mut Noted,
 ) -> Stop
     requires table { IsTable code.now.vars table.now }
     requires size { P.size memory.old.snapshot ≡ count code.now.vars }
     requires operand { IsOperand code.now.vars b.now x.now }
     requires placed { IsPlaced b.now r.old (length words.old) (taken x.now) }
     requires room { r.old.top + pushes x.now ≤ length words.old }
-    requires places { HasPlacesIfOn (P.size memory.old.snapshot) inputs.now notes.old }
-    ensures marked { HasMarkedIfOn notes.old notes.new (plain_marks code.now.vars inputs.now
+    requires locations { locations noted.old.locations ≡ P.size memory.old.snapshot }
+    requires few { length inputs.now < 2 ^ 32 }
+    requires positions { locations noted.old.inputs ≡ length inputs.now }
+    ensures marked { HasMarked noted.old noted.new (plain_marks code.now.vars inputs.now
         (at memory.old.first.roots) (run_of b.now words.old r.old) x.now) }
     ensures does { Does (p.plain code.now.vars inputs.now
         (under memory.old.delta (P.base memory.old.snapshot))
@@ -92,14 +93,13 @@ fn note_and_act<P: Snapshot>(
     ensures size { P.size memory.new.snapshot ≡ P.size memory.old.snapshot }
     ensures group { P.group memory.new.snapshot ≡ P.group memory.old.snapshot }
 {
-    note_where_on(code, table, inputs, b, memory, words, r, x, notes);
+    note(code, table, inputs, b, memory, words, r, x, noted);
     act_or_stop(code, table, inputs, b, memory, words, r, x)
 }
 
-/// Does an instruction, notes what it reads where notes are on, and says why a run of instructions
-/// stops there, if it does. Each instruction that reads has a row of its own, and no row has more
-/// than seven of the others, so that the compiler makes one table of jumps of this match and of
-/// that in `act`; so an instruction that reads nothing does not ask whether notes are on.
+/// Does an instruction, notes what it reads, and says why a run of instructions stops there, if it
+/// does. Each instruction that reads has a row of its own, and no row has more than seven of the
+/// others, so that the compiler makes one table of jumps of this match and of that in `act`.
 pub fn act_noting<P: Snapshot>(
     code: &Code,
     table: &[Variable],
@@ -109,15 +109,17 @@ pub fn act_noting<P: Snapshot>(
     words: &mut [u64],
     r: &mut Registers,
     x: &Instr,
-    notes: &mut Notes,
+    noted: &mut Noted,
 ) -> Stop
     requires table { IsTable code.now.vars table.now }
     requires size { P.size memory.old.snapshot ≡ count code.now.vars }
     requires operand { IsOperand code.now.vars b.now x.now }
     requires placed { IsPlaced b.now r.old (length words.old) (taken x.now) }
     requires room { r.old.top + pushes x.now ≤ length words.old }
-    requires places { HasPlacesIfOn (P.size memory.old.snapshot) inputs.now notes.old }
-    ensures marked { HasMarkedIfOn notes.old notes.new (plain_marks code.now.vars inputs.now
+    requires locations { locations noted.old.locations ≡ P.size memory.old.snapshot }
+    requires few { length inputs.now < 2 ^ 32 }
+    requires positions { locations noted.old.inputs ≡ length inputs.now }
+    ensures marked { HasMarked noted.old noted.new (plain_marks code.now.vars inputs.now
         (at memory.old.first.roots) (run_of b.now words.old r.old) x.now) }
     ensures does { Does (p.plain code.now.vars inputs.now
         (under memory.old.delta (P.base memory.old.snapshot))
@@ -139,19 +141,19 @@ pub fn act_noting<P: Snapshot>(
     match *x {
         Instr::LoadShared(v) => {
             let own = &Instr::LoadShared(v);
-            note_and_act(code, table, inputs, b, memory, words, r, own, notes)
+            note_and_act(code, table, inputs, b, memory, words, r, own, noted)
         },
         Instr::LoadCell(v) => {
             let own = &Instr::LoadCell(v);
-            note_and_act(code, table, inputs, b, memory, words, r, own, notes)
+            note_and_act(code, table, inputs, b, memory, words, r, own, noted)
         },
         Instr::LoadInput => {
             let own = &Instr::LoadInput;
-            note_and_act(code, table, inputs, b, memory, words, r, own, notes)
+            note_and_act(code, table, inputs, b, memory, words, r, own, noted)
         },
         Instr::CountInput => {
             let own = &Instr::CountInput;
-            note_and_act(code, table, inputs, b, memory, words, r, own, notes)
+            note_and_act(code, table, inputs, b, memory, words, r, own, noted)
         },
         Instr::PushInt(_)
         | Instr::PushBool(_)

@@ -7,9 +7,9 @@
 --   seen_part    and where memory shows what it showed, those that were seen at first
 --   row_on       a row that is written at once is written word by word
 use Rattle.std.proofs.Common.{◌≡◌, ◌≢◌, ◌∙◌, ap, sym, refl, subst, ℕ, zero, suc, ◌+◌, ◌-◌, ◌*◌, ◌<◌, ◌≤◌, Bool, true, false, List, [], ◌∷◌, ◌++◌, length, map, take, drop, get_or, All, Option, Some, None, arith}
-use Rattle.std.specs.Prelude.{nat_eq, nat_lt, slice_get, cond}
+use Rattle.std.specs.Prelude.{nat_eq, nat_lt, cond}
 use Rattle.std.proofs.lemmas.Bool.Decides.{nat_tests}
-use Rattle.std.proofs.lemmas.List.{take_all, drop_all, length-take, length-drop, length-map, get_or-map, get_or-take, get_or-drop}
+use Rattle.std.proofs.lemmas.List.{take_all, length-take, length-drop, length-map, get_or-map, get_or-take, get_or-drop}
 use Rattle.std.proofs.lemmas.Grind.{same_number_lists}
 use Rattle.std.proofs.lemmas.Option.{slice_get-get_or}
 use Rattle.version_map.specs.declared.end.Written.{Written}

@@ -10,9 +10,9 @@ ghost use Rattle.version_map.specs.Deltas.{at};
 ghost use Rattle.version_map.specs.Overlay.{under};
 ghost use Rattle.block_run.specs.Remembering.{HasRoom, written_below};
 ghost use Rattle.code_machine.specs.Leg.{leg};
-ghost use Rattle.code_machine.specs.Local.{done, end_of, has_ended};
+ghost use Rattle.code_machine.specs.Local.{CodeRun, done, end_of, has_ended};
 ghost use Rattle.rev_vm.specs.declared.leg.Event.TheVariants as event;
-ghost use Rattle.rev_vm.specs.Legs.{IsNoted, trap_of};
+ghost use Rattle.rev_vm.specs.Legs.{HasComeTo, IsNoted, trap_of};
 ghost use Rattle.rev_vm.specs.Meaning.{IsEnd, IsReady};
 ghost use Rattle.rev_vm.specs.Starts.{run_under};
 ghost use Rattle.rev_vm.specs.States.{is_by_join};
@@ -67,7 +67,7 @@ fn come_to_join<P: Snapshot>(
 
 /// The revision as one at a join. A joined revision of a number of 2^32 or more, which `told` tells
 /// no forker, counts as want of memory.
-pub(crate) fn at_join<P: Snapshot>(
+fn at_join<P: Snapshot>(
     alloc: Global,
     mut revision: Box<Revision<P>>,
     is_try: bool,
@@ -98,7 +98,7 @@ pub(crate) fn at_join<P: Snapshot>(
 }
 
 /// The revision as one that has ended, with what it has written.
-pub(crate) fn stop_at<P: Snapshot>(
+fn stop_at<P: Snapshot>(
     alloc: Global,
     mut revision: Box<Revision<P>>,
     finish: Finish,
@@ -120,7 +120,7 @@ pub(crate) fn stop_at<P: Snapshot>(
 }
 
 /// How a revision ends that traps by itself.
-pub(crate) fn own_trap(cause: Cause, line: u32) -> Finish
+fn own_trap(cause: Cause, line: u32) -> Finish
     ensures { result ≡ finish.Trapped (record { cause = cause; line = line; origin = None }) }
 {
     Finish::Trapped(CodeTrap {
@@ -128,6 +128,61 @@ pub(crate) fn own_trap(cause: Cause, line: u32) -> Finish
         line,
         origin: None,
     })
+}
+
+/// The event to which a leg came that has ended like this. The error is want of memory, as which a
+/// join of a number of 2^32 or more counts.
+pub(crate) fn event_of<P: Snapshot>(
+    alloc: Global,
+    revision: Box<Revision<P>>,
+    end: LegEnd,
+) -> Result<Event<P>, Broken<P>>
+    requires come { (g : CodeRun) × (c : State ℕ) × HasComeTo g c end revision.value.run
+        revision.value.memory.delta (P.base revision.value.memory.snapshot)
+        revision.value.memory.first.roots }
+    ensures event { (g : CodeRun) (c : State ℕ) → HasComeTo g c end revision.value.run
+        revision.value.memory.delta (P.base revision.value.memory.snapshot)
+        revision.value.memory.first.roots
+        → IfOk result (λ e. elim e [
+          | event.Fork a ↦ (d : State ℕ) × (args : List (Word ℕ))
+              × (leg g c ≡ forks d a.block args) × StandsAtFork g a d args
+          | event.Join a ↦ (d : State ℕ) × (leg g c ≡ joins d a.is_try a.on) × StandsAtJoin g a d
+          | event.End s ↦ (d : State ℕ) × (w : Option (Word ℕ)) × (leg g c ≡ ends d w)
+              × IsEnd g (end_of (has_ended d done)) s.end
+          | event.Trap s ↦ (d : State ℕ) × (e : Cause) × (leg g c ≡ traps d e)
+              × IsEnd g (end_of (has_ended d (trap_of d e))) s.end
+        ]) }
+    ensures group { IfOk result (λ e. elim e [
+      | event.Fork a ↦ fork_group a ≡ P.group revision.value.memory.snapshot
+      | event.Join a ↦ joiner_group a ≡ P.group revision.value.memory.snapshot
+      | event.End s ↦ P.group s.snapshot ≡ P.group revision.value.memory.snapshot
+      | event.Trap s ↦ P.group s.snapshot ≡ P.group revision.value.memory.snapshot
+    ]) }
+    ensures own { IfOk result (λ e. elim e [
+      | event.Fork a ↦ Unit {0}
+      | event.Join a ↦ Unit {0}
+      | event.End s ↦ is_by_join s.end.finish ≡ false
+      | event.Trap s ↦ is_by_join s.end.finish ≡ false
+    ]) }
+    ensures broken { IfErr result
+        (λ b. P.group b.snapshot ≡ P.group revision.value.memory.snapshot) }
+{
+    match end {
+        LegEnd::Fork(block) => Ok(Event::Fork(AtFork { revision, block })),
+        LegEnd::Join { is_try, on } => {
+            let joiner = at_join(alloc, revision, is_try, on)?;
+            Ok(Event::Join(joiner))
+        },
+        LegEnd::End => {
+            let ended = stop_at(alloc, revision, Finish::Done)?;
+            Ok(Event::End(ended))
+        },
+        LegEnd::Trap(cause) => {
+            let finish = own_trap(cause, revision.run.registers.line);
+            let stopped = stop_at(alloc, revision, finish)?;
+            Ok(Event::Trap(stopped))
+        },
+    }
 }
 
 /// Does the instructions of a leg up to its event. The first leg of a revision makes its first
@@ -174,19 +229,6 @@ pub fn run_leg<P: Snapshot>(
     let mut revision = begun(alloc, setting, runner, spares)?;
     match run_plain(setting, &mut *revision) {
         Err(_) => Err(break_off(revision)),
-        Ok(LegEnd::Fork(block)) => Ok(Event::Fork(AtFork { revision, block })),
-        Ok(LegEnd::Join { is_try, on }) => {
-            let joiner = at_join(alloc, revision, is_try, on)?;
-            Ok(Event::Join(joiner))
-        },
-        Ok(LegEnd::End) => {
-            let ended = stop_at(alloc, revision, Finish::Done)?;
-            Ok(Event::End(ended))
-        },
-        Ok(LegEnd::Trap(cause)) => {
-            let finish = own_trap(cause, revision.run.registers.line);
-            let stopped = stop_at(alloc, revision, finish)?;
-            Ok(Event::Trap(stopped))
-        },
+        Ok(end) => event_of(alloc, revision, end),
     }
 }

@@ -21,14 +21,13 @@ ghost use Rattle.rev_vm.specs.Values.{fork_group, joiner_group, runner_group};
 
 use crate::beginning::begun;
 use crate::end::{Broken, break_off};
-use crate::fork::AtFork;
 use crate::instructions::run_noting;
-use crate::leg::{Event, at_join, own_trap, stop_at};
+use crate::leg::{Event, event_of};
 use crate::runner::Runner;
 use crate::spares::Spares;
-use leg_run::{CodeSetting, LegEnd, Noted};
+use leg_run::{CodeSetting, Noted};
 use std::alloc::Global;
-use version_map::{Finish, Snapshot};
+use version_map::Snapshot;
 
 /// Does as `run_leg` does, and notes what the leg reads of its snapshot and of the input.
 pub fn run_leg_noting<P: Snapshot>(
@@ -78,19 +77,6 @@ pub fn run_leg_noting<P: Snapshot>(
     let mut revision = begun(alloc, setting, runner, spares)?;
     match run_noting(alloc, setting, &mut *revision, noted) {
         Err(_) => Err(break_off(revision)),
-        Ok(LegEnd::Fork(block)) => Ok(Event::Fork(AtFork { revision, block })),
-        Ok(LegEnd::Join { is_try, on }) => {
-            let joiner = at_join(alloc, revision, is_try, on)?;
-            Ok(Event::Join(joiner))
-        },
-        Ok(LegEnd::End) => {
-            let ended = stop_at(alloc, revision, Finish::Done)?;
-            Ok(Event::End(ended))
-        },
-        Ok(LegEnd::Trap(cause)) => {
-            let finish = own_trap(cause, revision.run.registers.line);
-            let stopped = stop_at(alloc, revision, finish)?;
-            Ok(Event::Trap(stopped))
-        },
+        Ok(end) => event_of(alloc, revision, end),
     }
 }

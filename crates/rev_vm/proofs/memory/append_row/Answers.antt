@@ -1,5 +1,5 @@
 -- Answers of append_row: the words of a row that the delta has are those that are seen there.
-use Rattle.std.proofs.Common.{arith, rules, ◌≡◌, ◌∙◌, ◌++◌, length, min, ap}
+use Rattle.std.proofs.Common.{arith, rules, ◌≡◌, ◌∙◌, ◌++◌, length, ap}
 use Rattle.version_map.specs.Deltas.{locations}
 use Rattle.rev_vm.proofs.Rows.{row_fits, row_seen}
 use Rattle.rev_vm.proofs.memory.append_row.Goals as goal

@@ -1,5 +1,5 @@
 -- Answers of read_all: a read changes no word that is seen, so the next words that are read are those seen at first.
-use Rattle.std.proofs.Common.{◌≡◌, ◌∙◌, ◌+◌, ◌≤◌, ◌++◌, [], ◌∷◌, ap, arith, get_or, length, map, take, drop, refl}
+use Rattle.std.proofs.Common.{◌∙◌, ◌+◌, ◌++◌, [], ◌∷◌, ap, arith, get_or, map, take, drop, refl}
 use Rattle.version_map.specs.Overlay.{under}
 use Rattle.block_run.proofs.Turning.{kept_on}
 use Rattle.rev_vm.proofs.Rows.{map_part, seen_part}

@@ -1,5 +1,5 @@
 -- Answers of write_all: one write more, or one row more, makes the memory stand for the locations with that written.
-use Rattle.std.proofs.Common.{◌≡◌, ◌∙◌, ap, refl, sym, get_or, subst, arith}
+use Rattle.std.proofs.Common.{◌∙◌, ap, refl, sym, get_or, subst, arith}
 use Rattle.version_map.specs.Deltas.{at}
 use Rattle.version_map.specs.Overlay.{under}
 use Rattle.block_run.specs.Remembering.{Wrote}

@@ -1,5 +1,5 @@
 -- Answers of write_row: the row has the new words, all else is seen as before, and no word at the fork changes.
-use Rattle.std.proofs.Common.{arith, ◌∙◌, ◌+◌, ◌*◌, ◌≤◌, ap, sym, subst, refl}
+use Rattle.std.proofs.Common.{◌∙◌, ◌+◌, ◌*◌, ◌≤◌, ap, sym, subst, refl}
 use Rattle.version_map.specs.Overlay.{word_or}
 use Rattle.rev_vm.proofs.Rows.{row_fits, word_in_part}
 use Rattle.rev_vm.proofs.memory.write_row.Goals as goal

@@ -1,4 +1,4 @@
--- Answers of run_leg_block: each act is a step of the machine with what it reads, so the way grows act by act.
+-- Answers of run_block_noting: each act is a step of the machine with what it reads, so the way grows act by act.
 use Rattle.std.proofs.Common.{◌≡◌, ◌∙◌, ℕ, List, Option, ◌<◌, ◌^◌, length, sym, ap, refl, arith, subst, ◌+◌, ◌≤◌}
 use Rattle.std.specs.Prelude.{ℤ, slice_get}
 use Rattle.rev_code.specs.Step as step
@@ -8,15 +8,15 @@ use Rattle.rev_code.specs.declared.code.CodeBlock.{CodeBlock}
 use Rattle.rev_code.specs.State.{State}
 use Rattle.block_run.specs.declared.registers.Registers.{Registers}
 use Rattle.block_run.specs.declared.registers.Stop.{Stop}
-use Rattle.block_run.specs.Area.{count, low}
+use Rattle.block_run.specs.Area.{low}
 use Rattle.block_run.specs.Standing.{IsRoomy, Mode}
 use Rattle.noting_run.specs.declared.notes.Notes.{Notes}
-use Rattle.noting_run.specs.Marks.{marks_of}
-use Rattle.noting_run.specs.Runs.{EndsNoting, reads_of}
-use Rattle.noting_run.proofs.IfOn.{none_marked_if_on, places_still}
+use Rattle.noting_run.specs.declared.notes.Notes.TheVariants as notes
+use Rattle.noting_run.specs.Runs.{EndsNoting}
+use Rattle.noting_run.proofs.Adding.{none_marked}
 use Rattle.noting_run.proofs.Rounds.{onward_noting, ended_noting}
 use Rattle.block_run.proofs.Turning.{inside_now, found_operand, placed, room, smaller, all_same, below_still}
-use Rattle.noting_run.proofs.block.run_leg_block.Goals as goal
+use Rattle.noting_run.proofs.block.run_block_noting.Goals as goal
 
 roomy_still : (code : Code) (b : CodeBlock) (r r' : Registers) (n n' : ℕ) → IsRoomy code b r n → r'.block ≡ r.block
     → r'.base ≡ r.base → n' ≡ n → IsRoomy code b r' n'
@@ -48,7 +48,7 @@ loop-last-init g c = record {
   words = refl;
   ahead = λ m c0 here. record {
     ahead = record { now = c0; steps = step.none; here = here; same = all_same c0 };
-    noted = none_marked_if_on c.args.notes.now;
+    noted = none_marked c.args.noted.now;
   };
   block = refl;
   base = refl;
@@ -130,7 +130,7 @@ loop-last-preserved g c =
           let n = v.ahead m c0 here in
           let a = n.ahead in
           onward_noting c.args.code.now c.requires.accepted c.args.inputs.now c.requires.inputs m c.args.b.now a.now
-          c.loop-last.words c.loop-last.r _ _ a.here is _ at c.args.notes.now c.loop-last.notes c.act_noting.new.notes
+          c.loop-last.words c.loop-last.r _ _ a.here is _ at (notes.On c.args.noted.now) (notes.On c.loop-last.noted) (notes.On c.act_noting.new.noted)
           c0 a.steps n.noted e.marked c.act_noting.new.words c.act_noting.new.r _ _ _
           (few_locations _ _ _ _ v.size c.requires.size a.here.many) e.int a.same e.does e.stays;
       block = e.stays.block ∙ v.block;
@@ -140,14 +140,18 @@ loop-last-preserved g c =
       group = e.group ∙ v.group;
     }
 
-pub act_noting-requires-clause-places : goal.act_noting-requires-clause-places
-act_noting-requires-clause-places g c =
+pub act_noting-requires-clause-locations : goal.act_noting-requires-clause-locations
+act_noting-requires-clause-locations g c =
     let q = c.requires.stands in
     let v = c.loop-last.invariant in
-    let n = v.ahead q.0 q.1 q.2 in
-    places_still (count c.args.code.now.vars) (g.P.Snapshot.size c.loop-last.memory.snapshot) c.args.inputs.now
-    c.args.notes.now c.loop-last.notes (marks_of (reads_of n.ahead.steps)) (v.size ∙ c.requires.size) n.noted
-    c.requires.places
+    let n = (v.ahead q.0 q.1 q.2).noted.size in
+    n ∙ c.requires.locations ∙ sym c.requires.size ∙ sym v.size
+
+pub act_noting-requires-clause-positions : goal.act_noting-requires-clause-positions
+act_noting-requires-clause-positions g c =
+    let q = c.requires.stands in
+    let v = c.loop-last.invariant in
+    (v.ahead q.0 q.1 q.2).noted.positions ∙ c.requires.positions
 
 pub returns-in_default : goal.returns-in_default
 returns-in_default g c =
@@ -165,9 +169,9 @@ returns-in_default g c =
           let n = v.ahead m c0 here in
           let a = n.ahead in
           stopped c.args.code.now c.args.inputs.now m c.args.b.now c0 _ _ c.act_noting.new.words _ _ _ _
-          c.args.notes.now c.act_noting.new.notes refl same
+          (notes.On c.args.noted.now) (notes.On c.act_noting.new.noted) refl same
           (ended_noting c.args.code.now c.requires.accepted c.args.inputs.now c.requires.inputs m c.args.b.now a.now
-          c.loop-last.words c.loop-last.r _ _ a.here is _ at c.args.notes.now c.loop-last.notes c.act_noting.new.notes
+          c.loop-last.words c.loop-last.r _ _ a.here is _ at (notes.On c.args.noted.now) (notes.On c.loop-last.noted) (notes.On c.act_noting.new.noted)
           c0 a.steps n.noted e.marked c.act_noting.new.words c.act_noting.new.r _ _ _
           (few_locations _ _ _ _ v.size c.requires.size a.here.many) e.int a.same c.act_noting.result e.does e.stays
           c.in_default.not-Goes);

@@ -1,11 +1,12 @@
--- Loops of run_leg_block: from each state that stood at first noted steps lead to one that stands now.
+-- Loops of run_block_noting: from each state that stood at first noted steps lead to one that stands now.
 use Rattle.std.proofs.Common.{◌≡◌, ℕ, length, take}
 use Rattle.rev_code.specs.State.{State}
 use Rattle.version_map.specs.Deltas.{at}
 use Rattle.version_map.specs.Overlay.{under}
 use Rattle.block_run.specs.Standing.{Mode, Here, weight}
+use Rattle.noting_run.specs.declared.notes.Notes.TheVariants as notes
 use Rattle.noting_run.specs.Runs.{AheadNoting}
-use Rattle.noting_run.proofs.block.run_leg_block.Given as goal
+use Rattle.noting_run.proofs.block.run_block_noting.Given as goal
 
 -- each state for which the machine stood at first has steps to one for which it stands now
 abbrev pub invariant-loop-last : goal.invariant-loop-last
@@ -16,7 +17,8 @@ invariant-loop-last g l = record {
   ahead : (m : Mode) (c : State ℕ) → Here l.code l.inputs m l.b c l.initial.words l.initial.registers
       (under l.initial.memory.delta (g.P.Snapshot.base l.initial.memory.snapshot)) (at l.initial.memory.first.roots)
       → AheadNoting l.code l.inputs m l.b c l.words l.r (under l.memory.delta (g.P.Snapshot.base l.memory.snapshot))
-      (at l.memory.first.roots) l.initial.notes l.notes;
+      (at l.memory.first.roots) (notes.On l.initial.noted)
+      (notes.On l.noted);
   block : l.r.block ≡ l.initial.registers.block;
   base : l.r.base ≡ l.initial.registers.base;
   below : take l.initial.registers.base l.words ≡ take l.initial.registers.base l.initial.words;

@@ -1,0 +1,64 @@
+//! Instructions of one block of a leg in a row, with notes of what they read or without.
+
+ghost use Rattle.std.specs.Prelude.{◌≡◌, ◌<◌, ◌^◌, ℕ, Some, length, slice_get, take};
+ghost use Rattle.rev_code.specs.State.{State};
+ghost use Rattle.code_soundness.specs.Whole.{notes_of, IsAccepted};
+ghost use Rattle.plain_words.specs.Agreement.{AreInputs};
+ghost use Rattle.version_map.specs.Deltas.{at};
+ghost use Rattle.version_map.specs.Overlay.{under};
+ghost use Rattle.block_run.specs.Area.{count, IsTable};
+ghost use Rattle.block_run.specs.Standing.{Here, IsRoomy, Mode};
+ghost use Rattle.noting_run.specs.Runs.{EndsNoting};
+ghost use Rattle.noting_run.specs.WhereOn.{HasPlacesIfOn, is_on};
+
+use crate::block::run_block_noting;
+use crate::notes::Notes;
+use block_run::{Memory, Registers, Stop, Variable, run_block};
+use rev_code::{Code, CodeBlock};
+use version_map::Snapshot;
+
+/// Does as `run_block` does, and notes what the instructions read where notes are on. `ON` says
+/// whether they are, so that the compiler makes code of each case, and where they are off nothing
+/// looks at them.
+#[inline(always)]
+pub fn run_leg_block<P: Snapshot, const ON: bool>(
+    code: &Code,
+    table: &[Variable],
+    inputs: &[i64],
+    b: &CodeBlock,
+    memory: &mut Memory<P>,
+    words: &mut [u64],
+    registers: &mut Registers,
+    notes: &mut Notes,
+) -> Stop
+    requires accepted { IsAccepted code.now (notes_of code.now) }
+    requires table { IsTable code.now.vars table.now }
+    requires inputs { AreInputs inputs.now }
+    requires size { P.size memory.old.snapshot ≡ count code.now.vars }
+    requires block { slice_get code.now.blocks registers.old.block ≡ Some b.now }
+    requires short { length b.now.instrs < 2 ^ 32 }
+    requires stands { (m : Mode) × (c : State ℕ)
+        × Here code.now inputs.now m b.now c words.old registers.old
+        (under memory.old.delta (P.base memory.old.snapshot)) (at memory.old.first.roots) }
+    requires room { IsRoomy code.now b.now registers.old (length words.old) }
+    requires places { HasPlacesIfOn (count code.now.vars) inputs.now notes.old }
+    requires on { is_on notes.old ≡ ON }
+    ensures ends { (m : Mode) (c : State ℕ)
+        → Here code.now inputs.now m b.now c words.old registers.old
+        (under memory.old.delta (P.base memory.old.snapshot)) (at memory.old.first.roots)
+        → EndsNoting code.now inputs.now m b.now c result words.new registers.new
+        (under memory.new.delta (P.base memory.new.snapshot)) (at memory.new.first.roots)
+        notes.old notes.new }
+    ensures block { registers.new.block ≡ registers.old.block }
+    ensures base { registers.new.base ≡ registers.old.base }
+    ensures below { take registers.old.base words.new ≡ take registers.old.base words.old }
+    ensures size { P.size memory.new.snapshot ≡ P.size memory.old.snapshot }
+    ensures group { P.group memory.new.snapshot ≡ P.group memory.old.snapshot }
+{
+    match notes {
+        Notes::On(noted) if ON => run_block_noting(
+            code, table, inputs, b, memory, words, registers, noted,
+        ),
+        _ => run_block(code, table, inputs, b, memory, words, registers),
+    }
+}
