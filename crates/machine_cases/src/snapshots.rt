@@ -91,7 +91,7 @@ pub fn is_asked_three_times(alloc: Global) -> Result<bool, AllocError> {
     let mut parts = new_parts(2);
     let mut delta = Delta::new(alloc, 0)?;
     let last = collapse_all(&mut parts, &mut delta);
-    Ok(last == Collapsed::Kept { count: 2 } && parts.release() == 3)
+    Ok(matches!(last, Collapsed::Kept { count: 2 }) && parts.release() == 3)
 }
 
 /// A child that only returns, and `main`, which forks and joins it. There is no variable.
