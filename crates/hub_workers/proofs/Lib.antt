@@ -1,4 +1,5 @@
 pub mod Events
 pub mod Handed
 pub mod Owing
+pub mod Children
 pub mod Rows
