@@ -11,5 +11,5 @@ mod expression;
 mod source;
 
 pub use cursor::{Cursor, Fault, within};
-pub use expression::{arguments, begins_expr, bracketed, expr, name};
+pub use expression::{arguments, begins_expr, bracketed, expr, expr_before, name};
 pub use source::Source;
